@@ -1,4 +1,5 @@
--- The laws put together.
+-- The theorems about declarations and types, combined from those about names, ranks and polymorphic
+-- variants.
 use Rattle.std.proofs.Common.{ℕ, ◌≡◌, ◌∙◌, List, Option, Some, None, sym, subst}
 use Rattle.std.specs.Prelude.{Contains, option_map}
 use Rattle.std.proofs.lemmas.Option.{same_Some, none-some}
@@ -20,7 +21,7 @@ use Rattle.om_accepted.proofs.NameLemmas.{arguments_follow, names_follow_lem}
 use Rattle.om_accepted.proofs.BracketLemmas.{brackets_follow_in, brackets_follow_lem}
 
 module _ (all : List DeclPlaces) (told : AreToldWhole all) where
-  -- a declaration with what stands in it
+  -- A declaration with its occurrences.
   record Placed (decl : Decl) : Type 0 where
     d : DeclPlaces
     among : Contains all d
@@ -37,7 +38,7 @@ module _ (all : List DeclPlaces) (told : AreToldWhole all) where
       let p = placed name decl is in
       told.written p.d t p.among (subst (λ (e : Decl). Contains (types_of_body e.body) t) (sym p.is) stands)
 
-  -- names that are declared once and known, and no cycle, make declarations sound
+  -- If names are declared once and known, and there is no cycle, then the declarations are sound.
   pub sound_by_names : Keeps all twice → Keeps all unknown_name → Keeps all cyclic → AreSound (decls_of all)
   sound_by_names once known acyclic =
       let ranks = ranks_follow_lem all told.uses once known acyclic in

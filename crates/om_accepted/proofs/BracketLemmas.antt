@@ -1,4 +1,4 @@
--- The tags of a bracket come from its items, and the rules on brackets.
+-- The tags of a polymorphic variant type come from its items; the rules on them.
 use Rattle.std.proofs.Common.{ℕ, zero, suc, ◌≡◌, ◌≢◌, ◌≤◌, ◌∙◌, ◌⊎◌, ⊎_elim, inl, inr, Bool, true, List, [], ◌∷◌, ◌++◌, length, Some, None, refl, sym, ap, subst, arith}
 use Rattle.std.specs.Prelude.{slice_get, map, filter, not, Contains}
 use Rattle.std.specs.Str.{bytes_eq}
@@ -23,9 +23,9 @@ use Rattle.om_accepted.specs.Ranked.{Keeps}
 use Rattle.om_accepted.specs.Told.{Thing, bracket_thing, HasParts, HasItems, IsProper, items_of, own_thing, begins_as, things_inside, thing_of, IsTold, AllIsTold, TellsAll}
 use Rattle.om_accepted.specs.Brackets.{HeadsArePlain, BracketsAreSound}
 
--- ---- places in lists
+-- ---- positions in lists
 
--- ---- the tags that items bring
+-- ---- the tags of the items
 
 kept-all : {X : Type 0} (p : X → Bool) (xs : List X) (x : X) → ((y : X) → p y ≡ true) → Contains xs x → Contains (filter p xs) x
 kept-all p xs x all among = Contains-filter p xs x among (all x)
@@ -34,7 +34,7 @@ filtered-of : {X : Type 0} (p : X → Bool) (xs : List X) (x : X) → Contains (
 filtered-of p xs x among = (filtered-Contains p xs x among).0
 
 module _ (decls : List Decl) (plain : HeadsArePlain decls) where
-  -- some item brings the tag
+  -- Some item has the tag.
   record Brought (items : List Ty) (one : TagOf Ty) : Type 0 where
     place : ℕ
     item : Ty
@@ -47,7 +47,8 @@ module _ (decls : List Decl) (plain : HeadsArePlain decls) where
   last_item : (items : List Ty) (last : Ty) (one : TagOf Ty) → Contains (tags_of_item decls last) one → Brought (items ++ last ∷ []) one
   last_item items last one among = record { place = length items; item = last; is = slice_get-last items last; brings = among }
 
-  -- the tags of a head with more of them
+  -- If tags are added to a head, each tag of the result is one of the head's or one of the added
+  -- tags.
   with_more :
       (h : HeadOf Ty) (more : List (TagOf Ty)) (one : TagOf Ty) → Contains (tags_in (with_tags h more)) one → Contains (tags_in h) one ⊎ Contains more one
   with_more (heads.Variants tags) more one among = ⊎_elim
@@ -83,11 +84,11 @@ module _ (decls : List Decl) (plain : HeadsArePlain decls) where
         joined_alone : Contains (tags_in (head decls included)) one → Contains (tags_in (with_tags (heads.Variants []) (tags_in (head decls included)))) one
         joined_alone last = kept-all (λ (t : TagOf Ty). not (has_tag [] t.name)) (tags_in (head decls included)) one (λ t. refl) last
 
-  -- the same of the head
+  -- Each tag of the head comes from an item.
   brought : (t : Ty) → HasItems t → (one : TagOf Ty) → unfolded decls t ≡ None → Contains (tags_in (head decls t)) one → Brought (items_of t) one
   brought t has one none among = brought_plain t has one (subst (λ h. Contains (tags_in h) one) (plain t none) among)
 
--- ---- items with their places
+-- ---- items with their positions
 
 placed_get :
     (placed : List PlacedItem) (items : List Ty) → map (λ (item : PlacedItem). item.1) placed ≡ items → (i : ℕ) (t : Ty) → slice_get items i ≡ Some t
@@ -150,7 +151,7 @@ module _ (decls : List Decl) (plain : HeadsArePlain decls) (Seen : ℕ → Type 
   told_right : (first rest : List Thing) → Told (first ++ rest) → Told rest
   told_right first rest told thing among = told thing (Contains-append_right first rest thing among)
 
-  -- the bracket that is told, of which the type is the first items
+  -- The type is a prefix of the items of a bracket among the occurrences.
   record Within (t : Ty) : Type 0 where
     placed : List PlacedItem
     occurs : Contains occurrences (bracket_of placed)
@@ -162,7 +163,7 @@ module _ (decls : List Decl) (plain : HeadsArePlain decls) (Seen : ℕ → Type 
       let b = bracket_told o.0 (items_of t) o.2 in
       record { placed = b.0; occurs = subst (λ e. Contains occurrences e) b.1 o.1; first = placed_get b.0 (items_of t) b.2 }
 
-  -- tags of one hash have one name
+  -- If two tags have the same hash, then they have the same name.
   own_hashes : (t : Ty) → HasItems t → unfolded decls t ≡ None → Within t → IsHashed decls t
   own_hashes t has none w one other among among' same =
       let b = brought decls plain t has one none among in
@@ -205,7 +206,7 @@ module _ (decls : List Decl) (plain : HeadsArePlain decls) (Seen : ℕ → Type 
       (in_order b.place c.place))
       (true_or_not (bytes_eq one.name other.name))
 
-  -- what a bracket includes is a polymorphic variant
+  -- Each type that a bracket includes is a polymorphic variant type.
   includes : (whole included : Ty) → Within (including whole included) → AreVariants (head decls included)
   includes whole included w = ⊎_elim (λ is. is)
       (λ other.
@@ -221,7 +222,7 @@ module _ (decls : List Decl) (plain : HeadsArePlain decls) (Seen : ℕ → Type 
       )))
       (variants_or_not (head decls included))
 
-  -- fewer items
+  -- A shorter prefix of the items.
   shorter : (t whole last : Ty) → items_of t ≡ items_of whole ++ last ∷ [] → Within t → Within whole
   shorter t whole last same w = record {
     placed = w.placed;

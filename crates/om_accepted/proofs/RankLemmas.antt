@@ -1,5 +1,5 @@
--- Chains of abbreviations, each of which uses the next: where none comes back to itself, they are no longer than there are
--- declarations, and how long the longest one from a name is falls with each use.
+-- Chains of abbreviations in which each uses the next. If none is cyclic, no chain is longer than
+-- the number of declarations. The length of the longest chain from a name decreases with each use.
 use Rattle.std.proofs.Common.{ℕ, zero, suc, ◌≡◌, ◌<◌, ◌≤◌, ◌∙◌, ◌⊎◌, ⊎_elim, inl, inr, Bool, true, false, cond, List, [], ◌∷◌, length, Option, Some, None, refl, sym, ap, ap₂, subst, arith}
 use Rattle.std.specs.Prelude.{map, max, find, Contains, IsSome, is_some, IsTrue, option_map}
 use Rattle.std.specs.Str.{bytes_eq}
@@ -23,7 +23,7 @@ greatest : (List ℕ → ℕ) → List (List ℕ) → ℕ
 greatest f [] = 0
 greatest f (name ∷ names) = max (f name) (greatest f names)
 
--- ---- the declaration of a name, with what stands in it
+-- ---- the declaration of a name, with its occurrences
 
 abbrev pub found : List DeclPlaces → List ℕ → Option DeclPlaces
 found all name = find (λ (d : DeclPlaces). bytes_eq d.decl.name name) all
@@ -32,11 +32,11 @@ abbrev body_of : Option DeclPlaces → Option Ty
 body_of None = None
 body_of (Some d) = abbreviated d.decl.body
 
--- what the name abbreviates
+-- The type that the name abbreviates.
 abbrev stands_for : List DeclPlaces → List ℕ → Option Ty
 stands_for all name = body_of (found all name)
 
--- the longest chain from a name, of at most so many names
+-- The length of the longest chain from a name, up to a limit.
 height_by : (List ℕ → ℕ) → Option Ty → ℕ
 height_by f None = 0
 height_by f (Some t) = suc (greatest f (names_outside t))
@@ -95,7 +95,7 @@ module _ (all : List DeclPlaces) where
   height_within zero x = omega arith
   height_within (suc n) x = height_by_within (height all n) n (stands_for all x) (height_within n)
 
-  -- where it is less than the limit, a greater limit gives the same
+  -- If the length is less than the limit, then a greater limit gives the same length.
   settled_by :
       (f g : List ℕ → ℕ) (n : ℕ) (o : Option Ty) → height_by f o < suc n → ((y : List ℕ) → f y < n → g y ≡ f y)
       → height_by g o ≡ height_by f o
@@ -111,7 +111,7 @@ module _ (all : List DeclPlaces) where
 
   -- ---- chains
 
-  -- one name abbreviates a type that uses the other
+  -- One name abbreviates a type that uses the other.
   record Uses (x y : List ℕ) : Type 0 where
     type : Ty
     is : stands_for all x ≡ Some type
@@ -126,7 +126,7 @@ module _ (all : List DeclPlaces) where
     chain : IsChain x rest
     long : suc (length rest) ≡ n
 
-  -- a greatest height is that of a chain
+  -- If a height reaches the limit, then some chain has this length.
   chain_by :
       (n : ℕ) (x : List ℕ) (o : Option Ty) → stands_for all x ≡ o → height_by (height all n) o ≡ suc n
       → ((y : List ℕ) (m : ℕ) → n ≡ suc m → height all n y ≡ n → Chain y n) → Chain x (suc n)
@@ -147,7 +147,7 @@ module _ (all : List DeclPlaces) where
   chain_of zero x tall = chain_by zero x (stands_for all x) refl tall (λ y m none. absurd (omega arith))
   chain_of (suc n) x tall = chain_by (suc n) x (stands_for all x) refl tall (λ y m is tall'. chain_of n y tall')
 
--- ---- a list that is longer than another that has all its elements
+-- ---- a list longer than another list that contains all its elements
 
 abbrev Repeats : List (List ℕ) → Type 0
 Repeats [] = ⊥
@@ -171,7 +171,7 @@ too_many (x ∷ xs) ys within more = ⊎_elim (λ again. inl again)
     (omega (arith, w.shorter, more))))
     (contains_or_not xs x)
 
--- ---- declarations and what stands in them
+-- ---- declarations and their occurrences
 
 pub found_named : (all : List DeclPlaces) (name : List ℕ) (d : DeclPlaces) → found all name ≡ Some d → Contains all d × (d.decl.name ≡ name)
 found_named [] name d is = absurd (none-some d is)
@@ -186,7 +186,7 @@ found_named (first ∷ rest) name d is = by_test (true_or_not (bytes_eq first.de
       let more = later (sym (ap (λ b. cond b (Some first) (found rest name)) false_is) ∙ is) in
       (Contains-later first rest d more.0, more.1)
 
--- the declarations alone are found alike
+-- Looking up a declaration alone agrees with looking it up with its occurrences.
 pub found_decl : (all : List DeclPlaces) (name : List ℕ) → declaration_of (decls_of all) name ≡ option_map (λ (d : DeclPlaces). d.decl) (found all name)
 found_decl [] name = refl
 found_decl (first ∷ rest) name = at_test (bytes_eq first.decl.name name) (found_decl rest name) where
@@ -195,7 +195,7 @@ found_decl (first ∷ rest) name = at_test (bytes_eq first.decl.name name) (foun
   at_test true later = refl
   at_test false later = later
 
--- a name that stands for a type is declared
+-- If a name abbreviates a type, then it is declared.
 declared_name : (all : List DeclPlaces) (name : List ℕ) → IsSome (stands_for all name) → (d : DeclPlaces) × (found all name ≡ Some d)
 declared_name all name is = ⊎_elim
     (λ none. let e : body_of (found all name) ≡ None = ap body_of none in absurd (none_is (stands_for all name) e is))
@@ -258,7 +258,7 @@ module _ (all : List DeclPlaces) (told : UsesAreTold all) (once : Keeps all twic
       absurd (once e.place (inl (inr (y, listed, subst IsSome (sym some.1) refl)))))
       (none_or_some (predeclared y))
 
-  -- one declaration uses another
+  -- One declaration uses another.
   record UsesAt (x y : List ℕ) (d e : DeclPlaces) : Type 0 where
     place : ℕ
     arguments : List Ty
@@ -297,7 +297,7 @@ module _ (all : List DeclPlaces) (told : UsesAreTold all) (once : Keeps all twic
         abbreviates = subst IsSome (sym body) refl;
       }
 
-  -- where uses lead, groups do not grow
+  -- Along uses, groups do not increase.
   groups_fall :
       (x : List ℕ) (between : List (List ℕ)) (z : List ℕ) (d e : DeclPlaces) → Leads all x between z → found all x ≡ Some d
       → found all z ≡ Some e → e.decl.group ≤ d.decl.group
@@ -310,7 +310,7 @@ module _ (all : List DeclPlaces) (told : UsesAreTold all) (once : Keeps all twic
         declared_of_uses w [] v used = declared_name all w (subst IsSome (sym used.is) refl)
         declared_of_uses w (u ∷ ws) v used = declared_name all w (subst IsSome (sym used.0.is) refl)
 
-  -- uses that lead from a declaration to one of its group are steps
+  -- If uses lead from a declaration to one of its group, then they are steps.
   steps_of :
       (x : List ℕ) (between : List (List ℕ)) (z : List ℕ) (d e : DeclPlaces) → Leads all x between z → found all x ≡ Some d
       → found all z ≡ Some e → d.decl.group ≤ e.decl.group → IsSome (abbreviated e.decl.body)
@@ -372,7 +372,7 @@ module _ (all : List DeclPlaces) (told : UsesAreTold all) (once : Keeps all twic
             let f = declared_name all w (subst IsSome (sym used.0.is) refl) in
             (f.0, f.1, subst IsSome (sym (sym (ap body_of f.1) ∙ used.0.is)) refl)
 
-  -- no chain has more names than there are declarations
+  -- No chain has more names than there are declarations.
   never_tall : (x : List ℕ) → height all (suc (length all)) x < suc (length all)
   never_tall x = ⊎_elim
       (λ tall.

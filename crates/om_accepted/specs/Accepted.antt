@@ -1,4 +1,5 @@
--- Declarations and types that break no rule of scope are well-formed.
+-- Declarations that break no scope rule are well-formed, and types that break no scope rule are
+-- sound.
 use Rattle.std.specs.Prelude.{◌≤◌, List, Contains}
 use Rattle.om_types.specs.declared.decl.Decl.{Decl}
 use Rattle.om_types.specs.Accepted.{IsType, types_of_body, AreWellFormed, IsSoundType}
@@ -8,13 +9,13 @@ use Rattle.om_types.specs.Ty.{Ty, depth}
 use Rattle.om_accepted.specs.Ranked.{UsesAreTold}
 use Rattle.om_accepted.specs.Told.{IsProper, TellsAll, AllIsTold}
 
--- each type is written as the grammar has it, and at most 200 deep
+-- The grammar can produce the type, and the type is at most 200 deep.
 pub record IsWritten (t : Ty) : Type 0 where
   pub proper : IsProper t
   pub type : IsType t
   pub shallow : depth t ≤ 200
 
--- what stands in each declaration is told, and its types are written as the grammar has them
+-- The occurrences of each declaration are complete, and the grammar can produce its types.
 pub record AreToldWhole (all : List DeclPlaces) : Type 0 where
   pub things : AllIsTold all
   pub uses : UsesAreTold all
@@ -26,7 +27,7 @@ AcceptedAreWellFormed =
     (all : List DeclPlaces) → AreToldWhole all → KeepsAll (BreaksInFile all)
     → AreWellFormed (decls_of all)
 
--- the same of one type over declarations
+-- A type that breaks no rule over well-formed declarations is sound.
 abbrev pub AcceptedTypesAreSound : Type 0
 AcceptedTypesAreSound =
     (decls : List Decl) (occurrences : List Occurrence) (t : Ty) → AreWellFormed decls → IsProper t

@@ -1,5 +1,5 @@
--- Where no rule on brackets is broken, each bracket of a declared type includes polymorphic
--- variants alone, and its tags have hashes of their own.
+-- If no rule on polymorphic variants is broken, then each polymorphic variant type in a declaration
+-- includes only polymorphic variant types, and its tags have distinct hashes.
 use Rattle.std.specs.Prelude.{◌≡◌, List, None, Contains}
 use Rattle.om_types.specs.declared.decl.Decl.{Decl}
 use Rattle.om_types.specs.Accepted.{types_of_body, HasSoundBrackets}
@@ -11,7 +11,8 @@ use Rattle.om_types.specs.Ty.{Ty}
 use Rattle.om_accepted.specs.Ranked.{Keeps}
 use Rattle.om_accepted.specs.Told.{IsProper, AllIsTold}
 
--- without a replacement the head is what is written; so it is where abbreviations have ranks
+-- If a type unfolds to no other type, its head is the head as written. This holds if abbreviations
+-- have ranks.
 abbrev pub HeadsArePlain : List Decl → Type 0
 HeadsArePlain decls = (t : Ty) → unfolded decls t ≡ None → head decls t ≡ plain_head (head decls) t
 

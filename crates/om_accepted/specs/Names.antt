@@ -1,5 +1,5 @@
--- Where no rule on names is broken, the names of each declared type are known, with as many
--- arguments as they take, and its variables are parameters.
+-- If no rule on names is broken, then the names in each declared type are known and have as many
+-- arguments as they take. The variables of the type are parameters.
 use Rattle.std.specs.Prelude.{◌≡◌, List, None, Contains}
 use Rattle.om_types.specs.Accepted.{types_of_body, TakeArguments, VariablesAmong}
 use Rattle.om_types.specs.Declarations.{predeclared}

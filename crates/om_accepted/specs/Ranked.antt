@@ -1,4 +1,4 @@
--- Abbreviations that do not come back to themselves have ranks.
+-- Acyclic abbreviations have ranks.
 use Rattle.std.specs.Prelude.{ℕ, ◌≡◌, List, Some, Contains, false}
 use Rattle.om_types.specs.Accepted.{names_outside, IsRanking}
 use Rattle.om_types.specs.Declarations.{abbreviated}
@@ -14,12 +14,12 @@ UsesAreTold all =
     → (place : ℕ) × (arguments : List Ty)
     × Contains d.occurrences (use_of place name arguments false)
 
--- no lexeme breaks the rule
+-- No lexeme breaks the rule.
 abbrev pub Keeps : List DeclPlaces → Rule → Type 0
 Keeps all rule = (k : ℕ) → ¬ BreaksInFile all rule k
 
--- where names are declared once, are known, and no abbreviation comes back to itself, some rank
--- falls with each use
+-- If names are declared once and are known, and no abbreviation is cyclic, then there is a rank
+-- that decreases with each use.
 abbrev pub RanksFollow : Type 0
 RanksFollow =
     (all : List DeclPlaces) → UsesAreTold all → Keeps all twice → Keeps all unknown_name

@@ -1,4 +1,5 @@
--- What stands in a type, and that it is told among what stands where in a text.
+-- The names, variables and polymorphic variants in a type, and when a list of occurrences contains
+-- all of them.
 use Rattle.std.specs.Prelude.{◌≡◌, ℕ, List, [], ◌∷◌, ◌++◌, map, Contains}
 use Rattle.om_types.specs.Accepted.{types_of_body}
 use Rattle.om_types.specs.Occurrence.{Occurrence, PlacedItem, use_of, variable_at, bracket_of}
@@ -6,16 +7,16 @@ use Rattle.om_types.specs.Occurrence.{DeclPlaces}
 use Rattle.om_types.specs.Ty.{Ty, variable, named, tuple, bracket, part, tag, tag_of, including}
 use Rattle.om_types.specs.Ty.{parts}
 
--- a name with its arguments, a variable, or a bracket by its items, each as the bracket that has it
--- alone
+-- A part of a type: a name with its arguments, a variable, or a polymorphic variant type given by
+-- its items. Each item is written as a polymorphic variant type that has only this item.
 pub data Thing : Type 0 where
   use_thing : (name : List ℕ) (arguments : List Ty) → Thing
   variable_thing : (name : List ℕ) → Thing
   bracket_thing : (items : List Ty) → Thing
 
--- ---- types that the grammar can write
+-- ---- types that the grammar can produce
 
--- arguments and components are added to a name or a tuple
+-- Arguments and components are added to a name or a tuple.
 abbrev pub HasParts : Ty → Type 0
 HasParts (variable x) = ⊥
 HasParts (named x) = Unit {0}
@@ -26,7 +27,7 @@ HasParts (tag whole x) = ⊥
 HasParts (tag_of whole x argument) = ⊥
 HasParts (including whole included) = ⊥
 
--- and items to a bracket
+-- Items are added to a polymorphic variant type.
 abbrev pub HasItems : Ty → Type 0
 HasItems (variable x) = ⊥
 HasItems (named x) = ⊥
@@ -47,16 +48,17 @@ IsProper (tag whole x) = HasItems whole × IsProper whole
 IsProper (tag_of whole x argument) = HasItems whole × IsProper whole × IsProper argument
 IsProper (including whole included) = HasItems whole × IsProper whole × IsProper included
 
--- ---- what stands in a type
+-- ---- the parts of a type
 
--- the items of a bracket, in order
+-- The items of a polymorphic variant type, in order.
 abbrev pub items_of : Ty → List Ty
 items_of (tag whole x) = items_of whole ++ tag bracket x ∷ []
 items_of (tag_of whole x argument) = items_of whole ++ tag_of bracket x argument ∷ []
 items_of (including whole included) = items_of whole ++ including bracket included ∷ []
 items_of t = []
 
--- the variable, the name or the bracket that the type begins with, as the whole that it is part of
+-- The variable, name or polymorphic variant type with which the type begins, with all arguments or
+-- items of the whole.
 abbrev pub begins_as : List Ty → List Ty → Ty → List Thing
 begins_as arguments items (variable x) = variable_thing x ∷ []
 begins_as arguments items (named x) = use_thing x arguments ∷ []
@@ -70,7 +72,7 @@ begins_as arguments items (including whole included) = begins_as arguments items
 abbrev pub own_thing : Ty → List Thing
 own_thing t = begins_as (parts t) (items_of t) t
 
--- what stands in the parts
+-- The things in the parts of the type.
 abbrev pub things_inside : Ty → List Thing
 things_inside (part whole added) = things_inside whole ++ (own_thing added ++ things_inside added)
 things_inside (tag whole x) = things_inside whole
@@ -83,24 +85,24 @@ things_inside t = []
 abbrev pub things_in : Ty → List Thing
 things_in t = own_thing t ++ things_inside t
 
--- ---- told
+-- ---- complete occurrences
 
--- the thing without its places
+-- The thing without its positions.
 abbrev pub thing_of : Occurrence → Thing
 thing_of (use_of place name arguments in_tag) = use_thing name arguments
 thing_of (variable_at place name) = variable_thing name
 thing_of (bracket_of items) = bracket_thing (map (λ (item : PlacedItem). item.1) items)
 
--- some occurrence is this thing
+-- Some occurrence is this thing.
 abbrev pub IsTold : List Occurrence → Thing → Type 0
 IsTold occurrences thing =
     (occurrence : Occurrence) × Contains occurrences occurrence × (thing_of occurrence ≡ thing)
 
--- what stands in the type is told
+-- Each thing in the type is among the occurrences.
 abbrev pub TellsAll : List Occurrence → Ty → Type 0
 TellsAll occurrences t = (thing : Thing) → Contains (things_in t) thing → IsTold occurrences thing
 
--- so it is in each type of each declaration
+-- The occurrences of each declaration contain everything in its types.
 abbrev pub AllIsTold : List DeclPlaces → Type 0
 AllIsTold all =
     (d : DeclPlaces) (t : Ty) → Contains all d → Contains (types_of_body d.decl.body) t

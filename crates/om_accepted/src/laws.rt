@@ -1,34 +1,37 @@
-//! The laws, as contracts.
+//! The theorems as contracts of lemma functions.
 
 ghost use Rattle.om_accepted.specs.Accepted.{AcceptedAreWellFormed, AcceptedTypesAreSound};
 ghost use Rattle.om_accepted.specs.Brackets.{BracketsFollow};
 ghost use Rattle.om_accepted.specs.Names.{NamesFollow};
 ghost use Rattle.om_accepted.specs.Ranked.{RanksFollow};
 
-/// Abbreviations that do not come back to themselves have ranks that fall with each use.
+/// States that acyclic abbreviations can be ranked: there is a rank of names that decreases with
+/// each use.
 pub fn ranks_follow()
     ensures { RanksFollow }
 {}
 
-/// Names that break no rule are known, with as many arguments as they take, and variables are
-/// parameters.
+/// States that names are correct if they break no rule and the lists of occurrences are complete.
+/// Each name is known and has as many arguments as it takes, and each variable is a parameter.
 pub fn names_follow()
     ensures { NamesFollow }
 {}
 
-/// Brackets that break no rule include polymorphic variants alone, and their tags have hashes of
-/// their own.
+/// States that polymorphic variant types are correct if they break no rule, the lists of
+/// occurrences are complete, and abbreviations have plain heads. They include only polymorphic
+/// variant types, and distinct tags have distinct hashes.
 pub fn brackets_follow()
     ensures { BracketsFollow }
 {}
 
-/// Declarations that break no rule are well-formed, where what stands in them is told.
+/// States that declarations that break no rule are well-formed, if the lists of occurrences in them
+/// are complete.
 pub fn accepted_are_well_formed()
     ensures { AcceptedAreWellFormed }
 {}
 
-/// A type that breaks no rule over well-formed declarations is sound, where what stands in it is
-/// told.
+/// States that a type that breaks no rule over well-formed declarations is sound, if the list of
+/// occurrences in it is complete.
 pub fn accepted_types_are_sound()
     ensures { AcceptedTypesAreSound }
 {}

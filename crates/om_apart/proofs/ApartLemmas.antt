@@ -1,4 +1,4 @@
--- No request is for two sets of commands: one of the two is idle at it.
+-- Two command sets are disjoint: one of them does nothing for each request.
 use Rattle.std.proofs.Common.{◌≡◌, ◌⊎◌, ℕ, List, Some, inl, inr, refl}
 use Rattle.om_format.specs.Tree.{Tree}
 use Rattle.om_outcome.specs.CommandLine.{certify, scan, searched_by}
@@ -26,7 +26,7 @@ module _ {D T E : Type 0} (language : Language D T E) where
   made_apart (compare most) = inr (generation_idle language (compare most) refl)
   made_apart (own request) = inl (values_idle language request)
 
-  -- no request is for the texts and for this
+  -- `build` and this command are disjoint.
   pub made_apart_from_texts :
       {D' T' E' : Type 0} (other : Language D' T' E') (TextOf : T' → List ℕ → Built → Type 0)
       → AreApart (building other TextOf) (generation language)
@@ -58,7 +58,7 @@ module _ {D T E S : Type 0} (language : Language D T E) (Reads : ReadsSections S
   certificates_apart (compare most) = inr (certificates_idle language Reads ShownBy (compare most) refl)
   certificates_apart (own request) = inl (values_idle language request)
 
-  -- no request is for the texts and for this, nor for this and for a value that is made
+  -- `verify` is disjoint from `build` and from `gen`.
   pub certificates_apart_from_texts :
       {D' T' E' : Type 0} (other : Language D' T' E') (TextOf : T' → List ℕ → Built → Type 0)
       → AreApart (building other TextOf) (verifying language Reads ShownBy)
@@ -114,8 +114,7 @@ module _ {D T E : Type 0} (language : Language D T E) (SectionOf : SaysSections 
   sections_apart (compare most) = inr (certifying_idle language SectionOf (compare most) refl)
   sections_apart (own request) = inl (values_idle language request)
 
-  -- no request is for the texts and for this, nor for certificates and for this, nor for this and
-  -- for a value that is made
+  -- `check --cert` is disjoint from `build`, from `verify` and from `gen`.
   pub sections_apart_from_texts :
       {D' T' E' : Type 0} (other : Language D' T' E') (TextOf : T' → List ℕ → Built → Type 0)
       → AreApart (building other TextOf) (certifying language SectionOf)
@@ -188,7 +187,7 @@ module _ {D T E : Type 0} (language : Language D T E) (SectionOf : SaysSections 
   sections_apart_from_made other (compare most) =
       inr (generation_idle other (compare most) refl)
 
--- commands that are idle where it is asked where values stand are apart from the one that tells it
+-- If commands do nothing for searches, then they are disjoint from `scan`.
 searches_apart :
     {A : Type 0} (c : Commands A) → ((limit : ℕ) → IsIdleAt c (own (scan limit)))
     → AreApart c (searching searched_by)

@@ -1,5 +1,6 @@
-//! No request is for two sets of commands, so that they are lawful as one: laws, with no code of a
-//! run.
+//! Laws: the command sets are pairwise disjoint, that is, no request is for two of them. Disjoint
+//! command sets can be combined into one lawful command set. The crate contains only laws and no
+//! code that runs.
 #![tactic(auto)]
 
 pub mod laws;

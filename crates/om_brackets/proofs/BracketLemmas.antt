@@ -1,5 +1,5 @@
--- The items of a bracket one after another: what they brought, and the least place at which a rule
--- is broken.
+-- The loop over the items of a bracket: the tags contributed so far, and the least lexeme at which
+-- a rule is broken.
 use Rattle.std.proofs.Common.{ℕ, ℤ, ◌<◌, ◌≤◌, ◌+◌, ◌≡◌, ◌≢◌, ◌⊎◌, ⊎_elim, Bool, Option, Some}
 use Rattle.std.proofs.Common.{None}
 use Rattle.std.proofs.Common.{List, [], ◌++◌, length, get_or, refl, sym, ap, subst, arith, ◌∙◌}
@@ -21,15 +21,15 @@ use Rattle.om_brackets.specs.Tables.{ArgumentTable, arguments_at, HasArgument, A
 use Rattle.om_brackets.specs.Tables.{SomeClashes, SpellingTable, spellings_at, HasSpelling}
 use Rattle.om_brackets.specs.Tables.{AreSpellings, AreColliding}
 
--- ---- what the items brought
+-- ---- the tags contributed so far
 
 module _ (items : List Item) where
-  -- one of the first n items brings this tag
+  -- One of the first `n` items contributes this tag.
   abbrev pub Brought : ℕ → TagOf ℕ → Type 0
   Brought n tag =
       (m : ℕ) × (m < n) × (item : Item) × (slice_get items m ≡ Some item) × Contains item.tags tag
 
-  -- these are the tags that the first n items bring
+  -- These are the tags that the first `n` items contribute.
   pub record AreBrought (n : ℕ) (seen : List (TagOf ℕ)) : Type 0 where
     pub there : (tag : TagOf ℕ) → Contains seen tag → Brought n tag
     pub all : (tag : TagOf ℕ) → Brought n tag → Contains seen tag
@@ -69,9 +69,10 @@ module _ (items : List Item) where
     all = λ tag b. seen_later n item seen tag is brought b (cases_lt b.0 n);
   }
 
-  -- ---- clashes
+  -- ---- conflicts
 
-  -- item j, at lexeme k, brings a tag that an earlier one brings with another argument
+  -- Item `j`, at lexeme `k`, contributes a tag that an earlier item contributes with another
+  -- argument.
   abbrev pub ClashAt : ℕ → ℕ → Type 0
   ClashAt j k =
       (item : Item) × (slice_get items j ≡ Some item) × (item.place ≡ k)
@@ -105,7 +106,7 @@ module _ (items : List Item) where
         ),
       ))
 
-  -- what holds after the first n items
+  -- The invariant after the first `n` items.
   pub record AreClashesBefore (n : ℕ) (table : ArgumentTable) (best : Option ℕ) : Type 0 where
     pub seen : List (TagOf ℕ)
     pub brought : AreBrought n seen
@@ -197,7 +198,8 @@ module _ (items : List Item) where
 
   -- ---- collisions
 
-  -- item j, at lexeme k, brings a tag of one name, and it or an earlier item a tag of the other one
+  -- Item `j`, at lexeme `k`, contributes a tag with one name. The same item or an earlier one
+  -- contributes a tag with the other name.
   abbrev pub CollisionAt : ℕ → ℕ → List ℕ → List ℕ → Type 0
   CollisionAt j k one_name other_name =
       (item : Item) × (slice_get items j ≡ Some item) × (item.place ≡ k)
@@ -207,7 +209,7 @@ module _ (items : List Item) where
   abbrev pub SomeCollisionAt : ℕ → ℕ → Type 0
   SomeCollisionAt j k = (one other : List ℕ) × CollisionAt j k one other
 
-  -- what was found at an item
+  -- The collision found at an item.
   abbrev pub Finds : List (TagOf ℕ) → Item → Option Collision → Type 0
   Finds seen item found =
       MatchOption found ((one other : List ℕ) → ¬ AreColliding seen item.tags one other)
@@ -279,7 +281,7 @@ module _ (items : List Item) where
         finds.1.4,
       )
 
-  -- what holds after the first n items
+  -- The invariant after the first `n` items.
   pub record AreCollisionsBefore (n : ℕ) (table : SpellingTable) (best : Option Collision)
       : Type 0 where
     pub seen : List (TagOf ℕ)

@@ -1,4 +1,4 @@
--- What is told of the values that were seen, after one more, and when another one is asked for.
+-- The entry of a key after one more value, and the search for another value in it.
 use Rattle.std.proofs.Common.{◌≡◌, ◌≢◌, ◌⊎◌, ⊎_elim, Bool, true, false, cond, Option, Some, None}
 use Rattle.std.proofs.Common.{refl, sym, subst, inl, inr, ◌∙◌}
 use Rattle.std.specs.Prelude.{MatchOption}
@@ -8,7 +8,7 @@ use Rattle.om_brackets.specs.declared.sightings.Sighting.{Sighting}
 use Rattle.om_brackets.specs.Sightings.{with_value, other_value, Tells}
 
 module _ {V B : Type 0} (meaning : V → B) where
-  -- what is told of the values beside the first
+  -- The description of the values beside the first.
   abbrev pub TellsOther : (B → Type 0) → V → Option V → Type 0
   TellsOther Seen first other =
       MatchOption other ((b : B) → Seen b → meaning first ≡ b)
@@ -20,7 +20,7 @@ module _ {V B : Type 0} (meaning : V → B) where
   same_other Seen Next first None to from all = λ b next. all b (from b next)
   same_other Seen Next first (Some v) to from differs = (to (meaning v) differs.0, differs.1)
 
-  -- the same values were seen
+  -- If the same values were seen, then the entry describes them.
   pub tells_same :
       (Seen Next : B → Type 0) (known : Option (Sighting V)) → ((b : B) → Seen b → Next b)
       → ((b : B) → Next b → Seen b) → Tells meaning Seen known → Tells meaning Next known
@@ -51,7 +51,7 @@ module _ {V B : Type 0} (meaning : V → B) where
     added_other Seen Next first value (Some v) differs keep split here =
         (keep (meaning v) differs.0, differs.1)
 
-    -- one value more was seen
+    -- If one more value was seen, then the extended entry describes the values.
     pub tells_more :
         (Seen Next : B → Type 0) (value : V) (known : Option (Sighting V))
         → Tells meaning Seen known → ((b : B) → Seen b → Next b)
@@ -64,7 +64,7 @@ module _ {V B : Type 0} (meaning : V → B) where
       added_other Seen Next known.first value known.other some.1 keep split here,
     )
 
-    -- what another value says
+    -- The meaning of the result of a search for another value.
     abbrev pub SaysOther : (B → Type 0) → V → Option V → Type 0
     SaysOther Seen value found =
         MatchOption found ((b : B) → Seen b → b ≡ meaning value)
@@ -85,7 +85,8 @@ module _ {V B : Type 0} (meaning : V → B) where
         says_other Seen first value other seen rest (says.0 refl)
     says_first Seen first value other false says seen rest = (seen, λ e. false≢true (says.1 e))
 
-    -- the other value that is answered was seen, and where none is, there is none
+    -- If the search returns another value, then it was seen. If it returns none, then there is
+    -- none.
     pub other_says :
         (Seen : B → Type 0) (value : V) (known : Option (Sighting V)) → Tells meaning Seen known
         → SaysOther Seen value (other_value eq known value)
@@ -94,7 +95,7 @@ module _ {V B : Type 0} (meaning : V → B) where
         says_first Seen known.first value known.other (eq known.first value)
         (decides known.first value) some.0 some.1
 
-    -- ---- a table: what was seen under each key
+    -- ---- a table with an entry for each key
 
     module _ {A : Type 0} (key : A) (same : A → Bool) (same_is : (a : A) → Decides (same a) (key ≡ a)) where
       added_at :
@@ -113,7 +114,7 @@ module _ {V B : Type 0} (meaning : V → B) where
           (λ b next. ⊎_elim (λ seen. seen) (λ e. absurd (false≢true (says.1 e.0))) (split a b next))
           (tells a)
 
-      -- one value more was seen under this key
+      -- If one more value was seen under this key, then the extended table describes the values.
       pub tells_added :
           (Seen Next : A → B → Type 0) (value : V) (before after : A → Option (Sighting V))
           → ((q : A) → Tells meaning (Seen q) (before q))

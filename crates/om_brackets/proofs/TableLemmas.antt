@@ -1,4 +1,4 @@
--- The tables of arguments and of names: what they tell after one tag more, and what they answer.
+-- The tables of arguments and of names after one more tag, and the results of searches in them.
 use Rattle.std.proofs.Common.{ℕ, ℤ, ◌<◌, ◌≤◌, ◌+◌, ◌≡◌, ◌≢◌, ◌⊎◌, ⊎_elim, inl, inr, false}
 use Rattle.std.proofs.Common.{cond, Option, Some, None, List, [], ◌∷◌, ◌++◌, length, get_or, take}
 use Rattle.std.proofs.Common.{refl, sym, ap, subst, arith, ◌∙◌, append_assoc, Equal}
@@ -30,7 +30,7 @@ use Rattle.om_brackets.specs.Tables.{SpellingTable, spellings_at, HasSpelling, A
 use Rattle.om_brackets.specs.Tables.{AreColliding}
 use Rattle.om_brackets.proofs.SightingLemmas.{tells_added, other_says}
 
--- ---- tests
+-- ---- boolean tests
 
 argument_is : (a b : Option ℕ) → Decides (option_eq nat_eq a b) (a ≡ b)
 argument_is None None = (λ t. refl, λ e. refl)
@@ -50,7 +50,7 @@ hash_is h q = (
       (subst (λ x. int_cmp h x ≡ Equal) e (tied_itself int_cmp_total h)),
 )
 
--- ---- a list, one more after those before
+-- ---- a list, one more element at a time
 
 pub more_of :
     {X : Type 0} (P : List X → Type 0) (seen xs : List X) (i : ℕ) (x : X) → i < length xs
@@ -66,7 +66,7 @@ pub all_of :
 all_of P xs i le ge holds = let e : i ≡ length xs = omega arith in
     subst P (take-length xs) (subst (λ n. P (take n xs)) e holds)
 
--- an element of the first i + 1 is one of the first i, or the next one
+-- An element of the first `i` + 1 is one of the first `i`, or the next one.
 pub split_next :
     {X : Type 0} (xs : List X) (i : ℕ) (x y : X) → i < length xs → x ≡ get_or xs i x
     → Contains (take (i + 1) xs) y → Contains (take i xs) y ⊎ (x ≡ y)
@@ -109,7 +109,8 @@ argument_says seen tag table key found is found_is tells =
     (other_says (λ argument. argument) (option_eq nat_eq) argument_is (HasArgument seen tag.name)
     tag.argument (arguments_at table tag.name) (tells tag.name))
 
--- the first i + 1 tags do not clash, where the first i do not and the next one has no other argument
+-- If the first `i` tags have no conflict and the next one has no other argument, then the first `i`
+-- + 1 tags have no conflict.
 pub no_clash :
     (seen tags : List (TagOf ℕ)) (i : ℕ) (tag : TagOf ℕ) (found : Option (Option ℕ))
     → i < length tags → tag ≡ get_or tags i tag → (¬ SomeClashes seen (take i tags))
@@ -167,8 +168,8 @@ spelling_says seen table text h found found_is tells =
     (other_says (λ (v : Bor (List ℕ)). v.now) (λ (a b : Bor (List ℕ)). bytes_eq a.now b.now)
     (λ a b. bytes_eq-Decides a.now b.now) (HasSpelling seen h) text (spellings_at table h) (tells h))
 
--- the first i + 1 tags do not collide, where the first i do not and no other name has the hash of
--- the next one
+-- If the first `i` tags have no collision and the hash of the next one has no other name, then the
+-- first `i` + 1 tags have none.
 pub no_collision :
     (seen tags : List (TagOf ℕ)) (i : ℕ) (tag : TagOf ℕ) (text : Bor (List ℕ)) (h : ℤ)
     → i < length tags → tag ≡ get_or tags i tag → text.now ≡ tag.name → h ≡ tag_hash text.now

@@ -1,4 +1,5 @@
--- The rules over numbers of types are those over the types as they are written.
+-- The rules over the numbers of types are equivalent to the rules over the types as they are
+-- written.
 use Rattle.std.proofs.Common.{ℕ, ◌≡◌, Option, Some, None, List, refl, sym, ap, subst, ◌∙◌}
 use Rattle.std.specs.Prelude.{slice_get, Contains, IfSome, map, option_map}
 use Rattle.std.proofs.lemmas.Option.{same_Some, none-some, slice_get-map}
@@ -19,7 +20,7 @@ use Rattle.om_brackets.specs.Collisions.{place_of, IsCollision, IsLeastCollision
 use Rattle.om_brackets.specs.Items.{Brings, ClashesIn, CollideIn, CollidesIn, HaveOneHash}
 use Rattle.om_brackets.specs.Trees.{typed_item, written_item, AreItems, NamesHashAt}
 
--- ---- lists that are alike
+-- ---- lists with equal images
 
 same_at :
     {X Y : Type 0} (g : Y → X) (o : Option Y) (x : X) → Some x ≡ option_map g o
@@ -67,7 +68,7 @@ same_number types distinct (Some m) (Some n) (Some t) one other =
 -- ---- tags
 
 module _ (types : List Ty) where
-  -- one tag by the number of its argument, and as it is written
+  -- A tag with the number of its argument represents a tag of the text.
   abbrev pub IsTag : TagOf ℕ → TagOf Ty → Type 0
   IsTag tag written =
       tag_with_part (slice_get types) tag ≡ tag_with_part (λ (t : Ty). Some t) written
@@ -109,7 +110,7 @@ module _ (types : List Ty) where
   -- ---- items
 
   module _ (decls : List Decl) (items : List Item) (all : List PlacedItem) (are : AreItems types decls items all) where
-    -- what is brought by numbers is written so
+    -- If tags are contributed by number, then tags of the text are contributed.
     to_written :
         (k i j : ℕ) (one other : TagOf ℕ) → Brings items k i j one other
         → (a b : TagOf Ty) × HasTags decls all k i j a b × IsTag one a × IsTag other b
@@ -136,7 +137,7 @@ module _ (types : List Ty) where
           sym b.2,
         )
 
-    -- what is written is brought by numbers
+    -- The converse holds.
     to_numbers :
         (k i j : ℕ) (a b : TagOf Ty) → HasTags decls all k i j a b
         → (one other : TagOf ℕ) × Brings items k i j one other × IsTag one a × IsTag other b

@@ -1,4 +1,4 @@
--- The places and the names of tags that have one hash.
+-- The lexemes and the names of tags that have the same hash.
 use Rattle.std.specs.Prelude.{ℕ, List, Option, IfSome, option_map}
 use Rattle.om_scope.specs.Least.{IsLeast}
 use Rattle.om_brackets.specs.declared.item.Item.{Item}
@@ -8,11 +8,12 @@ use Rattle.om_brackets.specs.Items.{CollideIn, CollidesIn}
 abbrev pub place_of : Option Collision → Option ℕ
 place_of found = option_map (λ (c : Collision). c.place) found
 
--- two tags of these names have one hash, at this place
+-- Two tags with these names have the same hash, at this lexeme.
 abbrev pub IsCollision : List Item → Collision → Type 0
 IsCollision items c = CollideIn items c.place c.one.now c.other.now
 
--- no tags have one hash, or these do and none at a lesser place
+-- If `found` is `None`, then no two tags have the same hash. Otherwise its tags do, and no tags do
+-- at a lesser lexeme.
 pub record IsLeastCollision (items : List Item) (found : Option Collision) : Type 0 where
   pub least : IsLeast (CollidesIn items) (place_of found)
   pub names : IfSome found (IsCollision items)

@@ -1,10 +1,10 @@
--- The rules of scope on tags, over the tags that each item of a bracket brings.
+-- The scope rules on tags, given the tags that each item of a bracket contributes.
 use Rattle.std.specs.Prelude.{ℕ, ◌<◌, ◌≤◌, ◌≡◌, ◌≢◌, List, Some, slice_get, Contains}
 use Rattle.om_polyvar.specs.TagHash.{tag_hash}
 use Rattle.om_types.specs.declared.head.TagOf.{TagOf}
 use Rattle.om_brackets.specs.declared.item.Item.{Item}
 
--- Item i brings the tag one, and item j, which stands at lexeme k, the tag other.
+-- Item `i` contributes the tag `one`, and item `j`, at lexeme `k`, contributes the tag `other`.
 pub record Brings (items : List Item) (k i j : ℕ) (one other : TagOf ℕ) : Type 0 where
   pub first : Item
   pub second : Item
@@ -14,13 +14,13 @@ pub record Brings (items : List Item) (k i j : ℕ) (one other : TagOf ℕ) : Ty
   pub one_there : Contains first.tags one
   pub other_there : Contains second.tags other
 
--- an item at lexeme k brings a tag that an earlier item brings with another argument
+-- An item at lexeme `k` contributes a tag that an earlier item contributes with another argument.
 abbrev pub ClashesIn : List Item → ℕ → Type 0
 ClashesIn items k =
     (i j : ℕ) × (one other : TagOf ℕ) × Brings items k i j one other
     × (i < j) × (one.name ≡ other.name) × (one.argument ≢ other.argument)
 
--- two tags of these names have one hash
+-- Two tags with these different names have the same hash.
 pub record HaveOneHash {T : Type 0} (one other : TagOf T) (one_name other_name : List ℕ)
     : Type 0 where
   pub one_named : one.name ≡ one_name
@@ -28,13 +28,13 @@ pub record HaveOneHash {T : Type 0} (one other : TagOf T) (one_name other_name :
   pub unlike : one_name ≢ other_name
   pub alike : tag_hash one_name ≡ tag_hash other_name
 
--- An item at lexeme k brings the tag named other, and it or an earlier item the tag named one,
--- which has the same hash.
+-- An item at lexeme `k` contributes the tag `other`. The same item or an earlier one contributes
+-- the tag `one`, which has the same hash.
 abbrev pub CollideIn : List Item → ℕ → List ℕ → List ℕ → Type 0
 CollideIn items k one_name other_name =
     (i j : ℕ) × (one other : TagOf ℕ) × Brings items k i j one other
     × (i ≤ j) × HaveOneHash one other one_name other_name
 
--- two such tags are there
+-- There are two tags with the same hash at lexeme `k`.
 abbrev pub CollidesIn : List Item → ℕ → Type 0
 CollidesIn items k = (one other : List ℕ) × CollideIn items k one other

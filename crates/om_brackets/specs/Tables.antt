@@ -1,4 +1,4 @@
--- Tables of what was seen of tags.
+-- Tables of the tags seen.
 use Rattle.std.specs.Prelude.{ℕ, ℤ, ◌≡◌, ◌≢◌, List, Option, Contains}
 use Rattle.std.specs.BTreeMap.{get_by}
 use Rattle.std.specs.Borrow.{Bor}
@@ -19,21 +19,21 @@ ArgumentTable = Sightings (Bor (List ℕ)) (Option ℕ)
 abbrev pub arguments_at : ArgumentTable → List ℕ → Option (Sighting (Option ℕ))
 arguments_at table name = get_by (λ k. slice_cmp nat_cmp name k.now) table.entries
 
--- one of the tags has this name and this argument
+-- One of the tags has this name and this argument.
 abbrev pub HasArgument : List (TagOf ℕ) → List ℕ → Option ℕ → Type 0
 HasArgument tags name argument = Contains tags (record { name = name; argument = argument })
 
--- the table tells the arguments of these tags
+-- The table describes the arguments of these tags.
 abbrev pub AreArguments : List (TagOf ℕ) → ArgumentTable → Type 0
 AreArguments tags table =
     (name : List ℕ) → Tells (λ argument. argument) (HasArgument tags name) (arguments_at table name)
 
--- one of these tags has this one's name and another argument
+-- One of these tags has the name of this tag and another argument.
 abbrev pub ClashesWith : List (TagOf ℕ) → TagOf ℕ → Type 0
 ClashesWith tags tag =
     (argument : Option ℕ) × HasArgument tags tag.name argument × (argument ≢ tag.argument)
 
--- one of the first tags clashes with one of the second ones
+-- One of the first tags conflicts with one of the second ones.
 abbrev pub SomeClashes : List (TagOf ℕ) → List (TagOf ℕ) → Type 0
 SomeClashes first second = (tag : TagOf ℕ) × Contains second tag × ClashesWith first tag
 
@@ -45,18 +45,18 @@ SpellingTable = Sightings ℤ (Bor (List ℕ))
 abbrev pub spellings_at : SpellingTable → ℤ → Option (Sighting (Bor (List ℕ)))
 spellings_at table hash = get_by (int_cmp hash) table.entries
 
--- one of the tags has this hash and this name
+-- One of the tags has this hash and this name.
 abbrev pub HasSpelling : List (TagOf ℕ) → ℤ → List ℕ → Type 0
 HasSpelling tags hash name =
     (tag : TagOf ℕ) × Contains tags tag × (tag.name ≡ name) × (tag_hash name ≡ hash)
 
--- the table tells the names of these tags
+-- The table describes the names of these tags.
 abbrev pub AreSpellings : List (TagOf ℕ) → SpellingTable → Type 0
 AreSpellings tags table =
     (hash : ℤ)
     → Tells (λ (text : Bor (List ℕ)). text.now) (HasSpelling tags hash) (spellings_at table hash)
 
--- one of the first tags and one of the second have these names and one hash
+-- One of the first tags and one of the second ones have these names and the same hash.
 abbrev pub AreColliding : List (TagOf ℕ) → List (TagOf ℕ) → List ℕ → List ℕ → Type 0
 AreColliding first second one_name other_name =
     (one other : TagOf ℕ) × Contains first one × Contains second other

@@ -1,4 +1,4 @@
--- The items of a bracket as it is written, and these items by the numbers of types.
+-- The items of a bracket as it is written, and the same items by the numbers of types.
 use Rattle.std.specs.Prelude.{ℕ, ◌≤◌, ◌≡◌, List, Option, Some, IfSome, map, slice_get}
 use Rattle.om_types.specs.declared.decl.Decl.{Decl}
 use Rattle.om_types.specs.declared.head.TagOf.{TagOf}
@@ -15,37 +15,38 @@ use Rattle.om_brackets.specs.Items.{HaveOneHash}
 
 -- ---- items by numbers
 
--- the place and the tags of an item, each argument as the type of its number
+-- The lexeme and the tags of an item, with the type of each argument's number.
 abbrev pub typed_item : List Ty → Item → ℕ × List (TagOf (Option Ty))
 typed_item types item = (item.place, map (tag_with_part (slice_get types)) item.tags)
 
--- the place of an item that is written, and the tags that it brings
+-- The lexeme of an item of the text, and the tags that it contributes.
 abbrev pub written_item : List Decl → PlacedItem → ℕ × List (TagOf (Option Ty))
 written_item decls item = (item.0, map (tag_with_part Some) (tags_of_item decls item.1))
 
--- The items stand for those that are written: each has its place and its tags, with the numbers of
--- their arguments among distinct types.
+-- The items represent those of the text: each has the same lexeme and the same tags, with the
+-- numbers of the arguments among distinct types.
 pub record AreItems (types : List Ty) (decls : List Decl) (items : List Item)
     (all : List PlacedItem)
     : Type 0 where
   pub distinct : AreDistinct types
   pub same : map (typed_item types) items ≡ map (written_item decls) all
 
--- ---- what the rules are judged by
+-- ---- the results of the rules
 
--- two tags of these names have one hash, as HashesAt says of some names
+-- Two tags with these names have the same hash. `HashesAt` says this for some names.
 abbrev pub NamesHashAt : List Decl → List PlacedItem → ℕ → List ℕ → List ℕ → Type 0
 NamesHashAt decls items k one_name other_name =
     (i j : ℕ) × (one other : TagOf Ty) × HasTags decls items k i j one other
     × (i ≤ j) × HaveOneHash one other one_name other_name
 
--- the least clash of whatever items these stand for
+-- The least conflict in every list of items that these items represent.
 abbrev pub IsLeastClashOf : List Item → Option ℕ → Type 0
 IsLeastClashOf items best =
     (types : List Ty) (decls : List Decl) (all : List PlacedItem) → AreItems types decls items all
     → IsLeast (ClashesAt decls all) best
 
--- the least place of equal hashes in whatever items these stand for, and two names there
+-- The least lexeme with equal hashes in every list of items that these items represent, and two
+-- names there.
 pub record IsLeastHashOf (items : List Item) (found : Option Collision) : Type 0 where
   pub least :
       (types : List Ty) (decls : List Decl) (all : List PlacedItem) → AreItems types decls items all

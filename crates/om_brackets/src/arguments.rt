@@ -1,4 +1,4 @@
-//! Tags that come with two arguments.
+//! Tags that occur with two different arguments.
 
 ghost use Rattle.std.specs.Prelude.{ℕ, ◌++◌, ◌↔◌, List, IfOk, OnOk, IsTrue};
 ghost use Rattle.om_types.specs.declared.head.TagOf.{TagOf as Tag};
@@ -14,7 +14,7 @@ use om_scope::{place_if, sooner};
 use om_types::head::TagOf;
 use std::alloc::Global;
 
-/// Adds the arguments of tags.
+/// Adds the arguments of these tags to the table.
 fn add_arguments<'a>(
     table: &mut Sightings<&'a [u8], Option<usize>>,
     tags: &'a [TagOf<usize>],
@@ -29,7 +29,7 @@ fn add_arguments<'a>(
     Ok(())
 }
 
-/// Whether a tag was seen with another argument.
+/// Returns true if one of the tags was seen with another argument.
 fn clashes<'a>(table: &Sightings<&'a [u8], Option<usize>>, tags: &'a [TagOf<usize>]) -> bool
     ensures { (seen : List (Tag ℕ)) → AreArguments seen table.now → IsTrue result
         ↔ SomeClashes seen tags.now }
@@ -42,12 +42,13 @@ fn clashes<'a>(table: &Sightings<&'a [u8], Option<usize>>, tags: &'a [TagOf<usiz
     false
 }
 
-/// The least place of an item that brings a tag which an earlier item brings with another argument.
-/// Places may come in any order.
+/// Returns the least lexeme of an item with a tag that an earlier item has with another argument.
+/// Returns `None` if there is no such item. The items may have their lexemes in any order.
 pub fn least_clash(alloc: Global, items: &[Item]) -> Result<Option<usize>, Memory>
     ensures least { IfOk result (IsLeast (ClashesIn items.now)) }
 
-    // Of whatever items these stand for, by the numbers of types.
+    // The result holds for every list of items of type expressions that these items represent by
+    // the numbers of their types.
     ensures of_types { IfOk result (IsLeastClashOf items.now) }
 {
     let mut table = empty(alloc);

@@ -1,4 +1,7 @@
-//! The rules of scope on the tags of a bracket, over the tags that each of its items brings.
+//! Checks the scope rules on the tags of a bracket, given the tags that each item contributes.
+//! `least_clash` finds a tag with two different arguments, and `least_collision` finds two tags
+//! with the same hash. Each finds the least lexeme at which its rule is broken, and also proves
+//! this for the bracket as it is written. The crate does not compute the tags of included types.
 #![tactic(auto)]
 
 mod arguments;

@@ -1,4 +1,4 @@
-//! What was seen under each key: nothing, one value, or two that differ.
+//! A table with, for each key, the first value seen and one other value that differs from it.
 
 ghost use Rattle.std.specs.Prelude.{◌≡◌, None, Some, OnOk, if◌then◌else◌};
 ghost use Rattle.std.specs.BTreeMap.{get_by};
@@ -9,20 +9,20 @@ use om_model::Memory;
 use std::alloc::Global;
 use std::collections::BTreeMap;
 
-/// What was seen under a key: the first value, and one that differs from it, if one came.
+/// The values seen under a key: the first value, and one that differs from it, if there was one.
 #[derive(Clone, Copy)]
 pub struct Sighting<V> {
     pub first: V,
     pub other: Option<V>,
 }
 
-/// What was seen under each key.
+/// The values seen under each key.
 #[derive(Drop)]
 pub struct Sightings<K: Ord, V> {
     pub entries: BTreeMap<K, Sighting<V>>,
 }
 
-/// A value more.
+/// Returns the entry after one more value.
 fn with_value<V: Eq + Copy>(known: Option<Sighting<V>>, value: V) -> Sighting<V>
     ensures { result ≡ with_value V.eq known value }
 {
@@ -44,7 +44,7 @@ fn with_value<V: Eq + Copy>(known: Option<Sighting<V>>, value: V) -> Sighting<V>
     }
 }
 
-/// A value that differs from this one, if one was seen.
+/// Returns a value seen under the key that differs from `value`, if there is one.
 fn other_value<V: Eq + Copy>(known: Option<Sighting<V>>, value: V) -> Option<V>
     ensures { result ≡ other_value V.eq known value }
 {
@@ -60,7 +60,7 @@ fn other_value<V: Eq + Copy>(known: Option<Sighting<V>>, value: V) -> Option<V>
     }
 }
 
-/// Nothing was seen.
+/// Returns the empty table.
 pub fn empty<K: Ord, V: Eq + Copy>(alloc: Global) -> Sightings<K, V>
     ensures { (q : K) → get_by (K.cmp q) result.entries ≡ None }
 {
@@ -87,7 +87,7 @@ pub fn add<K: Ord + Copy, V: Eq + Copy>(
     Ok(())
 }
 
-/// A value under the key that differs from this one, if there is one.
+/// Returns a value under the key that differs from `value`, if there is one.
 pub fn other<K: Ord + Copy, V: Eq + Copy>(table: &Sightings<K, V>, key: K, value: V) -> Option<V>
     ensures { result ≡ other_value V.eq (get_by (K.cmp key) table.now.entries) value }
 {

@@ -1,4 +1,4 @@
-//! Tags that have one hash.
+//! Tags that have the same hash.
 
 ghost use Rattle.std.specs.Prelude.{ℕ, ◌≡◌, ◌++◌, ◌⊎◌, List, IfOk, OnOk, MatchOption};
 ghost use Rattle.om_types.specs.declared.head.TagOf.{TagOf as Tag};
@@ -12,8 +12,7 @@ use om_polyvar::hash;
 use om_types::head::TagOf;
 use std::alloc::Global;
 
-/// Two names of tags that have one hash, and the first lexeme of the item that brings the other
-/// one.
+/// The names of two tags with the same hash, and the first lexeme of the item with the second one.
 #[derive(Clone, Copy)]
 pub struct Collision<'a> {
     pub place: usize,
@@ -24,7 +23,7 @@ pub struct Collision<'a> {
 ghost use Rattle.om_brackets.specs.Collisions.{place_of, IsLeastCollision};
 ghost use Rattle.om_brackets.specs.Trees.{IsLeastHashOf};
 
-/// Adds the names of tags.
+/// Adds the names of these tags to the table.
 fn add_spellings<'a>(
     table: &mut Sightings<i64, &'a [u8]>,
     tags: &'a [TagOf<usize>],
@@ -40,7 +39,8 @@ fn add_spellings<'a>(
     Ok(())
 }
 
-/// A tag's name whose hash was seen with another name, and that one.
+/// Finds a tag whose hash was seen with another name. Returns the collision of the two names at
+/// `place`, or `None` if there is no collision.
 fn find_collision<'a>(
     table: &Sightings<i64, &'a [u8]>,
     tags: &'a [TagOf<usize>],
@@ -63,7 +63,7 @@ fn find_collision<'a>(
     None
 }
 
-/// That of the lesser place.
+/// Returns the collision with the lesser lexeme.
 pub fn nearer<'a>(
     best: Option<Collision<'a>>,
     found: Option<Collision<'a>>,
@@ -78,15 +78,17 @@ pub fn nearer<'a>(
     }
 }
 
-/// The least place of an item that brings a tag whose hash another tag has, of an earlier item or
-/// its own, and the names of two such tags. Places may come in any order.
+/// Finds the least lexeme of an item with a tag that has the same hash as another tag, of an
+/// earlier item or of the same item. Returns it with the names of two of these tags, or `None` if
+/// there is no such item. The items may have their lexemes in any order.
 pub fn least_collision<'a>(
     alloc: Global,
     items: &'a [Item],
 ) -> Result<Option<Collision<'a>>, Memory>
     ensures least { IfOk result (IsLeastCollision items.now) }
 
-    // Of whatever items these stand for, by the numbers of types.
+    // The result holds for every list of items of type expressions that these items represent by
+    // the numbers of their types.
     ensures of_types { IfOk result (IsLeastHashOf items.now) }
 {
     let mut table = empty(alloc);

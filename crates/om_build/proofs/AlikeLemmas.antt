@@ -1,4 +1,4 @@
--- What a line is by a table is what it is at the table's type.
+-- The meaning of a line by a table equals its meaning at the table's type.
 use Rattle.std.proofs.Common.{ℕ, ◌≡◌, List, [], Some, Ok, Err, refl, sym, ap, ◌∙◌, subst}
 use Rattle.om_model.specs.declared.value.Val.{Val}
 use Rattle.om_model.specs.declared.value.Val.TheVariants as vals
@@ -24,15 +24,15 @@ use Rattle.om_edit.proofs.AlikeLemmas.{set_at_alike, AnswersAgree, literal_text_
 use Rattle.om_declared.specs.Language.{TypeOver}
 use Rattle.om_build.specs.Lines.{AreText}
 
--- any value: what stands at the root before a text is put there is nowhere used
+-- An arbitrary value: the value at the root before a text is stored there is never used.
 abbrev pub before : Val
 before = vals.Atom 0
 
--- at the root
+-- At the root.
 abbrev pub at_root : {T : Type 0} → T → Place T
 at_root t = record { spot = spots.Root; value = before; ty = t }
 
--- ---- a text is what is put at the root of nothing
+-- ---- a text is stored at the root of nothing
 
 module _ (t : TypeOver) (lexemes : List Lexeme) (end : ℕ) where
   abbrev pub IsPut : Answer Ty → Type 0
@@ -58,7 +58,7 @@ module _ (t : TypeOver) (lexemes : List Lexeme) (end : ℕ) where
 
 -- ---- by a table
 
--- what a fault of a literal tells
+-- The reason that an error of a literal reports.
 reason_is : (r : Refusal ℕ) → literal_reason (fault_of r) ≡ Some (misread r)
 reason_is (misfit_at place i) = refl
 reason_is (int_range_at place) = refl
@@ -70,7 +70,7 @@ module _ (t : TypeOver) (table : Tabled) (made : IsTypeTable t.decls t.type tabl
   IsPutIn answer =
       IsSetAt (shape_in table) (names_in table) [] before (at_root 0) lexemes end answer
 
-  -- at the type it is the same, or refused for a reason of the same text
+  -- At the type the result is the same, or the text is refused for a reason with the same text.
   abbrev IsPutToo : Answer ℕ → Type 0
   IsPutToo answer =
       (other : Answer Ty) × IsPut t lexemes end other
@@ -93,7 +93,7 @@ module _ (t : TypeOver) (table : Tabled) (made : IsTypeTable t.decls t.type tabl
         subst (λ b. AreText t lexemes end (Ok b)) (sym same) (text_of_put t lexemes end (Ok other) is)
     by (Err reason, is, same) = absurd same
 
-  -- a reason at the type with the text of the fault
+  -- A reason at the type has the text of the error.
   abbrev pub HasReason : LiteralFault → Type 0
   HasReason fault =
       (reason : Reason Ty) × AreText t lexemes end (Err reason)

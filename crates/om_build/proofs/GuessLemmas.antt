@@ -1,4 +1,4 @@
--- A value that has the type, and whose text is the line, is one that the line stands for.
+-- If a value has the type and its text is the line, then the line denotes the value.
 use Rattle.std.proofs.Common.{◌≡◌, ℕ, ◌+◌, ◌<◌, ◌≤◌, ◌^◌, List, [], length, map, Option, Result, Ok, Err, inl, inr, refl, sym, ap, ◌∙◌, subst, arith}
 use Rattle.std.specs.Prelude.{◌≢◌, Bool, false, IfOk, IsErrAnd}
 use Rattle.om_model.specs.declared.out_of_memory.Memory.{Memory}
@@ -151,7 +151,7 @@ pub each_ok : (r : Result Bool Memory) (P Q : Bool → Type 0) → ((b : Bool) �
 each_ok (Ok b) P Q f h = f b h
 each_ok (Err e) P Q f h = tt
 
--- ---- what is put
+-- ---- the output
 
 pub halts_so :
     (Of : Built → Type 0) (number k : ℕ) (out : Change ByteState) (halt : Halt)

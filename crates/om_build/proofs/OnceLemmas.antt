@@ -1,4 +1,4 @@
--- A line is read in one way at a type that was read.
+-- A line has only one meaning at a type that was read.
 use Rattle.std.proofs.Common.{ℕ, ◌≡◌, List, [], length, Result, Ok, Err, inl, inr, refl, sym, ap, ◌∙◌, subst}
 use Rattle.om_model.specs.declared.value.Val.{Val}
 use Rattle.om_model.specs.declared.value.Obj.{Obj}
@@ -103,7 +103,7 @@ module _ (line : List ℕ) where
         (λ (r : Reason Ty) (number : ℕ). literal_text type_text (told number) r) same
         ∙ sym spelled')
 
-    -- where no value has the type and a fault
+    -- If no value has both the type and a fault.
     module _ (never_both : (graph : List Obj) (root : Val) (text : List ℕ)
         → HasType (declared_shapes t.decls) graph root t.type
         → IsNoLine (declared_shapes t.decls) type_text graph root t.type text → ⊥) where

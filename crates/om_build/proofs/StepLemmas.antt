@@ -1,4 +1,4 @@
--- What comes of a line, in code: its value, or why there is none; and its bytes, or a halt.
+-- The result of the code for a line: its value or an error, and its bytes or an error.
 use Rattle.std.proofs.Common.{ℕ, ◌≡◌, ◌+◌, Bool, false, List, length, Option, Some, None, Result, Ok, Err, inl, inr, refl, sym, ap, ◌∙◌, subst}
 use Rattle.std.specs.Prelude.{IfOk, IsErrAnd}
 use Rattle.om_model.specs.declared.out_of_memory.Memory.{Memory}
@@ -38,7 +38,7 @@ use Rattle.om_build.proofs.AlikeLemmas.{value_alike, fault_alike}
 
 module _ (r : Prepared) (ready : IsReady r) (told : ℕ → ℕ → List ℕ) (line : List ℕ)
     (new : List Obj) where
-  -- ---- what is read
+  -- ---- parsing
 
   pub line_read :
       (number : ℕ) (value : Option Val) → ReadsText r.table line new (Ok value)
@@ -54,7 +54,7 @@ module _ (r : Prepared) (ready : IsReady r) (told : ℕ → ℕ → List ℕ) (l
     },
   )
 
-  -- the line is refused, with the text of the fault
+  -- The line is refused, with the text of the error.
   pub line_refused :
       (number : ℕ) (fault : TextFault) (text : List ℕ)
       → IsFaultText r.table (told number) fault text
@@ -84,7 +84,7 @@ module _ (r : Prepared) (ready : IsReady r) (told : ℕ → ℕ → List ℕ) (l
       let why = line_refused number fault text spelled reads in
       inr (why.0, why.1, ap (λ t. text_line number t) why.2)
 
--- a fault with its places moved has the text of the fault whose places are told so
+-- The text of a mapped error equals the text of the error with mapped positions.
 pub told_moved :
     (table : Tabled) (lines : Bool) (decimals : List Decimal) (number : ℕ) (fault : TextFault)
     (result : Result (List ℕ) Memory)
@@ -103,13 +103,13 @@ told_moved table lines decimals number (faults.Literal (literals.Label p)) (Ok t
 told_moved table lines decimals number (faults.Literal literals.Memory) (Ok text) is = is
 told_moved table lines decimals number faults.Memory (Ok text) is = is
 
--- ---- what is put
+-- ---- the output
 
 plain_bytes : (tree : Tree) (large : Option TooLargeFor32) → bytes_for false tree large ≡ Ok (canon tree)
 plain_bytes tree None = refl
 plain_bytes tree (Some large) = refl
 
--- the bytes of a value, whatever reader is to hold them, are the canonical ones
+-- The bytes of a value are the canonical ones, independently of the reader.
 pub bytes_plain :
     (graph : List Obj) (root : Val) (bytes : List ℕ) → AreBytesOf false graph root (Ok bytes)
     → (tree : Tree) × IsTreeOf graph root tree × (bytes ≡ canon tree)
@@ -125,7 +125,7 @@ never_none graph root why (tree, of, is) =
     is ∙ plain_bytes tree (too_large_for_32 tree) in cc e
 
 module _ (r : Prepared) (k : ℕ) (graph : List Obj) (root : Val) where
-  -- the value has not the type, or memory ran out
+  -- The value lacks the type, or memory ran out.
   pub check_halts :
       (told : ℕ → ℕ → List ℕ) (line : List ℕ) (number : ℕ)
       → IsText (type_over r) line (Ok (graph, root))
@@ -196,7 +196,7 @@ module _ (r : Prepared) (k : ℕ) (graph : List Obj) (root : Val) where
 -- ---- a line
 
 module _ (r : Prepared) (told : ℕ → ℕ → List ℕ) (line : List ℕ) (number k : ℕ) where
-  -- by `?`
+  -- The error is propagated by `?`.
   pub line_halts :
       (out : Change ByteState) (halt : Halt) (result : Result ℕ Halt)
       → IsErrAnd result (λ h. h ≡ halt)
@@ -206,7 +206,7 @@ module _ (r : Prepared) (told : ℕ → ℕ → List ℕ) (line : List ℕ) (num
   line_halts out halt (Err e) is h =
       subst (HaltsBy (plain_texts (type_over r) told line) number k out) (sym is) h
 
-  -- what is read comes to a halt
+  -- Parsing causes an error.
   pub read_halts :
       (new : List Obj) (out : ByteState) (halt : Halt)
       → ReadsLine (type_over r) told line number new (Err halt)
@@ -222,7 +222,7 @@ module _ (r : Prepared) (told : ℕ → ℕ → List ℕ) (line : List ℕ) (num
       → PutsBy (plain_texts (type_over r) told line) number k out (Ok (k + 1))
   value_counts out (bytes, is, put) = (made bytes, is, put_bytes bytes, refl, put, refl)
 
-  -- without memory nothing is put
+  -- If memory runs out, nothing is written.
   pub memory_halts :
       (out : ByteState) → HaltsBy (plain_texts (type_over r) told line) number k (change out out)
       (halts.Stop out_of_memory)
@@ -232,7 +232,7 @@ module _ (r : Prepared) (told : ℕ → ℕ → List ℕ) (line : List ℕ) (num
 
 module _ (t : TypeOver) (line : List ℕ) (number k : ℕ) (out : Change ByteState)
     (result : Result ℕ Halt) where
-  -- the line is what its plain text is, with decimals or without
+  -- The meaning of the line is that of its plain text, with or without decimals.
   pub line_put :
       (decimal : Bool) → t.decimal ≡ decimal
       → PutsBy (plain_texts t (told_on t.lines (decimals_if decimal line)) (plain_if decimal line))

@@ -1,4 +1,4 @@
--- The lines so far: one more piece without a line feed, one more line, and the end.
+-- The lines so far: one more chunk without a line feed, one more line, and the end.
 use Rattle.std.proofs.Common.{◌≡◌, ℕ, suc, ◌+◌, ◌≤◌, true, List, [], ◌∷◌, ◌++◌, length, Result, Ok, Err, inl, inr, refl, sym, ap, ◌∙◌, subst, append_assoc, append-nil, length-append, arith}
 use Rattle.std.specs.Prelude.{◌&&◌, IsErrAnd, take, drop}
 use Rattle.om_outcome.specs.Outcome.{Said, all_well}
@@ -36,7 +36,7 @@ unbroken_all : (line more : List ℕ) → IsUnbroken line → IsUnbroken more �
 unbroken_all [] more one two = two
 unbroken_all (b ∷ line) more (other, rest) two = (other, unbroken_all line more rest two)
 
--- one line more
+-- One more line.
 texts_more :
     (t : TypeOver) (items : List Item) (n : ℕ) (line : List ℕ) (built : Built)
     → AreTexts declared_texts t items n → declared_texts t line built
@@ -60,7 +60,7 @@ texts_more t (text first ∷ items) n line built (is, first_of, more, texts, e) 
 length_snoc : (items : List Item) (item : Item) → length (items ++ item ∷ []) ≡ length items + 1
 length_snoc items item = length-append items (item ∷ [])
 
--- a line that stops the run does so by its numbers
+-- If a line ends the run, then it does so with its numbers.
 pub stops_by :
     (t : TypeOver) (items : List Item) (lines k : ℕ) (built : Built) (stop : Stop)
     → lines ≡ length items → AreTexts declared_texts t items k
@@ -102,7 +102,7 @@ few_texts t (text line ∷ items) n (built, of, more, texts, e) =
 
 module _ (r : Prepared) (held : List ℕ) (lines texts : ℕ) (bytes : List ℕ) (said : List Said)
     (h : HasTexts r held lines texts bytes said) where
-  -- what comes after the last line feed is no whole line
+  -- The bytes after the last line feed are not a complete line.
   abbrev pub texts_hold : HoldNoStop (building declared_types declared_texts) (type_over r) bytes said
   texts_hold = record {
     items = h.items;
@@ -121,7 +121,7 @@ module _ (r : Prepared) (held : List ℕ) (lines texts : ℕ) (bytes : List ℕ)
       let long = cut_long (type_over r) [] bytes h.items held h.first.cut in
       let few = few_texts (type_over r) h.items texts h.are_texts in omega (arith, long, few)
 
-  -- one more piece, without a line feed
+  -- One more chunk, without a line feed.
   pub texts_go_on :
       (piece kept : List ℕ) → IsUnbroken piece → kept ≡ held ++ piece
       → HasTexts r kept lines texts (bytes ++ piece) (said ++ [])
@@ -141,7 +141,7 @@ module _ (r : Prepared) (held : List ℕ) (lines texts : ℕ) (bytes : List ℕ)
   }
 
   module _ (end : List ℕ) (unbroken : IsUnbroken end) where
-    -- the line, its line feed, and what comes then
+    -- The line, its line feed, and the bytes after it.
     abbrev whole_line : (more : List ℕ) → IsLine (held ++ (end ++ 10 ∷ more)) (held ++ end) more
     whole_line more = record {
       unbroken = unbroken_all held end h.unbroken unbroken;
@@ -161,7 +161,7 @@ module _ (r : Prepared) (held : List ℕ) (lines texts : ℕ) (bytes : List ℕ)
         bytes h.items said held (end ++ 10 ∷ more) h.first)
         (held ++ end, whole_line more, refl) (held ++ end, refl, built, of, is)
 
-    -- the line is taken
+    -- The line is taken.
     pub line_taken :
         (built : Built) (next : Said) (after lines' : ℕ)
         → declared_texts (type_over r) (held ++ end) built → IsSaidOf built next
@@ -181,7 +181,7 @@ module _ (r : Prepared) (held : List ℕ) (lines texts : ℕ) (bytes : List ℕ)
           ∙ (fine_of declared_texts (type_over r) (held ++ end) built next of is).1);
     }
 
-    -- memory ran out
+    -- Memory ran out.
     pub line_memory :
         (more : List ℕ) (out : Change ByteState) (stop : Stop) → stop ≡ out_of_memory
         → Puts out []
@@ -189,7 +189,7 @@ module _ (r : Prepared) (held : List ℕ) (lines texts : ℕ) (bytes : List ℕ)
         said out (halts.Stop stop)
     line_memory more out stop is put = (texts_hold, inr is, put)
 
-    -- it comes to a halt there
+    -- The line causes an error.
     pub line_halts :
         (more line : List ℕ) (number : ℕ) (out : Change ByteState) (halt : Halt)
         → line ≡ held ++ end → number ≡ lines + 1
@@ -265,7 +265,7 @@ module _ (r : Prepared) (held : List ℕ) (lines texts : ℕ) (bytes : List ℕ)
   ends_halt_at number out halts.WriteFault numbered (built, of, final, is, part) =
       (texts_hold, (final, (built, of, is), part))
 
--- a line comes to a halt, by `?`
+-- A line causes an error, which is propagated by `?`.
 pub takes_halt :
     (t : TypeOver) (before after : Has) (end : List ℕ) (out : Change ByteState) (halt : Halt)
     (result : Result (Unit {0}) Halt) → IsErrAnd result (λ e. e ≡ halt)
@@ -276,9 +276,9 @@ takes_halt t before after end out halt (Ok unit) is halts = absurd is
 takes_halt t before after end out halt (Err e) is halts =
     subst (λ e. TakesLine {U = Unit {0}} t before after end out (Err e)) (sym is) halts
 
--- ---- where a line feed stands
+-- ---- the position of a line feed
 
--- no byte is one
+-- No byte is a line feed.
 pub unbroken_by :
     (bytes : List ℕ) → Nowhere (Passes (is_byte 10) bytes) 0 (length bytes) → IsUnbroken bytes
 unbroken_by [] none = tt
@@ -289,7 +289,7 @@ unbroken_by (b ∷ bytes) none = (first, unbroken_by bytes later) where
   later : Nowhere (Passes (is_byte 10) bytes) 0 (length bytes)
   later k low high is = none (suc k) (omega arith) (omega (arith, high)) is
 
--- the first one, with what comes before it and behind it
+-- The first line feed, with the bytes before and after it.
 pub record IsFeedAt (bytes : List ℕ) (n : ℕ) : Type 0 where
   pub unbroken : IsUnbroken (take n bytes)
   pub within : n + 1 ≤ length bytes

@@ -1,4 +1,4 @@
--- The faults of a text that a line with decimals stands for, with their places in the line.
+-- The errors of a plain text, mapped to the line with decimals from which it comes.
 use Rattle.std.specs.Prelude.{List}
 use Rattle.om_lex.specs.declared.lexeme.LexFault.{LexFault}
 use Rattle.om_lex.specs.declared.lexeme.LexFault.TheVariants as lexer

@@ -1,4 +1,4 @@
--- What a line of the input is at a declared type.
+-- The meaning of a line of the input at a declared type.
 use Rattle.std.specs.Prelude.{ℕ, ◌≡◌, ◌≢◌, ◌⊎◌, Bool, if◌then◌else◌, Ok, Err, List, [], length}
 use Rattle.om_model.specs.declared.value.Val.{Val}
 use Rattle.om_model.specs.declared.value.Obj.{Obj}
@@ -26,8 +26,9 @@ use Rattle.om_declared.specs.Language.{TypeOver}
 use Rattle.om_texts.specs.Texts.{Built, blank, made, refused, untyped}
 
 module _ (t : TypeOver) where
-  -- The lexemes are a literal of a value at the type, and these are its objects; or they are none,
-  -- or none of the type, first for this reason. Places are bytes, and the end is one.
+  -- The lexemes are a literal at the type, and its value has these objects. Or they are no literal,
+  -- or none of the type, and this is the first error. Positions are byte offsets; the end of the
+  -- text is one.
   abbrev pub AreText : List Lexeme → ℕ → Answer Ty → Type 0
   AreText lexemes end (Ok built) =
       IsLiteral (shape t.decls) (names_of t.decls) t.type lexemes 0 built.0 built.1
@@ -38,15 +39,15 @@ module _ (t : TypeOver) where
   AreText lexemes end (Err reason) = ⊥
 
   module _ (line : List ℕ) where
-    -- the line has lexemes, and they are this
+    -- The line has lexemes, and this is their meaning.
     pub record IsText (answer : Answer Ty) : Type 0 where
       pub lexemes : List Lexeme
       pub lexes : Lexes line lexemes
       pub some : lexemes ≢ []
       pub are : AreText lexemes (length line) answer
 
-    -- it is a text of a value that has the type, and each closed instance of it, and these are the
-    -- canonical bytes of it
+    -- The line denotes a value that has the type and each of its closed instances, and these are
+    -- the value's canonical bytes.
     pub record IsMade (bytes : List ℕ) : Type 0 where
       pub graph : List Obj
       pub root : Val
@@ -57,8 +58,8 @@ module _ (t : TypeOver) where
       pub of : IsTreeOf graph root tree
       pub are : bytes ≡ canon tree
 
-    -- it is one of a value that has not the type, nor each closed instance of it, and this is the
-    -- line of the least fault
+    -- The line denotes a value that lacks the type and some closed instance of it, and this is the
+    -- line of the first fault.
     pub record IsUntyped (fault : List ℕ) : Type 0 where
       pub graph : List Obj
       pub root : Val
@@ -66,8 +67,8 @@ module _ (t : TypeOver) where
       pub why : IsNoLine (declared_shapes t.decls) type_text graph root t.type fault
       pub some_not : ¬ HasEachInstance t.decls graph root t.type
 
-    -- it has no lexemes, for a fault of the lexer, or they are no literal of the type; and this is
-    -- told, by the number of the line, and by how places are told then
+    -- The line has a lexical error, or its lexemes are no literal of the type. The error text
+    -- depends on the line number and on the form of positions.
     abbrev pub IsRefused : (told : ℕ → ℕ → List ℕ) → (ℕ → List ℕ) → Type 0
     IsRefused told refusal =
         ((fault : LexFault) × Faults line fault
@@ -75,7 +76,7 @@ module _ (t : TypeOver) where
         ⊎ ((reason : Reason Ty) × IsText (Err reason)
         × (refusal ≡ λ number. literal_text type_text (told number) reason))
 
--- what a line without decimals is, where places are told so
+-- The meaning of a line without decimals, for this form of positions.
 abbrev pub plain_texts : TypeOver → (told : ℕ → ℕ → List ℕ) → List ℕ → Built → Type 0
 plain_texts t told line blank = Lexes line []
 plain_texts t told line (made bytes) = IsMade t line bytes
@@ -84,18 +85,19 @@ plain_texts t told line (untyped fault) = IsUntyped t line fault
 
 -- ---- decimals
 
--- where decimals stand for doubles: those of a line, and the text without them that it stands for
+-- If decimals may denote doubles: the decimals of a line, and its plain text.
 abbrev pub decimals_if : Bool → List ℕ → List Decimal
 decimals_if decimal line = if decimal then decimals_in line else []
 
 abbrev pub plain_if : Bool → List ℕ → List ℕ
 plain_if decimal line = if decimal then plain_text line else line
 
--- a place of that text is told as the one in the line, which has these decimals and this number
+-- A position in the plain text is reported as the position in the line, which has these decimals
+-- and this number.
 abbrev pub told_on : (lines : Bool) → List Decimal → (number : ℕ) → ℕ → List ℕ
 told_on lines decimals number = λ place. place_on lines number (given_place decimals place)
 
--- what a line is
+-- The meaning of a line.
 abbrev pub declared_texts : TypeOver → List ℕ → Built → Type 0
 declared_texts t line built =
     plain_texts t (told_on t.lines (decimals_if t.decimal line)) (plain_if t.decimal line) built

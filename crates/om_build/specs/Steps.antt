@@ -1,4 +1,4 @@
--- What comes of a line, in code.
+-- The results of the code for a line.
 use Rattle.std.specs.Prelude.{ℕ, ◌+◌, ◌≡◌, true, List, [], ◌∷◌, ◌++◌, length, Option, Some, None}
 use Rattle.std.specs.Prelude.{Result, Ok, Err}
 use Rattle.om_model.specs.declared.value.Val.{Val}
@@ -28,21 +28,21 @@ use Rattle.om_texts.specs.Texts.{Built, blank, made, refused, untyped, counted, 
 use Rattle.om_texts.specs.Texts.{IsSaidOf, AreTexts, building}
 use Rattle.om_build.specs.Lines.{declared_texts, plain_texts, IsText}
 
--- the text of a fault, where places are told so; want of memory has none
+-- The text of an error, for this form of positions. Running out of memory has no text.
 abbrev pub IsFaultText : Tabled → (told : ℕ → List ℕ) → TextFault → List ℕ → Type 0
 IsFaultText table told (faults.Lex fault) text = text ≡ lexer_text told fault
 IsFaultText table told (faults.Literal fault) text =
     text ≡ literal_or_none (text_at table) told (literal_reason fault)
 IsFaultText table told faults.Memory text = ⊥
 
--- line L, before which there are k texts, stops the run so
+-- Line `line`, after `k` texts, ends the run with this exit reason.
 abbrev pub IsStopAt : ℕ → ℕ → Built → Stop → Type 0
 IsStopAt line k blank stop = ⊥
 IsStopAt line k (made bytes) stop = ⊥
 IsStopAt line k (refused refusal) stop = stop ≡ text_line line (refusal line)
 IsStopAt line k (untyped fault) stop = stop ≡ untyped_value k fault
 
--- the text is blank, or one of a value, whose objects are these; or the run stops at the line
+-- The text is blank, or denotes a value with these objects. Or the run ends at the line.
 abbrev pub ReadsLine : TypeOver → (told : ℕ → ℕ → List ℕ) → List ℕ → ℕ → List Obj
     → Result (Option Val) Halt → Type 0
 ReadsLine t told text line new (Ok None) = plain_texts t told text blank
@@ -54,36 +54,36 @@ ReadsLine t told text line new (Err (halts.Stop stop)) =
     × (stop ≡ text_line line (refusal line))) stop
 ReadsLine t told text line new (Err halts.WriteFault) = ⊥
 
--- what the line is comes to a stop, with its number and that of its text, and nothing is put; or
--- out failed
+-- The meaning of the line is an error, reported with the numbers of the line and of its text, and
+-- nothing is written. Or writing the output fails.
 abbrev pub HaltsBy : (Of : Built → Type 0) → ℕ → ℕ → Change ByteState → Halt → Type 0
 HaltsBy Of line k out (halts.Stop stop) =
     OrMemory (λ stop. (built : Built) × Of built × IsStopAt line k built stop) stop × Puts out []
 HaltsBy Of line k out halts.WriteFault =
     (built : Built) × Of built × (said : Said) × IsSaidOf built said × PutsPart out said.text
 
--- the bytes of the value are put; or the run stops; or out failed
+-- The bytes of the value are written. Or the run ends, or writing the output fails.
 abbrev pub PutsValue : {U : Type 0} → (Of : Built → Type 0) → ℕ → ℕ → Change ByteState
     → Result U Halt → Type 0
 PutsValue Of line k out (Ok unit) = (bytes : List ℕ) × Of (made bytes) × Puts out bytes
 PutsValue Of line k out (Err halt) = HaltsBy Of line k out halt
 
--- what the line is is put, and there are so many texts then
+-- The output for the line is written, and `texts` is the new number of texts.
 abbrev pub PutsBy : (Of : Built → Type 0) → ℕ → ℕ → Change ByteState → Result ℕ Halt → Type 0
 PutsBy Of line k out (Ok texts) =
     (built : Built) × Of built × (said : Said) × IsSaidOf built said × Puts out said.text
     × (texts ≡ k + counted built)
 PutsBy Of line k out (Err halt) = HaltsBy Of line k out halt
 
--- the same of the line at the type
+-- The same, for the line at the type.
 abbrev pub HaltsAtLine : TypeOver → List ℕ → ℕ → ℕ → Change ByteState → Halt → Type 0
 HaltsAtLine t text line k out halt = HaltsBy (declared_texts t text) line k out halt
 
 abbrev pub PutsLine : TypeOver → List ℕ → ℕ → ℕ → Change ByteState → Result ℕ Halt → Type 0
 PutsLine t text line k out result = PutsBy (declared_texts t text) line k out result
 
--- Of these bytes the lines were taken, each fine, of which this is said; and what comes after the
--- last line feed is held.
+-- The lines in these bytes were taken without errors, and this is their output. The bytes after the
+-- last line feed are buffered.
 pub record HasTexts (requested : Prepared) (held : List ℕ) (lines texts : ℕ) (bytes : List ℕ)
     (said : List Said) : Type 0 where
   pub ready : IsReady requested
@@ -95,7 +95,7 @@ pub record HasTexts (requested : Prepared) (held : List ℕ) (lines texts : ℕ)
   pub are_texts : AreTexts declared_texts (type_over requested) items texts
   pub well : all_well said ≡ true
 
--- a line ends with these bytes and a line feed, and is put; or it comes to a halt
+-- A line ends with these bytes and a line feed, and its output is written. Or it causes an error.
 abbrev pub TakesLine : {U : Type 0} → TypeOver → Has → Has → List ℕ → Change ByteState
     → Result U Halt → Type 0
 TakesLine t before after end out (Ok unit) =

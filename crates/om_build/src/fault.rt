@@ -1,4 +1,4 @@
-//! The texts of the faults of lines.
+//! The texts of errors in lines.
 
 ghost use Rattle.std.specs.Prelude.{◌<◌, ◌^◌, IfOk};
 ghost use Rattle.om_lines.specs.Lines.{place_on};
@@ -17,8 +17,8 @@ use om_text::TextFault;
 use om_type_table::TypeTable;
 use std::alloc::Global;
 
-/// The text of a fault of the line of this number, whose places are told by line and column or not.
-/// Want of memory has none.
+/// Returns the text of an error in the line with this number. If `lines` is true, positions are
+/// reported by line and column. Fails if the error itself is out of memory.
 fn placed_fault_text(
     alloc: Global,
     table: &TypeTable,
@@ -36,8 +36,8 @@ fn placed_fault_text(
     }
 }
 
-/// The text of a fault of the text that the line of this number stands for, with these decimals in
-/// place of doubles.
+/// Returns the text of an error in the plain text of a line. Positions refer to the line, which has
+/// these decimals in place of doubles.
 pub fn line_fault_text(
     alloc: Global,
     table: &TypeTable,

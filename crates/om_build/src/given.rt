@@ -1,4 +1,4 @@
-//! The faults of a text that a line with decimals stands for, with their places in the line.
+//! Maps the errors of a plain text to the line with decimals from which it comes.
 
 ghost use Rattle.std.specs.Prelude.{◌≡◌, ◌^◌, IfOk};
 ghost use Rattle.om_decimal_texts.specs.Plain.{given_place as place_in_line, AreWithin};
@@ -12,7 +12,8 @@ use om_literal::LiteralFault;
 use om_model::Memory;
 use om_text::TextFault;
 
-/// A place of the text in the line. No text in memory has a byte beyond 2^63.
+/// Returns the offset in the line for an offset in the plain text. Texts in memory are shorter than
+/// 2^63 bytes.
 fn given(decimals: &[Decimal], place: usize) -> Result<usize, Memory>
     requires { AreWithin 0 decimals.now (2 ^ 63) }
     ensures { IfOk result (λ found. found ≡ place_in_line decimals.now place) }
@@ -23,7 +24,7 @@ fn given(decimals: &[Decimal], place: usize) -> Result<usize, Memory>
     Ok(given_place(decimals, place))
 }
 
-/// A fault of the lexer.
+/// Maps a lexical error.
 fn given_lexer(decimals: &[Decimal], fault: LexFault) -> Result<LexFault, Memory>
     requires { AreWithin 0 decimals.now (2 ^ 63) }
     ensures { IfOk result (λ found. found ≡ lexer_in_line decimals.now fault) }
@@ -37,7 +38,7 @@ fn given_lexer(decimals: &[Decimal], fault: LexFault) -> Result<LexFault, Memory
     }
 }
 
-/// The same for the places of literals.
+/// Maps an offset of a literal.
 fn given_byte(decimals: &[Decimal], place: u64) -> Result<u64, Memory>
     requires { AreWithin 0 decimals.now (2 ^ 63) }
     ensures { IfOk result (λ found. found ≡ place_in_line decimals.now place) }
@@ -45,7 +46,7 @@ fn given_byte(decimals: &[Decimal], place: u64) -> Result<u64, Memory>
     Ok(given(decimals, place as usize)? as u64)
 }
 
-/// A fault of a literal.
+/// Maps an error of a literal.
 fn given_literal(decimals: &[Decimal], fault: LiteralFault) -> Result<LiteralFault, Memory>
     requires { AreWithin 0 decimals.now (2 ^ 63) }
     ensures { IfOk result (λ found. found ≡ literal_in_line decimals.now fault) }
@@ -61,7 +62,7 @@ fn given_literal(decimals: &[Decimal], fault: LiteralFault) -> Result<LiteralFau
     }
 }
 
-/// The fault of the text as one of the line, which has these decimals.
+/// Maps an error of the plain text to the line, which has these decimals.
 pub fn given_fault(decimals: &[Decimal], fault: TextFault) -> Result<TextFault, Memory>
     requires { AreWithin 0 decimals.now (2 ^ 63) }
     ensures { IfOk result (λ found. found ≡ fault_in_line decimals.now fault) }

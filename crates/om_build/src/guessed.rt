@@ -1,4 +1,5 @@
-//! Long texts that `show` put: a value is guessed, and kept where it has the type and the text.
+//! Fast path for long texts that `show` wrote: guesses a value, and keeps it only if it has the
+//! type and its text is the line.
 
 ghost use Rattle.std.specs.Prelude.{IfOk, IfSome, IsTrue};
 ghost use Rattle.om_types.specs.Table.{table_shapes};
@@ -21,18 +22,19 @@ use om_text::texts_are_read_again;
 use om_type_table::TypeTable;
 use std::alloc::Global;
 
-/// The table is looked through for each text that is guessed, which has so many bytes for each of
-/// its types.
+/// The least number of bytes of a text for each type of the table. The guess searches the whole
+/// table, so shorter texts are not guessed.
 const BYTES_A_TYPE: usize = 64;
 
-/// Whether a text is long beside the table, and the names of this are read back.
+/// Returns true if the text is long compared to the table, and the names of the table can be read
+/// back.
 fn is_worth_it(table: &TypeTable, line: &[u8]) -> bool
     ensures { IsTrue result → AreSpelled table.now }
 {
     line.len() / BYTES_A_TYPE >= table.len() && is_spelled(table)
 }
 
-/// Whether a value has the type.
+/// Returns true if the value has the type.
 fn is_typed(alloc: Global, value: &Rooted<'_>, requested: &Requested) -> Result<bool, Memory>
     ensures { IfOk result
         (λ typed. IsTrue typed
@@ -45,7 +47,8 @@ fn is_typed(alloc: Global, value: &Rooted<'_>, requested: &Requested) -> Result<
     }
 }
 
-/// Whether a value that has the type is one that a line stands for: whether it has the text.
+/// Returns true if a value that has the type is denoted by the line, that is, if its text is the
+/// line.
 fn is_told(
     alloc: Global,
     value: &Rooted<'_>,
@@ -72,7 +75,7 @@ fn is_told(
     has_text(alloc, value, requested.table(), line)
 }
 
-/// Whether a value is one that a line stands for: whether it has the type, and the text.
+/// Returns true if the value has the type and its text is the line.
 fn is_right(
     alloc: Global,
     value: &Rooted<'_>,
@@ -90,8 +93,8 @@ fn is_right(
     is_told(alloc, value, requested, line)
 }
 
-/// The value that a line stands for, with its objects, where it is guessed; or none, and then the
-/// line is still to be read.
+/// Guesses the value that a line denotes, and stores its objects in `heap`. Returns `None` if the
+/// guess fails; then the line must be parsed.
 pub fn guess_line(
     alloc: Global,
     heap: &mut Heap,

@@ -1,4 +1,4 @@
-//! The laws. Each function does nothing: what it ensures is the law.
+//! The laws. The functions do nothing and exist only for their contracts.
 
 ghost use Rattle.std.specs.Prelude.{List};
 ghost use Rattle.om_types.specs.declared.decl.Decl.{Decl};
@@ -26,7 +26,7 @@ impl Builds for DeclaredTexts {
     ghost TextOf = { declared_texts };
 }
 
-/// A line is read in one way at each type that some texts are read as.
+/// Proves that a line has only one meaning at each type that some text denotes.
 pub fn declared_texts_are_read_once()
     ensures { IsReadOnce declared_types declared_texts }
 {

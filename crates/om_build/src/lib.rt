@@ -1,5 +1,7 @@
-//! Typed texts of the input, which become bytes: what a line is at a type, and the command that
-//! takes lines as they come.
+//! Implements `build`: parses each line of the input as a literal at a declared type, and writes
+//! the canonical bytes of its value. A line that is not such a literal, or whose value lacks the
+//! type, ends the run. The law `declared_texts_are_read_once` proves that a line has only one
+//! meaning.
 #![tactic(auto)]
 
 mod fault;

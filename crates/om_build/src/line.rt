@@ -1,4 +1,4 @@
-//! A line, put as what it is at the type.
+//! Writes one line as the value that it denotes at the type.
 
 ghost use Rattle.std.specs.Prelude.{ℕ, ◌+◌, ◌^◌, ◌<◌, List, Ok};
 ghost use Rattle.om_edge.specs.State.{change};
@@ -22,8 +22,8 @@ use om_stops::stop::Halt;
 use om_text::{TextFault, read_text};
 use std::alloc::Global;
 
-/// Reads the text that the line of this number stands for, with these decimals in place of doubles,
-/// as a value, or none where it is blank; or it stops the run.
+/// Parses the plain text of the line with this number, which has these decimals. Returns `None` if
+/// the text is blank. An error ends the run.
 fn read_line(
     alloc: Global,
     heap: &mut Heap,
@@ -49,8 +49,8 @@ fn read_line(
     }
 }
 
-/// Puts the bytes of a value, where it has the type; else it stops the run, as that of the text of
-/// this number.
+/// Writes the bytes of a value that has the type. Otherwise ends the run with the error for the
+/// text with this number.
 fn put_value<K: Sink>(
     alloc: Global,
     value: &Rooted<'_>,
@@ -67,8 +67,8 @@ fn put_value<K: Sink>(
     put_plain(alloc, value, number, out)
 }
 
-/// Puts a text that is read, as that of the line of this number, before which there are so many
-/// texts, and answers how many there are then.
+/// Parses and writes a text, that of the line with this number, after `texts` earlier texts.
+/// Returns the new number of texts.
 fn put_read<K: Sink>(
     alloc: Global,
     heap: &mut Heap,
@@ -94,8 +94,7 @@ fn put_read<K: Sink>(
     }
 }
 
-/// Puts the bytes of a value that a text stands for, before which there are so many texts, and
-/// answers how many there are then.
+/// Writes the bytes of a value that a text denotes. Returns the new number of texts.
 fn put_right<K: Sink>(
     alloc: Global,
     value: &Rooted<'_>,
@@ -112,8 +111,8 @@ fn put_right<K: Sink>(
     Ok(texts + 1)
 }
 
-/// Puts the text that the line of this number stands for, with these decimals in place of doubles,
-/// before which there are so many texts, and answers how many there are then.
+/// Writes the plain text of the line with this number, which has these decimals. Returns the new
+/// number of texts.
 fn put_text<K: Sink>(
     alloc: Global,
     heap: &mut Heap,
@@ -136,8 +135,8 @@ fn put_text<K: Sink>(
     }
 }
 
-/// Puts the line of this number, in which decimals may stand for doubles, by its text without them,
-/// which takes the room of the one before.
+/// Writes the line with this number, in which decimals may denote doubles. Its plain text reuses
+/// the memory of the previous one.
 fn put_given<K: Sink>(
     alloc: Global,
     heap: &mut Heap,
@@ -167,8 +166,8 @@ fn put_given<K: Sink>(
     )
 }
 
-/// Puts the line of this number, before which there are so many texts, and answers how many there
-/// are then.
+/// Writes the line with this number, after `texts` earlier texts. Returns the new number of texts.
+/// An error ends the run.
 pub fn put_line<K: Sink>(
     alloc: Global,
     heap: &mut Heap,

@@ -1,4 +1,4 @@
-//! The lines of the input, one by one, as its bytes come.
+//! The lines of the input, one by one, while its bytes arrive.
 
 ghost use Rattle.std.specs.Prelude.{◌≡◌, ◌++◌, ◌+◌, ◌<◌, ◌^◌, ℕ, List, [], length, OnOk};
 ghost use Rattle.om_outcome.specs.Outcome.{Said};
@@ -19,16 +19,16 @@ use std::alloc::Global;
 
 const LINE_FEED: u8 = 10;
 
-/// Puts bytes at the end.
+/// Appends bytes.
 fn keep(held: &mut Vec<u8>, bytes: &[u8]) -> Result<(), Memory>
     ensures { OnOk result (held.new.items ≡ held.old.items ++ bytes.now) }
 {
     Ok(held.extend_from_slice(bytes)?)
 }
 
-/// The texts so far: how many lines there were, and how many of them were texts; and what came
-/// after the last line feed. One line is held at a time, and the value of a text takes the heap of
-/// the one before, as its text without decimals takes the room of that one's.
+/// The state of the command: the number of lines and of texts so far, and the bytes after the last
+/// line feed. One line is buffered at a time. The value of a text, and its plain text, reuse the
+/// memory of the previous ones.
 #[derive(Drop)]
 pub struct Texts<'a> {
     requested: &'a Requested,
@@ -40,7 +40,7 @@ pub struct Texts<'a> {
 }
 
 impl<'a> Texts<'a> {
-    /// No byte was taken.
+    /// Creates the state before any byte is taken.
     pub fn new(alloc: Global, requested: &'a Requested) -> Texts<'a>
         ensures requested { result.requested ≡ requested.entry }
         ensures has { HasTexts result.requested.now result.held.items result.lines result.texts
@@ -57,7 +57,7 @@ impl<'a> Texts<'a> {
         }
     }
 
-    /// Takes the end of a line, whose line feed comes next, and puts the line.
+    /// Takes the end of a line, up to its line feed, and writes the line.
     fn take_line<K: Sink>(&mut self, alloc: Global, end: &[u8], out: &mut K) -> Result<(), Halt>
         requires unbroken { IsUnbroken end.now }
         requires has { (bytes : List ℕ) × (said : List Said)

@@ -1,4 +1,4 @@
--- The bytes of a number spell it.
+-- The bytes of a number encode that number.
 use Rattle.std.proofs.Common.{ℕ, zero, suc, ◌≡◌, ◌+◌, ◌-◌, ◌*◌, ◌/◌, ◌%◌, ◌^◌, ◌<◌, ◌∙◌, true, List, [], ◌∷◌, length, refl, sym, ap, arith, pos, negsuc, ℤ}
 use Rattle.std.specs.Prelude.{flat_map, All}
 use Rattle.std.specs.Int.{byte_at, bytes_high_first, bytes_low_first}
@@ -10,7 +10,7 @@ use Rattle.om_model.specs.Graph.{IsSigned}
 use Rattle.om_model.proofs.Numbers.{half_of, twos_complement-low, twos_complement-high}
 use Rattle.om_format.specs.Canonical.{signed_bytes, double_bytes}
 
--- ---- the most significant first
+-- ---- most significant byte first
 
 pub byte_at-is : (i n : ℕ) → byte_at i n ≡ n / 256 ^ i % 256
 byte_at-is zero n = let e : n / 1 ≡ n = omega arith in sym (ap (λ m. m % 256) e)
@@ -24,7 +24,7 @@ power-positive : (k : ℕ) → 0 < 256 ^ k
 power-positive zero = omega arith
 power-positive (suc k) = rw (pow-suc 256 k) (omega (arith, power-positive k))
 
--- one digit more
+-- One more digit.
 mod-more : (n k : ℕ) → n % 256 ^ suc k ≡ (n / 256 ^ k % 256) * 256 ^ k + n % 256 ^ k
 mod-more n k = ap (λ m. n % m) (pow-suc 256 k ∙ mul_comm (256 ^ k) 256) ∙ mod-mul n (omega arith) (power-positive k)
 
@@ -35,7 +35,7 @@ number-mod (suc k) n = rw (length-bytes k n, number-mod k n, byte_at-is k n) (sy
 pub number-bytes : (k n : ℕ) → n < 256 ^ k → number (bytes_high_first k n) ≡ n
 number-bytes k n small = number-mod k n ∙ mod-eq_of_lt small
 
--- ---- in two's complement
+-- ---- two's complement
 
 pub length-signed_bytes : (k : ℕ) (z : ℤ) → length (signed_bytes k z) ≡ k
 length-signed_bytes k (pos n) = length-bytes k n
@@ -56,7 +56,7 @@ signed-signed_bytes k (negsuc n) h =
     ∙ twos_complement-high m (2 ^ (8 * suc k - 1)) (m - suc n) half (omega arith)
     ∙ ap negsuc back
 
--- ---- the least significant first
+-- ---- least significant byte first
 
 next_digit : (i n : ℕ) → n / 256 ^ suc i ≡ n / 256 ^ i / 256
 next_digit i n = ap (λ m. n / m) (pow-suc 256 i) ∙ sym (div-div-eq-div-mul n (256 ^ i) 256)

@@ -1,4 +1,4 @@
--- The canonical bytes of a tree spell it.
+-- The canonical bytes of a tree encode that tree.
 use Rattle.std.proofs.Common.{ℕ, ◌≡◌, ◌+◌, ◌*◌, ◌^◌, ◌<◌, ◌≤◌, ◌∙◌, ◌&&◌, ◌||◌, Bool, true, false, cond, ltb, leb, leb-false, List, [], ◌∷◌, ◌++◌, length, map, inl, refl, sym, ap, arith, pos, negsuc, ℤ, length-append}
 use Rattle.std.specs.Prelude.{flat_map}
 use Rattle.std.specs.List.{concat, AllZip}
@@ -20,7 +20,7 @@ use Rattle.om_canonical.proofs.ListLemmas.{AllZip-append}
 use Rattle.om_canonical.proofs.SpellingLemmas.{spelling_spells_lem}
 use Rattle.om_canonical.proofs.HeaderLemmas.{SpellsHead, small_bytes, big_bytes, small_head_spelled, small_w32_spelled, big_head_spelled}
 
--- ---- a spelling has a byte at least
+-- ---- an encoding has at least one byte
 
 cond_some : (b : Bool) (x : ℕ) (xs ys : List ℕ) → 1 ≤ length ys → 1 ≤ length (cond b (x ∷ xs) ys)
 cond_some true x xs ys h = omega arith
@@ -46,7 +46,8 @@ block_some tag size =
     cond_some (ltb tag 16 && ltb size 8) (0x80 + 16 * size + tag) [] wide
     (cond_some (ltb word (2 ^ 32)) 0x08 (bytes_high_first 4 word) (0x13 ∷ bytes_high_first 8 word) (omega arith))
 
--- by the code for n bytes of a number below 2 ^ 32, and the code for eight bytes
+-- A prefix has at least one byte with the code for numbers below 2 ^ 32 and with the code for eight
+-- bytes.
 wide_front : (n code width last : ℕ) → 1 ≤ length (cond (ltb n (2 ^ 32)) (code ∷ bytes_high_first width n) (last ∷ bytes_high_first 8 n))
 wide_front n code width last = cond_some (ltb n (2 ^ 32)) code (bytes_high_first width n) (last ∷ bytes_high_first 8 n) (omega arith)
 
@@ -87,7 +88,7 @@ spelling_some (shared offset) h = shared_some offset
 spelling_some (block tag size) h = block_some tag size
 spelling_some (leaf o) h = leaf_some o h
 
--- ---- how many tokens there are
+-- ---- the number of tokens
 
 mutual
   pub tokens-le : (tree : Tree) → IsTree tree → length (tokens tree) ≤ length (data_spelling (tokens tree))
@@ -115,7 +116,7 @@ mutual
   all_made-le none h = omega arith
   all_made-le (more tree f) h = omega (arith, made-le tree h.0, all_made-le f h.1, length-append (tokens tree) (forest_tokens f))
 
--- ---- each token has a spelling
+-- ---- each token can be encoded
 
 pub length-doubles : (all : List ℕ) → length (flat_map double_bytes all) ≡ 8 * length all
 length-doubles [] = refl
@@ -137,7 +138,7 @@ has_spelling (shared offset) f c h count back below few short = omega (arith, ba
 has_spelling (block tag size) f c h count back below few short = omega (arith, count, trees_in-le f)
 has_spelling (leaf o) f c h count back below few short = leaf_has_spelling o h short
 
--- after c objects, where all tokens are n
+-- The tree begins after `c` objects, and there are at most `n` tokens in all.
 mutual
   spelled_tree : (tree : Tree) (c n : ℕ) → IsTree tree → ReferBack tree c → c + length (tokens tree) ≤ n → n < 2 ^ 48 → length (data_spelling (tokens tree)) < 2 ^ 48 → AllZip Spells (tokens tree) (map spelling (tokens tree))
   spelled_tree (node t f) c n h back few small short =
@@ -158,7 +159,7 @@ mutual
       (spelled_tree tree c n h.0 back.0 (omega arith) small (omega arith))
       (spelled_forest f (c + made tree) n h.1 back.1 (omega (arith, made-le tree h.0)) small (omega arith)))
 
--- ---- the header and the data
+-- ---- header and data
 
 pub concat-spellings : (all : List Token) → concat (map spelling all) ≡ data_spelling all
 concat-spellings [] = refl

@@ -1,4 +1,4 @@
--- A header that is spelled states what it was made of.
+-- An encoded header states the numbers from which it was made.
 use Rattle.std.proofs.Common.{ℕ, ◌≡◌, ◌^◌, ◌<◌, inl, inr, Bool, true, false, List, [], ◌∷◌, ◌++◌, refl}
 use Rattle.std.specs.Prelude.{flat_map}
 use Rattle.std.specs.Int.{bytes_high_first}
@@ -7,13 +7,13 @@ use Rattle.om_format.specs.Header.{small_magic, big_magic, head_of}
 use Rattle.om_format.specs.Spelled.{IsHeader}
 use Rattle.om_canonical.proofs.ByteLemmas.{number-bytes}
 
--- the numbers of a header fit
+-- The numbers of the header are below the limit.
 pub record FitsHeader (head : Head) (limit : ℕ) : Type 0 where
   pub length : head.length < limit
   pub objects : head.objects < limit
   pub w64 : head.w64 < limit
 
--- what its spelling is
+-- The bytes are a header that states these numbers.
 pub record SpellsHead (big : Bool) (n objects w64 : ℕ) (bytes : List ℕ) : Type 0 where
   pub is_header : IsHeader bytes
   pub big_is : (head_of bytes).big ≡ big

@@ -1,4 +1,4 @@
--- To be the same value is an equivalence.
+-- Isomorphism of values is an equivalence.
 use Rattle.std.proofs.Common.{ℕ, ◌≡◌, ◌<◌, ◌==◌, ◌∙◌, List, [], ◌∷◌, length, cond, Some, refl, sym, ap, subst, eqb-true, eq-eqb}
 use Rattle.std.specs.Prelude.{slice_get, map, flat_map, Contains, IsSomeAnd}
 use Rattle.std.proofs.lemmas.List.Elements.{All-contains}
@@ -17,7 +17,7 @@ use Rattle.om_canonical.proofs.ListLemmas.{Contains-cond, cond-Contains, below, 
 abbrev pub AreAmong : List (ℕ × ℕ) → List (ℕ × ℕ) → Type 0
 AreAmong pairs more = (k l : ℕ) → Contains pairs (k, l) → Contains more (k, l)
 
--- what is alike under some pairs is alike under more
+-- If values agree under some pairs, then they agree under more pairs.
 pub AreAlike-more : (pairs more : List (ℕ × ℕ)) (v w : Val) → AreAmong pairs more → AreAlike pairs v w → AreAlike more v w
 AreAlike-more pairs more (vals.Int x) (vals.Int y) among alike = alike
 AreAlike-more pairs more (vals.Atom x) (vals.Atom y) among alike = alike
@@ -55,7 +55,7 @@ alike_at g h pairs k l a b at_k at_l alike =
     IsSomeAnd-at (slice_get g k) a (λ a. IsSomeAnd (slice_get h l) (λ b. AreAlikeObjects pairs a b)) at_k
     (IsSomeAnd-at (slice_get h l) b (λ b. AreAlikeObjects pairs a b) at_l alike)
 
--- ---- the other way round
+-- ---- symmetry
 
 abbrev turned : ℕ × ℕ → ℕ × ℕ
 turned p = (p.1, p.0)
@@ -98,12 +98,12 @@ IsPairing-turned g h pairs pairing = record {
 pub same_symmetric : (g h : List Obj) (v w : Val) → Iso g v h w → Iso h w g v
 same_symmetric g h v w (pairs, pairing, alike) = (map turned pairs, IsPairing-turned g h pairs pairing, AreAlike-turned pairs v w alike)
 
--- ---- one after the other
+-- ---- transitivity
 
 abbrev joined_pair : ℕ × ℕ → ℕ × ℕ → List (ℕ × ℕ)
 joined_pair p q = cond (p.1 == q.0) ((p.0, q.1) ∷ []) []
 
--- from the left of a pair to the right of a pair that goes on from it
+-- The composition of two pairings: it relates `p.0` to `q.1` if `p.1` equals `q.0`.
 abbrev joined : List (ℕ × ℕ) → List (ℕ × ℕ) → List (ℕ × ℕ)
 joined ps qs = flat_map (λ p. flat_map (joined_pair p) qs) ps
 
@@ -171,7 +171,7 @@ IsPairing-joined g h i ps qs first second = record {
 pub same_transitive : (g h i : List Obj) (u v w : Val) → Iso g u h v → Iso h v i w → Iso g u i w
 same_transitive g h i u v w (ps, first, like) (qs, second, alike) = (joined ps qs, IsPairing-joined g h i ps qs first second, AreAlike-joined ps qs u v w like alike)
 
--- ---- itself
+-- ---- reflexivity
 
 abbrev twice : ℕ → ℕ × ℕ
 twice k = (k, k)

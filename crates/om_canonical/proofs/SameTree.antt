@@ -1,4 +1,4 @@
--- Two trees whose values are the same are one tree.
+-- If the values of two trees are isomorphic, then the trees are equal.
 use Rattle.std.proofs.Common.{ℕ, ◌≡◌, ◌+◌, ◌-◌, ◌<◌, ◌≤◌, ◌∙◌, List, ◌∷◌, ◌++◌, length, Some, refl, sym, ap, ap₂, subst, inl, inr, arith, add-zero}
 use Rattle.std.specs.Prelude.{slice_get, Contains}
 use Rattle.std.specs.List.{AllZip}
@@ -16,9 +16,9 @@ pub use Rattle.om_format.proofs.Counts.{made_by_leaf}
 use Rattle.om_canonical.proofs.ListLemmas.{slice_get_right}
 use Rattle.om_canonical.proofs.IsoLemmas.{objects_of_pair, same_symmetric, same_transitive}
 
--- ---- objects at a place
+-- ---- objects at a position
 
--- the objects stand in the graph from place c on
+-- The objects are in the graph from position `c` on.
 abbrev StandsAt : List Obj → ℕ → List Obj → Type 0
 StandsAt graph c objects = (i : ℕ) (o : Obj) → slice_get objects i ≡ Some o → slice_get graph (c + i) ≡ Some o
 
@@ -34,18 +34,18 @@ StandsAt-right graph c n xs ys e all i o is =
 stands_whole : (graph : List Obj) → StandsAt graph 0 graph
 stands_whole graph i o is = let e : 0 + i ≡ i = omega arith in rw e is
 
--- the objects of a token's subtrees stand after its own
+-- The objects of a token's subtrees follow the token's own object.
 fields_stand : (graph : List Obj) (c : ℕ) (t : Token) (f : Forest) → IsToken t → StandsAt graph c (objects_of (node t f) c) → StandsAt graph (c + made_by t) (all_objects f (c + made_by t))
 fields_stand graph c t f h stands =
     StandsAt-right graph c (made_by t) (object_of t (roots f (c + made_by t))) (all_objects f (c + made_by t)) (length-object_of t (roots f (c + made_by t)) h) stands
 
--- ---- what is paired
+-- ---- paired objects
 
--- the first c objects are paired with themselves
+-- Each of the first `c` objects is paired with itself.
 abbrev ArePaired : List (ℕ × ℕ) → ℕ → Type 0
 ArePaired pairs c = (k : ℕ) → k < c → Contains pairs (k, k)
 
--- a leaf is alike no other object
+-- If an atom agrees with an object, then the two are equal.
 alike_leaf : (pairs : List (ℕ × ℕ)) (a b : Obj) → IsLeaf a → AreAlikeObjects pairs a b → a ≡ b
 alike_leaf pairs (objects.Block tag values) b h alike = absurd h
 alike_leaf pairs (objects.Bytes bytes) b h alike = alike
@@ -62,12 +62,12 @@ pub no_block_is_alike_leaf : (pairs : List (ℕ × ℕ)) (tag : ℕ) (values : L
 no_block_is_alike_leaf pairs tag values (objects.Block tag' values') h alike = h
 no_block_is_alike_leaf pairs tag values b h alike = alike
 
--- no trees
+-- A forest of zero trees is empty.
 pub none_from_count : (f : Forest) → trees_in f ≡ 0 → f ≡ none
 none_from_count none e = refl
 none_from_count (more t f) e = absurd (omega arith)
 
--- the two objects of a pair, which are known
+-- The two objects of a pair, if both are known.
 pair_at : (g h : List Obj) (pairs : List (ℕ × ℕ)) (k l : ℕ) (a b : Obj) → IsPairing g h pairs → Contains pairs (k, l) → slice_get g k ≡ Some a → slice_get h l ≡ Some b → AreAlikeObjects pairs a b
 pair_at g h pairs k l a b pairing among at_k at_l =
     let o = objects_of_pair g h pairs k l pairing among in
@@ -75,7 +75,7 @@ pair_at g h pairs k l a b pairing among at_k at_l =
     let right : o.right ≡ b = same_Some o.right b (sym o.right_is ∙ at_l) in
     subst (λ x. AreAlikeObjects pairs x b) left (subst (λ y. AreAlikeObjects pairs o.left y) right o.alike)
 
--- what is paired with a new object is no earlier one
+-- A new object is not paired with an earlier one.
 not_earlier : (g h : List Obj) (pairs : List (ℕ × ℕ)) (c d : ℕ) → IsPairing g h pairs → ArePaired pairs c → 1 ≤ d → d ≤ c → Contains pairs (c, c - d) → ⊥
 not_earlier g h pairs c d pairing paired some few among =
     let same : c ≡ c - d = (pairing.one_to_one c (c - d) (c - d) (c - d) among (paired (c - d) (omega arith))).1 refl in
@@ -90,7 +90,7 @@ one_more : (pairs : List (ℕ × ℕ)) (c : ℕ) → ArePaired pairs c → Conta
 one_more pairs c paired here k less =
     elim (same_or_not k c) [ inl e ↦ subst (λ n. Contains pairs (n, n)) (sym e) here | inr e ↦ paired k (omega arith) ]
 
--- ---- the trees
+-- ---- trees
 
 abbrev AreOne : List (ℕ × ℕ) → ℕ → Tree → Tree → Type 0
 AreOne pairs c t u = (t ≡ u) × ArePaired pairs (c + made t)
@@ -98,20 +98,20 @@ AreOne pairs c t u = (t ≡ u) × ArePaired pairs (c + made t)
 abbrev AreOneForest : List (ℕ × ℕ) → ℕ → Forest → Forest → Type 0
 AreOneForest pairs c f h = (f ≡ h) × ArePaired pairs (c + all_made f)
 
--- one token without fields
+-- If two tokens without fields are equal, then their trees are equal.
 one_token : (pairs : List (ℕ × ℕ)) (c : ℕ) (t u : Token) (f h : Forest) → t ≡ u → trees_in f ≡ 0 → trees_in h ≡ 0 → ArePaired pairs (c + made_by t) → AreOne pairs c (node t f) (node u h)
 one_token pairs c t u none none e m n paired = (ap (λ x. node x none) e, rw add-zero paired)
 one_token pairs c t u none (more x h) e m n paired = absurd (omega arith)
 one_token pairs c t u (more x f) h e m n paired = absurd (omega arith)
 
--- the first objects of two trees that are paired are alike
+-- If the first objects of two trees are paired, then they agree.
 first_objects : (g h : List Obj) (pairs : List (ℕ × ℕ)) (c : ℕ) (a b : Obj) (more_a more_b : List Obj) → IsPairing g h pairs → Contains pairs (c, c) → StandsAt g c (a ∷ more_a) → StandsAt h c (b ∷ more_b) → AreAlikeObjects pairs a b
 first_objects g h pairs c a b more_a more_b pairing among left right =
     let at_g : slice_get g c ≡ Some a = rw add-zero at (left 0 a refl) in
     let at_h : slice_get h c ≡ Some b = rw add-zero at (right 0 b refl) in
     pair_at g h pairs c c a b pairing among at_g at_h
 
--- what is asked of two trees after c objects
+-- The hypotheses on two trees that follow `c` objects.
 record AreSame (g h : List Obj) (pairs : List (ℕ × ℕ)) (c : ℕ) (t u : Tree) : Type 0 where
   is_tree : IsTree t
   is_tree' : IsTree u
@@ -122,7 +122,7 @@ record AreSame (g h : List Obj) (pairs : List (ℕ × ℕ)) (c : ℕ) (t u : Tre
   paired : ArePaired pairs c
   alike : AreAlike pairs (root t c) (root u c)
 
--- and of two lists of trees
+-- The hypotheses on two lists of trees that follow `c` objects.
 record AreSameForests (g h : List Obj) (pairs : List (ℕ × ℕ)) (c : ℕ) (f k : Forest) : Type 0 where
   are_trees : AreTrees f
   are_trees' : AreTrees k
@@ -133,13 +133,13 @@ record AreSameForests (g h : List Obj) (pairs : List (ℕ × ℕ)) (c : ℕ) (f 
   paired : ArePaired pairs c
   alike : AllZip (AreAlike pairs) (roots f c) (roots k c)
 
--- two references
+-- Case: two references.
 same_references : (g h : List Obj) (pairs : List (ℕ × ℕ)) (c d e : ℕ) → IsPairing g h pairs → ArePaired pairs c → 1 ≤ d → d ≤ c → e ≤ c → Contains pairs (c - d, c - e) → d ≡ e
 same_references g h pairs c d e pairing paired some few few' among =
     let same : c - e ≡ c - d = (pairing.one_to_one (c - d) (c - e) (c - d) (c - d) among (paired (c - d) (omega arith))).0 refl in
     omega arith
 
--- two blocks whose fields are one where they are alike
+-- Case: two blocks. If their fields agree, then the fields are equal.
 same_blocks : (g h : List Obj) (pairs : List (ℕ × ℕ)) (c tag tag' m n : ℕ) (f k : Forest) → IsPairing g h pairs → AreSame g h pairs c (node (block tag m) f) (node (block tag' n) k) → (AreSameForests g h pairs (c + 1) f k → AreOneForest pairs (c + 1) f k) → AreOne pairs c (node (block tag m) f) (node (block tag' n) k)
 same_blocks g h pairs c tag tag' m n f k pairing s deeper =
     let alike = first_objects g h pairs c (objects.Block tag (roots f (c + 1))) (objects.Block tag' (roots k (c + 1))) (all_objects f (c + 1)) (all_objects k (c + 1)) pairing s.alike s.stands s.stands' in
@@ -157,7 +157,7 @@ same_blocks g h pairs c tag tag' m n f k pairing s deeper =
     let place : c + 1 + all_made f ≡ c + (1 + all_made f) = omega arith in
     (ap₂ node (ap₂ block alike.0 size) r.0, rw place at r.1)
 
--- two leaves
+-- Case: two atoms.
 same_leaves : (g h : List Obj) (pairs : List (ℕ × ℕ)) (c : ℕ) (a b : Obj) (f k : Forest) → IsPairing g h pairs → AreSame g h pairs c (node (leaf a) f) (node (leaf b) k) → AreOne pairs c (node (leaf a) f) (node (leaf b) k)
 same_leaves g h pairs c a b f k pairing s =
     let alike = first_objects g h pairs c a b (all_objects f (c + made_by (leaf a))) (all_objects k (c + made_by (leaf b))) pairing s.alike s.stands s.stands' in
@@ -165,7 +165,7 @@ same_leaves g h pairs c a b f k pairing s =
     one_token pairs c (leaf a) (leaf b) f k (ap leaf same) (s.is_tree.1 ∙ leaf_fields a) (s.is_tree'.1 ∙ leaf_fields b)
     (rw (made_by_leaf a s.is_tree.0) (one_more pairs c s.paired s.alike))
 
--- a leaf and a block
+-- Case: an atom and a block.
 leaf_and_block : (g h : List Obj) (pairs : List (ℕ × ℕ)) (c tag n : ℕ) (a : Obj) (f k : Forest) → IsPairing g h pairs → AreSame g h pairs c (node (leaf a) f) (node (block tag n) k) → ⊥
 leaf_and_block g h pairs c tag n a f k pairing s =
     let alike = first_objects g h pairs c a (objects.Block tag (roots k (c + 1))) (all_objects f (c + made_by (leaf a))) (all_objects k (c + 1)) pairing s.alike s.stands s.stands' in
@@ -176,7 +176,7 @@ block_and_leaf g h pairs c tag n b f k pairing s =
     let alike = first_objects g h pairs c (objects.Block tag (roots f (c + 1))) b (all_objects f (c + 1)) (all_objects k (c + made_by (leaf b))) pairing s.alike s.stands s.stands' in
     no_block_is_alike_leaf pairs tag (roots f (c + 1)) b s.is_tree'.0 alike
 
--- by the two tokens
+-- By cases on the two tokens.
 same_by_tokens : (g h : List Obj) (pairs : List (ℕ × ℕ)) (c : ℕ) (t u : Token) (f k : Forest) → IsPairing g h pairs → AreSame g h pairs c (node t f) (node u k) → (AreSameForests g h pairs (c + 1) f k → AreOneForest pairs (c + 1) f k) → AreOne pairs c (node t f) (node u k)
 same_by_tokens g h pairs c (integer y) (integer z) f k pairing s deeper =
     one_token pairs c (integer y) (integer z) f k (ap integer s.alike) s.is_tree.1 s.is_tree'.1 (rw add-zero s.paired)
@@ -195,7 +195,7 @@ same_by_tokens g h pairs c (leaf a) (block tag n) f k pairing s deeper = absurd 
 same_by_tokens g h pairs c (block tag n) (leaf b) f k pairing s deeper = absurd (block_and_leaf g h pairs c tag n b f k pairing s)
 same_by_tokens g h pairs c t u f k pairing s deeper = absurd s.alike
 
--- the rest of two lists of trees, after a tree that is one
+-- The rest of two lists of trees, if their first trees are equal.
 rest_of_forests : (g h : List Obj) (pairs : List (ℕ × ℕ)) (c : ℕ) (t u : Tree) (f k : Forest) → AreSameForests g h pairs c (more t f) (more u k) → AreOne pairs c t u → AreSameForests g h pairs (c + made t) f k
 rest_of_forests g h pairs c t u f k s one =
     let same : made u ≡ made t = ap made (sym one.0) in record {
@@ -239,7 +239,7 @@ mutual
       let one = same_trees g h pairs c t u pairing (first_of_forests g h pairs c t u f k s) in
       join_forests pairs c t u f k one (same_forests g h pairs (c + made t) f k pairing (rest_of_forests g h pairs c t u f k s one))
 
--- the trees of one value are one
+-- If two trees are trees of one value, then they are equal.
 pub one_tree_only : (g : List Obj) (v : Val) (t u : Tree) → IsTreeOf g v t → IsTreeOf g v u → t ≡ u
 one_tree_only g v t u is other =
     let r = same_transitive (objects_of t 0) g (objects_of u 0) (root t 0) v (root u 0) (same_symmetric g (objects_of t 0) v (root t 0) is.same) other.same in

@@ -1,4 +1,4 @@
--- The spelling of a token that the runtime writes spells it.
+-- The canonical encoding of a token is an encoding of that token.
 use Rattle.std.proofs.Common.{false, ℕ, zero, suc, ◌≡◌, ◌+◌, ◌-◌, ◌*◌, ◌/◌, ◌%◌, ◌^◌, ◌<◌, ◌≤◌, ◌∙◌, ◌&&◌, true, cond, ltb, ltb-true, List, [], ◌∷◌, ◌++◌, length, take, drop, Ok, inl, inr, refl, sym, ap, subst, arith, pos, negsuc, ℤ, length-append}
 use Rattle.std.specs.Prelude.{flat_map}
 use Rattle.std.specs.Int.{bytes_high_first}
@@ -19,11 +19,11 @@ use Rattle.om_format.proofs.SpellNumbers.{IsSigned-wider}
 use Rattle.om_canonical.specs.Laws.{LeafHasSpelling, HasSpelling}
 use Rattle.om_canonical.proofs.ByteLemmas.{length-bytes, number-bytes, length-signed_bytes, signed-signed_bytes, little-double_bytes, SpellsDoubles-double_bytes}
 
--- by the kind of the code
+-- By the kind of the code.
 by_kind : (t : Token) (code : ℕ) (kind : CodeKind) (rest : List ℕ) → kind_of code ≡ Ok kind → IsToken t → SpellsAfter kind rest t → Spells t (code ∷ rest)
 by_kind t code kind rest is h spells = (h, subst (λ k. SpellsFrom k rest t) (sym is) spells)
 
--- ---- the codes that carry numbers
+-- ---- codes that contain a number
 
 kind_small_int : (n : ℕ) → n < 64 → kind_of (0x40 + n) ≡ Ok (kinds.SmallInt n)
 unfolding kind_of
@@ -50,7 +50,7 @@ is_signed-true : (k : ℕ) (z : ℤ) → is_signed k z ≡ true → IsSigned k z
 is_signed-true k (pos n) e = ltb-true n (2 ^ k) e
 is_signed-true k (negsuc n) e = ltb-true n (2 ^ k) e
 
--- by a code that has the integer's bytes
+-- A code that the bytes of the integer follow.
 int_of : (z : ℤ) (code k : ℕ) → kind_of code ≡ Ok (kinds.Int (suc k)) → IsInteger z → IsSigned (8 * suc k - 1) z → Spells (integer z) (code ∷ signed_bytes (suc k) z)
 int_of z code k is h fits =
     by_kind (integer z) code (kinds.Int (suc k)) (signed_bytes (suc k) z) is h
@@ -212,7 +212,7 @@ native_spells z h =
     (λ _. by_kind (leaf (objects.Native z)) 0x19 (kinds.Custom false) (95 ∷ 110 ∷ 0 ∷ 2 ∷ signed_bytes 8 z) refl h
     (inr (inr (inr (signed_bytes 8 z, refl, length-signed_bytes 8 z, ap (λ n. leaf (objects.Native n)) (sym (signed-signed_bytes 7 z h)))))))
 
--- ---- each token
+-- ---- all tokens
 
 leaf_spells : (o : Obj) → IsLeaf o → LeafHasSpelling o → Spells (leaf o) (leaf_spelling o)
 leaf_spells (objects.Block tag values) h few = absurd h

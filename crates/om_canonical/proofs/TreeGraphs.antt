@@ -1,4 +1,5 @@
--- The objects of a tree are a graph, and its root is a value of it, the same as itself.
+-- The objects of a tree form a graph, its root is a value of that graph, and the root is isomorphic
+-- to itself.
 use Rattle.std.proofs.Common.{ℕ, ◌+◌, ◌≤◌, length, arith}
 use Rattle.std.specs.List.{AllByRecursion}
 use Rattle.std.proofs.lemmas.List.Elements.{All-from_recursion}
@@ -57,7 +58,7 @@ mutual
       AllByRecursion-append (IsObject n) (objects_of tree c) (all_objects f (c + made tree)) (objects_valid tree c n h.0 back.0 (omega (arith, fits)))
       (forest_valid f (c + made tree) n h.1 back.1 (omega (arith, fits)))
 
--- ---- a tree is that of its own value
+-- ---- a tree is the tree of its own value
 
 pub is_graph : (tree : Tree) → IsTree tree → ReferBack tree 0 → IsGraph (objects_of tree 0)
 is_graph tree is back =

@@ -1,4 +1,5 @@
--- Each value of a graph has a tree: the objects are met depth first, and each but the first time by a reference.
+-- Each value of a graph has a tree. A depth-first walk visits the objects, and each later visit of
+-- an object becomes a reference.
 use Rattle.std.proofs.Common.{ℕ, zero, suc, ◌≡◌, ◌≢◌, ◌+◌, ◌-◌, ◌<◌, ◌≤◌, ◌∙◌, ◌⊎◌, inl, inr, ⊎_elim, List, [], ◌∷◌, ◌++◌, length, Some, refl, sym, ap, subst, arith, add-zero, append_assoc, append-nil, length-append}
 use Rattle.std.specs.Prelude.{slice_get, Contains, All}
 use Rattle.std.specs.List.{AllZip}
@@ -22,7 +23,7 @@ use Rattle.om_canonical.proofs.ListLemmas.{IsSomeAnd-weaker, slice_get_push, sli
 use Rattle.om_canonical.proofs.IsoLemmas.{AreAmong, AreAlike-more, AreAlikeObjects-more, alike_at}
 use Rattle.om_canonical.proofs.SameTree.{made_by_leaf, one_tree_only}
 
--- ---- numbers, by the places at which they are met
+-- ---- positions of the visited numbers
 
 at_place : (c : ℕ) (ks : List ℕ) (i k : ℕ) → slice_get ks i ≡ Some k → Contains (pairs_from c ks) (k, c + i)
 at_place c [] i k is = absurd (none-some k is)
@@ -59,7 +60,7 @@ at_numbered ks k n among = let r = place_of 0 ks k n among in let e : n ≡ r.pl
 numbered-more : (ks news : List ℕ) → AreAmong (numbered ks) (numbered (ks ++ news))
 numbered-more ks news k l among = numbered_at (ks ++ news) l k (slice_get-append_left ks news l k (at_numbered ks k l among))
 
--- ---- what was met
+-- ---- visited objects
 
 abbrev IsMet : List ℕ → ℕ → Type 0
 IsMet ks k = (i : ℕ) × (slice_get ks i ≡ Some k)
@@ -88,7 +89,7 @@ AreDistinct-push : (ks : List ℕ) (k : ℕ) → AreDistinct ks → IsNew ks k �
 AreDistinct-push ks k distinct new i j m a b =
     distinct_cases ks k i j m distinct new (slice_get_push_cases ks k i m a) (slice_get_push_cases ks k j m b)
 
--- ---- what is not met yet
+-- ---- objects not yet visited
 
 record IsWithout (ks : List ℕ) (k : ℕ) : Type 0 where
   others : List ℕ
@@ -113,7 +114,8 @@ without (m ∷ ks) k among = ⊎_elim
     })
     (Contains-cases m ks k among)
 
--- before a value: what was met, in which order, and what may still be met
+-- The state before a value: the visited objects in their order, and the objects that may still be
+-- visited.
 record IsReady (g : List Obj) (met unmet : List ℕ) (c fuel : ℕ) : Type 0 where
   count : length met ≡ c
   distinct : AreDistinct met
@@ -128,7 +130,7 @@ IsReady-more g met unmet news c fuel n ready distinct many = record {
   few = ready.few;
 }
 
--- one that is met first is unmet no more
+-- An object that is visited for the first time is no longer unvisited.
 IsReady-new : (g : List Obj) (met unmet : List ℕ) (c fuel k : ℕ) → IsReady g met unmet c (suc fuel) → k < length g → IsNew met k → (others : List ℕ) × IsReady g (met ++ k ∷ []) others (c + 1) fuel
 IsReady-new g met unmet c fuel k ready less new =
     let among : Contains unmet k = ⊎_elim (λ (m : IsMet met k). absurd (new m.0 m.1)) (λ later. later) (ready.covered k less) in
@@ -145,7 +147,7 @@ IsReady-new g met unmet c fuel k ready less new =
       },
     )
 
--- ---- what a walk gives
+-- ---- the result of a walk
 
 record Walked (g : List Obj) (met : List ℕ) (c : ℕ) (v : Val) : Type 0 where
   tree : Tree
@@ -168,7 +170,7 @@ record WalkedAll (g : List Obj) (met : List ℕ) (c : ℕ) (values : List Val) :
   objects : AllZip (Shows g (met ++ news)) news (all_objects forest c)
   shown : AllZip (AreAlike (numbered (met ++ news))) values (roots forest c)
 
--- ---- a value that meets no new object
+-- ---- a value without a new object
 
 nothing_new : (g : List Obj) (met : List ℕ) (c : ℕ) (v : Val) (t : Token) → AreDistinct met → IsTree (node t none) → ReferBack (node t none) c → made (node t none) ≡ 0 → objects_of (node t none) c ≡ [] → AreAlike (numbered met) v (root (node t none) c) → Walked g met c v
 nothing_new g met c v t distinct is_tree back many no_objects alike = record {
@@ -236,7 +238,7 @@ new_block g met c k tag values count at_k low some w =
       value = first_number met w.news c k count;
     }
 
--- by the object
+-- By cases on the object.
 new_object : (g : List Obj) (met : List ℕ) (c k n : ℕ) (o : Obj) → length met ≡ c → AreDistinct met → IsNew met k → slice_get g k ≡ Some o → IsObject n o → ((values : List Val) → All (IsValue n) values → WalkedAll g (met ++ k ∷ []) (c + 1) values) → Walked g met c (vals.Ref k)
 new_object g met c k n (objects.Block tag values) count distinct new at_k h deeper = new_block g met c k tag values count at_k h.0 h.1 (deeper values h.2)
 new_object g met c k n (objects.Bytes bytes) count distinct new at_k h deeper = new_leaf g met c k (objects.Bytes bytes) count distinct new at_k h
@@ -248,7 +250,7 @@ new_object g met c k n (objects.Native z) count distinct new at_k h deeper = new
 
 -- ---- the walk
 
--- by the value, where a walk from an object that is met first is given
+-- By cases on the value, if a walk from each new object is given.
 walked_value : (g : List Obj) (met unmet : List ℕ) (c fuel : ℕ) (v : Val) → IsReady g met unmet c fuel → IsValue (length g) v → ((k : ℕ) → k < length g → IsNew met k → Walked g met c (vals.Ref k)) → Walked g met c v
 walked_value g met unmet c fuel (vals.Int z) ready h fresh = nothing_new g met c (vals.Int z) (integer z) ready.distinct (h, refl, tt) (tt, tt) refl refl refl
 walked_value g met unmet c fuel (vals.Atom tag) ready h fresh = nothing_new g met c (vals.Atom tag) (atom tag) ready.distinct (h, refl, tt) (tt, tt) refl refl refl
@@ -257,11 +259,11 @@ walked_value g met unmet c fuel (vals.Ref k) ready h fresh = ⊎_elim
     (λ new. fresh k h new)
     (met_or_new met k)
 
--- where values can be walked
+-- Each value can be walked with this much fuel.
 abbrev Walks : List Obj → ℕ → Type 0
 Walks g fuel = (met unmet : List ℕ) (c : ℕ) (v : Val) → IsReady g met unmet c fuel → IsValue (length g) v → Walked g met c v
 
--- lists of them can
+-- Lists of values can be walked, too.
 walked_none : (g : List Obj) (met : List ℕ) (c : ℕ) → AreDistinct met → WalkedAll g met c []
 walked_none g met c distinct = record {
   forest = none;
@@ -360,7 +362,7 @@ has_one_tree g v is_graph is_value =
     let t = tree_exists g v is_graph is_value in
     record { tree = t.0; is = t.1; only = λ other is_of. one_tree_only g v other t.0 is_of t.1 }
 
--- the objects of the tree of a value can be numbered
+-- The objects of the tree of a value can be numbered.
 pub numbering : (g : List Obj) (v : Val) (tree : Tree) → IsGraph g → IsValue (length g) v → IsTreeOf g v tree → (ks : List ℕ) × IsNumbering g v tree ks
 numbering g v tree is_graph is_value is_of =
     let w = walk g (length g) is_graph [] (below (length g)) 0 v (start g) is_value in

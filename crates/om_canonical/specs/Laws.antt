@@ -1,4 +1,4 @@
--- Laws of canonical bytes and of values that are the same.
+-- Laws of canonical bytes and of isomorphic values.
 use Rattle.std.specs.Prelude.{ℕ, ◌≡◌, ◌^◌, ◌<◌, ◌≤◌, List, length, map}
 use Rattle.om_model.specs.declared.value.Val.{Val}
 use Rattle.om_model.specs.declared.value.Obj.{Obj}
@@ -12,9 +12,9 @@ use Rattle.om_format.specs.Canonical.{spelling, data_spelling, canon}
 use Rattle.om_format.specs.Tree.{Tree, tokens, IsTree, ReferBack}
 use Rattle.om_format.specs.Iso.{Iso, IsTreeOf}
 
--- ---- spellings
+-- ---- encodings
 
--- a length that has a spelling
+-- The length of the object's contents can be encoded.
 abbrev pub LeafHasSpelling : Obj → Type 0
 LeafHasSpelling (objects.Block tag values) = Unit {0}
 LeafHasSpelling (objects.Bytes bytes) = length bytes < 2 ^ 64
@@ -24,7 +24,7 @@ LeafHasSpelling (objects.I32 z) = Unit {0}
 LeafHasSpelling (objects.I64 z) = Unit {0}
 LeafHasSpelling (objects.Native z) = Unit {0}
 
--- a size that has one
+-- The numbers of the token (an offset, a size or a length) can be encoded.
 abbrev pub HasSpelling : Token → Type 0
 HasSpelling (integer z) = Unit {0}
 HasSpelling (atom tag) = Unit {0}
@@ -32,12 +32,12 @@ HasSpelling (shared offset) = offset < 2 ^ 64
 HasSpelling (block tag size) = size < 2 ^ 54
 HasSpelling (leaf object) = LeafHasSpelling object
 
--- the spelling of a token spells it
+-- The canonical encoding of a token is an encoding of that token.
 abbrev pub SpellingSpells : Type 0
 SpellingSpells = (t : Token) → IsToken t → HasSpelling t → Spells t (spelling t)
 
--- the canonical bytes of a tree spell it, where its words on 64 bits are within the limit and its
--- data are not too long
+-- The canonical bytes of a tree encode that tree. Its 64-bit words are within the limit, and its
+-- data have fewer than 2^48 bytes.
 abbrev pub CanonSpells : Type 0
 CanonSpells =
     (limit : ℕ) (tree : Tree) → limit < 2 ^ 64 → IsTree tree → ReferBack tree 0
@@ -45,9 +45,9 @@ CanonSpells =
     → length (data_spelling (tokens tree)) < 2 ^ 48
     → SpelledUnder limit (canon tree) tree
 
--- ---- the same value
+-- ---- isomorphic values
 
--- each value of a graph is the same as itself
+-- Each value of a graph is isomorphic to itself.
 abbrev pub SameIsReflexive : Type 0
 SameIsReflexive = (g : List Obj) (v : Val) → IsGraph g → IsValue (length g) v → Iso g v g v
 
@@ -57,7 +57,7 @@ SameIsSymmetric = (g h : List Obj) (v w : Val) → Iso g v h w → Iso h w g v
 abbrev pub SameIsTransitive : Type 0
 SameIsTransitive = (g h i : List Obj) (u v w : Val) → Iso g u h v → Iso h v i w → Iso g u i w
 
--- the tree, and no other
+-- A tree of the value, and the proof that no other tree is one.
 pub record HasOneTree (g : List Obj) (v : Val) : Type 0 where
   pub tree : Tree
   pub is : IsTreeOf g v tree

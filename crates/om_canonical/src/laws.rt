@@ -1,27 +1,30 @@
-//! Laws over the definitions. The functions do nothing: what each ensures is the law.
+//! Lemma functions. They do nothing at run time: the contract of each function is a law.
 
 ghost use Rattle.om_canonical.specs.Laws.{SpellingSpells, CanonSpells, SameIsReflexive};
 ghost use Rattle.om_canonical.specs.Laws.{SameIsSymmetric, SameIsTransitive, OneTreeFollows};
 
-/// The spelling of a token that the runtime writes spells it, so reading gives the token back.
+/// Proves that the canonical encoding of a token is an encoding of that token. A reader that
+/// decodes the encoding therefore returns the token.
 pub fn spelling_spells()
     ensures { SpellingSpells }
 {}
 
-/// The canonical bytes of a tree spell it, under each limit on words that it keeps, where its data
-/// have fewer than 2^48 bytes.
+/// Proves that the canonical bytes of a tree encode that tree, if its data have fewer than 2^48
+/// bytes. This holds under each limit that the tree's 64-bit words keep.
 pub fn canon_spells()
     ensures { CanonSpells }
 {}
 
-/// To be the same value up to the numbers of objects is an equivalence.
+/// Proves that isomorphism of values (equality up to the numbers of their objects) is an
+/// equivalence.
 pub fn same_is_an_equivalence()
     ensures reflexive { SameIsReflexive }
     ensures symmetric { SameIsSymmetric }
     ensures transitive { SameIsTransitive }
 {}
 
-/// Each value of a graph has one tree whose value is the same.
+/// Proves that each value of a graph has exactly one tree whose root value is isomorphic to the
+/// value.
 pub fn one_tree()
     ensures { OneTreeFollows }
 {}

@@ -1,5 +1,7 @@
-//! Laws of the bytes that the runtime writes: they spell their tree, each value has one tree up to
-//! the numbers of its objects, and being the same value is an equivalence.
+//! Laws of the canonical bytes, the bytes that OCaml's runtime writes for a value. The canonical
+//! bytes of a tree encode that tree (`canon_spells`). Each value has exactly one tree, up to the
+//! numbers of its objects (`one_tree`). Isomorphism of values is an equivalence
+//! (`same_is_an_equivalence`). The crate has no code that runs.
 #![tactic(auto)]
 
 pub mod laws;

@@ -1,4 +1,4 @@
--- Each status has its cause, and each cause its status, by what is promised of a call.
+-- Each status has its cause, and each cause leads to its status, by the specification of a run.
 use Rattle.std.proofs.Common.{◌≡◌, ◌≢◌, ◌⊎◌, ◌^◌, ℕ, List, take, Option, Some, None, Result, Ok, Err, inl, inr, refl, sym, ap, ◌∙◌, subst}
 use Rattle.std.specs.Prelude.{◌↔◌, IfSome}
 use Rattle.om_model.specs.Bytes.{AreBytes}
@@ -24,7 +24,7 @@ use Rattle.om_promises.proofs.ToldLemmas.{lawful_at, either, stop_comes, end_com
 use Rattle.om_causes.specs.Causes.{Tables, AreExact, Show, IsBarred, IsCaused, OnlyCaused, IfBadWords, IfBarred, IsToBeDone, IfShown, IsDue, HasWhatIsDue}
 use Rattle.om_causes.proofs.TableLemmas.{bar_of, bar_found, stop_with, stop_held, end_with, end_held, shows_given, gives_shown}
 
--- a file that was read whole is all that there is of its name
+-- If a file was read completely, then its text is all that the file map has for its name.
 read_whole :
     (contents : Option (List ℕ)) (text : List ℕ) → IsFoundOf contents (opened (whole text))
     → contents ≡ Some text
@@ -58,7 +58,7 @@ module _ {A : Type 0} (c : Commands A) (tables : Tables A) (exact : AreExact c t
         read_whole (contents_of all name) text
         (subst (IsFoundOf (contents_of all name)) read h)
 
-  -- what is said of what was taken shows its status
+  -- The bytes that were read lead to the status of the replies.
   module _ (a : A) (taken : Taken) (all : Replies) (s : SaysAll c a taken all)
       (are_bytes : AreBytes taken.bytes) where
     stop_shown :
@@ -104,7 +104,7 @@ module _ {A : Type 0} (c : Commands A) (tables : Tables A) (exact : AreExact c t
       by (inr (on, closes)) = closed taken.until on closes
 
   module _ (as_told : AreAsTold c words call) where
-    -- by an outcome, where the input is not told
+    -- The cause, from an outcome, if the input is not known.
     untold :
         (given : Given) → MayBe c words call given
         → IfSome call.input.before.bytes (λ bytes. bytes ≡ given.input.bytes) → (all : Replies)
@@ -172,7 +172,7 @@ module _ {A : Type 0} (c : Commands A) (tables : Tables A) (exact : AreExact c t
           by (Some bytes) known = caused bytes known (meant status not_read not_long not_unsaid e)
           by None none = some p none
 
-  -- ---- a cause has its status
+  -- ---- a cause leads to its status
 
   pub bad_words :
       IfUsage c words call → IfWords c words call
@@ -191,7 +191,7 @@ module _ {A : Type 0} (c : Commands A) (tables : Tables A) (exact : AreExact c t
   module _ (lawful : AreLawful c) (p : IsStatus c words call)
       (a : A)
       (any : (files : Fetches) → Prepares c words files (Ok a)) where
-    -- whatever comes of files, the replies are to the input
+    -- Whatever the files are, the replies are those to the input.
     any_comes :
         (Holds : Status → Type 0)
         → ((given : Given) (may_be : MayBe c words call given) (all : Replies)
@@ -291,10 +291,10 @@ module _ {A : Type 0} (c : Commands A) (tables : Tables A) (exact : AreExact c t
               input = told;
             }) short_bytes e.2)
 
-  -- ---- an honest call
+  -- ---- a fault-free run
 
   module _ (input : List ℕ) (files : List File) where
-    -- an outcome has a status that is due
+    -- The status of an outcome is due.
     due_of :
         AreBytes input → (all : Replies) → Outcome c words (contents_of files) input all
         → IsDue c tables words input (told_files files) (ending_of all).status
@@ -315,7 +315,7 @@ module _ {A : Type 0} (c : Commands A) (tables : Tables A) (exact : AreExact c t
         let e : other ≡ usage = (let k : other ≡ stop = cc same in k ∙ is) in
         inl (none, ap (λ all. (ending_of all).status) m ∙ ap status_of e)
 
-    -- and what is due is of an outcome, or is given by the input
+    -- If a status is due, then it is that of an outcome, or the input determines it.
     due_comes :
         (honest : IsHonest call input files) → TellsBytes call.input
         → call.status ≢ statuses.Memory → IsDecided c words call

@@ -1,4 +1,5 @@
--- What exact tables say of a stop, of an end, and of what an input gives.
+-- Consequences of exact tables for an exit reason, for an end, and for the status that an input
+-- determines.
 use Rattle.std.proofs.Common.{ℕ, ◌≡◌, List, Err, inl, inr, refl, subst}
 use Rattle.om_model.specs.Bytes.{AreBytes}
 use Rattle.om_outcome.specs.declared.status.Status.{Status}

@@ -1,6 +1,6 @@
--- What each status means at commands that read their input, by tables: of the words and the files,
--- and of the input. Where the tables are exact, each status has its cause, and each cause its
--- status.
+-- The exit status specification of commands that read their input, given by tables for the
+-- arguments and the files, and for the input. If the tables are exact, then each status has its
+-- cause, and each cause leads to its status.
 use Rattle.std.specs.Prelude.{ℕ, ◌^◌, ◌<◌, ◌≡◌, ◌≢◌, ◌↔◌, ◌⊎◌, List, length, take, Some, IfSome, Ok}
 use Rattle.std.specs.Prelude.{Err}
 use Rattle.om_model.specs.Bytes.{AreBytes}
@@ -19,51 +19,53 @@ use Rattle.om_promises.specs.Outside.{IsHonest, IsUnsaid, IsOutside, AreShort}
 use Rattle.om_promises.specs.Promises.{told_files, HoldEnd, Gives, AtInput}
 
 pub record Tables (A : Type 0) : Type 1 where
-  -- the request alone stops the run, with 2
+  -- The request alone ends the run with status 2.
   pub BadWords : Request → Type 0
-  -- the request and what came of its files stop the run before the input, with this status
+  -- The request and its fetched files end the run before the input is read, with this status.
   pub Bar : Request → Fetches → Status → Type 0
-  -- the bytes stop the run with this status, whatever follows them
+  -- The bytes end the run with this status, whatever follows them.
   pub StopWith : A → List ℕ → Status → Type 0
-  -- where the input is these bytes this status comes, at its end
+  -- If the input is these bytes, then the status at its end is this status.
   pub EndWith : A → List ℕ → Status → Type 0
 
 module _ {A : Type 0} (c : Commands A) (tables : Tables A) where
-  -- an input gives this status
+  -- An input leads to this status.
   abbrev pub Show : A → List ℕ → Status → Type 0
   Show a input status = tables.StopWith a input status ⊎ tables.EndWith a input status
 
-  -- ---- the tables are exact
+  -- ---- exact tables
 
-  -- bytes hold a stop of a status exactly where they stop the run with it
+  -- Bytes contain an exit reason with a status if and only if `StopWith` holds for the bytes and
+  -- the status.
   abbrev pub HaveStops : Type 0
   HaveStops = (a : A) (bytes : List ℕ) (status : Status)
       → ((stop : Stop) × (status_of stop ≡ status) × HoldStop c a bytes stop)
       ↔ tables.StopWith a bytes status
 
-  -- they end with a reply of a status exactly where they end with that
+  -- Bytes end with a reply that has a status if and only if `EndWith` holds for the bytes and the
+  -- status.
   abbrev pub HaveEnds : Type 0
   HaveEnds = (a : A) (bytes : List ℕ) (status : Status) → AreBytes bytes
       → ((all : Replies) × ((ending_of all).status ≡ status) × HoldEnd c a bytes all.said all.last)
       ↔ tables.EndWith a bytes status
 
-  -- so an input gives a status exactly where it shows it
+  -- An input determines a status if and only if `Show` holds for the input and the status.
   abbrev pub HaveShown : Type 0
   HaveShown = (a : A) (input : List ℕ) (status : Status) → AreBytes input
       → Gives c a input status ↔ Show a input status
 
-  -- a request and its files stop the run with a status exactly where they bar it so
+  -- A request and its files end the run with a status if and only if `Bar` holds for them.
   abbrev pub HaveBars : Type 0
   HaveBars = (request : Request) (files : Fetches) (status : Status)
       → ((stop : Stop) × (status_of stop ≡ status) × c.Finds request files (Err stop))
       ↔ tables.Bar request files status
 
-  -- where the request alone stops the run, PATH is no path
+  -- If the request alone ends the run, then PATH is no valid path.
   abbrev pub HaveBadWords : Type 0
   HaveBadWords = (request : Request) → tables.BadWords request → (files : Fetches)
       → c.Finds request files (Err bad_path)
 
-  -- the tables say it all, of commands that read their input
+  -- The tables are exact, and the commands read their input.
   pub record AreExact : Type 0 where
     pub read : (a : A) → c.Reads a
     pub stops : HaveStops
@@ -72,44 +74,47 @@ module _ {A : Type 0} (c : Commands A) (tables : Tables A) where
     pub bad_words : HaveBadWords
 
   module _ (words : List (List ℕ)) where
-    -- ---- a status of the words, the files or the input
+    -- ---- statuses that the arguments, the files or the input cause
 
-    -- the run is barred with this status, by the files as they came
+    -- The fetched files end the run with this status before the input is read.
     pub record IsBarred (call : Call) (status : Status) : Type 0 where
       pub found : Fetches
       pub fetches : FetchesFor c words call.files found
       pub request : Request
       pub asks : Asks words request
       pub bar : tables.Bar request found status
-      -- the text of a file that is wanted is what the map has of its name, where that is told
+      -- If the file map is known, then the text of a requested file is what the map has for its
+      -- name.
       pub told : (turn : ℕ) (name text : List ℕ) → c.Wants request found turn name
           → found turn name ≡ opened (whole text)
           → IfSome call.files.before.map (λ all. contents_of all name ≡ Some text)
 
-    -- the words ask for nothing, the run is barred with this status, or the whole input shows it
+    -- The arguments are no request, the files end the run with this status, or the whole input
+    -- leads to it.
     abbrev pub IsCaused : Call → Status → Type 0
     IsCaused call status =
         (IsUsage words × (status ≡ Usage))
         ⊎ (IsBarred call status
         ⊎ AtInput c words call (λ a input. AreBytes input × Show a input status))
 
-    -- a status other than 6, 7, 9 and 10 comes only where it is caused so
+    -- A status other than 6, 7, 9 and 10 is returned only if it has such a cause.
     abbrev pub OnlyCaused : Call → Type 0
     OnlyCaused call = (status : Status) → status ≢ ReadFault → status ≢ TooLong
         → (IsUnsaid status → ⊥) → call.status ≡ status → IsCaused call status
 
-    -- ---- where it has to come
+    -- ---- when a status must be returned
 
-    -- the words ask for something, and that alone stops the run
+    -- The arguments are a request that alone ends the run.
     abbrev pub AsksBadly : Type 0
     AsksBadly = (request : Request) × Asks words request × tables.BadWords request
 
-    -- 2 comes where the words ask for nothing, or badly, unless it could not be said
+    -- If the arguments are no request, or a request that alone ends the run, then the status is 2,
+    -- or 7 or 9.
     abbrev pub IfBadWords : Call → Type 0
     IfBadWords call = IsUsage words ⊎ AsksBadly → (call.status ≡ Usage) ⊎ IsUnsaid call.status
 
-    -- where files that are told bar the run, and those that are wanted are short enough, the status
-    -- comes, or 6 to 9
+    -- If known files end the run with a status, and the requested files are short enough, then this
+    -- status is returned, or 6 to 9.
     abbrev pub IfBarred : Call → Type 0
     IfBarred call = (files : List File) (request : Request) (status : Status)
         → call.files.before.map ≡ Some files
@@ -117,15 +122,16 @@ module _ {A : Type 0} (c : Commands A) (tables : Tables A) where
         → Asks words request → tables.Bar request (told_files files) status
         → (call.status ≡ status) ⊎ IsOutside call.status
 
-    -- this is to be done whatever comes of files, or by files that are told and short enough
+    -- This is the task, whatever the files are, or the known files determine it and are short
+    -- enough.
     abbrev pub IsToBeDone : Call → A → Type 0
     IsToBeDone call a =
         ((files : Fetches) → Prepares c words files (Ok a))
         ⊎ ((files : List File) × (call.files.before.map ≡ Some files) × AreShort files
         × Prepares c words (told_files files) (Ok a))
 
-    -- where the first 2^48 bytes of an input that is told stop the run, or the input is short
-    -- enough and ends so, the status comes, or 6 to 9
+    -- The status, or 6 to 9, is returned if the first 2^48 bytes of a known input end the run with
+    -- it. The same holds if the known input is short enough and ends with the status.
     abbrev pub IfShown : Call → Type 0
     IfShown call = (a : A) (bytes : List ℕ) (status : Status) → IsToBeDone call a
         → call.input.before.bytes ≡ Some bytes
@@ -133,31 +139,32 @@ module _ {A : Type 0} (c : Commands A) (tables : Tables A) where
         ⊎ ((length bytes < 2 ^ 48) × tables.EndWith a bytes status)
         → (call.status ≡ status) ⊎ IsOutside call.status
 
-    -- ---- honest calls
+    -- ---- fault-free runs
 
-    -- the words ask for nothing, the files bar the run with this status, or the input shows it
+    -- The arguments are no request, the files end the run with this status, or the input leads to
+    -- it.
     abbrev pub IsDue : List ℕ → Fetches → Status → Type 0
     IsDue input files status =
         (IsUsage words × (status ≡ Usage))
         ⊎ (((request : Request) × Asks words request × tables.Bar request files status)
         ⊎ ((a : A) × Prepares c words files (Ok a) × Show a input status))
 
-    -- unless memory ran out, an honest call has exactly the status that is due
+    -- Unless memory ran out, a fault-free run has exactly the status that is due.
     abbrev pub HasWhatIsDue : Call → Type 0
     HasWhatIsDue call = (input : List ℕ) (files : List File) → IsHonest call input files
         → (call.status ≡ Memory)
         ⊎ ((status : Status) → (call.status ≡ status) ↔ IsDue input (told_files files) status)
 
-    -- ---- all of it
+    -- ---- the whole specification
 
     pub record Causes (call : Call) : Type 0 where
-      -- 0 to 5, 8, 11 and 12: the status is caused by the words, the files or the whole input
+      -- Statuses 0 to 5, 8, 11 and 12: the arguments, the files or the whole input cause them.
       pub only : OnlyCaused call
-      -- 2 comes where the words ask for nothing, or badly
+      -- Status 2 is returned if the arguments are no request, or a request that alone ends the run.
       pub bad_words : IfBadWords call
-      -- 3, 5, 8 or 12 comes where files that are told are refused, or missing
+      -- Status 3, 5, 8 or 12 is returned if known files are refused or missing.
       pub barred : IfBarred call
-      -- 0, 1, 2, 4, 5, 11 or 12 comes where an input that is told shows it
+      -- Status 0, 1, 2, 4, 5, 11 or 12 is returned if a known input leads to it.
       pub shown : IfShown call
-      -- unless memory ran out, an honest call has a status exactly where it is due
+      -- Unless memory ran out, a fault-free run has a status if and only if it is due.
       pub due : HasWhatIsDue call

@@ -1,4 +1,4 @@
-//! The laws. Each function does nothing: what it ensures is the law.
+//! The theorems as contracts of lemma functions, which do nothing themselves.
 
 ghost use Rattle.om_promises.specs.CommandLaws.{Follow};
 ghost use Rattle.om_promises.specs.Commands.{Commands};
@@ -8,7 +8,7 @@ ghost use Rattle.om_causes.specs.Causes.{Tables, HaveShown, AreExact, Causes};
 use om_promises::laws::{Act, files_in_turns, promises_of_commands};
 use std::marker::PhantomData;
 
-/// Commands, and tables of what each status means at them.
+/// Commands together with the tables of their exit statuses.
 pub trait Meant {
     ghost acts: { Type 0 };
 
@@ -17,7 +17,7 @@ pub trait Meant {
     ghost tables: { Tables acts };
 }
 
-/// The commands alone.
+/// The commands without the tables.
 pub struct Of<M>(PhantomData<M>);
 
 impl<M: Meant> Act for Of<M> {
@@ -26,13 +26,15 @@ impl<M: Meant> Act for Of<M> {
     ghost commands = { M.commands };
 }
 
-/// Where the tables are exact, an input gives a status exactly where it shows it by them.
+/// States that an input determines a status if and only if the tables say so, if the tables are
+/// exact.
 pub fn tables_show<M: Meant>()
     requires { AreExact M.commands M.tables }
     ensures { HaveShown M.commands M.tables }
 {}
 
-/// Then what is promised of a call gives each status its cause, and to each cause its status.
+/// States that each returned status has its cause, and that each cause leads to its status, if the
+/// tables are exact.
 pub fn causes_of_tables<M: Meant>()
     requires lawful { AreLawful M.commands }
     requires turns { AreInTurns M.commands }

@@ -1,6 +1,7 @@
-//! What each status means, at commands whose meaning is given by tables: the causes of a status,
-//! and where it has to come, stated once for all sets of commands. These are definitions, and the
-//! laws on them: nothing here does anything.
+//! The exit status specification of commands whose statuses are given by tables (`Tables`): what
+//! causes each status, and when it must be returned. It is stated once for all sets of commands, as
+//! `Causes`. The crate consists of definitions and theorems (`causes_of_tables`), and nothing here
+//! does anything.
 #![tactic(auto)]
 
 pub mod laws;

@@ -1,4 +1,5 @@
--- Pairs that have the same objects at the same classes are accepted together, and a value has the type where they are.
+-- If two lists of pairs have the same objects at the same classes, then both are accepted or
+-- neither is. If pairs are accepted for a value, then the value has the type.
 use Rattle.std.proofs.Common.{ℕ, ◌≡◌, ⊎_elim, inl, List, ◌∷◌, Some, subst}
 use Rattle.om_model.proofs.Options.{Contains-first, Contains-later, Contains-cases, IsSomeAnd-weaker}
 use Rattle.om_model.specs.declared.value.Val.{Val}
@@ -14,7 +15,7 @@ use Rattle.om_cert.specs.Normal.{AreTheSame}
 
 module _ {T : Type 0} (shapes : Shapes T) (lawful : AreLawful shapes Everything) (graph : List Obj) where
   module _ (pairs others : List (ℕ × T)) (same : AreTheSame shapes pairs others) where
-    -- what the ones hold the others hold, at each equal type
+    -- If the pairs hold a value, then the others hold it at each equal type.
     held_by_others : (v : Val) (t u : T) → shapes.equal t u → IsHeld shapes graph pairs v t → IsHeld shapes graph others v u
     held_by_others (vals.Int z) t u equal held = record { fits = lawful.fits graph (vals.Int z) t u (inl tt) equal held.fits; listed = tt }
     held_by_others (vals.Atom tag) t u equal held = record { fits = lawful.fits graph (vals.Atom tag) t u (inl tt) equal held.fits; listed = tt }
@@ -45,7 +46,7 @@ module _ {T : Type 0} (shapes : Shapes T) (lawful : AreLawful shapes Everything)
     accepted_too root t accepted =
         record { typing = typing_of_others accepted.typing; held = held_by_others root t t (lawful.reflexive t tt) accepted.held }
 
-  -- with a pair more that they hold the pairs have nothing new
+  -- If the pairs hold one more pair, then adding it changes nothing.
   same_with_held : (pairs : List (ℕ × T)) (o : ℕ) (t : T) → IsListed shapes pairs (vals.Ref o) t → AreTheSame shapes pairs ((o, t) ∷ pairs)
   same_with_held pairs o t listed = record {
     there = λ p u among. (u, Contains-later (o, t) pairs (p, u) among, lawful.reflexive u tt);

@@ -1,4 +1,4 @@
--- What the pairs of one object tell, where there are many of them too.
+-- The pairs of one object, even if there are many.
 use Rattle.std.proofs.Common.{ℕ, ◌<◌, ◌≤◌, ◌+◌, ◌-◌, ◌%◌, ◌≡◌, ◌∙◌, ◌⊎◌, ⊎_elim, inl, inr, Bool, true, false, cond, List, length, Some, refl, sym, ap, subst, arith}
 use Rattle.std.specs.Prelude.{Contains, slice_get, IsTrue, ◌↔◌, ◌==◌, not}
 use Rattle.std.proofs.lemmas.Bool.Decides.{Decides-eqb}
@@ -22,7 +22,7 @@ use Rattle.om_section.specs.Increasing.{AreIncreasing}
 use Rattle.om_scan.proofs.SetLemmas.{same_pair, cond_true, cond_kept}
 use Rattle.om_cert.specs.Testing.{IsStart, IsPassing, IsSame, pair_cmp, AreCrowded, is_in, IsCrowd, IsAmongAt, IsElsewhere, IsSettled, StandsAt}
 
--- two numbers differ by their test
+-- The test decides if two numbers differ.
 pub differ : (a b : ℕ) → IsTrue (not (a == b)) ↔ (¬ (a ≡ b))
 differ a b = by_test (a == b) refl where
   by_test : (t : Bool) → (a == b) ≡ t → IsTrue (not (a == b)) ↔ (¬ (a ≡ b))
@@ -40,7 +40,7 @@ here true other is = refl
 here false other is = absurd (false≢true is)
 
 module _ (table : Table) (pairs : List (ℕ × ℕ)) where
-  -- at a place with no 16 of its object before it there is nothing to enter
+  -- If a pair is not preceded by 16 pairs of its object, then nothing is inserted.
   pub crowd_same :
       (i o t : ℕ) (has : ℕ → ℕ → Type 0) → AreCrowded table pairs i has → slice_get pairs i ≡ Some (o, t)
       → ((s : ℕ) → ¬ (slice_get pairs (i - 16) ≡ Some (o, s))) → AreCrowded table pairs (i + 1) has
@@ -85,7 +85,7 @@ module _ (table : Table) (pairs : List (ℕ × ℕ)) where
     last : (k i : ℕ) → k + 16 < i + 1 → (k + 16 < i) ⊎ (k + 16 ≡ i)
     last k i less = ⊎_elim (λ same. inr same) (λ other. inl (omega (arith, less, other))) (same_or_not (k + 16) i)
 
-  -- ---- at a place
+  -- ---- at an index
 
   pub stands_at :
       (graph : List Obj) (word o s t : ℕ) → Contains pairs (o, s) → o < length graph → word ≡ word_of graph (vals.Ref o) → IsSame table s t
@@ -93,14 +93,14 @@ module _ (table : Table) (pairs : List (ℕ × ℕ)) where
   stands_at graph word o s t among inside named same =
       record { object = o; inside = inside; named = named; among = (s, among, same) }
 
-  -- ---- among
+  -- ---- among the pairs
 
   module _ (increasing : AreIncreasing pairs) where
     not_larger : (j k o p s t : ℕ) → j < k → slice_get pairs j ≡ Some (o, s) → slice_get pairs k ≡ Some (p, t) → o ≤ p
     not_larger j k o p s t less at_j at_k = ⊎_elim (λ smaller. omega (arith, smaller)) (λ same. let e = same.0 in omega (arith, e))
         (increasing j k (o, s) (p, t) less at_j at_k)
 
-    -- where 16 were looked at, the crowd tells of the others
+    -- If the first 16 pairs were inspected, then the set decides for the others.
     pub crowd_tells :
         (crowd : BTreeSet (ℕ × ℕ)) (object ty class start at : ℕ) (test : Bool) → IsCrowd table pairs crowd → slice_get table.classes ty ≡ Some class
         → IsStart pairs object start → IsPassing pairs object at (λ u. IsSame table u ty) → (at < length pairs → start + 16 ≤ at)
@@ -131,9 +131,9 @@ module _ (table : Table) (pairs : List (ℕ × ℕ)) where
                 by_order k at_k (inl before) = absurd (passing.none k u before at_k equal)
                 by_order k at_k (inr later) = behind u k at_k equal later
 
-    -- ---- elsewhere
+    -- ---- at an unequal type
 
-    -- the pair before tells it
+    -- The pair before decides.
     pub told_before :
         (i object ty before its class : ℕ) (test : Bool) → slice_get pairs i ≡ Some (object, ty) → 0 < i → slice_get pairs (i - 1) ≡ Some (object, before)
         → IsSettled table pairs i → slice_get table.classes before ≡ Some its → slice_get table.classes ty ≡ Some class → (IsTrue test ↔ (¬ (its ≡ class)))
@@ -146,7 +146,7 @@ module _ (table : Table) (pairs : List (ℕ × ℕ)) where
       equal : its ≡ class → (table_shapes table).equal before ty
       equal same = its_is ∙ (ap Some same ∙ sym class_is)
 
-    -- where the pair before is of another object, those up to this one are at equal types
+    -- If the pair before is of another object, then the pairs up to this one are at equal types.
     pub passing_from :
         (i object ty : ℕ) → slice_get pairs i ≡ Some (object, ty) → ((s : ℕ) → 0 < i → ¬ (slice_get pairs (i - 1) ≡ Some (object, s)))
         → IsPassing pairs object (i + 1) (λ u. ¬ IsSame table ty u)
@@ -177,7 +177,7 @@ module _ (table : Table) (pairs : List (ℕ × ℕ)) where
 -- ---- the value of a word
 
 module _ (table : Table) (graph : List Obj) (pairs : List (ℕ × ℕ)) (t : ℕ) (v : Val) where
-  -- it is no object, and fits
+  -- If the value is not an object and fits, then it is held.
   pub no_object_held : (word : ℕ) → word ≡ word_of graph v → (word % 8 ≡ 0 → ⊥) → (table_shapes table).fits graph v t → IsHeld (table_shapes table) graph pairs v t
   no_object_held word is odd fits = record { fits = fits; listed = listed v is } where
     listed : (w : Val) → word ≡ word_of graph w → IsListed (table_shapes table) pairs w t
@@ -185,7 +185,7 @@ module _ (table : Table) (graph : List Obj) (pairs : List (ℕ × ℕ)) (t : ℕ
     listed (vals.Atom tag) same = tt
     listed (vals.Ref o) same = absurd (odd (omega (arith, same)))
 
-  -- it is an object, and fits
+  -- If the value is an object and fits, then the pairs decide if it is held.
   pub object_held :
       (word o : ℕ) (test : Bool) → IsGraph graph → IsValue (length graph) v → word ≡ word_of graph v → o < length graph → word ≡ word_of graph (vals.Ref o)
       → (table_shapes table).fits graph v t → (IsTrue test ↔ IsAmongAt table pairs o t) → IsTrue test ↔ IsHeld (table_shapes table) graph pairs v t
@@ -196,13 +196,13 @@ module _ (table : Table) (graph : List Obj) (pairs : List (ℕ × ℕ)) (t : ℕ
     same : v ≡ vals.Ref o
     same = word_of-inj graph v (vals.Ref o) graph' valid inside (sym is ∙ named)
 
-  -- it is an object that stands at an equal type, and fits
+  -- If the value is an object that is at an equal type, and fits, then it is held.
   pub stands_held :
       (word : ℕ) → IsGraph graph → IsValue (length graph) v → word ≡ word_of graph v → (table_shapes table).fits graph v t
       → StandsAt table graph pairs word t → IsHeld (table_shapes table) graph pairs v t
   stands_held word graph' valid is fits at =
       (object_held word at.object true graph' valid is at.inside at.named fits (λ yes'. at.among, λ among. refl)).0 refl
 
-  -- it does not fit
+  -- If the value does not fit, then it is not held.
   pub unfit_not_held : (fits : Bool) → (IsTrue fits ↔ (table_shapes table).fits graph v t) → fits ≡ false → ¬ IsHeld (table_shapes table) graph pairs v t
   unfit_not_held fits tells no' held = false≢true (sym no' ∙ tells.1 held.fits)

@@ -1,4 +1,4 @@
--- What verifying answers, from what it found of each pair.
+-- The answer of the verification, from what it found for each pair.
 use Rattle.std.proofs.Common.{ℕ, ◌≡◌, ◌<◌, ◌≤◌, ◌+◌, ⊎_elim, inl, inr, List, [], ◌∷◌, length, refl, sym, ap, subst, arith}
 use Rattle.std.specs.Prelude.{Contains, slice_get, IsSomeAnd}
 use Rattle.std.proofs.lemmas.Option.{slice_get_within}
@@ -21,20 +21,20 @@ use Rattle.om_cert.specs.Accepted.{AreAccepted}
 use Rattle.om_cert.specs.Verified.{IsThere, LacksNeed, IsAtTwoTypes, IsWrong, IsVerified, fault_section, place_of}
 use Rattle.om_cert.specs.Testing.{AreAllThere, IsRight, IsRightAt, AreRight, IsWrongWith, IsFirstAt}
 
--- ---- places
+-- ---- positions of faults
 
--- a later pair's is not before
+-- The position of a later pair is not before that of an earlier one.
 later_pair : (i k c d c' d' : ℕ) → i < k → IsLexicallyBefore (1 ∷ k ∷ c ∷ d ∷ []) (1 ∷ i ∷ c' ∷ d' ∷ []) → ⊥
 later_pair i k c d c' d' more (inl less) = omega (arith, less)
 later_pair i k c d c' d' more (inr (one, inl less)) = omega (arith, more, less)
 later_pair i k c d c' d' more (inr (one, inr (same, rest))) = omega (arith, more, same)
 
--- what comes in a later round is not before
+-- A position in a later round is not before one in an earlier round.
 later_round : (a b c d a' b' c' d' : ℕ) → a' < a → IsLexicallyBefore (a ∷ b ∷ c ∷ d ∷ []) (a' ∷ b' ∷ c' ∷ d' ∷ []) → ⊥
 later_round a b c d a' b' c' d' more (inl less) = omega (arith, more, less)
 later_round a b c d a' b' c' d' more (inr (same, rest)) = omega (arith, more, same)
 
--- nor is it before itself
+-- A position is not before itself.
 never_itself : (a b c d : ℕ) → IsLexicallyBefore (a ∷ b ∷ c ∷ d ∷ []) (a ∷ b ∷ c ∷ d ∷ []) → ⊥
 never_itself a b c d (inl less) = omega (arith, less)
 never_itself a b c d (inr (one, inl less)) = omega (arith, less)
@@ -64,7 +64,7 @@ module _ (table : Table) (graph : List Obj) (root : Val) (pairs : List (ℕ × �
   wrong_with i Root wrong = absurd wrong
   wrong_with i NotFault wrong = absurd wrong
 
-  -- what is right is not wrong
+  -- If a pair is right, then it has no fault.
   right_not_wrong : (i : ℕ) (why : Why) → IsRightAt table graph pairs i → IsWrongWith table graph pairs i why → ⊥
   right_not_wrong i (Range j) right wrong = wrong
   right_not_wrong i (Unfit j) right wrong =
@@ -82,7 +82,7 @@ module _ (table : Table) (graph : List Obj) (root : Val) (pairs : List (ℕ × �
   there_not_out : (i : ℕ) → AreAllThere table graph pairs → IsSomeAnd (slice_get pairs i) (λ pair. ¬ IsThere table graph pair) → ⊥
   there_not_out i there out = let p = IsSomeAnd-some (slice_get pairs i) (λ pair. ¬ IsThere table graph pair) out in p.2 (there i p.0 p.1)
 
-  -- one pair more
+  -- One more pair.
   pub right_more : (i : ℕ) → AreRight table graph pairs i → IsRightAt table graph pairs i → AreRight table graph pairs (i + 1)
   right_more i right own k less = ⊎_elim
       (λ before. right k before)
@@ -92,7 +92,7 @@ module _ (table : Table) (graph : List Obj) (root : Val) (pairs : List (ℕ × �
       others)
       (less_same_more k i)
 
-  -- ---- rejected
+  -- ---- rejected entries
 
   module _ (there : AreAllThere table graph pairs) where
     pub pair_rejected :
@@ -141,7 +141,7 @@ module _ (table : Table) (graph : List Obj) (root : Val) (pairs : List (ℕ × �
       none Root wrong before = never_itself 2 0 0 0 before
       none NotFault wrong before = wrong
 
-    -- ---- accepted
+    -- ---- accepted entries
 
     pub accepted :
         (n : ℕ) → length pairs ≤ n → AreRight table graph pairs n → IsHeld (table_shapes table) graph pairs root 0

@@ -1,4 +1,5 @@
--- Of the lists of pairs that have the same objects at the same classes one is in a section's order.
+-- Among the lists of pairs with the same objects at the same classes, at most one is in the order
+-- of an entry.
 use Rattle.std.proofs.Common.{ℕ, suc, ◌≡◌, ◌∙◌, ⊎_elim, inl, inr, List, [], ◌∷◌, Some, refl, sym, ap, subst, arith}
 use Rattle.std.specs.Prelude.{Contains, slice_get}
 use Rattle.om_model.proofs.Options.{Contains-first, Contains-later, Contains-none, Contains-cases}
@@ -7,12 +8,12 @@ use Rattle.om_types.specs.Table.{Table, table_shapes}
 use Rattle.om_section.specs.Increasing.{IsSmaller, AreIncreasing}
 use Rattle.om_cert.specs.Normal.{IsLeast, AreNormal, AreTheSame}
 
--- ---- lists that increase
+-- ---- increasing lists
 
 tail_increases : (pair : ℕ × ℕ) (pairs : List (ℕ × ℕ)) → AreIncreasing (pair ∷ pairs) → AreIncreasing pairs
 tail_increases pair pairs increasing j k one other less at_j at_k = increasing (suc j) (suc k) one other (omega arith) at_j at_k
 
--- the place of what a list contains
+-- The index of an element of a list.
 place_of : (pairs : List (ℕ × ℕ)) (pair : ℕ × ℕ) → Contains pairs pair → (k : ℕ) × (slice_get pairs k ≡ Some pair)
 place_of [] pair among = absurd (Contains-none pair among)
 place_of (first ∷ pairs) pair among = ⊎_elim
@@ -31,7 +32,7 @@ never_back one other (inl a) (inr b) = let e = b.0 in omega (arith, a, e)
 never_back one other (inr a) (inl b) = let e = a.0 in omega (arith, b, e)
 never_back one other (inr a) (inr b) = let l = a.1 in let m = b.1 in omega (arith, l, m)
 
--- each contains what the other does
+-- Each list contains the elements of the other.
 record HaveTheSame (pairs others : List (ℕ × ℕ)) : Type 0 where
   there : (pair : ℕ × ℕ) → Contains pairs pair → Contains others pair
   back : (pair : ℕ × ℕ) → Contains others pair → Contains pairs pair
@@ -50,7 +51,7 @@ firsts_are_one first other pairs others one two same = ⊎_elim
 smaller_not_same : (one other : ℕ × ℕ) → IsSmaller one other → one ≡ other → ⊥
 smaller_not_same one other smaller is = never_back one other smaller (subst (λ p. IsSmaller p one) is (subst (λ p. IsSmaller one p) (sym is) smaller))
 
--- what is behind the first of two lists with the same first
+-- If two lists have the same first element and the same elements, then so do their rests.
 behind_too :
     (first : ℕ × ℕ) (pairs others : List (ℕ × ℕ)) → AreIncreasing (first ∷ pairs)
     → ((pair : ℕ × ℕ) → Contains (first ∷ pairs) pair → Contains (first ∷ others) pair)
@@ -76,7 +77,7 @@ one_list (first ∷ pairs) (other ∷ others) one two same =
 
 -- ---- lists of least types
 
--- of two least numbers of equal types neither is smaller
+-- If two indices of equal types are both least, then they are equal.
 least_are_one : (table : Table) (t u : ℕ) → IsLeast table t → IsLeast table u → (table_shapes table).equal t u → t ≡ u
 least_are_one table t u one two equal = ⊎_elim
     (λ less. absurd (two t less equal))

@@ -1,4 +1,4 @@
--- The pairs that paths reach in a value that has the type are accepted, and are one list.
+-- If a value has the type, then the pairs that paths reach are accepted, and their list is unique.
 use Rattle.std.proofs.Common.{ℕ, ◌≡◌, ◌∙◌, ◌++◌, inl, List, [], ◌∷◌, Some, refl, ap}
 use Rattle.std.specs.Prelude.{option_map, option_and_then, Contains, IsSomeAnd}
 use Rattle.om_model.proofs.Options.{IsSomeAnd-at}
@@ -40,7 +40,7 @@ module _ {T : Type 0} (shapes : Shapes T) (lawful : AreLawful shapes Everything)
     some_typing : IsTyping shapes graph some_pairs
     some_typing = (held_by_some shapes Everything lawful graph root t tt has).1
 
-    -- where a path leads there is a value that the typing holds
+    -- If a path leads to a value, then the typing holds this value.
     place : (path : List ℕ) (w : Val) (u : T) → value_at shapes graph root t path ≡ Some (w, u) → IsHeld shapes graph some_pairs w u
     place path w u leads =
         (place_is_held shapes Everything lawful graph some_pairs some_typing path root t w u tt (held_by_some shapes Everything lawful graph root t tt has).2 leads).1
@@ -91,7 +91,7 @@ module _ {T : Type 0} (shapes : Shapes T) (lawful : AreLawful shapes Everything)
       held = record { fits = has.fits; listed = listed_where_led [] root t t refl (lawful.reflexive t tt) };
     }
 
--- what the one list has the other has at an equal type
+-- If one list has an object, then the other has it at an equal type.
 there_too :
     (table : Table) → AreLawful (table_shapes table) Everything
     → (graph : List Obj) (root : Val) (pairs others : List (ℕ × ℕ)) → AreReached table graph root pairs → AreReached table graph root others

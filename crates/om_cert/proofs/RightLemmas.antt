@@ -1,4 +1,4 @@
--- What tells that all pairs are right.
+-- Conditions under which all pairs are right.
 use Rattle.std.proofs.Common.{ℕ, ◌<◌, ◌≤◌, ◌+◌, ◌%◌, ◌≡◌, ◌∙◌, ⊎_elim, inl, Bool, true, false, List, length, Some, refl, sym, ap, subst, arith}
 use Rattle.std.specs.Prelude.{Contains, slice_get, IsTrue, ◌↔◌}
 use Rattle.std.specs.Bool.{OnTrue}
@@ -26,7 +26,7 @@ module _ (table : Table) (graph : List Obj) (pairs : List (ℕ × ℕ)) where
   -- ---- one value
 
   module _ (lawful : AreLawful (table_shapes table) Everything) (graph' : IsGraph graph) (word t : ℕ) where
-    -- an object that stands at an equal type fits, where all pairs do
+    -- If all pairs fit, then an object that is at an equal type fits.
     stands_fits : (v : Val) → IsValue (length graph) v → word ≡ word_of graph v → StandsAt table graph pairs word t → AllFit table graph pairs → (table_shapes table).fits graph v t
     stands_fits v valid is at all =
         let same : v ≡ vals.Ref at.object = word_of-inj graph v (vals.Ref at.object) graph' valid at.inside (sym is ∙ at.named) in
@@ -61,7 +61,7 @@ module _ (table : Table) (graph : List Obj) (pairs : List (ℕ × ℕ)) where
       let k = place_in pairs (pair.object, pair.ty) is.among in
       stands_at table pairs graph pair.word pair.object pair.ty pair.ty is.among (there k.0 (pair.object, pair.ty) k.1).0 is.named refl
 
-  -- an object that cannot be changed is at one type where it is mutable
+  -- If an object is immutable, then the condition on mutable objects holds.
   pub fixed_is_at_one_type :
       (o t : ℕ) (shape : ShapeOf ℕ) → slice_get table.nodes t ≡ Some shape → is_mutable shape (slice_get graph o) ≡ false
       → (u : ℕ) → Contains pairs (o, u) → (table_shapes table).mutable graph o t → (table_shapes table).equal t u

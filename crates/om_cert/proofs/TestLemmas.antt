@@ -1,4 +1,4 @@
--- What is first wrong with a pair.
+-- The first fault of a pair.
 use Rattle.std.proofs.Common.{ℕ, zero, suc, ◌≡◌, ◌<◌, ◌≤◌, ◌+◌, ◌∙◌, ◌⊎◌, ⊎_elim, inl, inr, Bool, List, [], ◌∷◌, length, Option, Some, refl, sym, ap, subst, arith}
 use Rattle.std.specs.Prelude.{Contains, slice_get, option_map, IsSome, IsSomeAnd, IsTrue}
 use Rattle.std.proofs.lemmas.Option.{same_Some, slice_get_within}
@@ -26,9 +26,9 @@ use Rattle.om_cert.specs.declared.verified.Why.TheVariants.{Range, Unfit, Need, 
 use Rattle.om_cert.specs.Verified.{LacksNeed, IsAtTwoTypes, place_of}
 use Rattle.om_cert.specs.Testing.{HoldsNeed, HoldsAll, HoldsFirst, IsFirstLack, IsElsewhere, IsSettled, IsRight, AreRight, IsWrongWith, IsFirstAt}
 
--- ---- places of what is wrong
+-- ---- positions of faults
 
--- at one pair by the kind, and then by the field
+-- Within one pair, faults are ordered by kind and then by field.
 pub at_one_pair :
     (i j c d c' d' : ℕ) → j ≡ i → IsLexicallyBefore (1 ∷ j ∷ c ∷ d ∷ []) (1 ∷ i ∷ c' ∷ d' ∷ []) → (c < c') ⊎ ((c ≡ c') × (d < d'))
 at_one_pair i j c d c' d' same (inl less) = absurd (omega (arith, less))
@@ -38,7 +38,7 @@ at_one_pair i j c d c' d' same (inr (one, inr (two, inr (three, inl less)))) = i
 at_one_pair i j c d c' d' same (inr (one, inr (two, inr (three, inr (four, never))))) = absurd never
 
 module _ (table : Table) (graph : List Obj) (pairs : List (ℕ × ℕ)) where
-  -- ---- needs
+  -- ---- required fields
 
   abbrev needs_of : ℕ → ℕ → List (ℕ × ℕ)
   needs_of o t = object_typed table graph o t
@@ -113,7 +113,7 @@ module _ (table : Table) (graph : List Obj) (pairs : List (ℕ × ℕ)) where
       → test ≡ is_mutable (node_or_none (slice_get table.nodes t)) (slice_get graph o)
   mutable_is o t shape test at_type is = is ∙ ap (λ n. is_mutable (node_or_none n) (slice_get graph o)) (sym at_type)
 
-  -- where the pair before is right, at an equal type, the object is nowhere at another one
+  -- If the pair before is right and at an equal type, then the object is at no unequal type.
   pub settled :
       AreLawful (table_shapes table) Everything → (i o t : ℕ) → AreRight table graph pairs i → (table_shapes table).mutable graph o t
       → slice_get pairs i ≡ Some (o, t) → IsSettled table pairs i

@@ -1,4 +1,4 @@
--- No section is both accepted and rejected, and each has one answer.
+-- No entry is both accepted and rejected, and each entry has one answer.
 use Rattle.std.proofs.Common.{ℕ, ◌≡◌, ◌∙◌, ◌<◌, ◌⊎◌, inl, inr, List, length, Option, Some, None, Result, Ok, Err, refl, sym, ap, subst, arith}
 use Rattle.std.specs.Prelude.{slice_get, IsSome, IsSomeAnd, IfOk, option_and_then}
 use Rattle.std.proofs.lemmas.Bool.{false≢true}
@@ -27,7 +27,7 @@ use Rattle.om_cert.specs.Accepted.{AreAccepted, IsAccepted}
 use Rattle.om_cert.specs.Verified.{IsThere, LacksNeed, IsAtTwoTypes, IsWrong, IsWhy, place_of, IsFirstWhy, IsVerified, Shows, IsOneAnswer}
 use Rattle.om_cert.proofs.AcceptedLemmas.{accepted_has_type}
 
--- ---- what fits is there
+-- ---- what fits exists
 
 graph_has : (graph : List Obj) (o : ℕ) (f : Obj → Option (List (ℕ × ℕ))) → IsSome (option_and_then f (slice_get graph o)) → o < length graph
 graph_has graph o f fits = by_object (none_or_some (slice_get graph o)) where
@@ -35,7 +35,7 @@ graph_has graph o f fits = by_object (none_or_some (slice_get graph o)) where
   by_object (inl none) = absurd (false≢true (subst (λ found. IsSome (option_and_then f found)) none fits))
   by_object (inr (x, at)) = slice_get_within graph o x at
 
--- no object fits a number that is not in the table
+-- No object fits an index that is not in the table.
 no_object : (object : Obj) → ¬ IsSome (object_fields {T = ℕ} shapes.Variable object)
 no_object (objects.Block tag values) fits = false≢true fits
 no_object (objects.Bytes bytes) fits = false≢true fits
@@ -61,9 +61,9 @@ fitting_is_there : (table : Table) (graph : List Obj) (pair : ℕ × ℕ) → (t
 fitting_is_there table graph pair fits =
     (graph_has graph pair.0 (object_fields (node_or_none (slice_get table.nodes pair.1))) fits, table_has table graph pair.0 pair.1 fits)
 
--- ---- what is wrong with accepted pairs
+-- ---- faults of accepted pairs
 
--- a value is given where something is said of it
+-- If a property holds for an option, then the option has a value.
 at_some : {A : Type 0} (o : Option A) (P : A → Type 0) → IsSomeAnd o P → ((x : A) → o ≡ Some x → ¬ P x) → ⊥
 at_some o P holds never = let x = IsSomeAnd-some o P holds in never x.0 x.1 x.2
 
@@ -89,9 +89,9 @@ module _ (table : Table) (graph : List Obj) (root : Val) where
   never_both (sections.Misfit path) why wrong accepted = wrong.1 accepted
   never_both (sections.Clash first second) why wrong accepted = wrong.1 accepted
 
--- ---- one answer
+-- ---- uniqueness of answers
 
--- what is at one place is one
+-- If two faults have the same position, then they are equal.
 pub same_place : (one other : Why) → place_of one ≡ place_of other → one ≡ other
 same_place (Range i) (Range j) is = cc
 same_place (Range i) (Unfit j) is = cc
@@ -130,7 +130,7 @@ same_place NotFault (TwoTypes j) is = cc
 same_place NotFault Root is = cc
 same_place NotFault NotFault is = refl
 
--- each place is told by four numbers
+-- Each position has four numbers.
 four : (why : Why) → length (place_of why) ≡ 4
 four (Range i) = refl
 four (Unfit i) = refl
@@ -158,7 +158,7 @@ module _ (table : Table) (graph : List Obj) (root : Val) (section : Section) whe
   one_answer one other (inr a) (inl b) = absurd (never_both table graph root section a.0 a.1.is b.0)
   one_answer one other (inr a) (inr b) = a.2 ∙ (ap Rejected (first_is_one a.0 b.0 a.1 b.1) ∙ sym b.2)
 
--- ---- what an answer shows
+-- ---- what an answer proves
 
 pub shown_is_so :
     (table : Table) → AreLawful (table_shapes table) Everything

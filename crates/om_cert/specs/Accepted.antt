@@ -1,5 +1,5 @@
--- When a section of a certificate is accepted for a value: what it states justifies itself, so
--- that nothing is searched (this project's own, after Henry, Mauny, Chailloux and Manoury 2012).
+-- When a certificate entry is accepted for a value. The entry justifies itself, so no search is
+-- needed (this project's own design, after Henry, Mauny, Chailloux and Manoury 2012).
 use Rattle.std.specs.Prelude.{ℕ, List}
 use Rattle.om_model.specs.declared.value.Val.{Val}
 use Rattle.om_model.specs.declared.value.Obj.{Obj}
@@ -11,14 +11,14 @@ use Rattle.om_types.specs.Typing.{IsTyping, IsHeld}
 use Rattle.om_section.specs.declared.section.Section.{Section}
 use Rattle.om_section.specs.declared.section.Section.TheVariants as sections
 
--- The pairs justify one another, and hold the value at the type: it fits, and where it is a
--- reference its object is among them at an equal type.
+-- The pairs justify one another, and hold the value at the type. The value is held if it fits and,
+-- if it is a reference, its object is among the pairs at an equal type.
 pub record AreAccepted {T : Type 0} (shapes : Shapes T) (graph : List Obj) (root : Val) (t : T)
     (pairs : List (ℕ × T)) : Type 0 where
   pub typing : IsTyping shapes graph pairs
   pub held : IsHeld shapes graph pairs root t
 
--- the pairs are accepted at the type that is number 0, or the paths are a fault there
+-- The pairs are accepted at type 0, or the paths are a fault there.
 abbrev pub IsAccepted : Table → List Obj → Val → Section → Type 0
 IsAccepted table graph root (sections.Pairs pairs) =
     AreAccepted (table_shapes table) graph root 0 pairs

@@ -1,4 +1,4 @@
--- What certificates are good for.
+-- The laws of certificates.
 use Rattle.std.specs.Prelude.{ℕ, ◌≡◌, List, Some}
 use Rattle.om_model.specs.declared.value.Val.{Val}
 use Rattle.om_model.specs.declared.value.Val.TheVariants as vals
@@ -15,7 +15,7 @@ use Rattle.om_cert.specs.Accepted.{AreAccepted, IsAccepted}
 use Rattle.om_cert.specs.Normal.{AreNormal, AreTheSame, AreReached}
 use Rattle.om_cert.specs.Verified.{IsWhy, IsVerified}
 
--- a value has the type where pairs are accepted
+-- If pairs are accepted for a value, then the value has the type.
 abbrev pub PairsGiveTheType : Type 0
 PairsGiveTheType =
     (table : Table) → AreLawful (table_shapes table) Everything
@@ -23,7 +23,7 @@ PairsGiveTheType =
     → AreAccepted (table_shapes table) graph root t pairs
     → HasType (table_shapes table) graph root t
 
--- and then they hold all that paths reach
+-- If pairs are accepted for a value, then they hold everything that paths reach.
 abbrev pub PairsHoldWhatPathsReach : Type 0
 PairsHoldWhatPathsReach =
     (table : Table) → AreLawful (table_shapes table) Everything
@@ -33,14 +33,15 @@ PairsHoldWhatPathsReach =
     → value_at (table_shapes table) graph root t path ≡ Some (vals.Ref o, u)
     → IsListed (table_shapes table) pairs (vals.Ref o) u
 
--- a value has not the type where paths are a fault
+-- If paths are a fault of a value, then the value does not have the type.
 abbrev pub PathsRefuteTheType : Type 0
 PathsRefuteTheType =
     (table : Table) → AreLawful (table_shapes table) Everything
     → (graph : List Obj) (root : Val) (t : ℕ) (fault : Fault)
     → IsFault (table_shapes table) graph root t fault → ¬ HasType (table_shapes table) graph root t
 
--- pairs that have the same objects at the same classes are accepted together
+-- If two lists of pairs have the same objects at the same classes, then both are accepted or
+-- neither is.
 abbrev pub SamePairsAreAccepted : Type 0
 SamePairsAreAccepted =
     (table : Table) → AreLawful (table_shapes table) Everything
@@ -49,28 +50,28 @@ SamePairsAreAccepted =
     → AreAccepted (table_shapes table) graph root t pairs
     → AreAccepted (table_shapes table) graph root t others
 
--- and one of these lists is in a section's order
+-- Among these lists, at most one is in the order of an entry.
 abbrev pub NormalPairsAreOne : Type 0
 NormalPairsAreOne =
     (table : Table) (pairs others : List (ℕ × ℕ)) → AreNormal table pairs → AreNormal table others
     → AreTheSame (table_shapes table) pairs others
     → pairs ≡ others
 
--- what is wrong with a section is a reason not to accept it
+-- If something is wrong with an entry, then it is not accepted.
 abbrev pub RejectedAreNotAccepted : Type 0
 RejectedAreNotAccepted =
     (table : Table) (graph : List Obj) (root : Val) (section : Section) (why : Why)
     → IsWhy table graph root section why
     → ¬ IsAccepted table graph root section
 
--- a section has one answer
+-- An entry has at most one answer.
 abbrev pub AnswersAreOne : Type 0
 AnswersAreOne =
     (table : Table) (graph : List Obj) (root : Val) (section : Section) (one other : Verified)
     → IsVerified table graph root section one → IsVerified table graph root section other
     → one ≡ other
 
--- the pairs that paths reach are accepted of a value that has the type
+-- If a value has the type, then the pairs that paths reach are accepted.
 abbrev pub ReachedAreAccepted : Type 0
 ReachedAreAccepted =
     (table : Table) → AreLawful (table_shapes table) Everything
@@ -78,7 +79,7 @@ ReachedAreAccepted =
     → HasType (table_shapes table) graph root 0
     → AreReached table graph root pairs → AreAccepted (table_shapes table) graph root 0 pairs
 
--- and one list has them
+-- At most one list has the pairs that paths reach.
 abbrev pub ReachedAreOne : Type 0
 ReachedAreOne =
     (table : Table) → AreLawful (table_shapes table) Everything

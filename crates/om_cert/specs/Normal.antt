@@ -1,4 +1,5 @@
--- The pairs that a check writes of a value that has the type: those that paths reach, in one order.
+-- The pairs that a check writes for a value that has the type. They are the pairs that paths reach,
+-- in one fixed order.
 use Rattle.std.specs.Prelude.{ℕ, ◌<◌, ◌≡◌, List, Some, Contains}
 use Rattle.om_model.specs.declared.value.Val.{Val}
 use Rattle.om_model.specs.declared.value.Val.TheVariants as vals
@@ -9,21 +10,21 @@ use Rattle.om_types.specs.Table.{Table, table_shapes}
 use Rattle.om_types.specs.Typing.{IsListed}
 use Rattle.om_section.specs.Increasing.{AreIncreasing}
 
--- no smaller number is that of an equal type
+-- No lesser index has an equal type.
 abbrev pub IsLeast : Table → ℕ → Type 0
 IsLeast table t = (u : ℕ) → u < t → ¬ (table_shapes table).equal u t
 
--- they increase, and each type is the least of its class
+-- The pairs are increasing, and each type is the least of its class.
 pub record AreNormal (table : Table) (pairs : List (ℕ × ℕ)) : Type 0 where
   pub increasing : AreIncreasing pairs
   pub least : (o t : ℕ) → Contains pairs (o, t) → IsLeast table t
 
--- the two lists have the same objects at the same classes
+-- The two lists have the same objects at the same classes.
 pub record AreTheSame {T : Type 0} (shapes : Shapes T) (pairs others : List (ℕ × T)) : Type 0 where
   pub there : (o : ℕ) (t : T) → Contains pairs (o, t) → IsListed shapes others (vals.Ref o) t
   pub back : (o : ℕ) (t : T) → Contains others (o, t) → IsListed shapes pairs (vals.Ref o) t
 
--- some path leads to the object at an equal type
+-- Some path leads to the object at an equal type.
 pub record IsReachedBy {T : Type 0} (shapes : Shapes T) (graph : List Obj) (root : Val) (t : T)
     (o : ℕ) (u : T) : Type 0 where
   pub path : List ℕ
@@ -31,7 +32,7 @@ pub record IsReachedBy {T : Type 0} (shapes : Shapes T) (graph : List Obj) (root
   pub leads : value_at shapes graph root t path ≡ Some (vals.Ref o, type)
   pub same : shapes.equal type u
 
--- The pairs that paths reach, in a section's order.
+-- The pairs that paths reach, in the order of an entry.
 pub record AreReached (table : Table) (graph : List Obj) (root : Val)
     (pairs : List (ℕ × ℕ)) : Type 0 where
   pub normal : AreNormal table pairs

@@ -1,4 +1,4 @@
--- What is known of pairs before it is known that all of them fit.
+-- Properties of pairs before it is known that all of them fit.
 use Rattle.std.specs.Prelude.{ℕ, ◌≡◌, ◌<◌, List, length, IsTrue, Some, Contains, slice_get}
 use Rattle.om_model.specs.Graph.{IsValue}
 use Rattle.om_model.specs.declared.value.Val.{Val}
@@ -10,25 +10,25 @@ use Rattle.om_types.specs.Typing.{IsHeld}
 use Rattle.om_cert.specs.declared.right.Worded.{Worded}
 use Rattle.om_cert.specs.Testing.{IsRightAt, AreRight}
 
--- each pair's object fits its type
+-- The object of each pair fits its type.
 abbrev pub AllFit : Table → List Obj → List (ℕ × ℕ) → Type 0
 AllFit table graph pairs =
     (o t : ℕ) → Contains pairs (o, t) → (table_shapes table).fits graph (vals.Ref o) t
 
--- the value of the word is then held at the type, if something is asked of it
+-- If all pairs fit and the type is not a wildcard, then the value of the word is held at the type.
 abbrev pub IsBacked : Table → List Obj → List (ℕ × ℕ) → ℕ → ℕ → Type 0
 IsBacked table graph pairs word t =
     (v : Val) → IsValue (length graph) v → word ≡ word_of graph v → IsTrue (is_asked_in table t)
     → AllFit table graph pairs → IsHeld (table_shapes table) graph pairs v t
 
--- It is some pair, with its object's word; and pair i, if there are so many.
+-- This is one of the pairs, with the word of its object. If pair i exists, then it is pair i.
 pub record IsWorded (graph : List Obj) (pairs : List (ℕ × ℕ)) (i : ℕ) (pair : Worded)
     : Type 0 where
   pub at : i < length pairs → slice_get pairs i ≡ Some (pair.object, pair.ty)
   pub among : Contains pairs (pair.object, pair.ty)
   pub named : pair.word ≡ word_of graph (vals.Ref pair.object)
 
--- pair i fits
+-- Pair i fits.
 abbrev pub FitsAt : Table → List Obj → List (ℕ × ℕ) → ℕ → Type 0
 FitsAt table graph pairs i =
     (pair : ℕ × ℕ) → slice_get pairs i ≡ Some pair

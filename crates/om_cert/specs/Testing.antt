@@ -1,4 +1,4 @@
--- What verifying pairs knows on its way.
+-- The properties that hold while pairs are verified.
 use Rattle.std.specs.Prelude.{ℕ, ◌≡◌, ◌<◌, ◌≤◌, ◌+◌, List, length, IsTrue, IsSomeAnd, Some}
 use Rattle.std.specs.Prelude.{Contains, slice_get}
 use Rattle.std.specs.BTreeSet.{BTreeSet, contains}
@@ -20,53 +20,53 @@ use Rattle.om_cert.specs.Verified.{IsThere, LacksNeed, IsAtTwoTypes, place_of}
 abbrev pub IsThereNow : Table → List Obj → ℕ × ℕ → Type 0
 IsThereNow table graph pair = IsThere table graph pair
 
--- the objects and types of the first n pairs are there
+-- The objects and types of the first n pairs exist.
 abbrev pub AreThere : Table → List Obj → List (ℕ × ℕ) → ℕ → Type 0
 AreThere table graph pairs n =
     (k : ℕ) (pair : ℕ × ℕ) → k < n → slice_get pairs k ≡ Some pair → IsThere table graph pair
 
--- those of all pairs
+-- The objects and types of all pairs exist.
 abbrev pub AreAllThere : Table → List Obj → List (ℕ × ℕ) → Type 0
 AreAllThere table graph pairs =
     (k : ℕ) (pair : ℕ × ℕ) → slice_get pairs k ≡ Some pair → IsThere table graph pair
 
--- those of pair i are not, and of no pair before it
+-- Pair i is the first pair whose object or type does not exist.
 pub record IsFirstOut (table : Table) (graph : List Obj) (pairs : List (ℕ × ℕ))
     (i : ℕ) : Type 0 where
   pub out : IsSomeAnd (slice_get pairs i) (λ pair. ¬ IsThere table graph pair)
   pub before : AreThere table graph pairs i
 
--- ---- where an object stands
+-- ---- the pairs of an object
 
--- the pairs before this place have smaller objects, and those from it on do not
+-- The pairs before this index have lesser objects, and those from it on do not.
 pub record IsStart (pairs : List (ℕ × ℕ)) (object place : ℕ) : Type 0 where
   pub within : place ≤ length pairs
   pub smaller : (k : ℕ) (pair : ℕ × ℕ) → k < place → slice_get pairs k ≡ Some pair → pair.0 < object
   pub others : (k : ℕ) (pair : ℕ × ℕ) → place ≤ k → slice_get pairs k ≡ Some pair → object ≤ pair.0
 
--- the place is not before low, nor after high
+-- The start of the object is at least low and at most high.
 pub record IsBetween (pairs : List (ℕ × ℕ)) (object low high : ℕ) : Type 0 where
   pub order : low ≤ high
   pub within : high ≤ length pairs
   pub smaller : (k : ℕ) (pair : ℕ × ℕ) → k < low → slice_get pairs k ≡ Some pair → pair.0 < object
   pub others : (k : ℕ) (pair : ℕ × ℕ) → high ≤ k → slice_get pairs k ≡ Some pair → object ≤ pair.0
 
--- before this place the object stands at no type of a kind, and from it on all are at least the
--- object
+-- Before this index the object is at no type of this kind. From the index on, all objects are at
+-- least this one.
 pub record IsPassing (pairs : List (ℕ × ℕ)) (object place : ℕ) (Is : ℕ → Type 0) : Type 0 where
   pub within : place ≤ length pairs
   pub none : (k t : ℕ) → k < place → slice_get pairs k ≡ Some (object, t) → ¬ Is t
   pub others : (k : ℕ) (pair : ℕ × ℕ) → place ≤ k → slice_get pairs k ≡ Some pair → object ≤ pair.0
 
--- two types are equal
+-- Two types are equal.
 abbrev pub IsSame : Table → ℕ → ℕ → Type 0
 IsSame table t u = (table_shapes table).equal t u
 
--- some pair has the object at an equal type
+-- Some pair has the object at an equal type.
 abbrev pub IsAmongAt : Table → List (ℕ × ℕ) → ℕ → ℕ → Type 0
 IsAmongAt table pairs o t = (u : ℕ) × Contains pairs (o, u) × (table_shapes table).equal u t
 
--- some pair has the object of the word at an equal type
+-- Some pair has the object of the word at an equal type.
 pub record StandsAt (table : Table) (graph : List Obj) (pairs : List (ℕ × ℕ)) (word t : ℕ)
     : Type 0 where
   pub object : ℕ
@@ -74,16 +74,16 @@ pub record StandsAt (table : Table) (graph : List Obj) (pairs : List (ℕ × ℕ
   pub named : word ≡ word_of graph (vals.Ref object)
   pub among : IsAmongAt table pairs object t
 
--- some pair has it at an unequal one
+-- Some pair has the object at an unequal type.
 abbrev pub IsElsewhere : Table → List (ℕ × ℕ) → ℕ → ℕ → Type 0
 IsElsewhere table pairs o t = (u : ℕ) × Contains pairs (o, u) × (¬ (table_shapes table).equal t u)
 
--- objects with classes are ordered by the object, then by the class
+-- Objects with classes are ordered by the object, then by the class.
 abbrev pub pair_cmp : ℕ × ℕ → ℕ × ℕ → Ordering
 pair_cmp x y = ordering_then (nat_cmp x.0 y.0) (nat_cmp x.1 y.1)
 
--- What there is are objects of pairs at classes; all are there of the pairs before this place
--- that have 16 of their object before them.
+-- Each entry of the set is the object and class of a pair. The set contains all pairs before this
+-- index that are preceded by 16 pairs of the same object.
 pub record AreCrowded (table : Table) (pairs : List (ℕ × ℕ)) (place : ℕ)
     (Has : ℕ → ℕ → Type 0) : Type 0 where
   pub some :
@@ -93,15 +93,15 @@ pub record AreCrowded (table : Table) (pairs : List (ℕ × ℕ)) (place : ℕ)
       → slice_get pairs (k + 16) ≡ Some (o, t)
       → slice_get table.classes t ≡ Some c → Has o c
 
--- what a set has
+-- The elements of a set.
 abbrev pub is_in : BTreeSet (ℕ × ℕ) → ℕ → ℕ → Type 0
 is_in crowd o c = IsTrue (contains pair_cmp crowd (o, c))
 
 abbrev pub IsCrowd : Table → List (ℕ × ℕ) → BTreeSet (ℕ × ℕ) → Type 0
 IsCrowd table pairs crowd = AreCrowded table pairs (length pairs) (is_in crowd)
 
--- Where the pair before pair i has the same object at an equal type, no pair has it at an unequal
--- one.
+-- If the pair before pair i has the same object at an equal type, then no pair has the object at an
+-- unequal one.
 abbrev pub IsSettled : Table → List (ℕ × ℕ) → ℕ → Type 0
 IsSettled table pairs i =
     (j o s t : ℕ) → j + 1 ≡ i → slice_get pairs j ≡ Some (o, s) → slice_get pairs i ≡ Some (o, t)
@@ -109,24 +109,25 @@ IsSettled table pairs i =
 
 -- ---- one pair
 
--- field i, which is needed at a type, is held
+-- The required field is held at its type.
 abbrev pub HoldsNeed : Table → List Obj → List (ℕ × ℕ) → ℕ → ℕ × ℕ → Type 0
 HoldsNeed table graph pairs o need =
     IsSomeAnd (field_at graph o need.0) (λ v. IsHeld (table_shapes table) graph pairs v need.1)
 
--- all that the object needs at the type is held
+-- All required fields of the object at the type are held.
 abbrev pub HoldsAll : Table → List Obj → List (ℕ × ℕ) → ℕ → ℕ → Type 0
 HoldsAll table graph pairs o t =
     (i a : ℕ) → Contains ((table_shapes table).needs graph (vals.Ref o) t) (i, a)
     → HoldsNeed table graph pairs o (i, a)
 
--- of the first n fields of an object that have types those are held of which something is asked
+-- Among the first n fields of an object that have types, those with a type that is not a wildcard
+-- are held.
 abbrev pub HoldsFirst : Table → List Obj → List (ℕ × ℕ) → ℕ → List (ℕ × ℕ) → ℕ → Type 0
 HoldsFirst table graph pairs o needs n =
     (j i a : ℕ) → j < n → slice_get needs j ≡ Some (i, a) → IsTrue (is_asked_in table a)
     → HoldsNeed table graph pairs o (i, a)
 
--- the field is needed and not held, and none with a smaller number is so
+-- This is the first required field that is not held.
 pub record IsFirstLack (table : Table) (graph : List Obj) (pairs : List (ℕ × ℕ))
     (o t field : ℕ) : Type 0 where
   pub lacks : LacksNeed table graph pairs (o, t) field
@@ -134,7 +135,7 @@ pub record IsFirstLack (table : Table) (graph : List Obj) (pairs : List (ℕ × 
       (i a : ℕ) → i < field → Contains ((table_shapes table).needs graph (vals.Ref o) t) (i, a)
       → HoldsNeed table graph pairs o (i, a)
 
--- what is wrong with a pair by itself
+-- The faults of a pair on its own.
 abbrev pub IsWrongWith : Table → List Obj → List (ℕ × ℕ) → ℕ → Why → Type 0
 IsWrongWith table graph pairs i (Range j) = ⊥
 IsWrongWith table graph pairs i (Unfit j) =
@@ -147,7 +148,7 @@ IsWrongWith table graph pairs i (TwoTypes j) =
 IsWrongWith table graph pairs i Root = ⊥
 IsWrongWith table graph pairs i NotFault = ⊥
 
--- The pair fits, holds all that it needs, and is at one type where it is mutable.
+-- The pair fits, holds all required fields and, if it is mutable, is at one type.
 pub record IsRight (table : Table) (graph : List Obj) (pairs : List (ℕ × ℕ))
     (pair : ℕ × ℕ) : Type 0 where
   pub fits : (table_shapes table).fits graph (vals.Ref pair.0) pair.1
@@ -156,12 +157,12 @@ pub record IsRight (table : Table) (graph : List Obj) (pairs : List (ℕ × ℕ)
       (u : ℕ) → Contains pairs (pair.0, u) → (table_shapes table).mutable graph pair.0 pair.1
       → (table_shapes table).equal pair.1 u
 
--- so it is with pair i
+-- Pair i is right.
 abbrev pub IsRightAt : Table → List Obj → List (ℕ × ℕ) → ℕ → Type 0
 IsRightAt table graph pairs i =
     (pair : ℕ × ℕ) → slice_get pairs i ≡ Some pair → IsRight table graph pairs pair
 
--- this is wrong with pair i, and nothing before it
+-- This is the first fault of pair i.
 pub record IsFirstAt (table : Table) (graph : List Obj) (pairs : List (ℕ × ℕ)) (i : ℕ)
     (why : Why) : Type 0 where
   pub is : IsWrongWith table graph pairs i why
@@ -169,6 +170,6 @@ pub record IsFirstAt (table : Table) (graph : List Obj) (pairs : List (ℕ × �
       (other : Why) → IsWrongWith table graph pairs i other
       → ¬ IsLexicallyBefore (place_of other) (place_of why)
 
--- so it is with the first n pairs
+-- The first n pairs are right.
 abbrev pub AreRight : Table → List Obj → List (ℕ × ℕ) → ℕ → Type 0
 AreRight table graph pairs n = (k : ℕ) → k < n → IsRightAt table graph pairs k

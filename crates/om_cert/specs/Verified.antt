@@ -1,4 +1,4 @@
--- What verifying a section answers, and why a section is rejected.
+-- The result of verifying an entry, and the reasons for rejecting one.
 use Rattle.std.specs.Prelude.{ℕ, ◌<◌, ◌≡◌, ◌⊎◌, List, [], ◌∷◌, length, IsSomeAnd, Contains}
 use Rattle.std.specs.Prelude.{slice_get}
 use Rattle.om_model.specs.declared.value.Val.{Val}
@@ -18,13 +18,13 @@ use Rattle.om_cert.specs.declared.verified.Verified.{Verified}
 use Rattle.om_cert.specs.declared.verified.Verified.TheVariants.{Yes, No, Rejected}
 use Rattle.om_cert.specs.Accepted.{IsAccepted}
 
--- ---- why
+-- ---- reasons
 
--- the object and the type of a pair are there
+-- The object and the type of a pair exist.
 abbrev pub IsThere : Table → List Obj → ℕ × ℕ → Type 0
 IsThere table graph pair = (pair.0 < length graph) × (pair.1 < length table.nodes)
 
--- A field that the pair needs at a type is not held there.
+-- A required field of the pair is not held at its type.
 pub record LacksNeed (table : Table) (graph : List Obj) (pairs : List (ℕ × ℕ)) (pair : ℕ × ℕ)
     (field : ℕ) : Type 0 where
   pub type : ℕ
@@ -33,7 +33,7 @@ pub record LacksNeed (table : Table) (graph : List Obj) (pairs : List (ℕ × �
       ¬ IsSomeAnd (field_at graph pair.0 field)
       (λ v. IsHeld (table_shapes table) graph pairs v type)
 
--- The object is mutable at the pair's type, and is among the pairs at an unequal one.
+-- The object is mutable at the type of the pair, and is among the pairs at an unequal type.
 pub record IsAtTwoTypes (table : Table) (graph : List Obj) (pairs : List (ℕ × ℕ))
     (pair : ℕ × ℕ) : Type 0 where
   pub mutable : (table_shapes table).mutable graph pair.0 pair.1
@@ -41,7 +41,7 @@ pub record IsAtTwoTypes (table : Table) (graph : List Obj) (pairs : List (ℕ ×
   pub among : Contains pairs (pair.0, other)
   pub unequal : ¬ (table_shapes table).equal pair.1 other
 
--- what is wrong with pairs
+-- The faults of pairs.
 abbrev pub IsWrong : Table → List Obj → Val → List (ℕ × ℕ) → Why → Type 0
 IsWrong table graph root pairs (Range i) =
     IsSomeAnd (slice_get pairs i) (λ pair. ¬ IsThere table graph pair)
@@ -55,7 +55,7 @@ IsWrong table graph root pairs (TwoTypes i) =
 IsWrong table graph root pairs Root = ¬ IsHeld (table_shapes table) graph pairs root 0
 IsWrong table graph root pairs NotFault = ⊥
 
--- what is wrong with a section
+-- The faults of an entry.
 abbrev pub IsWhy : Table → List Obj → Val → Section → Why → Type 0
 IsWhy table graph root (sections.Pairs pairs) why = IsWrong table graph root pairs why
 IsWhy table graph root (sections.Misfit path) why =
@@ -63,10 +63,10 @@ IsWhy table graph root (sections.Misfit path) why =
 IsWhy table graph root (sections.Clash first second) why =
     (why ≡ NotFault) × (¬ IsFault (table_shapes table) graph root 0 (faults.Clash first second))
 
--- ---- which is told
+-- ---- the first reason
 
--- Where it is looked for: over all pairs first; then pair by pair, with its fields in their
--- order; then at the root.
+-- The position of a fault in the order of verification: first over all pairs, then pair by pair
+-- with its fields in order, then at the root.
 abbrev pub place_of : Why → List ℕ
 place_of (Range i) = 0 ∷ i ∷ 0 ∷ 0 ∷ []
 place_of (Unfit i) = 1 ∷ i ∷ 0 ∷ 0 ∷ []
@@ -75,7 +75,7 @@ place_of (TwoTypes i) = 1 ∷ i ∷ 2 ∷ 0 ∷ []
 place_of Root = 2 ∷ 0 ∷ 0 ∷ 0 ∷ []
 place_of NotFault = 3 ∷ 0 ∷ 0 ∷ 0 ∷ []
 
--- it is wrong, and nothing before it is
+-- This is a fault of the entry, and no fault comes before it.
 pub record IsFirstWhy (table : Table) (graph : List Obj) (root : Val) (section : Section)
     (why : Why) : Type 0 where
   pub is : IsWhy table graph root section why
@@ -83,31 +83,31 @@ pub record IsFirstWhy (table : Table) (graph : List Obj) (root : Val) (section :
       (other : Why) → IsWhy table graph root section other
       → ¬ IsLexicallyBefore (place_of other) (place_of why)
 
--- what an accepted section shows
+-- What an accepted entry proves.
 abbrev pub shown_by : Section → Verified
 shown_by (sections.Pairs pairs) = Yes
 shown_by (sections.Misfit path) = No (faults.Misfit path)
 shown_by (sections.Clash first second) = No (faults.Clash first second)
 
--- the section that states a fault
+-- The entry that states a fault.
 abbrev pub fault_section : Fault → Section
 fault_section (faults.Misfit path) = sections.Misfit path
 fault_section (faults.Clash first second) = sections.Clash first second
 
--- The section is accepted, and what it shows is the answer; or the answer is the first thing that
--- is wrong with it.
+-- The entry is accepted, and the answer is what it proves. Otherwise the answer is the first fault
+-- of the entry.
 abbrev pub IsVerified : Table → List Obj → Val → Section → Verified → Type 0
 IsVerified table graph root section answer =
     (IsAccepted table graph root section × (answer ≡ shown_by section))
     ⊎ ((why : Why) × IsFirstWhy table graph root section why × (answer ≡ Rejected why))
 
--- Yes is of a value that has the type that is number 0, No of one that has not.
+-- If the answer is `Yes`, then the value has type 0. If the answer is `No`, then it does not.
 abbrev pub Shows : Table → List Obj → Val → Verified → Type 0
 Shows table graph root Yes = HasType (table_shapes table) graph root 0
 Shows table graph root (No fault) = ¬ HasType (table_shapes table) graph root 0
 Shows table graph root (Rejected why) = Unit {0}
 
--- no other is an answer
+-- There is no other answer.
 abbrev pub IsOneAnswer : Table → List Obj → Val → Section → Verified → Type 0
 IsOneAnswer table graph root section answer =
     (other : Verified) → IsVerified table graph root section other → other ≡ answer

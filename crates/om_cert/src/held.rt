@@ -1,4 +1,4 @@
-//! Which objects pairs hold, and at which types.
+//! Finds the pairs of an object, and the types at which they have it.
 
 ghost use Rattle.std.specs.Prelude.{ℕ, ◌≡◌, ◌<◌, ◌≤◌, ◌+◌, ◌↔◌, length, slice_get, Some, IsTrue};
 ghost use Rattle.std.specs.Prelude.{IfOk};
@@ -22,8 +22,8 @@ use om_type_table::TypeTable;
 use std::alloc::Global;
 use std::collections::BTreeSet;
 
-/// Whether the object stands first at the place of its own number: so it is where each object
-/// before it has one pair.
+/// Returns true if the first pair of the object is at the index equal to the object number. This is
+/// the case if each object before it has one pair.
 fn is_own_place(pairs: &Pairs, object: u64) -> bool
     ensures { OnTrue result (IsStart pairs.now object object) }
 {
@@ -43,7 +43,7 @@ fn is_own_place(pairs: &Pairs, object: u64) -> bool
     before < object
 }
 
-/// The place of the first pair whose object is not smaller than this one.
+/// Returns the index of the first pair whose object is not less than this one.
 fn start_of(pairs: &Pairs, object: u64) -> usize
     ensures { IsStart pairs.now object result }
 {
@@ -65,7 +65,8 @@ fn start_of(pairs: &Pairs, object: u64) -> usize
     low
 }
 
-/// The objects and classes of the pairs that have 16 of their object before them.
+/// Returns the objects and type classes of the pairs that are preceded by 16 pairs of the same
+/// object.
 pub fn crowd_of(
     alloc: Global,
     table: &TypeTable,
@@ -86,7 +87,7 @@ pub fn crowd_of(
     Ok(crowd)
 }
 
-/// The place 16 places on, or the last one.
+/// Returns the index 16 after `start`, or the end if there are fewer pairs.
 fn few_end(len: usize, start: usize) -> usize
     requires { start ≤ len }
     ensures within { result ≤ len }
@@ -95,8 +96,8 @@ fn few_end(len: usize, start: usize) -> usize
     if len - start > 16 { start + 16 } else { len }
 }
 
-/// Whether one of the first 16 pairs of the object is at an equal type. Of the others nothing is
-/// told.
+/// Returns true if one of the first 16 pairs of the object is at an equal type. A result of false
+/// says nothing about the other pairs.
 #[inline(never)]
 pub fn is_among_few(table: &TypeTable, pairs: &Pairs, object: u64, ty: usize) -> bool
     requires there { (k o t : ℕ) → slice_get pairs.now k ≡ Some (o, t)
@@ -115,7 +116,8 @@ pub fn is_among_few(table: &TypeTable, pairs: &Pairs, object: u64, ty: usize) ->
     false
 }
 
-/// Whether some pair has the object at an equal type: one of its first 16, or one of the crowd.
+/// Returns true if some pair has the object at an equal type. The pair is one of the first 16 pairs
+/// of the object, or its object and class are in `crowd`.
 pub fn is_among(
     table: &TypeTable,
     pairs: &Pairs,
@@ -147,8 +149,8 @@ pub fn is_among(
     crowd.contains(&(object, class))
 }
 
-/// Whether some pair has the object of pair i at an unequal type. The pair before it tells this
-/// where it is of the same object.
+/// Returns true if some pair has the object of pair `i` at an unequal type. If the pair before it
+/// has the same object, that pair decides.
 pub fn is_elsewhere(table: &TypeTable, pairs: &Pairs, i: usize, object: u64, ty: usize) -> bool
     requires in_range { i < length pairs.now }
     requires at { slice_get pairs.now i ≡ Some (object, ty) }
@@ -168,7 +170,8 @@ pub fn is_elsewhere(table: &TypeTable, pairs: &Pairs, i: usize, object: u64, ty:
     is_elsewhere_behind(table, pairs, i + 1, object, ty)
 }
 
-/// The same where all pairs of the object before a place are at equal types.
+/// Returns true if some pair has the object at an unequal type, given that the pairs of the object
+/// before `start` are at equal types.
 pub fn is_elsewhere_behind(
     table: &TypeTable,
     pairs: &Pairs,
@@ -198,8 +201,8 @@ pub fn is_elsewhere_behind(
     false
 }
 
-/// Whether the value of a word is held at a type: it fits, and where it is a reference some pair
-/// has its object at an equal type.
+/// Returns true if the value of a word is held at a type. A value is held if it fits the type and,
+/// if it is a reference, some pair has its object at an equal type.
 pub fn is_held(stated: Stated<'_>, crowd: &BTreeSet<(u64, usize)>, word: u64, ty: usize) -> bool
     requires word { IsFieldWord stated.heap.now word }
     requires crowd { IsCrowd (table_in stated.fitting) stated.pairs.now crowd.now }

@@ -1,4 +1,4 @@
-//! Whether what a section states holds of a value.
+//! Verifies a certificate entry against a value.
 
 ghost use Rattle.std.specs.Prelude.{◌≡◌, ◌<◌, ◌↔◌, length, IfOk, IsTrue, MatchOption};
 ghost use Rattle.om_model.specs.Graph.{IsValue};
@@ -24,8 +24,8 @@ use om_type_table::TypeTable;
 use om_types::fault::Fault;
 use std::alloc::Global;
 
-/// What a section shows of a value, or why it is rejected. Nothing is searched: each pair is
-/// tested by itself, and each path is walked.
+/// Returns what a certificate entry proves about a value, or why the entry is rejected. Does not
+/// search: it tests each pair on its own, and follows each path.
 pub fn verify(
     alloc: Global,
     value: &Rooted<'_>,
@@ -42,7 +42,7 @@ pub fn verify(
     answer_of(alloc, value, table, section)
 }
 
-/// The same by the kind of the section.
+/// Verifies an entry by its kind.
 fn answer_of(
     alloc: Global,
     value: &Rooted<'_>,
@@ -66,7 +66,7 @@ fn answer_of(
     }
 }
 
-/// The same path.
+/// Copies a path.
 fn copied(alloc: Global, path: &Path) -> Result<Path, Memory>
     ensures { IfOk result (λ copy. copy ≡ path.now) }
 {
@@ -77,7 +77,7 @@ fn copied(alloc: Global, path: &Path) -> Result<Path, Memory>
     Ok(copy)
 }
 
-/// Whether the paths that are stated are a fault.
+/// Verifies that the paths of an entry are a fault.
 fn verify_fault(value: &Rooted<'_>, table: &TypeTable, fault: Fault) -> Verified
     ensures { IsVerified (table_of table.now) value.now.heap.now value.now.root
         (fault_section fault) result }
@@ -89,14 +89,14 @@ fn verify_fault(value: &Rooted<'_>, table: &TypeTable, fault: Fault) -> Verified
     }
 }
 
-/// Whether the object and the type of a pair are there.
+/// Returns true if the object and the type of a pair exist.
 fn is_there(heap: &Heap, table: &TypeTable, pair: (u64, u64)) -> bool
     ensures { IsTrue result ↔ IsThereNow (table_of table.now) heap.now pair }
 {
     pair.0 < heap.count() && pair.1 < table.count() as u64
 }
 
-/// The first pair whose object or type is not there.
+/// Returns the first pair whose object or type does not exist.
 fn first_out(heap: &Heap, table: &TypeTable, pairs: &Pairs) -> Option<usize>
     ensures { MatchOption result (AreAllThere (table_of table.now) heap.now pairs.now)
         (IsFirstOut (table_of table.now) heap.now pairs.now) }
@@ -109,7 +109,7 @@ fn first_out(heap: &Heap, table: &TypeTable, pairs: &Pairs) -> Option<usize>
     None
 }
 
-/// Whether the pairs justify one another and hold the root.
+/// Verifies that the pairs justify one another and hold the root.
 fn verify_pairs<'a>(
     alloc: Global,
     value: &Rooted<'a>,
@@ -135,8 +135,8 @@ fn verify_pairs<'a>(
     verify_each(alloc, value.root, stated)
 }
 
-/// The same pair by pair, where the objects and types of all are there: so what is first wrong is
-/// told.
+/// Verifies the pairs one by one, and so finds the first fault of the entry. The objects and types
+/// of all pairs must exist.
 fn verify_each(alloc: Global, root: Val, stated: Stated<'_>) -> Result<Verified, Memory>
     requires value { IsValue (length stated.heap.now) root }
     ensures { IfOk result (IsVerified (table_in stated.entry.fitting) stated.entry.heap.now root

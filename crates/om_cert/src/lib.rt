@@ -1,5 +1,8 @@
-//! Certificates of types: what a check found of a value, in a form that is verified against the
-//! value without any search.
+//! Type certificates: the result of a check, in a form that is verified against the value without
+//! search. A certificate entry lists pairs of objects and types that justify one another, or the
+//! paths of a fault. The laws `accepted_sections_are_right` and `answers_are_one` say that accepted
+//! entries are right and that each entry has one answer. The law `reached_pairs_are_accepted` says
+//! that the pairs written for a value that has its type are accepted.
 #![tactic(auto)]
 
 mod held;

@@ -1,5 +1,5 @@
-//! Whether pairs are accepted, told without what is wrong with others. Whether an object fits is
-//! tested at its own pairs alone, and not where another one needs it.
+//! Fast path for accepting pairs. It does not find out what is wrong with other pairs. It tests if
+//! an object fits a type only at the pairs of the object, and not where another object needs it.
 
 ghost use Rattle.std.specs.Prelude.{ℕ, ◌≡◌, ◌<◌, false, length, slice_get, Some, Contains, IsTrue};
 ghost use Rattle.std.specs.Bool.{OnTrue};
@@ -32,9 +32,9 @@ pub struct Worded {
     pub word: u64,
 }
 
-/// Whether the pairs are accepted for a value at the type that is number 0. Where they are this
-/// mostly tells it: not for objects of more than 16 pairs, nor for one that may be changed and
-/// stands at two equal types.
+/// Returns true only if the pairs are accepted for a value at type 0. May return false for accepted
+/// pairs, for example if an object has more than 16 pairs, or if a mutable object is at two equal
+/// types.
 pub fn are_accepted(root: Val, stated: Stated<'_>) -> bool
     requires value { IsValue (length stated.heap.now) root }
     ensures { OnTrue result (AreAccepted (table_shapes (table_in stated.entry.fitting))
@@ -49,7 +49,8 @@ pub fn are_accepted(root: Val, stated: Stated<'_>) -> bool
     is_backed(stated, near, stated.heap.word(root), ty)
 }
 
-/// Whether all pairs are right. Where they are this tells it, but for those named above.
+/// Returns true only if all pairs are right. May return false for right pairs, in the same cases as
+/// `are_accepted`.
 fn are_right(stated: Stated<'_>) -> bool
     requires some { 0 < length stated.pairs.now }
     ensures { OnTrue result (AreRight (table_in stated.entry.fitting) stated.entry.heap.now
@@ -66,7 +67,7 @@ fn are_right(stated: Stated<'_>) -> bool
     true
 }
 
-/// This place, or the last one where there are no so many.
+/// Returns the index `i` if it is less than `len`, and the last index otherwise.
 #[inline(always)]
 fn place_or_last(len: usize, i: usize) -> usize
     requires some { 0 < len }
@@ -76,7 +77,7 @@ fn place_or_last(len: usize, i: usize) -> usize
     if i < len { i } else { len - 1 }
 }
 
-/// Pair i and the word of its object, or the last pair where there are no so many.
+/// Returns pair `i` and the word of its object. If there is no pair `i`, returns the last pair.
 #[inline(always)]
 fn pair_at(stated: Stated<'_>, i: usize) -> Worded
     requires some { 0 < length stated.pairs.now }
@@ -91,8 +92,8 @@ fn pair_at(stated: Stated<'_>, i: usize) -> Worded
     }
 }
 
-/// Whether pair i fits, and is right if all pairs fit. Another pair is at hand, mostly that of its
-/// object's last field.
+/// Returns true only if pair `i` fits, and is right if all pairs fit. `near` is a neighbouring
+/// pair, which is often that of the last field of the object.
 #[inline(always)]
 fn is_right(stated: Stated<'_>, i: usize, own: Worded, near: Worded) -> bool
     requires in_range { i < length stated.pairs.now }
@@ -117,7 +118,7 @@ fn is_right(stated: Stated<'_>, i: usize, own: Worded, near: Worded) -> bool
     }
 }
 
-/// The same of any pair that fits.
+/// Returns the same result for a pair with any shape, given that the pair fits.
 #[inline(never)]
 fn is_any_right(
     stated: Stated<'_>,
@@ -145,8 +146,8 @@ fn is_any_right(
     holds_needs(stated, i, own, near, shape)
 }
 
-/// The same of a pair that fits, and is at one type where it is mutable. It is compiled anew for
-/// each kind of shape whose objects cannot be changed.
+/// Returns the same result for a pair that fits and, if it is mutable, is at one type. This
+/// function is inlined for each kind of immutable shape.
 #[inline(always)]
 fn holds_needs(
     stated: Stated<'_>,
@@ -178,7 +179,7 @@ fn holds_needs(
     }
 }
 
-/// Whether there is one constructor with arguments, whose blocks cannot be changed.
+/// Returns true if there is one constructor with arguments, and its blocks are immutable.
 #[inline(always)]
 fn is_one_constant(blocks: &[Constr<usize>]) -> bool
     ensures { OnTrue result
@@ -187,7 +188,8 @@ fn is_one_constant(blocks: &[Constr<usize>]) -> bool
     blocks.len() == 1 && !blocks[0].mutable
 }
 
-/// Whether pair i is the first of its object, which no pair has at an unequal type.
+/// Returns true if pair `i` is the first pair of its object, and no pair has the object at an
+/// unequal type.
 #[inline(never)]
 fn is_at_one_type(table: &TypeTable, pairs: &Pairs, i: usize, object: u64, ty: usize) -> bool
     requires at { slice_get pairs.now i ≡ Some (object, ty) }
@@ -205,8 +207,8 @@ fn is_at_one_type(table: &TypeTable, pairs: &Pairs, i: usize, object: u64, ty: u
     !is_elsewhere_behind(table, pairs, i + 1, object, ty)
 }
 
-/// Whether an object, which has this word, holds all that it needs at a type, if all pairs fit. It
-/// is compiled anew for each kind of needs.
+/// Returns true only if the object with this word holds all required fields at a type, given that
+/// all pairs fit. This function is inlined for each kind of required fields.
 #[inline(always)]
 fn each_backed(
     stated: Stated<'_>,
@@ -243,7 +245,8 @@ fn each_backed(
     true
 }
 
-/// Whether the value of a word is held at a type of which something is asked, if all pairs fit.
+/// Returns true only if the value of a word is held at a type that is not a wildcard, given that
+/// all pairs fit.
 #[inline(always)]
 fn is_backed(stated: Stated<'_>, near: Worded, word: u64, ty: usize) -> bool
     requires word { IsFieldWord stated.heap.now word }
@@ -264,7 +267,8 @@ fn is_backed(stated: Stated<'_>, near: Worded, word: u64, ty: usize) -> bool
     is_listed(stated, word, ty)
 }
 
-/// Whether some pair has the object of a word at an equal type, if something is asked of the type.
+/// Returns true only if some pair has the object of a word at an equal type, or if the type is a
+/// wildcard.
 #[inline(always)]
 fn is_listed(stated: Stated<'_>, word: u64, ty: usize) -> bool
     requires word { IsReferenceWord stated.heap.now word }
@@ -284,7 +288,7 @@ fn is_listed(stated: Stated<'_>, word: u64, ty: usize) -> bool
     is_among_few(stated.fitting.table, stated.pairs, object, ty)
 }
 
-/// Whether the pair stands at the place of its object's number.
+/// Returns true only if the pair is at the index equal to its object number.
 #[inline(always)]
 fn is_at_own_place(pairs: &Pairs, object: u64, ty: usize) -> bool
     ensures { OnTrue result (Contains pairs.now (object, ty)) }

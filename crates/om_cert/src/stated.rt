@@ -1,4 +1,4 @@
-//! What a section states of a value of a heap at a table.
+//! The pairs of a certificate entry, with the heap and the table to which they refer.
 
 ghost use Rattle.om_scan.specs.Fitting.{table_in};
 ghost use Rattle.om_cert.specs.Testing.{AreAllThere};
@@ -7,7 +7,7 @@ use om_heap::Heap;
 use om_scan::Fitting;
 use om_section::Pairs;
 
-/// Pairs of objects of a heap and types of a table, each of which is there.
+/// Pairs of objects of a heap and types of a table. All these objects and types exist.
 #[derive(Clone, Copy)]
 pub struct Stated<'a> {
     pub heap: &'a Heap,

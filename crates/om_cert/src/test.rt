@@ -1,4 +1,4 @@
-//! What is wrong with a pair.
+//! Finds what is wrong with a pair.
 
 ghost use Rattle.std.specs.Prelude.{◌≡◌, ◌<◌, length, MatchOption};
 ghost use Rattle.om_model.specs.declared.value.Val.TheVariants as vals;
@@ -17,7 +17,7 @@ use om_model::value::Val;
 use om_scan::fits_type;
 use std::collections::BTreeSet;
 
-/// The first field of an object, which has this word, by its number, that is needed and not held.
+/// Returns the first required field of the object with this word that is not held.
 fn first_lack(
     stated: Stated<'_>,
     crowd: &BTreeSet<(u64, usize)>,
@@ -55,8 +55,8 @@ fn first_lack(
     None
 }
 
-/// What is first wrong with pair i, where the objects and types of all pairs are there, and those
-/// before it are right.
+/// Returns what is first wrong with pair `i`. The objects and types of all pairs must exist, and
+/// the pairs before `i` must be right.
 pub fn test_pair(stated: Stated<'_>, crowd: &BTreeSet<(u64, usize)>, i: usize) -> Option<Why>
     requires in_range { i < length stated.pairs.now }
     requires crowd { IsCrowd (table_in stated.fitting) stated.pairs.now crowd.now }

@@ -1,4 +1,4 @@
--- The types that a type reaches are one list.
+-- The list of the types that a type reaches is unique.
 use Rattle.std.proofs.Common.{ℕ, zero, suc, ◌≡◌, ◌∙◌, ◌+◌, ◌<◌, ◌≤◌, ◌⊎◌, inl, inr, List, [], ◌∷◌, ◌++◌, length, take, drop, Some, refl, sym, ap, subst, take_all, arith}
 use Rattle.std.specs.Prelude.{slice_get, Contains}
 use Rattle.std.specs.List.{flat_map}
@@ -14,7 +14,7 @@ use Rattle.om_types.specs.Ty.{Ty}
 use Rattle.om_types.specs.Reached.{reached_from, IsWithoutRepeats, IsReached}
 use Rattle.om_equal.proofs.ReachedLemmas.{without_repeats_has}
 
--- ---- places
+-- ---- positions
 
 in_taken : {X : Type 0} (n : ℕ) (xs : List X) (k : ℕ) (x : X) → k < n → slice_get xs k ≡ Some x
     → slice_get (take n xs) k ≡ Some x
@@ -23,9 +23,9 @@ in_taken (suc n) [] k x less at = at
 in_taken (suc n) (y ∷ xs) zero x less at = at
 in_taken (suc n) (y ∷ xs) (suc k) x less at = in_taken n xs k x (omega (arith, less)) at
 
--- ---- what is left without repeats
+-- ---- lists without repetitions
 
--- a list leaves first what its front leaves
+-- If repetitions are removed from a list, then the result begins with that of each prefix.
 front_left :
     (xs ys seen others : List Ty) → IsWithoutRepeats seen (xs ++ ys) others
     → (left : List Ty) × (rest : List Ty) × (others ≡ left ++ rest) × IsWithoutRepeats seen xs left
@@ -47,7 +47,7 @@ left_once (x ∷ xs) seen one other (inr (new, rest, is, h)) (inl (again, k)) = 
 left_once (x ∷ xs) seen one other (inr (new, rest, is, h)) (inr (new', rest', is', k)) =
     is ∙ (ap (λ r. x ∷ r) (left_once xs (seen ++ x ∷ []) rest rest' h k) ∙ sym is')
 
--- nothing that was seen is left
+-- Types that were seen are removed.
 left_new :
     (xs seen left : List Ty) → IsWithoutRepeats seen xs left → (u : Ty) → Contains left u
     → Contains seen u → ⊥
@@ -61,7 +61,7 @@ left_new (x ∷ xs) seen left (inr (new, rest, is, h)) u has old =
       by (inl here) never = new (subst (Contains seen) (sym here) old)
       by (inr later) never = never later
 
--- and nothing is left twice
+-- The result has no type twice.
 left_apart :
     (xs seen left : List Ty) → IsWithoutRepeats seen xs left → (i j : ℕ) (u : Ty)
     → slice_get left i ≡ Some u → slice_get left j ≡ Some u → i ≡ j
@@ -90,12 +90,12 @@ left_apart (x ∷ xs) seen left (inr (new, rest, is, h)) i j u at_i at_j =
 -- ---- the types that a type reaches
 
 module _ (decls : List Decl) (t : Ty) where
-  -- what the first n of them reach
+  -- The types that the first `n` of them reach.
   abbrev reach : ℕ → List Ty → List Ty
   reach n types = t ∷ flat_map (reached_from decls) (take n types)
 
   module _ (types : List Ty) (reached : IsReached decls t types) where
-    -- each has one place
+    -- Each type has one position.
     pub one_place :
         (i j : ℕ) (u : Ty) → slice_get types i ≡ Some u → slice_get types j ≡ Some u → i ≡ j
     one_place = left_apart (t ∷ flat_map (reached_from decls) types) [] types reached.in_order
@@ -116,7 +116,7 @@ module _ (decls : List Decl) (t : Ty) where
               ap (flat_map (reached_from decls)) (sym (take-append-drop n types))
               ∙ flat_map-append (reached_from decls) (take n types) (drop n types)
 
-    -- where the first n reach no more, there are no more
+    -- If the first `n` types reach no others, then there are no others.
     no_more : (n : ℕ) (f : Front n) → length f.0 ≤ n → length types ≤ n
     no_more n f few = by (cases_lt n (length types)) where
       has : (u : Ty) → Contains (reach n types) u → Contains f.0 u

@@ -1,4 +1,4 @@
--- Tables of one list of types say the same of a section.
+-- Tables of one list of types give the same answers to a certificate entry.
 use Rattle.std.proofs.Common.{ℕ, ◌≡◌, ◌∙◌, ◌<◌, ◌≤◌, ◌⊎◌, inl, inr, List, [], ◌∷◌, length, Some, None, sym, ap, subst, arith}
 use Rattle.std.specs.Prelude.{slice_get, Contains, IsSomeAnd}
 use Rattle.std.specs.List.{flat_map}
@@ -29,7 +29,7 @@ use Rattle.om_cert.proofs.VerifiedLemmas.{one_answer}
 use Rattle.om_cert_alike.specs.Alike.{IsAnswerAt}
 use Rattle.om_cert_alike.proofs.OneListLemmas.{one_place, one_list}
 
--- the type itself comes first
+-- The type itself comes first.
 pub first_is :
     (decls : List Decl) (t : Ty) (types : List Ty) → IsReached decls t types
     → slice_get types 0 ≡ Some t
@@ -69,7 +69,7 @@ module _ (decls : List Decl) (types : List Ty) (table other : Table)
       mutable_back decls types other again graph o i u.0 u.1
       (mutable decls types table made graph o i u.0 u.1 is)
 
-  -- a number without a type has no class
+  -- If a number has no type, then it has no class.
   no_class :
       (classes : List ℕ) → length classes ≡ length types → (i : ℕ) → slice_get types i ≡ None
       → slice_get classes i ≡ None
@@ -115,7 +115,7 @@ module _ (decls : List Decl) (types : List Ty) (table other : Table)
         ∙ (ap length made.nodes
         ∙ length-map types (λ t. with_parts Some (shape decls t)))
 
-  -- ---- what is held
+  -- ---- held values
 
   listed_too :
       (pairs : List (ℕ × ℕ)) (v : Val) (t : ℕ) → IsListed (table_shapes table) pairs v t
@@ -138,7 +138,7 @@ module _ (decls : List Decl) (types : List Ty) (table other : Table)
       fault_back decls types other again graph root 0 t of fault
       (fault_forth decls types table made graph root 0 t of fault is)
 
--- ---- both ways
+-- ---- both directions
 
 module _ (decls : List Decl) (types : List Ty)
     (apart : (i j : ℕ) (u : Ty) → slice_get types i ≡ Some u → slice_get types j ≡ Some u → i ≡ j)
@@ -175,7 +175,7 @@ module _ (decls : List Decl) (types : List Ty)
     accepted_too (sections.Clash one two) h =
         fault_too decls types table other made again apart graph t first root (faults.Clash one two) h
 
-    -- ---- what is wrong
+    -- ---- faults
 
     there_back : (pair : ℕ × ℕ) → IsThere other graph pair → IsThere table graph pair
     there_back pair (one, two) =
@@ -262,7 +262,7 @@ module _ (decls : List Decl) (types : List Ty)
     is,
   )
 
--- a section has one answer
+-- A certificate entry has at most one answer.
 pub answers_same :
     (decls : List Decl) (t : Ty) (graph : List Obj) (root : Val) (section : Section)
     (one other : Verified) → IsAnswerAt decls t graph root section one

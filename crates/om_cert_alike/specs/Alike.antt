@@ -1,5 +1,5 @@
--- What a section shows of a value by one table of a type is what it shows by each; and the pairs
--- that paths reach are one list by each.
+-- A certificate entry shows the same about a value for every table of a type. The pairs that paths
+-- reach are the same list for every table.
 use Rattle.std.specs.Prelude.{ℕ, ◌≡◌, List}
 use Rattle.om_model.specs.declared.value.Val.{Val}
 use Rattle.om_model.specs.declared.value.Obj.{Obj}
@@ -12,13 +12,13 @@ use Rattle.om_cert.specs.declared.verified.Verified.{Verified}
 use Rattle.om_cert.specs.Normal.{AreReached}
 use Rattle.om_cert.specs.Verified.{IsVerified}
 
--- the types that a type reaches are one list
+-- The list of the types that a type reaches is unique.
 abbrev pub ReachedTypesAreOne : Type 0
 ReachedTypesAreOne =
     (decls : List Decl) (t : Ty) (types others : List Ty) → IsReached decls t types
     → IsReached decls t others → types ≡ others
 
--- the answer to a section, by a table of the types that the type reaches
+-- The answer to a certificate entry, for a table of the types that the type reaches.
 pub record IsAnswerAt (decls : List Decl) (t : Ty) (graph : List Obj) (root : Val)
     (section : Section) (answer : Verified) : Type 0 where
   pub types : List Ty
@@ -27,14 +27,14 @@ pub record IsAnswerAt (decls : List Decl) (t : Ty) (graph : List Obj) (root : Va
   pub made : IsTableOf decls types table
   pub verified : IsVerified table graph root section answer
 
--- so a section has one answer at a type
+-- A certificate entry has at most one answer at a type.
 abbrev pub AnswersAtAreOne : Type 0
 AnswersAtAreOne =
     (decls : List Decl) (t : Ty) (graph : List Obj) (root : Val) (section : Section)
     (one other : Verified) → IsAnswerAt decls t graph root section one
     → IsAnswerAt decls t graph root section other → one ≡ other
 
--- these are the pairs that paths reach, by a table of the types that the type reaches
+-- These are the pairs that paths reach, for a table of the types that the type reaches.
 pub record AreReachedAt (decls : List Decl) (t : Ty) (graph : List Obj) (root : Val)
     (pairs : List (ℕ × ℕ)) : Type 0 where
   pub types : List Ty
@@ -43,7 +43,7 @@ pub record AreReachedAt (decls : List Decl) (t : Ty) (graph : List Obj) (root : 
   pub made : IsTableOf decls types table
   pub are : AreReached table graph root pairs
 
--- so they are one list
+-- The list of these pairs is unique.
 abbrev pub ReachedPairsAreOne : Type 0
 ReachedPairsAreOne =
     (decls : List Decl) (t : Ty) (graph : List Obj) (root : Val) (pairs others : List (ℕ × ℕ))

@@ -1,19 +1,20 @@
-//! The laws. Each function does nothing: what it ensures is the law.
+//! The laws of this crate. Each function is a lemma function: it has no effect and exists only for
+//! its contract.
 
 ghost use Rattle.om_cert_alike.specs.Alike.{ReachedTypesAreOne, AnswersAtAreOne};
 ghost use Rattle.om_cert_alike.specs.Alike.{ReachedPairsAreOne};
 
-/// The types that a type reaches are one list.
+/// The list of the types that a type reaches is unique.
 pub fn types_are_one_list()
     ensures { ReachedTypesAreOne }
 {}
 
-/// A section has one answer at a type, by whichever table of the type it is verified.
+/// A certificate entry has the same answer at a type for every table of the type.
 pub fn tables_verify_alike()
     ensures { AnswersAtAreOne }
 {}
 
-/// The pairs that paths reach are one list at a type, by whichever table of the type.
+/// The list of the pairs that paths reach at a type is the same for every table of the type.
 pub fn tables_reach_alike()
     ensures { ReachedPairsAreOne }
 {}

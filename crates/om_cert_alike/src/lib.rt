@@ -1,4 +1,6 @@
-//! The law that a section shows the same of a value by each table of a type.
+//! Proves that the result of verifying a certificate entry does not depend on the choice of the
+//! type's table. The laws are `ReachedTypesAreOne`, `AnswersAtAreOne` and `ReachedPairsAreOne`. The
+//! crate has no code besides these laws.
 #![tactic(auto)]
 
 pub mod laws;

@@ -1,4 +1,4 @@
--- How the input ends, and what is refused of it, are one; and the tables are exact on its end.
+-- The end of the input and its refusals are unique, and the tables are exact about the end.
 use Rattle.std.proofs.Common.{◌≡◌, ℕ, List, [], ◌++◌, length, inl, inr, refl, sym, ap, ◌∙◌, subst}
 use Rattle.std.specs.Prelude.{◌↔◌}
 use Rattle.om_model.specs.Bytes.{AreBytes}
@@ -21,7 +21,7 @@ use Rattle.om_meanings.specs.Numbered.{HoldsOfAll}
 use Rattle.om_meanings.proofs.SaidLemmas.{stop_status}
 use Rattle.om_certification.specs.Ends.{ComesRefused, EndsBy, EndsHere, EndWith}
 
--- ---- what is refused
+-- ---- refusals
 
 module _ (limit number : ℕ) (bytes : List ℕ) where
   pub refused_stays :
@@ -39,7 +39,7 @@ module _ (limit number : ℕ) (bytes : List ℕ) where
       let same : h.refusal ≡ k.refusal = cc one in
       h.is ∙ (ap (λ r. value number (refusal_text r)) same ∙ sym k.is)
 
--- ---- the last reply
+-- ---- the final reply
 
 module _ (limit : ℕ) (EndsClean : ℕ → Reply → Type 0) where
   ends_once :
@@ -71,7 +71,7 @@ module _ (limit : ℕ) (EndsClean : ℕ → Reply → Type 0) where
 module _ {A : Type 0} (commands : Commands A) (a : A) (limit : ℕ) (EndsClean : ℕ → Reply → Type 0)
     (Has : ℕ → Tree → Type 0) (Finish : List Tree → Status → Type 0)
     (AreSaid : List Tree → List Said → Type 0) where
-  -- what is known of what is said of values, and of where they end
+  -- The hypotheses on the outputs for values, and on the end of the values.
   pub record AreTold : Type 0 where
     pub all_have : (trees : List Tree) (said : List Said) → AreSaid trees said → HoldsOfAll Has 0 trees
     pub say_some :
@@ -100,7 +100,7 @@ module _ {A : Type 0} (commands : Commands A) (a : A) (limit : ℕ) (EndsClean :
         → commands.Ends a items bytes last ↔ EndsHere limit EndsClean items bytes last
 
   module _ (told : AreTold) where
-    -- an end is one of the table
+    -- Each end is a row of the table.
     end_row :
         (bytes : List ℕ) (trees : List Tree) (said : List Said) (rest : List ℕ) (last : Reply)
         → SpellAll limit bytes trees rest → AreSaid trees said → (end : End)
@@ -134,7 +134,7 @@ module _ {A : Type 0} (commands : Commands A) (a : A) (limit : ℕ) (EndsClean :
         end_row bytes values.0 all.said h.rest all.last values.2 values.3 ends.0 ends.1
         (subst (λ n. EndsBy limit EndsClean n ends.0 all.last) number ends.2)
 
-    -- and one of the table is an end
+    -- Each row of the table is an end.
     ended :
         (bytes : List ℕ) (trees : List Tree) (rest : List ℕ) (all : Replies) (end : End)
         → SpellAll limit bytes trees rest → AreSaid trees all.said → AreBytes rest
@@ -153,7 +153,7 @@ module _ {A : Type 0} (commands : Commands A) (a : A) (limit : ℕ) (EndsClean :
       );
     }
 
-    -- an end of this status is held
+    -- There is an end with this status.
     abbrev HasEnd : List ℕ → Status → Type 0
     HasEnd bytes status =
         (all : Replies) × ((ending_of all).status ≡ status)

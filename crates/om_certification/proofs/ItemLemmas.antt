@@ -1,4 +1,5 @@
--- What is said of a value, where the run stops and how the input ends are one, and stay.
+-- The output for a value, the exit reason and the end of the input are unique, and they remain if
+-- more bytes follow.
 use Rattle.std.proofs.Common.{◌≡◌, ℕ, List, length, sym, ◌∙◌, subst}
 use Rattle.om_model.specs.Bytes.{AreBytes}
 use Rattle.om_model.specs.declared.refusal.ReadRefusal.{ReadRefusal}
@@ -29,7 +30,7 @@ module _ {T : Type 0} (SectionOf : SaysSections T) (a : Certification T) where
     module _ (items : List Item) (rest : List ℕ) (are_bytes : AreBytes rest) (end : End)
         (tail : IsTail a.limit rest end)
         (fine : (refusal : ReadRefusal) → end ≡ refused refusal → ⊥) where
-      -- bytes that are no value, and are not refused
+      -- If bytes are no value and are not refused, then the run continues.
       pub goes_on : GoesOn (certifying language SectionOf) a items rest
       goes_on = record {
         no_stop = λ stop r.

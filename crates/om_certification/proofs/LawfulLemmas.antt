@@ -1,4 +1,4 @@
--- The command is lawful, where the language is, and one section is said of a value.
+-- If the language is lawful, and a value has one certificate entry, then the command is lawful.
 use Rattle.std.proofs.Common.{◌≡◌, ◌⊎◌, ℕ, List, Some, Result, Ok, Err, inl, inr, refl, sym, ap, ◌∙◌, subst}
 use Rattle.std.specs.Prelude.{Option}
 use Rattle.om_outcome.specs.Outcome.{Request, Language, ReadsTypeOf}
@@ -14,7 +14,7 @@ use Rattle.om_commands.proofs.GivenLemmas.{type_given}
 use Rattle.om_certification.specs.Certification.{Certification, SaysSections, Asked, certified_by, typed_of, CertifiesBy, Wants, Finds, certifying, AreCertifiedOnce}
 use Rattle.om_certification.proofs.ItemLemmas.{lawful_at}
 
--- the words ask for one certificate
+-- The arguments request one certificate.
 asked_same : (one other : Option Asked) (x y : Asked) → one ≡ Some x → one ≡ Some y → x ≡ y
 asked_same one other x y h k = let both : Some x ≡ Some y = sym h ∙ k in cc both
 
@@ -24,7 +24,7 @@ module _ {D T E : Type 0} (language : Language D T E) (SectionOf : SaysSections 
       → certified_by request ≡ Some other → one ≡ other
   asked_once request = asked_same (certified_by request) (certified_by request)
 
-  -- ---- what is found is one, by the file that is wanted
+  -- ---- the task is unique, by the requested file
 
   abbrev done : Asked → T → Result (Certification T) Stop → Type 0
   done asked type found = found ≡ Ok (record { type = type; limit = asked.limit })
@@ -69,7 +69,7 @@ module _ {D T E : Type 0} (language : Language D T E) (SectionOf : SaysSections 
     ),
   )
 
-  -- ---- it is read, or stops the run
+  -- ---- the file is read or ends the run
 
   certified_read :
       (files : Fetches) (asked : Asked) (result : Result (Certification T) Stop)
@@ -88,7 +88,7 @@ module _ {D T E : Type 0} (language : Language D T E) (SectionOf : SaysSections 
       subst (λ t. IsRead name (files t name) result) (sym now)
       (subst (λ n. IsRead n (files 0 n) result) file (certified_read files asked result h))
 
-  -- ---- a stop of the outside comes of it
+  -- ---- an exit reason of the environment comes from the file
 
   abbrev IsInside : Request → Fetches → Stop → Type 0
   IsInside request files stop =
@@ -118,7 +118,7 @@ module _ {D T E : Type 0} (language : Language D T E) (SectionOf : SaysSections 
       (type_inside language lawful (files 0) (typed_of asked) s reads))
   finds_inside request files stop (asked, is, (Ok type, reads, e)) = absurd (cc e)
 
-  -- ---- the type was read
+  -- ---- the type was parsed
 
   found_given :
       (request : Request) (files : Fetches) (a : Certification T)

@@ -1,4 +1,4 @@
--- The command never ends with 5, 11 or 12.
+-- The command never ends with status 5, 11 or 12.
 use Rattle.std.proofs.Common.{ℕ, List, inl, inr}
 use Rattle.om_outcome.specs.declared.status.Status.{Status}
 use Rattle.om_outcome.specs.declared.status.Status.TheVariants.{Script, Compat, Certificate}

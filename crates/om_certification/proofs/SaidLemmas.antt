@@ -1,4 +1,4 @@
--- What is said of values, by the tables: from it what their sections are, and back.
+-- The outputs for values and their certificate entries determine each other, as the tables state.
 use Rattle.std.proofs.Common.{◌≡◌, ℕ, Bool, true, false, List, length, refl, sym, ◌∙◌, subst}
 use Rattle.std.specs.Prelude.{◌↔◌, if◌then◌else◌}
 use Rattle.om_format.specs.Stream.{SpellAll}
@@ -17,27 +17,27 @@ use Rattle.om_certification.specs.Certification.{Certification, SaysSections, Sa
 use Rattle.om_certification.specs.Meanings.{IsCertified, HasSection, Finish}
 
 module _ {T : Type 0} (SectionOf : SaysSections T) (a : Certification T) where
-  -- this is said of the values, the first of which has the number
+  -- The outputs for the values; the first value has this number.
   abbrev pub AreSaid : ℕ → List Tree → List Said → Type 0
   AreSaid number trees said = numbered.AreSaid (SectionOf a.type) number trees said
 
   abbrev Certified : Bool → ℕ → Tree → Type 0
   Certified well number tree = IsCertified SectionOf a well number tree
 
-  -- a value has a section where one is said of it
+  -- If there is an output for a value, then the value has an entry.
   same :
       (well : Bool) (number : ℕ) (tree : Tree) → HasSaid (SectionOf a.type) well number tree
       → Certified well number tree
   same well number tree h = h
 
-  -- ---- what holds of values of which this is said
+  -- ---- from the outputs to the values
 
   pub all_have :
       (k : ℕ) (trees : List Tree) (said : List Said) → AreSaid k trees said
       → HoldsOfAll (HasSection SectionOf a) k trees
   all_have k trees said h = numbered.all_have (SectionOf a.type) Certified same k trees said h
 
-  -- where the input ends after such values, its status is one of the table
+  -- If the input ends after such values, then its status is one of the table.
   pub finish_of :
       (trees : List Tree) (said : List Said) (last : Reply) → AreSaid 0 trees said
       → last ≡ says nothing_said → Finish SectionOf a trees (ending_of (replies said last)).status
@@ -51,7 +51,7 @@ module _ {T : Type 0} (SectionOf : SaysSections T) (a : Certification T) where
         ended false e =
             (all_have 0 trees said h, some_wrong (SectionOf a.type) Certified same 0 trees said h e)
 
-  -- ---- what is said of values of which this holds
+  -- ---- from the values to the outputs
 
   said_of :
       (well : Bool) (number : ℕ) (tree : Tree) → Certified well number tree
@@ -63,7 +63,7 @@ module _ {T : Type 0} (SectionOf : SaysSections T) (a : Certification T) where
       → (said : List Said) × AreSaid k trees said
   say_some k trees h = numbered.say_some (SectionOf a.type) Certified said_of k trees h
 
-  -- replies to values and their end, of this status
+  -- The replies for values and their end, with this status.
   abbrev pub IsReplied : List Tree → Status → Type 0
   IsReplied trees status =
       (all : Replies) × ((ending_of all).status ≡ status) × AreSaid 0 trees all.said
@@ -111,7 +111,7 @@ module _ {T : Type 0} (SectionOf : SaysSections T) (a : Certification T) where
       λ section. record { tree = tree; is = refl; section = section },
     )
 
-    -- the first values, as items
+    -- The first values, as items.
     pub says_first :
         (bytes : List ℕ) (trees : List Tree) (said : List Said) (rest : List ℕ)
         → SpellAll a.limit bytes trees rest → AreSaid 0 trees said
@@ -120,7 +120,7 @@ module _ {T : Type 0} (SectionOf : SaysSections T) (a : Certification T) where
         values_first language a.limit (certifying language SectionOf) a first (SectionOf a.type)
         tells bytes trees said rest spelled say
 
-    -- the first items, as values
+    -- The first items, as values.
     pub say_first :
         (bytes : List ℕ) (items : List Item) (said : List Said) (rest : List ℕ)
         → SaysFirst (certifying language SectionOf) a bytes items said rest

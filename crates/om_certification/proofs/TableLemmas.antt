@@ -17,7 +17,7 @@ use Rattle.om_certification.proofs.ItemLemmas.{goes_on}
 use Rattle.om_certification.proofs.SaidLemmas.{AreSaid, all_have, finish_of, say_some, finish_said, says_first, say_first}
 
 module _ {D T E : Type 0} (language : Language D T E) (SectionOf : SaysSections T) where
-  -- ---- a stop is one of the table
+  -- ---- each exit reason is in the table
 
   abbrev Stopping : Certification T → List ℕ → Stop → Type 0
   Stopping a bytes stop = HoldStop (certifying language SectionOf) a bytes stop
@@ -38,9 +38,9 @@ module _ {D T E : Type 0} (language : Language D T E) (SectionOf : SaysSections 
         },
       )
 
-  -- ---- and one of the table is a stop
+  -- ---- each row of the table is an exit reason
 
-  -- a stop of this status is held
+  -- There is an exit reason with this status.
   abbrev HasStop : Certification T → List ℕ → Status → Type 0
   HasStop a bytes status = (stop : Stop) × (status_of stop ≡ status) × Stopping a bytes stop
 
@@ -127,13 +127,13 @@ module _ {D T E : Type 0} (language : Language D T E) (SectionOf : SaysSections 
         let same : s ≡ stop = cc e in subst BarBy same (type_bar asked is s reads)
     bar_of stop (asked, is, (Ok type, reads, e)) = absurd (cc e)
 
-    -- a stop of this status comes before the input
+    -- There is an exit reason with this status before the input.
     abbrev HasStopBefore : Status → Type 0
     HasStopBefore status =
         (stop : Stop) × (status_of stop ≡ status)
         × Finds language SectionOf request files (Err stop)
 
-    -- FILE or TYPE stops it
+    -- Case: FILE or TYPE ends the run.
     by_type :
         (asked : Asked) → certified_by request ≡ Some asked → (stop : Stop)
         → ReadsTypeOf language (files 0) (typed_of asked) (Err stop)

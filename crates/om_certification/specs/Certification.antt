@@ -1,5 +1,5 @@
--- The command that writes a certificate of the values of the input, in the general form: an item
--- is a value, and its section is said of it, by its number.
+-- The command `check --cert` in the general form. An item is a value, and its certificate entry is
+-- the output for it, by its number.
 use Rattle.std.specs.Prelude.{ℕ, ◌≡◌, List, length, Option, None, Some, Result, Ok}
 use Rattle.om_format.specs.Stream.{End}
 use Rattle.om_format.specs.Tree.{Tree}
@@ -13,29 +13,30 @@ use Rattle.om_promises.specs.LawfulLanguage.{IsGiven}
 use Rattle.om_commands.specs.Tasks.{IsFirstValue}
 use Rattle.om_certification.specs.Ends as ends
 
--- what is to be done: the values at the type are certified
+-- The task: certify the values at the type.
 pub record Certification (T : Type 0) : Type 0 where
   pub type : T
   pub limit : ℕ
 
--- the section that is said of a value at a type, by its number, and whether it is of a yes
+-- The certificate entry for a value at a type, by the value's number. `Said.well` says whether the
+-- entry proves that the value has the type.
 abbrev pub SaysSections : Type 0 → Type 1
 SaysSections T = T → ℕ → Tree → Said → Type 0
 
 -- ---- the values
 
 module _ {T : Type 0} (SectionOf : SaysSections T) (a : Certification T) where
-  -- this is said of the next value
+  -- The output for the next value.
   pub record SaysOf (items : List Item) (item : Item) (said : Said) : Type 0 where
     pub tree : Tree
     pub is : item ≡ value_item tree
     pub section : SectionOf a.type (length items) tree said
 
-  -- after these values what comes is refused
+  -- After these values the following bytes are refused.
   abbrev pub StopsHere : List Item → List ℕ → Stop → Type 0
   StopsHere items bytes stop = ends.ComesRefused a.limit (length items) bytes stop
 
-  -- the last reply, where the bytes end after so many values, or cut one more
+  -- The final reply if the bytes end after this many values, or inside one more value.
   abbrev pub EndsClean : ℕ → Reply → Type 0
   EndsClean number last = last ≡ says nothing_said
 
@@ -47,7 +48,7 @@ module _ {T : Type 0} (SectionOf : SaysSections T) (a : Certification T) where
 
 -- ---- the files
 
--- FILE and TYPE, with the limit, where values are to be certified
+-- The parsed arguments, if values are to be certified: FILE, TYPE and the limit.
 pub record Asked : Type 0 where
   pub file : List ℕ
   pub type : AskedType
@@ -61,7 +62,7 @@ certified_by request = None
 abbrev pub typed_of : Asked → List ℕ × AskedType
 typed_of asked = (asked.file, asked.type)
 
--- FILE and TYPE are read
+-- FILE and TYPE are read.
 abbrev pub CertifiesBy : {D T E : Type 0} → Language D T E → Fetches → Asked
     → Result (Certification T) Stop → Type 0
 CertifiesBy language files asked =
@@ -71,7 +72,7 @@ CertifiesBy language files asked =
 -- ---- the command
 
 module _ {D T E : Type 0} (language : Language D T E) (SectionOf : SaysSections T) where
-  -- FILE is wanted, in the first turn
+  -- FILE is requested, in the first turn.
   abbrev pub Wants : Request → Fetches → ℕ → List ℕ → Type 0
   Wants request files turn name =
       (asked : Asked) × (certified_by request ≡ Some asked) × (turn ≡ 0) × (name ≡ asked.file)
@@ -92,7 +93,7 @@ module _ {D T E : Type 0} (language : Language D T E) (SectionOf : SaysSections 
     Ends = EndsHere SectionOf;
   }
 
-  -- one section is said of a value, at each type that some texts are read as
+  -- A value has one certificate entry, at each type that some texts denote.
   abbrev pub AreCertifiedOnce : Type 0
   AreCertifiedOnce =
       (type : T) → IsGiven language type → (number : ℕ) (tree : Tree)

@@ -1,5 +1,5 @@
--- How the input ends, and what is refused of it, at a command that says something of each value by
--- its number; and what the tables of such a command tell of it.
+-- For a command with an output for each value by its number: how the input ends, what is refused of
+-- it, and what the tables of such a command state about it.
 use Rattle.std.specs.Prelude.{ℕ, ◌≡◌, ◌⊎◌, List, [], length}
 use Rattle.om_model.specs.declared.refusal.ReadRefusal.{ReadRefusal}
 use Rattle.om_format.specs.Stream.{SpellAll, End, clean, refused, cut, IsTail}
@@ -13,14 +13,14 @@ use Rattle.om_outcome.specs.declared.stop.Stop.TheVariants.{Value as value}
 use Rattle.om_promises.specs.Commands.{Item}
 use Rattle.om_meanings.specs.Numbered.{HoldsOfAll}
 
--- after so many values what comes is refused
+-- After this many values the following bytes are refused.
 pub record ComesRefused (limit number : ℕ) (bytes : List ℕ) (stop : Stop) : Type 0 where
   pub refusal : ReadRefusal
   pub tail : IsTail limit bytes (refused refusal)
   pub is : stop ≡ value number (refusal_text refusal)
 
 module _ (limit : ℕ) (EndsClean : ℕ → Reply → Type 0) where
-  -- the last reply, where the bytes end after so many values, or cut one more
+  -- The final reply if the bytes end after this many values, or inside one more value.
   abbrev pub EndsBy : ℕ → End → Reply → Type 0
   EndsBy number clean last = EndsClean number last
   EndsBy number (refused refusal) last = ⊥
@@ -30,10 +30,10 @@ module _ (limit : ℕ) (EndsClean : ℕ → Reply → Type 0) where
   EndsHere items bytes last =
       (end : End) × IsTail limit bytes end × EndsBy (length items) end last
 
--- ---- the tables, where all values have something
+-- ---- the tables, for values that have a property
 
 module _ (limit : ℕ) (Has : ℕ → Tree → Type 0) where
-  -- after values that have it the next bytes are refused
+  -- After values with the property the next bytes are refused.
   pub record HoldRefusal (bytes : List ℕ) : Type 0 where
     pub trees : List Tree
     pub rest : List ℕ
@@ -42,7 +42,7 @@ module _ (limit : ℕ) (Has : ℕ → Tree → Type 0) where
     pub certified : HoldsOfAll Has 0 trees
     pub tail : IsTail limit rest (refused refusal)
 
-  -- after values that have it the bytes end within one more
+  -- After values with the property the bytes end inside one more value.
   pub record AreCut (bytes : List ℕ) : Type 0 where
     pub trees : List Tree
     pub rest : List ℕ
@@ -52,12 +52,13 @@ module _ (limit : ℕ) (Has : ℕ → Tree → Type 0) where
     pub tail : IsTail limit rest (cut n)
 
   module _ (Finish : List Tree → Status → Type 0) where
-    -- the bytes are values to their end, where this status comes
+    -- The bytes are values up to their end, and the run has this status there.
     pub record AreFinished (bytes : List ℕ) (status : Status) : Type 0 where
       pub trees : List Tree
       pub spelled : SpellAll limit bytes trees []
       pub finishes : Finish trees status
 
-    -- where the input is these bytes this status comes, at its end; 4 where a value is cut
+    -- If the input is these bytes, then the run has this status at its end. The status is 4 if a
+    -- value is truncated.
     abbrev pub EndWith : List ℕ → Status → Type 0
     EndWith bytes status = AreFinished bytes status ⊎ ((status ≡ Value) × AreCut bytes)

@@ -1,4 +1,4 @@
-//! The laws. Each function does nothing: what it ensures is the law.
+//! Lemma functions. They do nothing at run time: the contract of each function is a law.
 
 ghost use Rattle.om_outcome.specs.Outcome.{Language};
 ghost use Rattle.om_promises.specs.CommandLaws.{HaveOneOutcome, HaveOneStop, StopsStay};
@@ -21,8 +21,8 @@ use om_causes::laws::{Meant, causes_of_tables};
 use om_promises::laws::{Act, files_in_turns, lawful_commands, promised, promises_of_commands};
 use std::marker::PhantomData;
 
-/// What texts are read as: declarations, types, and lines of scripts; and what section is said of a
-/// value at a type.
+/// The parameters of the command: how texts are parsed as declarations, types and script lines, and
+/// the certificate entry for a value at a type.
 pub trait Certifies {
     ghost declarations: { Type 0 };
 
@@ -35,7 +35,7 @@ pub trait Certifies {
     ghost SectionOf: { SaysSections types };
 }
 
-/// The command that certifies values, and what each status means at it.
+/// The command `check --cert`, and its exit status specification.
 pub struct OnCertified<V>(PhantomData<V>);
 
 impl<V: Certifies> Act for OnCertified<V> {
@@ -52,21 +52,22 @@ impl<V: Certifies> Meant for OnCertified<V> {
     ghost tables = { certifying_tables V.language V.SectionOf };
 }
 
-/// The command is lawful, where the language is, and one section is said of a value.
+/// Proves that the command is lawful if the language is lawful and a value has one certificate
+/// entry.
 pub fn certifying_is_lawful<V: Certifies>()
     requires language { IsLawful V.language }
     requires once { AreCertifiedOnce V.language V.SectionOf }
     ensures { AreLawful (certifying V.language V.SectionOf) }
 {}
 
-/// It takes its file in the first turn.
+/// Proves that the command fetches its file in the first turn.
 pub fn certifying_takes_turns<V: Certifies>()
     requires language { IsLawful V.language }
     ensures { AreInTurns (certifying V.language V.SectionOf) }
 {}
 
-/// So words, files and an input have one outcome, and the input holds one stop at most, which stays
-/// and comes last.
+/// Proves that arguments, files and input have at most one outcome. The input contains at most one
+/// exit reason. It remains if more bytes follow, and bytes that contain it need no more bytes.
 pub fn certifying_answers_once<V: Certifies>()
     requires language { IsLawful V.language }
     requires once { AreCertifiedOnce V.language V.SectionOf }
@@ -79,7 +80,8 @@ pub fn certifying_answers_once<V: Certifies>()
     lawful_commands::<OnCertified<V>>();
 }
 
-/// What is promised of a call follows from its account, and from that all else.
+/// Proves that the specification of a run follows from its account, and that the other laws follow
+/// from the specification.
 pub fn certifying_keeps_promises<V: Certifies>()
     requires language { IsLawful V.language }
     requires once { AreCertifiedOnce V.language V.SectionOf }
@@ -115,20 +117,20 @@ pub fn certifying_keeps_promises<V: Certifies>()
     files_in_turns::<OnCertified<V>>();
 }
 
-/// It is idle at each request that is not its own.
+/// Proves that the command does nothing for any other request.
 pub fn certifying_is_idle_elsewhere<V: Certifies>()
     ensures { IsIdleElsewhere V.language V.SectionOf }
 {}
 
-/// The tables are exact: what stops a run, and how an input ends, by its values and their sections;
-/// and what the words and the files do.
+/// Proves that the status tables are exact. They determine what ends a run and how an input ends,
+/// by its values and their certificate entries, and what the arguments and the files cause.
 pub fn sections_have_meanings<V: Certifies>()
     ensures { AreExact (certifying V.language V.SectionOf)
         (certifying_tables V.language V.SectionOf) }
 {}
 
-/// What is promised of a call gives each status its cause, and to each cause its status; and 5, 11
-/// and 12 never come.
+/// Proves the exit status specification: each status has its cause, and each cause has its status.
+/// Statuses 5, 11 and 12 never occur.
 pub fn causes_of_sections<V: Certifies>()
     requires language { IsLawful V.language }
     requires once { AreCertifiedOnce V.language V.SectionOf }

@@ -1,6 +1,7 @@
-//! The command that writes a certificate of the values of the input, in the general form: the file
-//! that it wants, what it says of a value by its number, where it stops, and how it ends. These are
-//! definitions, and the laws on them: nothing here does anything.
+//! The specification of the command `check --cert` in the general form of `Commands`: the file that
+//! it requests, the certificate entry that it writes for a value, where the run ends early, and how
+//! it ends. `causes_of_sections` proves the meaning of its exit statuses. The crate contains only
+//! definitions and laws; the command's code is in another crate.
 #![tactic(auto)]
 
 pub mod laws;

@@ -1,4 +1,5 @@
--- So `verify` has one outcome of what `check --cert` put: it shows the lines of `check`.
+-- The `verify` command has one outcome for the output of `check --cert`: it prints the lines of
+-- `check`.
 use Rattle.std.proofs.Common.{◌≡◌, ℕ, ◌+◌, ◌<◌, ◌≤◌, ◌^◌, List, [], ◌∷◌, ◌++◌, length, Some, Ok, inl, inr, refl, sym, ap, ◌∙◌, subst, arith}
 use Rattle.std.specs.Prelude.{IfSome, slice_get}
 use Rattle.om_model.specs.Bytes.{AreBytes}
@@ -41,7 +42,7 @@ use Rattle.om_certified.proofs.TakenLemmas.{AreGood, all_taken}
 
 -- ---- values and texts
 
--- values under a limit are under each that is no smaller
+-- If values are under a limit, then they are under each greater limit.
 under_more : (limit greater : ℕ) → limit ≤ greater → (bytes : List ℕ) (trees : List Tree)
     (rest : List ℕ) → SpellAll limit bytes trees rest → SpellAll greater bytes trees rest
 under_more limit greater fits bytes [] rest s = s
@@ -125,7 +126,7 @@ module _ (told : Follow on_certified (AreAsTold on_certified)) (lawful : AreLawf
     module _ (later_words : List (List ℕ)) (later : Call) (later_tells : TellsBytes later.input)
         (v : Verifies later_words later asked contents input certificate)
         (o : HasOutcome on_certificates later_words later input v.files) where
-      -- the type, at which places are told as they are asked for now
+      -- The type, with positions reported as the later call asks.
       abbrev later_asked : AskedType
       later_asked = asked_type asked.type.text v.lines
 
@@ -189,7 +190,7 @@ module _ (told : Follow on_certified (AreAsTold on_certified)) (lawful : AreLawf
           let same : j ≡ 0 + j = omega arith in
           subst (λ n. slice_get p.sections n ≡ Some s) same at
 
-      -- ---- what the later call put
+      -- ---- the output of the later call
 
       module _ (s : SaysAll on_certificates its_work (whole input) o.all) where
         good : AreGood declared_sections its_work 0 p.trees

@@ -1,4 +1,5 @@
--- A value that is spelled has few objects, each of few fields, and refers to none behind them.
+-- An encoded value has few objects, each object has few fields, and no reference points after the
+-- objects.
 use Rattle.std.proofs.Common.{◌≡◌, ℕ, zero, suc, ◌+◌, ◌<◌, ◌≤◌, ◌^◌, List, [], ◌∷◌, length, Some, length-append, arith, subst}
 use Rattle.std.specs.Prelude.{slice_get}
 use Rattle.std.specs.List.{AllByRecursion}
@@ -15,13 +16,13 @@ use Rattle.om_format.proofs.Counts.{length-roots, trees_in-le}
 use Rattle.om_format.proofs.SpellValues.{bytes_of_tokens}
 use Rattle.om_types.specs.Typing.{values_of, field_at}
 
--- the value refers to no object behind object n
+-- The value does not refer to an object after object n.
 abbrev pub IsUpTo : ℕ → Val → Type 0
 IsUpTo n (vals.Int z) = Unit {0}
 IsUpTo n (vals.Atom tag) = Unit {0}
 IsUpTo n (vals.Ref o) = o ≤ n
 
--- it has at most n values, none of which does
+-- The object has at most n values, and none of them refers to an object after n.
 pub record IsFew (n : ℕ) (object : Obj) : Type 0 where
   pub many : length (values_of object) ≤ n
   pub up_to : AllByRecursion (IsUpTo n) (values_of object)
@@ -120,7 +121,7 @@ one_of P [] i x h at = absurd (none-some x at)
 one_of P (y ∷ xs) zero x h at = subst P (same_Some y x at) h.0
 one_of P (y ∷ xs) (suc i) x h at = one_of P xs i x h.1 at
 
--- each field has a small number, and refers to no object behind object n
+-- Each field has a small index, and does not refer to an object after object n.
 abbrev pub AreFew : ℕ → List Obj → Type 0
 AreFew n graph =
     (o i : ℕ) (w : Val) → field_at graph o i ≡ Some w → (i < n) × IsUpTo n w
@@ -135,7 +136,7 @@ fields_few n graph h o i w at =
       one_of (IsUpTo n) (values_of object) i w few.up_to has,
     ))
 
--- so it is of the objects of a value that is spelled, and of its root
+-- The bounds hold for the objects of an encoded value, and for its root.
 pub record IsSmall (tree : Tree) : Type 0 where
   pub bound : ℕ
   pub below : bound < 2 ^ 63

@@ -1,4 +1,4 @@
--- What the sections of values show is the lines of `check`, and none of them is rejected.
+-- The certificate entries of values give the lines of `check`, and none of them is rejected.
 use Rattle.std.proofs.Common.{◌≡◌, ℕ, suc, ◌+◌, List, [], ◌∷◌, ◌++◌, length, Some, None, inl, inr, refl, sym, ap, ◌∙◌, subst, arith}
 use Rattle.std.specs.Prelude.{◌&&◌, slice_get}
 use Rattle.om_format.specs.Tree.{Tree, root, objects_of}
@@ -24,7 +24,7 @@ sections_many t (tree ∷ trees) (s ∷ all) h = ap suc (sections_many t trees a
 
 module _ (shown : CertifiedAreShown) (a : Verification TypeOver Section)
     (given : IsGiven declared_types a.type) where
-  -- these are the sections from number k on
+  -- These are the entries from index k on.
   abbrev AreFrom : ℕ → List Section → Type 0
   AreFrom k all =
       (j : ℕ) (s : Section) → slice_get all j ≡ Some s → slice_get a.sections (k + j) ≡ Some s
@@ -41,7 +41,7 @@ module _ (shown : CertifiedAreShown) (a : Verification TypeOver Section)
       let same : k + suc j ≡ suc k + j = omega arith in
       subst (λ n. slice_get a.sections n ≡ Some next) same (from (suc j) next at)
 
-  -- the section of the value with the number
+  -- The entry of the value with this index.
   abbrev IsOf : Tree → Section → Type 0
   IsOf tree section = IsSectionOf a.type (objects_of tree 0) (root tree 0) section
 
@@ -65,9 +65,9 @@ module _ (shown : CertifiedAreShown) (a : Verification TypeOver Section)
     all_good (suc k) trees all (rest_from k s all from) h.1,
   )
 
-  -- ---- what is said
+  -- ---- output
 
-  -- the line of `check`, which tells what the section tells
+  -- The line of `check`, which agrees with the entry.
   pub record IsLine (tree : Tree) (section : Section) (said : Said) : Type 0 where
     pub text : List ℕ
     pub says : IsTypeLine the_verdict a.type (objects_of tree 0) (root tree 0) text said.well
@@ -97,7 +97,7 @@ module _ (shown : CertifiedAreShown) (a : Verification TypeOver Section)
         well = well ∙ ap is_yes (sym same);
       }
 
-  -- all of them, after these values, and whether all is well
+  -- All lines after those of the earlier values, and whether all values have the type.
   abbrev pub AreLines : (earlier trees : List Tree) → List Section → List Said → Type 0
   AreLines earlier trees all said =
       AllSay declared_types (tells the_verdict a.type) earlier trees said

@@ -1,4 +1,5 @@
--- Where a path leads from a value whose objects are few, its steps are small, and so is the object.
+-- If a path leads through a value with few objects, then its steps and the object that it reaches
+-- are small numbers.
 use Rattle.std.proofs.Common.{◌≡◌, ℕ, ◌<◌, List, [], ◌∷◌, Option, Some, None, ap, subst}
 use Rattle.std.specs.Prelude.{option_map}
 use Rattle.std.specs.List.{AllByRecursion}

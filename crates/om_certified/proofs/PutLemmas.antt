@@ -1,5 +1,5 @@
--- A call of `check --cert` that came to its end: FILE and TYPE were read, all of the input is
--- values, and the section of each is put.
+-- A call of `check --cert` that reached the end of the input: FILE and TYPE were read, the whole
+-- input is values, and the entry of each was written.
 use Rattle.std.proofs.Common.{◌≡◌, ℕ, suc, Bool, true, List, [], ◌∷◌, ◌++◌, length, Option, Some, Result, Ok, Err, inl, inr, refl, sym, ap, ◌∙◌, subst}
 use Rattle.std.specs.Prelude.{◌&&◌, if◌then◌else◌}
 use Rattle.om_format.specs.Stream.{SpellAll, End, clean, refused, cut, IsTail}
@@ -26,9 +26,9 @@ use Rattle.om_certifier.specs.Certified.{is_yes, declared_certificates, on_certi
 use Rattle.om_promises.proofs.EndedLemmas.{IsEnd}
 use Rattle.om_certified.proofs.StatedLemmas.{AreSections}
 
--- ---- what is said of values
+-- ---- output for values
 
--- each of them is of a value that has the type
+-- Each entry is of a value that has the type.
 abbrev pub all_yes : List Section → Bool
 all_yes [] = true
 all_yes (section ∷ more) = is_yes section && all_yes more
@@ -36,7 +36,7 @@ all_yes (section ∷ more) = is_yes section && all_yes more
 abbrev pub status_by : Bool → Status
 status_by well = if well then statuses.Well else statuses.No
 
--- the sections are the texts, and tell whether all is well
+-- The output is the entries, and reports whether all values have the type.
 pub record SaysThem (t : TypeOver) (k : ℕ) (trees : List Tree) (said : List Said) : Type 0 where
   pub sections : List Section
   pub are : AreSections t trees sections
@@ -60,16 +60,16 @@ says_them a k (tree ∷ trees) (s ∷ said) ((section, is, same), h) =
 
 -- ---- the call
 
--- what is done at a type
+-- The work at a type.
 abbrev pub work_at : TypeOver → Asked → Certification TypeOver
 work_at t asked = record { type = t; limit = asked.limit }
 
--- the words ask for one certificate
+-- The arguments ask for one certificate.
 asked_once : (asked : Option Asked) (one other : Asked) → asked ≡ Some one → asked ≡ Some other
     → one ≡ other
 asked_once asked one other h k = let both : Some one ≡ Some other = sym h ∙ k in cc both
 
--- no such status is that of an end
+-- No such status is that of an end of input.
 no_end : (status : Status) → IsEnd status → (status ≡ statuses.Well → ⊥)
     → (status ≡ statuses.No → ⊥) → ⊥
 no_end status (inl e) not_well not_no = not_well e
@@ -78,8 +78,8 @@ no_end status (inr e) not_well not_no = not_no e
 module _ (words : List (List ℕ)) (asked : Asked) (request : Request) (asks : Asks words request)
     (is_asked : certified_by request ≡ Some asked) (given : Given) (all : Replies)
     (end : IsEnd (ending_of all).status) where
-  -- what FILE holds, and TYPE, are read as the type; all of the input is values, and their sections
-  -- are put
+  -- The contents of FILE, and TYPE, are read as the type. The whole input is values, and their
+  -- entries are written.
   pub record ArePut : Type 0 where
     pub t : TypeOver
     pub contents : List ℕ
@@ -95,7 +95,7 @@ module _ (words : List (List ℕ)) (asked : Asked) (request : Request) (asks : A
     pub out : (ending_of all).out ≡ texts_from 0 sections
     pub status : (ending_of all).status ≡ status_by (all_yes sections)
 
-  -- the last reply is no such stop
+  -- The last reply has no such exit reason.
   not_last : (stop : Stop) → (status_of stop ≡ statuses.Well → ⊥)
       → (status_of stop ≡ statuses.No → ⊥) → all.last ≡ stops stop → ⊥
   not_last stop not_well not_no is =
@@ -170,7 +170,7 @@ module _ (words : List (List ℕ)) (asked : Asked) (request : Request) (asks : A
   of_type t (Ok contents, read, (Ok decls, declared, written)) answers =
       of_answers t contents read decls declared written answers
 
-  -- nothing stops the run before the input
+  -- The run does not end before the input.
   not_barred : (stop : Stop)
       → Bar declared_types declared_certificates request given.files (status_of stop)
       → all ≡ stopped stop → ⊥

@@ -1,4 +1,4 @@
--- The section of a value shows the line that `check` says of it.
+-- The certificate entry of a value gives the line that `check` prints for the value.
 use Rattle.std.proofs.Common.{ℕ, ◌≡◌, true, false, List, inl, inr, refl, ap, subst}
 use Rattle.om_model.specs.declared.value.Val.{Val}
 use Rattle.om_model.specs.declared.value.Obj.{Obj}
@@ -35,7 +35,7 @@ module _ (reached_accepted : ReachedAreAccepted) (not_accepted : RejectedAreNotA
     (sound : IsSoundType t.decls t.type) (graph : List Obj) (v : Val) where
   -- ---- a value that has the type
 
-  -- by the table of its section the answer is yes
+  -- With the table of its entry, the answer is yes.
   answers_yes :
       (pairs : List (ℕ × ℕ)) → CertifiesType t graph v pairs
       → Answers t (sections.Pairs pairs) graph v Yes
@@ -67,7 +67,7 @@ module _ (reached_accepted : ReachedAreAccepted) (not_accepted : RejectedAreNotA
 
   -- ---- a value with a fault
 
-  -- paths that are a fault are no reason to reject
+  -- If paths are a fault, then there is no reason to reject them.
   fault_accepted :
       (fault : Fault) (table : Table) → IsFault (table_shapes table) graph v 0 fault
       → IsAccepted table graph v (fault_section fault)
@@ -99,7 +99,7 @@ module _ (reached_accepted : ReachedAreAccepted) (not_accepted : RejectedAreNotA
     by : IsVerified k.rejected.table graph v (fault_section fault) (Rejected k.why) → ⊥
     by verified = of fault verified accepted
 
-  -- what is shown is the fault that is stated
+  -- The entry proves the fault that it states.
   stated :
       (fault shown : Fault) → Answers t (fault_section fault) graph v (No shown) → shown ≡ fault
   stated (faults.Misfit path) shown h = by h.verified where
@@ -118,7 +118,7 @@ module _ (reached_accepted : ReachedAreAccepted) (not_accepted : RejectedAreNotA
         subst (λ f. IsFaultText (declared_shapes t.decls) type_text graph v t.type f k.text)
         (stated fault k.fault k.accepted) k.is_text
 
-  -- ---- each section
+  -- ---- any entry
 
   pub section_shown :
       (section : Section) (shown : Shown) → IsSectionOf t graph v section

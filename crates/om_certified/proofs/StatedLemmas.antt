@@ -1,4 +1,4 @@
--- The sections of values that are spelled may stand in a certificate.
+-- The entries of encoded values can be written in a certificate.
 use Rattle.std.proofs.Common.{◌≡◌, ℕ, ◌+◌, ◌<◌, ◌≤◌, ◌^◌, Bool, true, false, List, [], ◌∷◌, length, Option, Some, None, refl, sym, ap, ◌∙◌, length-append, arith}
 use Rattle.std.specs.Prelude.{IsSomeAnd, nat_lt, All, Contains}
 use Rattle.std.specs.List.{AllByRecursion, AllZip}
@@ -29,12 +29,12 @@ use Rattle.om_certifier.specs.Certified.{IsSectionOf}
 use Rattle.om_certified.proofs.GraphLemmas.{IsSmall, spelled_small}
 use Rattle.om_certified.proofs.PlaceLemmas.{path_small}
 
--- these are the sections of the values, one of each
+-- These are the entries of the values, one for each value.
 abbrev pub AreSections : TypeOver → List Tree → List Section → Type 0
 AreSections t trees all =
     AllZip (λ tree section. IsSectionOf t (objects_of tree 0) (root tree 0) section) trees all
 
--- however places are told
+-- The entries do not depend on how positions are reported.
 pub sections_lined : (t : TypeOver) (lines : Bool) (trees : List Tree) (all : List Section)
     → AreSections t trees all → AreSections (lined t lines) trees all
 sections_lined t lines [] [] h = h
@@ -82,7 +82,7 @@ module _ (tree : Tree) (small : IsSmall tree) where
 
 -- ---- types
 
--- the least of its class is no more than the first number that is not in the table
+-- The least type of a class is at most the first index that is not in the table.
 least_type : (table : Table) (u : ℕ) → IsLeast table u → u ≤ length table.classes
 least_type table u least = by (nat_lt (length table.classes) u) refl where
   by : (past : Bool) → nat_lt (length table.classes) u ≡ past → u ≤ length table.classes
@@ -127,7 +127,7 @@ module _ (one_list : ReachedTypesAreOne) (t : TypeOver) (few : ReachesFew t.decl
       fault_stated tree small (declared_shapes t.decls) t.type (faults.Clash first second)
       h.least.is_fault
 
-  -- ---- all of them
+  -- ---- all entries
 
   all_stated : (limit : ℕ) (bytes rest : List ℕ) (trees : List Tree) (all : List Section)
       → SpellAll limit bytes trees rest → AreSections t trees all → AllByRecursion IsStated all

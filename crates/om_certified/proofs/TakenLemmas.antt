@@ -1,4 +1,5 @@
--- Where each value has a section that is not rejected, and none is left, something is said of each.
+-- If each value has an entry that is not rejected, and no entry is left over, then there is output
+-- for each value.
 use Rattle.std.proofs.Common.{◌≡◌, ◌⊎◌, ◌+◌, ℕ, suc, List, [], ◌∷◌, length, inl, inr, refl, sym, ap, ◌∙◌, subst, length-append, arith}
 use Rattle.std.specs.Prelude.{if◌then◌else◌}
 use Rattle.std.proofs.lemmas.Bool.{le-ltb}
@@ -15,7 +16,7 @@ use Rattle.om_commands.specs.Tasks.{items_of}
 use Rattle.om_verification.specs.Verification.{Shown, Verification, IsUncertified, EndsBy, ends_sections, ReadsSections, verifying}
 use Rattle.om_verification.proofs.SaidLemmas.{AreSaid, say_first}
 
--- no bytes are no value
+-- The empty input encodes no value.
 none_spelled : (limit : ℕ) (bytes : List ℕ) (tree : Tree) (trees : List Tree) (rest : List ℕ)
     → bytes ≡ [] → SpellAll limit bytes (tree ∷ trees) rest → ⊥
 none_spelled limit bytes tree trees rest none (first, more, is, spelled, s) =
@@ -25,23 +26,23 @@ none_spelled limit bytes tree trees rest none (first, more, is, spelled, s) =
     omega (arith, some, both)
 
 module _ {T S : Type 0} (ShownBy : T → S → Tree → Shown → Type 0) (a : Verification T S) where
-  -- the value with the number has a section, which is not rejected
+  -- The value with this index has an entry, which is not rejected.
   abbrev pub IsGood : ℕ → Tree → Type 0
   IsGood number tree = (reason : List ℕ) → IsUncertified ShownBy a number tree reason → ⊥
 
-  -- so have all of them, the first of which has the number
+  -- All values, beginning with this index, have such entries.
   abbrev pub AreGood : ℕ → List Tree → Type 0
   AreGood number [] = Unit {0}
   AreGood number (tree ∷ trees) = IsGood number tree × AreGood (suc number) trees
 
-  -- one more value with this number comes
+  -- One more value with this index follows.
   pub record ComesGood (number : ℕ) (bytes : List ℕ) : Type 0 where
     pub tree : Tree
     pub more : List ℕ
     pub spelled : SpellAll a.limit bytes (tree ∷ []) more
     pub good : IsGood number tree
 
-  -- values in front are all of them, or one more comes
+  -- The values so far are all of them, or one more follows.
   front :
       (bytes : List ℕ) → AreBytes bytes → (k n : ℕ) (trees others : List Tree) (rest : List ℕ)
       → n ≡ k + length others → SpellAll a.limit bytes trees []
@@ -89,7 +90,7 @@ module _ {T S : Type 0} (ShownBy : T → S → Tree → Shown → Type 0) (a : V
       (are_bytes : AreBytes bytes) (trees : List Tree) (spelled : SpellAll a.limit bytes trees [])
       (good : AreGood 0 trees) (many : length trees ≡ length a.sections) (all : Replies)
       (s : SaysAll (verifying language Reads ShownBy) a (whole bytes) all) where
-    -- something is said of each of the values, and nothing behind them
+    -- There is output for each of the values, and none after them.
     abbrev pub AreTaken : Type 0
     AreTaken = AreSaid ShownBy a 0 trees all.said × (all.last ≡ says nothing_said)
 

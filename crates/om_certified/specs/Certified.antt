@@ -1,5 +1,5 @@
--- What `check --cert` put is the certificate of `verify`: of the same input, at the same FILE and
--- TYPE, it is accepted, and the lines of `check` come out.
+-- The output of `check --cert` as the certificate of `verify`: for the same input, FILE and TYPE,
+-- it is accepted, and the output is the lines of `check`.
 use Rattle.std.specs.Prelude.{ℕ, ◌≤◌, ◌≡◌, ◌≢◌, ◌⊎◌, Bool, List, [], Some, Ok}
 use Rattle.om_types.specs.declared.decl.Decl.{Decl}
 use Rattle.om_format.specs.Stream.{SpellAll}
@@ -17,9 +17,9 @@ use Rattle.om_promises.specs.Outside.{IsHonest}
 use Rattle.om_declared.specs.Language.{TypeOver, ReadsDeclarations, ReadsType, declared_types}
 use Rattle.om_certification.specs.Certification.{Asked, certified_by}
 
--- The words ask to certify the values of the input at FILE and TYPE, each under the limit, from its
--- first byte on, and the call went to the input's end; its input, what FILE holds, and what it put
--- on out are told.
+-- The arguments ask to certify the values of the input at FILE and TYPE, from the first byte on and
+-- each under the limit. The call reached the end of the input. Its input, the contents of FILE and
+-- its output are known.
 pub record Certifies (words : List (List ℕ)) (call : Call)
     (asked : Asked) (contents input certificate : List ℕ) : Type 0 where
   pub request : Request
@@ -33,9 +33,9 @@ pub record Certifies (words : List (List ℕ)) (call : Call)
   pub input_is : call.input.before.bytes ≡ Some input
   pub puts : HasPut call certificate
 
--- The words ask to verify a certificate of the values of this input at the same FILE and TYPE, and
--- under a limit that is no smaller. FILE holds what it held, and CERT what was put. No call on the
--- outside failed, nothing is too long, and memory did not run out.
+-- The arguments ask to verify a certificate of the values of this input at the same FILE and TYPE.
+-- The limit is at least as high. FILE has the same contents, and CERT has the output of the first
+-- call. No I/O call failed, nothing is too long, and memory did not run out.
 pub record Verifies (words : List (List ℕ)) (call : Call) (asked : Asked)
     (contents input certificate : List ℕ) : Type 0 where
   pub name : List ℕ
@@ -49,15 +49,15 @@ pub record Verifies (words : List (List ℕ)) (call : Call) (asked : Asked)
   pub honest : IsHonest call input files
   pub suffices : call.status ≢ Memory
 
--- what FILE holds and TYPE are this type, however places are told
+-- The contents of FILE, and TYPE, are read as this type, for some way of reporting positions.
 pub record AreReadAs (contents type : List ℕ) (t : TypeOver) : Type 0 where
   pub lines : Bool
   pub decls : List Decl
   pub declared : ReadsDeclarations lines contents (Ok decls)
   pub written : ReadsType decls (asked_type type lines) (Ok t)
 
--- The input is values, one after another, each under the limit; the later call put the lines of
--- `check` on each, in this order, and ended as the first one.
+-- The input is consecutive values, each under the limit. The later call wrote the line of `check`
+-- for each, in this order, and ended with the status of the first call.
 pub record ConfirmsAll (asked : Asked) (contents input : List ℕ) (call later : Call)
     : Type 0 where
   pub type : TypeOver
@@ -70,8 +70,8 @@ pub record ConfirmsAll (asked : Asked) (contents input : List ℕ) (call later :
   pub err : Puts later.err []
   pub status : later.status ≡ call.status
 
--- of two calls, each with its words: where the first one certifies values, and the second one
--- verifies what was put, it is accepted
+-- If the first of two calls certifies values, and the second verifies its output, then the
+-- certificate is accepted.
 abbrev pub VerifiesWhatWasPut : List (List ℕ) → Call → List (List ℕ) → Call → Type 0
 VerifiesWhatWasPut words call later_words later =
     (asked : Asked) (contents input certificate : List ℕ)
@@ -79,8 +79,8 @@ VerifiesWhatWasPut words call later_words later =
     → Verifies later_words later asked contents input certificate
     → ConfirmsAll asked contents input call later
 
--- so it is of each two calls of which all is promised, by commands that certify and by those that
--- verify
+-- The law holds for any two calls that satisfy the specifications of commands that certify and of
+-- commands that verify.
 abbrev pub PutCertificatesAreAccepted : {A B : Type 0} → Commands A → Commands B → Type 0
 PutCertificatesAreAccepted c d =
     Follow c (λ words call. Follow d (VerifiesWhatWasPut words call))

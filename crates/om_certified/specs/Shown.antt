@@ -1,4 +1,4 @@
--- The section of a value, verified, shows the line that `check` says of the value.
+-- The certificate entry of a value, verified, gives the line that `check` prints for the value.
 use Rattle.std.specs.Prelude.{ℕ, ◌≡◌, List}
 use Rattle.om_model.specs.declared.value.Val.{Val}
 use Rattle.om_model.specs.declared.value.Obj.{Obj}
@@ -10,14 +10,14 @@ use Rattle.om_verification.specs.Verification.{Shown, shows}
 use Rattle.om_verifier.specs.Shown.{IsShownAt}
 use Rattle.om_certifier.specs.Certified.{IsSectionOf, is_yes}
 
--- the section is not rejected, and shows a line of `check`
+-- The entry is not rejected, and gives a line of `check`.
 pub record ShowsLine (t : TypeOver) (graph : List Obj) (v : Val) (section : Section)
     (shown : Shown) : Type 0 where
   pub line : List ℕ
   pub is : shown ≡ shows line (is_yes section)
   pub says : IsTypeLine the_verdict t graph v line (is_yes section)
 
--- so it is of each section that certifies a value at a type that some texts are read as
+-- The law holds for each entry that certifies a value, at a type that is read from some texts.
 abbrev pub CertifiedAreShown : Type 0
 CertifiedAreShown =
     (t : TypeOver) → IsGiven declared_types t

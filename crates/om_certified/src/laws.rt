@@ -1,4 +1,4 @@
-//! The laws. Each function does nothing: what it ensures is the law.
+//! The laws. Each function is a lemma function: it does nothing, and its contract is the law.
 
 ghost use Rattle.std.specs.Prelude.{List};
 ghost use Rattle.om_types.specs.declared.decl.Decl.{Decl};
@@ -21,7 +21,7 @@ use om_table::tables_decide;
 use om_verification::laws::verifying_is_lawful;
 use om_verifier::laws::{DeclaredSections, declared_sections_are_read_once};
 
-/// The sections of values at declared types.
+/// The certificate entries of values at declared types.
 pub struct PutSections;
 
 impl Certifies for PutSections {
@@ -36,7 +36,7 @@ impl Certifies for PutSections {
     ghost SectionOf = { declared_certificates };
 }
 
-/// The section of a value shows the line that `check` says of it.
+/// The certificate entry of a value, verified, gives the line that `check` prints for the value.
 pub fn certified_sections_are_shown()
     ensures { CertifiedAreShown }
 {
@@ -49,8 +49,8 @@ pub fn certified_sections_are_shown()
     tables_decide();
 }
 
-/// What `check --cert` put is accepted by `verify` of the same input, at the same FILE and TYPE:
-/// the lines of `check` come out, and the status is that of the first call.
+/// The output of `check --cert` is accepted by `verify` for the same input, FILE and TYPE. The
+/// output of `verify` is the lines of `check`, and its status is that of the first call.
 pub fn put_certificates_are_accepted()
     ensures { PutCertificatesAreAccepted on_certified on_certificates }
 {

@@ -1,4 +1,4 @@
--- The account of a call that certifies values, from what its file gave.
+-- Proves `Account` for a run of `check --cert`, from the contents of its file.
 use Rattle.std.proofs.Common.{◌≡◌, ◌⊎◌, ◌<◌, ℕ, zero, suc, Bool, List, Ok, Err, inl, inr, refl, subst, arith}
 use Rattle.om_outcome.specs.declared.status.Status.{Status}
 use Rattle.om_outcome.specs.declared.reading.Reading.{Reading}
@@ -67,7 +67,7 @@ module _ (words : List (List ℕ)) (file type : List ℕ) (lines : Bool) (readin
       inl (Ok request, asks, (asked, refl, (Err stop, reads, refl)))
   gives_stop stop (inr memory) = inr memory
 
-  -- there is no type
+  -- There is no type.
   pub no_type_account :
       (stop : Stop) → GivesType file (asked_type type lines) found (Err stop) → (input out : ByteState)
       (err : Change ByteState) (status : Status) → Reports stop err status
@@ -76,7 +76,7 @@ module _ (words : List (List ℕ)) (file type : List ℕ) (lines : Bool) (readin
       stop_account on_certified_after words all_found input out files fetches err status stop
       (gives_stop stop gives) r
 
-  -- the values are certified at the type
+  -- The values are certified at the type.
   pub values_account :
       (r : Prepared) → GivesType file (asked_type type lines) found (Ok r)
       → (input out err : Change ByteState) (status : Status)
@@ -86,7 +86,7 @@ module _ (words : List (List ℕ)) (file type : List ℕ) (lines : Bool) (readin
       has words all_found files fetches
       (Ok request, asks, (refl, (asked, refl, (Ok (type_over r), gives.0, refl))))
 
--- memory ran out before the input
+-- Memory ran out before the input.
 pub memory_account :
     (a : Passed × Certification TypeOver) (input out : ByteState) (err : Change ByteState)
     (status : Status) → Reports out_of_memory err status
@@ -95,7 +95,7 @@ memory_account a input out err status r = λ words found files fetches prepared.
     stop_account on_certified_after words found input out files fetches err status out_of_memory
     (inr refl) r
 
--- for equal acts
+-- Equal parameters have the same `Account`.
 pub account_same :
     (over other : Passed) (a b : Certification TypeOver) (input out err : Change ByteState)
     (status : Status) → over ≡ other → a ≡ b

@@ -1,4 +1,4 @@
--- What certifies a value by the requested table is its section at the type.
+-- The entry of a value by the requested table is its entry at the type.
 use Rattle.std.proofs.Common.{ℕ, ◌≡◌, Bool, List, ap₂}
 use Rattle.om_model.specs.declared.value.Val.{Val}
 use Rattle.om_model.specs.declared.value.Obj.{Obj}
@@ -20,7 +20,7 @@ use Rattle.om_declared.proofs.GivenLemmas.{ready_each, ready_some_not}
 use Rattle.om_declared.proofs.VerdictLemmas.{is_first, made}
 use Rattle.om_certifier.specs.Certified.{CertifiesFault, IsSectionOf, is_yes, section_said}
 
--- what is said of a value is its section's text, and whether it is of a yes
+-- The output for a value is the text of its entry, and whether the entry is a `yes`.
 pub said_of :
     (number : ℕ) (section : Section) (text : List ℕ) (well : Bool)
     → text ≡ section_text number section → well ≡ is_yes section

@@ -1,4 +1,4 @@
--- One section is said of a value at a type.
+-- A value has only one certificate entry at a type.
 use Rattle.std.proofs.Common.{ℕ, ◌≡◌, ◌∙◌, List, sym, ap}
 use Rattle.om_model.specs.declared.value.Val.{Val}
 use Rattle.om_model.specs.declared.value.Obj.{Obj}

@@ -1,4 +1,4 @@
--- What is said of the values so far, as a piece is taken.
+-- The output for the values so far, while a chunk is taken.
 use Rattle.std.proofs.Common.{◌≡◌, ℕ, ◌+◌, Bool, List, [], ◌∷◌, ◌++◌, Result, Ok, Err, refl, sym, ◌∙◌, subst}
 use Rattle.std.specs.Prelude.{◌&&◌, IsErrAnd}
 use Rattle.om_format.specs.Stream.{clean, cut}
@@ -26,7 +26,7 @@ use Rattle.om_certification.proofs.ItemLemmas.{goes_on}
 use Rattle.om_certifier.specs.Certified.{SaysSection, declared_certificates, on_certified}
 use Rattle.om_certifier.specs.Reading.{certified, PutsSection, HasRead, IsValueRead, PutsNext}
 
--- its items are values
+-- The items of the command are values.
 abbrev pub has_values :
     (r : Prepared) (limit : ℕ)
     → HasValues declared_types on_certified (certified r limit) limit
@@ -39,7 +39,7 @@ has_values r limit = record {
   cuts = λ items bytes n tail. (cut n, tail, refl);
 }
 
--- what is said of a value in memory is said of its tree
+-- The output for a value in memory is the output for its tree.
 said_read :
     (t : TypeOver) (number : ℕ) (value : Value) (tree : Tree) (said : Said)
     → IsValueOf value tree → SaysSection t number value.heap value.root said
@@ -48,7 +48,7 @@ said_read t number value tree said is says =
     subst (λ v. SaysSection t number (objects_of tree 0) v said) is.root
     (subst (λ h. SaysSection t number h value.root said) is.heap says)
 
--- what was read stays for equal types, least numbers and limits
+-- The state is preserved for equal types, least numbers and limits.
 pub has_same :
     (r s : Prepared) (leasts others : List ℕ) (limit most : ℕ) (reader : Reader) (count : ℕ)
     (well : Bool) (taken : List ℕ) (said : List Said) → r ≡ s → leasts ≡ others → limit ≡ most
@@ -61,7 +61,7 @@ has_same r s leasts others limit most reader count well taken said e f g h =
 
 module _ (r : Prepared) (leasts : List ℕ) (limit : ℕ) {reader : Reader} {count : ℕ} {well : Bool}
     {taken : List ℕ} {said : List Said} where
-  -- the input ends
+  -- The input ends.
   pub ends_all :
       (h : HasRead r leasts limit reader count well taken said)
       → EndsInput {U = Unit {0}} limit h.front (Ok tt) → (o : ByteState)
@@ -73,11 +73,11 @@ module _ (r : Prepared) (leasts : List ℕ) (limit : ℕ) {reader : Reader} {cou
     puts_nothing o,
   )
 
-  -- ---- a value that was read whole
+  -- ---- a value that was read completely
 
   module _ (v : IsValueRead r leasts limit reader count well taken said) (value : Value)
       (f : Finishes limit v.whole value) where
-    -- this is said of it
+    -- This is the output for the value.
     value_said :
         (next : Said) → SaysSection (type_over r) count value.heap value.root next
         → SaysOf declared_certificates (certified r limit) v.items (value_item f.tree) next
@@ -88,7 +88,7 @@ module _ (r : Prepared) (leasts : List ℕ) (limit : ℕ) {reader : Reader} {cou
           (said_read (type_over r) count value f.tree next f.is_value says);
     }
 
-    -- it was put, and the reader waits for the next one
+    -- The output was written, and the reader waits for the next value.
     pub value_put :
         (out : Change ByteState) (fine : Bool)
         → PutsSection (type_over r) count value.heap value.root out (Ok fine)
@@ -111,7 +111,7 @@ module _ (r : Prepared) (leasts : List ℕ) (limit : ℕ) {reader : Reader} {cou
         let next : Said = record { text = text; well = fine } in
         (next, value_told (has_values r limit) v f next (value_said next says), part)
 
-    -- or it was not
+    -- The output was not written.
     pub value_halts :
         (out : Change ByteState) (halt : Halt) (new : Reader) (count' : ℕ) (well' : Bool)
         (result : Result (Unit {0}) Halt) → IsErrAnd result (λ h. h ≡ halt)

@@ -1,4 +1,4 @@
--- The section that is said of a value at a declared type.
+-- The certificate entry of a value at a declared type.
 use Rattle.std.specs.Prelude.{ℕ, ◌≡◌, Bool, true, false, List}
 use Rattle.om_model.specs.declared.value.Val.{Val}
 use Rattle.om_model.specs.declared.value.Obj.{Obj}
@@ -21,47 +21,47 @@ use Rattle.om_passing.specs.Asked.{passed_by}
 use Rattle.om_passing.specs.Skipping.{Passed, skipping}
 
 module _ (t : TypeOver) (graph : List Obj) (v : Val) where
-  -- The value has the type, and each closed instance of it; and by a table of the types that the
-  -- type reaches these are the pairs that paths reach, each at the least number of its class, in a
-  -- section's order.
+  -- The value has the type and each of its closed instances. By a table of the types that the type
+  -- reaches, these are the pairs that paths reach. Each has the least number of its class, and they
+  -- are in the order of an entry.
   pub record CertifiesType (pairs : List (ℕ × ℕ)) : Type 0 where
     pub has : HasType (declared_shapes t.decls) graph v t.type
     pub each : HasEachInstance t.decls graph v t.type
     pub are : AreReachedAt t.decls t.type graph v pairs
 
-  -- The value has not the type, nor each closed instance of it, and this is its least fault.
+  -- The value lacks the type and some closed instance of it, and this is its first fault.
   pub record CertifiesFault (fault : Fault) : Type 0 where
     pub least : IsLeastFault (declared_shapes t.decls) graph v t.type fault
     pub some_not : ¬ HasEachInstance t.decls graph v t.type
 
-  -- the section of the value
+  -- The certificate entry of the value.
   abbrev pub IsSectionOf : Section → Type 0
   IsSectionOf (sections.Pairs pairs) = CertifiesType pairs
   IsSectionOf (sections.Misfit path) = CertifiesFault (faults.Misfit path)
   IsSectionOf (sections.Clash first second) = CertifiesFault (faults.Clash first second)
 
--- whether the section is of a value that has the type
+-- True if the entry is that of a value that has the type.
 abbrev pub is_yes : Section → Bool
 is_yes (sections.Pairs pairs) = true
 is_yes (sections.Misfit path) = false
 is_yes (sections.Clash first second) = false
 
--- the text of a section with its number, and whether nothing is wrong with its value
+-- The text of an entry with its number, and whether its value is ok.
 abbrev pub section_said : ℕ → Section → Said
 section_said number section =
     record { text = section_text number section; well = is_yes section }
 
--- this is said of the value: its section, with its number
+-- The output for the value is its entry, with its number.
 abbrev pub SaysSection : TypeOver → ℕ → List Obj → Val → Said → Type 0
 SaysSection t number graph v said =
     (section : Section) × IsSectionOf t graph v section × (said ≡ section_said number section)
 
--- and so of the value of a tree
+-- The output for the value of a tree.
 abbrev pub declared_certificates : SaysSections TypeOver
 declared_certificates t number tree said =
     SaysSection t number (objects_of tree 0) (root tree 0) said
 
--- the command at declared types, and after the bytes that the words ask to pass over
+-- The command at declared types, and the same command after skipped bytes.
 abbrev pub on_certified : Commands (Certification TypeOver)
 on_certified = certifying declared_types declared_certificates
 

@@ -1,4 +1,4 @@
--- What has been read of the values, and said of them, as their bytes come.
+-- The values read so far, and the output for them, while the bytes of the input arrive.
 use Rattle.std.specs.Prelude.{ℕ, ◌≡◌, Bool, false, List, [], Result, Ok, Err}
 use Rattle.om_model.specs.declared.value.Obj.{Obj}
 use Rattle.om_model.specs.declared.value.Val.{Val}
@@ -20,16 +20,16 @@ use Rattle.om_outcome.specs.declared.stop.Stop.TheVariants.{Memory as out_of_mem
 use Rattle.om_passing.specs.Skipping.{Passed}
 use Rattle.om_certifier.specs.Certified.{SaysSection, on_certified}
 
--- what is done
+-- The parameters of the command.
 abbrev pub certified : Prepared → ℕ → Certification TypeOver
 certified r limit = record { type = type_over r; limit = limit }
 
--- and what is passed over before
+-- The parameters, with the number of skipped bytes.
 abbrev pub certified_after : Prepared → Reading → Passed × Certification TypeOver
 certified_after r reading =
     (record { bytes = reading.skip; copied = false }, certified r reading.limit)
 
--- the section is put; or memory ran out, and nothing is put; or out failed
+-- The entry is written. Or memory ran out and nothing is written. Or writing the output fails.
 abbrev pub PutsSection : TypeOver → ℕ → List Obj → Val → Change ByteState → Result Bool Halt
     → Type 0
 PutsSection t number graph v out (Ok well) =
@@ -41,21 +41,21 @@ PutsSection t number graph v out (Err halts.WriteFault) =
     (text : List ℕ) × (well : Bool)
     × SaysSection t number graph v (record { text = text; well = well }) × PutsPart out text
 
--- what is ready for the values
+-- The state that must be ready for the values.
 abbrev pub Ready : Prepared → List ℕ → Type 0
 Ready r leasts = IsReady r × AreLeasts (table_of r.table) leasts
 
 module _ (r : Prepared) (leasts : List ℕ) (limit : ℕ) where
-  -- what has been read of the values and said of them, with a front of the next one
+  -- The values read so far and their output, with a prefix of the next value.
   abbrev pub HasRead : Reader → ℕ → Bool → List ℕ → List Said → Type 0
   HasRead = work.HasRead on_certified (certified r limit) limit (Ready r leasts)
 
-  -- the same with all of the next one
+  -- The same, with all bytes of the next value.
   abbrev pub IsValueRead : Reader → ℕ → Bool → List ℕ → List Said → Type 0
   IsValueRead = work.IsValueRead on_certified (certified r limit) limit (Ready r leasts)
 
-  -- What is said of the value that is there is put; or memory ran out, and nothing is put; or out
-  -- failed.
+  -- The output for the current value is written. Or memory ran out and nothing is written. Or
+  -- writing the output fails.
   abbrev pub PutsNext : {U : Type 0} → Reader → ℕ → Bool → List ℕ → List Said
       → Change ByteState → Result U Halt → Type 0
   PutsNext reader count well taken said =

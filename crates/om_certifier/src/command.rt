@@ -1,4 +1,5 @@
-//! `check --cert`: the file, then the values and their sections, and the account of the call.
+//! The command `check --cert`: reads the file and certifies the values. The contract states that
+//! the run satisfies `Account`.
 
 ghost use Rattle.std.specs.Prelude.{List, ℕ};
 ghost use Rattle.om_type_table.specs.Made.{table_of};
@@ -25,7 +26,8 @@ use om_stops::stop::report_stop;
 use om_work::run_reported;
 use std::alloc::Global;
 
-// Certifies the values at the type, by the least numbers of its table's types.
+// Certifies the values at the type, given the least number of each class of equal types in its
+// table.
 fn certify_values<S: Source, K: Sink, E: Sink>(
     alloc: Global,
     requested: &Requested,
@@ -50,7 +52,7 @@ fn certify_values<S: Source, K: Sink, E: Sink>(
     run_reported(alloc, &mut passing, input, out, err)
 }
 
-// Finds those numbers, and certifies the values.
+// Computes the least numbers and certifies the values.
 fn certify_by<S: Source, K: Sink, E: Sink>(
     alloc: Global,
     requested: &Requested,
@@ -70,7 +72,7 @@ fn certify_by<S: Source, K: Sink, E: Sink>(
     }
 }
 
-// Certifies the values at the type that a FILE and a TYPE gave.
+// Certifies the values at the type from FILE and TYPE.
 fn certify_over<S: Source, K: Sink, E: Sink>(
     alloc: Global,
     requested: Requested,
@@ -87,7 +89,7 @@ fn certify_over<S: Source, K: Sink, E: Sink>(
     certify_by(alloc, &requested, reading, input, out, err)
 }
 
-/// Reads FILE and TYPE, and certifies the values.
+/// Reads FILE and TYPE, and certifies the values. Returns the exit status.
 pub fn certify<S: Source, O: Opener, K: Sink, E: Sink>(
     alloc: Global,
     file: &str,

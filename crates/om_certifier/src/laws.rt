@@ -1,4 +1,4 @@
-//! The laws. Each function does nothing: what it ensures is the law.
+//! The laws. The functions do nothing and exist only for their contracts.
 
 ghost use Rattle.std.specs.Prelude.{List};
 ghost use Rattle.om_types.specs.declared.decl.Decl.{Decl};
@@ -25,7 +25,7 @@ impl Certifies for DeclaredCertificates {
     ghost SectionOf = { declared_certificates };
 }
 
-/// One section is said of a value at a type.
+/// Proves that a value has only one certificate entry at a type.
 pub fn declared_certificates_are_one()
     ensures { AreCertifiedOnce declared_types declared_certificates }
 {

@@ -1,5 +1,6 @@
-//! Certificates of the values of the input: what section is said of a value at a declared type, and
-//! the command that reads the values as they come.
+//! Implements `check --cert`: writes a certificate entry for each value of the input, while its
+//! bytes arrive. The entry states the typed pairs of the value (`CertifiesType`) or its first fault
+//! (`CertifiesFault`). The law `declared_certificates_are_one` proves that the entry is unique.
 #![tactic(auto)]
 
 mod command;

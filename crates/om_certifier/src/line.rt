@@ -1,4 +1,4 @@
-//! The section of a value.
+//! The certificate entry of a value.
 
 ghost use Rattle.std.specs.Prelude.{◌≡◌, IfOk};
 ghost use Rattle.om_type_table.specs.Made.{table_of};
@@ -16,7 +16,7 @@ use om_section::Section;
 use om_table::tables_decide;
 use std::alloc::Global;
 
-/// Checks a value, and answers its section.
+/// Checks a value and returns its certificate entry.
 pub fn value_section(
     alloc: Global,
     value: &Rooted<'_>,
@@ -37,7 +37,7 @@ pub fn value_section(
     Ok(section)
 }
 
-/// Whether the section is of a value that has the type.
+/// Returns true if the entry is that of a value that has the type.
 pub fn is_yes(section: &Section) -> bool
     ensures { result ≡ is_yes_section section.now }
 {

@@ -1,4 +1,4 @@
-//! The values of the input, one by one, as their bytes come, and the section of each.
+//! The values of the input, one by one, while their bytes arrive, and their certificate entries.
 
 ghost use Rattle.std.specs.Prelude.{◌≡◌, ◌<◌, ◌+◌, ◌^◌, ℕ, List, [], length, true};
 ghost use Rattle.om_model.specs.Graph.{IsValue};
@@ -25,19 +25,19 @@ use om_work::Work;
 use std::alloc::Global;
 use std::mem;
 
-/// A heap of more words gives its memory back before a section is put.
+/// The greatest number of 64-bit words of a heap that is kept while an entry is written.
 const LARGE: u64 = 1 << 16;
 
-// Gives the memory of a large heap back: the text of a section, which has a line for each object,
-// may be gathered whole.
+// Frees the memory of a large heap. The text of an entry has a line for each object and may be held
+// in memory as a whole.
 fn give_back(alloc: Global, heap: &mut Heap) {
     if heap.words() > LARGE {
         *heap = Heap::new(alloc);
     }
 }
 
-/// Puts the section of a value, with its number, and answers whether nothing is wrong with the
-/// value, which is done with.
+/// Writes the certificate entry of a value, with its number. Returns true if the value is ok. The
+/// value is not used afterwards.
 fn put_said<K: Sink>(
     alloc: Global,
     heap: &mut Heap,
@@ -61,8 +61,8 @@ fn put_said<K: Sink>(
     }
 }
 
-/// The values so far: how many there are, whether nothing is wrong with any, and the reader of the
-/// next one; and the type, with the least numbers of its table's types.
+/// The state of the command: the number of values so far, whether all are ok, the reader of the
+/// next value, and the type with the least numbers of its table.
 #[derive(Drop)]
 pub struct Certifying<'a> {
     requested: &'a Requested,
@@ -74,7 +74,8 @@ pub struct Certifying<'a> {
 }
 
 impl<'a> Certifying<'a> {
-    /// No byte was taken. The number is the limit of words on 64 bits in a value.
+    /// Creates the state before any byte is taken. `limit` is the greatest number of 64-bit words
+    /// in a value.
     pub fn new(
         alloc: Global,
         requested: &'a Requested,
@@ -99,8 +100,8 @@ impl<'a> Certifying<'a> {
         }
     }
 
-    /// Puts what is said of the value that the reader has whole. A new reader waits for the next
-    /// one, in the memory of this one.
+    /// Writes the entry of the value that the reader has read completely. A new reader for the next
+    /// value reuses the memory of this one.
     fn put_value<K: Sink>(&mut self, alloc: Global, out: &mut K) -> Result<(), Halt>
         requires { (taken : List ℕ) × (said : List Said)
             × IsValueRead self.old.requested.now self.old.leasts.now self.old.limit

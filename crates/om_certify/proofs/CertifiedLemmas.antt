@@ -1,4 +1,5 @@
--- The pairs of a verdict at least numbers are those that paths reach; and what sections that certify a value are good for.
+-- If the pairs of a verdict have least type numbers, then they are those that paths reach. The laws
+-- on certificate entries follow.
 use Rattle.std.proofs.Common.{ℕ, ◌<◌, ◌≡◌, ◌∙◌, ⊎_elim, List, length, Some, sym, ap, subst, arith}
 use Rattle.std.specs.Prelude.{slice_index, map, Contains, ◌↔◌}
 use Rattle.om_model.proofs.Options.{Contains-map, map-Contains}
@@ -30,14 +31,14 @@ use Rattle.om_cert.proofs.VerifiedLemmas.{never_both, table_has}
 use Rattle.om_certify.specs.Leasts.{IsLeastOf, AreLeasts, at_least}
 use Rattle.om_certify.specs.Certified.{IsCertified}
 
--- ---- the pairs of a Yes
+-- ---- the pairs of a `Yes`
 
 pub yes_accepted :
     (table : Table) (graph : List Obj) (root : Val) (typing : List (ℕ × ℕ)) → HasType (table_shapes table) graph root 0
     → IsYes table graph root typing → AreAccepted (table_shapes table) graph root 0 typing
 yes_accepted table graph root typing has is = record { typing = is.typing; held = record { fits = has.fits; listed = is.rooted } }
 
--- the types of pairs that are accepted are in the table
+-- The types of accepted pairs are in the table.
 pub accepted_within :
     (table : Table) (graph : List Obj) (root : Val) (typing : List (ℕ × ℕ)) → IsLawful table
     → AreAccepted (table_shapes table) graph root 0 typing → (o t : ℕ) → Contains typing (o, t) → t < length table.classes
@@ -57,7 +58,7 @@ module _
       let many = are.many in
       are.least t (omega (arith, inside, many))
 
-  -- a pair comes from one of the typing
+  -- A pair comes from a pair of the typing.
   record IsFrom (o u : ℕ) : Type 0 where
     type : ℕ
     among : Contains typing (o, type)

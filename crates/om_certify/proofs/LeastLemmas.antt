@@ -1,4 +1,4 @@
--- The first types of classes, noted one type after another.
+-- The first types of classes, one type at a time.
 use Rattle.std.proofs.Common.{ℕ, ◌+◌, ◌≡◌, ◌∙◌, ⊎_elim, Option, Some, None, sym, ap, subst, arith}
 use Rattle.std.specs.Prelude.{slice_get}
 use Rattle.std.proofs.lemmas.Option.{same_Some, none-some}
@@ -15,7 +15,7 @@ module _ (table : Table) where
   }
 
   module _ (old : ℕ → Option ℕ) (t c : ℕ) (are : AreNoted table t old) (at_t : slice_get table.classes t ≡ Some c) (none : old c ≡ None) where
-    -- a type whose class has none is the first of its class
+    -- If the class of a type has no entry, then the type is the first of its class.
     pub is_first : IsLeast table t
     is_first u less equal = let l = are.all u c less (equal ∙ at_t) in none-some l.0 (sym none ∙ l.1)
 

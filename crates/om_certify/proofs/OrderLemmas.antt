@@ -1,4 +1,4 @@
--- Pairs that are sorted, and of which none stands twice, increase.
+-- If pairs are sorted and distinct, then they increase strictly.
 use Rattle.std.proofs.Common.{ℕ, zero, suc, ◌≡◌, inl, inr, Bool, true, List, [], ◌∷◌, Some, refl, sym, ap, subst, arith, ◌∙◌}
 use Rattle.std.specs.Prelude.{slice_get, ◌==◌, ◌&&◌}
 use Rattle.std.specs.Cmp.{IsTotalOrder, IsEquivalence, unsigned_tied, both_tied}
@@ -44,7 +44,7 @@ sorted_increase (x ∷ xs) sorted (suc j) (suc k) one other less at_j at_k =
 pub pair_cmp_total : IsTotalOrder pair_cmp
 pair_cmp_total = then_total (on_total (λ (p : ℕ × ℕ). p.0) nat_cmp_total) (on_total (λ (p : ℕ × ℕ). p.1) nat_cmp_total)
 
--- ---- equality by tests
+-- ---- boolean equality tests
 
 abbrev pub same_test : ℕ × ℕ → ℕ × ℕ → Bool
 same_test x y = (x.0 == y.0) && (x.1 == y.1)

@@ -1,4 +1,4 @@
--- What a check writes of a value.
+-- The certificate entry that a check writes for a value.
 use Rattle.std.specs.Prelude.{List}
 use Rattle.om_model.specs.declared.value.Val.{Val}
 use Rattle.om_model.specs.declared.value.Obj.{Obj}
@@ -10,8 +10,8 @@ use Rattle.om_section.specs.declared.section.Section.{Section}
 use Rattle.om_section.specs.declared.section.Section.TheVariants as sections
 use Rattle.om_cert.specs.Normal.{AreReached}
 
--- Of a value that has the type that is number 0, the pairs that paths reach, in a section's order;
--- of another value, its least fault.
+-- If the value has the type with number 0, the pairs that paths reach, in the order of a
+-- certificate entry. Otherwise, the value's first fault.
 abbrev pub IsCertified : Table → List Obj → Val → Section → Type 0
 IsCertified table graph root (sections.Pairs pairs) =
     HasType (table_shapes table) graph root 0 × AreReached table graph root pairs

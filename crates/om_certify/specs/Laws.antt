@@ -1,4 +1,4 @@
--- What the sections that a check writes are good for.
+-- Laws on the certificate entries that a check writes.
 use Rattle.std.specs.Prelude.{◌≡◌, List}
 use Rattle.om_model.specs.declared.value.Val.{Val}
 use Rattle.om_model.specs.declared.value.Obj.{Obj}
@@ -10,14 +10,14 @@ use Rattle.om_cert.specs.Accepted.{IsAccepted}
 use Rattle.om_cert.specs.Verified.{IsVerified, shown_by}
 use Rattle.om_certify.specs.Certified.{IsCertified}
 
--- what certifies a value is accepted for it
+-- If a certificate entry is that of a value, then it is accepted for the value.
 abbrev pub CertifiedAreAccepted : Type 0
 CertifiedAreAccepted =
     (table : Table) → AreLawful (table_shapes table) Everything
     → (graph : List Obj) (root : Val) (section : Section) → IsCertified table graph root section
     → IsAccepted table graph root section
 
--- and verifying it answers what it shows
+-- The answer of the verifier to this entry is what the entry shows.
 abbrev pub CertifiedAreShown : Type 0
 CertifiedAreShown =
     (table : Table) → AreLawful (table_shapes table) Everything
@@ -25,7 +25,7 @@ CertifiedAreShown =
     → IsCertified table graph root section
     → IsVerified table graph root section answer → answer ≡ shown_by section
 
--- one section certifies a value
+-- A value has only one certificate entry.
 abbrev pub CertifiedAreOne : Type 0
 CertifiedAreOne =
     (table : Table) → AreLawful (table_shapes table) Everything

@@ -1,14 +1,15 @@
-//! The laws, as contracts.
+//! The laws of this crate, as contracts of lemma functions.
 
 ghost use Rattle.om_certify.specs.Laws.{CertifiedAreAccepted, CertifiedAreShown, CertifiedAreOne};
 
-/// What certifies a value is accepted, and verifying it answers what it shows.
+/// If a certificate entry is that of a value, then the verifier accepts it, and the verifier's
+/// answer is what the entry shows.
 pub fn certified_sections_are_accepted()
     ensures accepted { CertifiedAreAccepted }
     ensures shown { CertifiedAreShown }
 {}
 
-/// One section certifies a value.
+/// A value has only one certificate entry.
 pub fn certified_sections_are_one()
     ensures { CertifiedAreOne }
 {}

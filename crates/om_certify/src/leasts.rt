@@ -1,4 +1,4 @@
-//! For each type of a table the least number of an equal one.
+//! The least equal type number for each type of a table.
 
 ghost use Rattle.std.specs.Prelude.{◌≡◌, ◌<◌, ◌+◌, length, IfOk, OnOk};
 ghost use Rattle.om_type_table.specs.Made.{table_of};
@@ -10,7 +10,8 @@ use std::alloc::Global;
 use std::collections::BTreeMap;
 use std::marker::Model;
 
-/// For each type the least number of an equal one. Contracts see the list of these numbers.
+/// For each type, the least number of an equal type. In contracts, its model is the list of these
+/// numbers.
 #[derive(Drop)]
 pub struct Leasts {
     leasts: Vec<usize>,
@@ -25,7 +26,7 @@ impl Model for Leasts {
 }
 
 impl Leasts {
-    /// Those of a table.
+    /// Returns the least numbers of a table.
     pub fn of(alloc: Global, table: &TypeTable) -> Result<Leasts, Memory>
         ensures { IfOk result (AreLeasts (table_of table.now)) }
     {
@@ -33,7 +34,7 @@ impl Leasts {
         Ok(Leasts { leasts })
     }
 
-    /// The numbers, lent.
+    /// Returns the numbers as a slice.
     pub fn as_slice(&self) -> &[usize]
         ensures { result.now ≡ self.now }
     {
@@ -41,7 +42,7 @@ impl Leasts {
     }
 }
 
-/// For each type the first one of its class.
+/// Returns for each type the first type of its class.
 fn leasts_of(alloc: Global, table: &TypeTable) -> Result<Vec<usize>, Memory>
     ensures { IfOk result (λ leasts. AreLeasts (table_of table.now) leasts.items) }
 {
@@ -54,8 +55,8 @@ fn leasts_of(alloc: Global, table: &TypeTable) -> Result<Vec<usize>, Memory>
     Ok(leasts)
 }
 
-/// The first type of the class of a type, where those of the types before it are noted. Where it is
-/// the first itself, it is noted.
+/// Returns the first type of the class of `ty`. `firsts` has the first types for the classes of the
+/// earlier types. If `ty` is the first of its class, the function adds it to `firsts`.
 fn first_of(
     firsts: &mut BTreeMap<usize, usize>,
     table: &TypeTable,

@@ -1,4 +1,7 @@
-//! What is written of a checked value: the section of a certificate that shows the verdict.
+//! Builds the certificate entry of a checked value, which justifies the verdict: the reachable
+//! pairs of objects and types, or the first fault. The laws `CertifiedAreAccepted`,
+//! `CertifiedAreShown` and `CertifiedAreOne` say that the verifier accepts the entry and that the
+//! entry is unique. Writing and verifying entries is left to other crates.
 #![tactic(auto)]
 
 mod laws;

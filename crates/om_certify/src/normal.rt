@@ -1,4 +1,4 @@
-//! Pairs in the order of a section.
+//! Pairs in the order of a certificate entry.
 
 ghost use Rattle.std.specs.Prelude.{ℕ, ◌≡◌, ◌<◌, ◌↔◌, length, map, Contains, IfOk};
 ghost use Rattle.om_section.specs.Increasing.{AreIncreasing};
@@ -9,7 +9,8 @@ use om_model::Memory;
 use om_section::Pairs;
 use std::alloc::Global;
 
-/// The pairs of a typing in the order of a section, each at the least number of its type, and once.
+/// Returns the pairs of a typing in the order of a certificate entry, without duplicates. Each pair
+/// has the least number of its type.
 pub fn normal_pairs(alloc: Global, typing: &Typing, leasts: &[usize]) -> Result<Pairs, Memory>
     requires { (o t : ℕ) → Contains typing.now (o, t) → t < length leasts.now }
     ensures same { IfOk result (λ pairs. (pair : ℕ × ℕ)
@@ -20,7 +21,7 @@ pub fn normal_pairs(alloc: Global, typing: &Typing, leasts: &[usize]) -> Result<
     Ok(in_order(alloc, pairs))
 }
 
-/// The pairs in the order in which they come, each at the least number of its type.
+/// Returns the pairs in their original order, each with the least number of its type.
 fn at_leasts(alloc: Global, typing: &Typing, leasts: &[usize]) -> Result<Vec<(u64, u64)>, Memory>
     requires { (o t : ℕ) → Contains typing.now (o, t) → t < length leasts.now }
     ensures { IfOk result (λ pairs. pairs.items ≡ map (at_least leasts.now) typing.now) }
@@ -33,7 +34,8 @@ fn at_leasts(alloc: Global, typing: &Typing, leasts: &[usize]) -> Result<Vec<(u6
     Ok(pairs)
 }
 
-/// The same pairs in order, each once. They are sorted in place, so this takes no memory.
+/// Returns the same pairs in ascending order, without duplicates. The function sorts them in place
+/// and allocates nothing.
 fn in_order(alloc: Global, mut pairs: Vec<(u64, u64)>) -> Pairs
     ensures same { (pair : ℕ × ℕ) → Contains result pair ↔ Contains pairs.items pair }
     ensures increasing { AreIncreasing result }

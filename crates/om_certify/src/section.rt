@@ -1,4 +1,4 @@
-//! The section that certifies a verdict.
+//! The certificate entry of a verdict.
 
 ghost use Rattle.std.specs.Prelude.{IfOk};
 ghost use Rattle.om_type_table.specs.Made.{table_of};
@@ -18,8 +18,8 @@ use om_type_table::TypeTable;
 use om_types::fault::Fault;
 use std::alloc::Global;
 
-/// The section that certifies a value, by what a check found: the pairs that paths reach, or the
-/// least fault.
+/// Returns the certificate entry of a value, given the verdict of a check: the pairs that paths
+/// reach, or the first fault.
 pub fn section_of(
     alloc: Global,
     heap: &Heap,
@@ -36,7 +36,8 @@ pub fn section_of(
     section_with(alloc, heap, root, table, &leasts, verdict)
 }
 
-/// The same of one of many values, where the least numbers of the table's types were found once.
+/// Returns the certificate entry of one of many values. `leasts` has the least numbers of the
+/// table's types, which are computed only once.
 pub fn section_with(
     alloc: Global,
     _heap: &Heap,

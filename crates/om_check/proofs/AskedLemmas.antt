@@ -1,4 +1,4 @@
--- The pairs of a typing at types of whose values something is asked are a typing.
+-- The pairs of a typing with constrained types form a typing.
 use Rattle.std.proofs.Common.{ℕ, zero, suc, ◌+◌, ◌++◌, take, ◌≡◌, ◌∙◌, ◌⊎◌, inl, ⊎_elim, Bool, true, false, List, [], ◌∷◌, Option, Some, None, refl, sym, ap, subst, append_assoc, append-nil, arith}
 use Rattle.std.specs.Prelude.{slice_get, option_map, map, filter, cond, Contains, IsSomeAnd, IsTrue}
 use Rattle.std.proofs.lemmas.Option.{none-some, slice_get-map, slice_get_within, get_or_from_slice_get}
@@ -20,7 +20,7 @@ use Rattle.om_scan.proofs.PlaceLemmas.{mapped_at}
 use Rattle.om_check.specs.Asked.{asked_pairs, AreReached}
 use Rattle.om_check.specs.Verdict.{IsYes}
 
--- ---- elements that are apart
+-- ---- distinct elements
 
 apart_tail : {X : Type 0} (x : X) (xs : List X) → AreApart (x ∷ xs) → AreApart xs
 apart_tail x xs apart j k y at_j at_k = let same = apart (suc j) (suc k) y at_j at_k in omega (arith, same)
@@ -44,7 +44,7 @@ module _ {X Y : Type 0} (f : X → Y) (p : X → Bool) where
     by true (suc j) zero y at_j at_k = absurd (never j (at_j ∙ sym at_k))
     by true (suc j) (suc k) y at_j at_k = ap suc (rest j k y at_j at_k)
 
-  -- what is mapped is apart, so what passes is
+  -- If the mapped elements are distinct, then those that pass a filter are.
   pub apart_filter : (xs : List X) → AreApart (map f xs) → AreApart (map f (filter p xs))
   apart_filter [] apart j k y at_j at_k = absurd (none-some y at_j)
   apart_filter (x ∷ xs) apart j k y at_j at_k = apart_step x xs apart (apart_filter xs (apart_tail (f x) (map f xs) apart)) j k y at_j at_k
@@ -88,7 +88,7 @@ module _ (table : Table) (graph : List Obj) (lawful : IsLawful table) (all : Lis
     apart = apart_filter (key_of table) (λ (pair : ℕ × ℕ). is_asked_in table pair.1) all is.apart;
   }
 
--- ---- one pair more is tried
+-- ---- one more pair is tested
 
 module _ (table : Table) where
   asked_more :
@@ -108,7 +108,7 @@ module _ (table : Table) where
       ∙ append_assoc front (asked_pairs table (take k pairs)) (asked_pairs table (pair ∷ []))
       ∙ ap (λ (ps : List (ℕ × ℕ)). front ++ ps) (sym (asked_more pairs k pair at))
 
-  -- it is put at the end, or left out
+  -- The pair is appended or omitted.
   pub asked_one : (pairs : List (ℕ × ℕ)) (pair : ℕ × ℕ) → is_asked_in table pair.1 ≡ true → pairs ++ pair ∷ [] ≡ pairs ++ asked_pairs table (pair ∷ [])
   asked_one pairs pair asked = ap (λ (test : Bool). pairs ++ cond test (pair ∷ []) []) (sym asked)
 
@@ -118,7 +118,7 @@ module _ (table : Table) where
   pub asked_both : (xs ys : List (ℕ × ℕ)) → asked_pairs table (xs ++ ys) ≡ asked_pairs table xs ++ asked_pairs table ys
   asked_both xs ys = filter-append (λ (p : ℕ × ℕ). is_asked_in table p.1) xs ys
 
--- ---- what a scan tells
+-- ---- the result of a scan
 
 module _ (table : Table) (graph : List Obj) (lawful : IsLawful table) (types : List ℕ) (all pairs : List (ℕ × ℕ)) (reached : AreReached table types all pairs) where
   pub reached_yes : IsTrue (is_asked_in table 0) → IsYes table graph (vals.Ref 0) all → IsYes table graph (vals.Ref 0) pairs
@@ -127,7 +127,7 @@ module _ (table : Table) (graph : List Obj) (lawful : IsLawful table) (types : L
       (λ part. subst (IsYes table graph (vals.Ref 0)) (sym part) (asked_yes table graph lawful all (vals.Ref 0) asked is))
       reached
 
-  -- each pair is the type of its object, or some path leads to it
+  -- Some path leads to each pair of the typing.
   pub reached_paths :
       ((o t : ℕ) → slice_get types o ≡ Some t → IsLed table graph o t)
       → ((o t : ℕ) → Contains all (o, t) → (slice_get types o ≡ Some t) ⊎ HasPath table graph (vals.Ref 0) o t)

@@ -1,4 +1,4 @@
--- The first visit that clashes with one before it, found by the first visit of each object.
+-- The first visit that conflicts with an earlier one, found by the first visit of each object.
 use Rattle.std.proofs.Common.{ℕ, zero, suc, ◌+◌, ◌-◌, ◌<◌, ◌≤◌, ◌≡◌, ◌∙◌, ◌⊎◌, inl, inr, ⊎_elim, List, length, Some, refl, sym, ap, subst, arith}
 use Rattle.std.specs.Prelude.{slice_get, slice_index, All, IsTrue}
 use Rattle.std.proofs.lemmas.Bool.{cases_lt}
@@ -15,7 +15,7 @@ use Rattle.om_scan.proofs.PlaceLemmas.{read_at}
 use Rattle.om_scan.proofs.ClassedLemmas.{untouched_none}
 use Rattle.om_check.specs.Clash.{IsWithin, mutable_at, AreApart, ClashAt, NoneClash, ClashesBack, IsFirstOf, IsFirstClash}
 
--- the type of an object's first visit
+-- Each object has a first visit with a type.
 abbrev pub AllHaveFirst : List Visit → Type 0
 AllHaveFirst all = (k : ℕ) (v : Visit) → slice_get all k ≡ Some v → (t : ℕ) × IsFirstAt all v.object t
 
@@ -45,7 +45,7 @@ pub first_within : (table : Table) (graph : List Obj) (all : List Visit) (o t : 
 first_within table graph all o t within first =
     subst (λ i. i < length table.nodes) first.type (All-contains (IsWithin table graph) all first.visit within (slice_get-Contains all first.place first.visit first.at)).1
 
--- the number that is noted of a visit's object
+-- The recorded number of a visit's object.
 pub first_read :
     (table : Table) (graph : List Obj) (visits : Visits) (k n : ℕ) (v : Visit) → AreLinked table (length graph) visits
     → All (IsWithin table graph) (listed visits) → slice_get (listed visits) k ≡ Some v → n ≡ slice_index visits.first v.object
@@ -58,7 +58,7 @@ first_read table graph visits k n v linked within at_k is =
     let back : cell.0 ≡ n - 1 = omega (arith, same) in
     (omega (arith, same), subst (IsFirstAt (listed visits) v.object) back (linked.noted.met v.object cell.0 cell.1))
 
--- where nothing was met at a second class, all visits of an object are one
+-- If no object was visited at a second class, then each object has one visit.
 pub none_later :
     (table : Table) (graph : List Obj) (visits : Visits) → AreLinked table (length graph) visits → All (IsWithin table graph) (listed visits)
     → length table.classes ≡ length table.nodes → AreApart table (listed visits) → IsUntouched visits.later
@@ -82,7 +82,7 @@ none_later table graph visits linked within classed apart none i k less c =
           class.1 ∙ sym (⊎_elim (λ is. is) (λ later. absurd (unknown class.0 later)) (linked.noted.known c.other.object t j class.0 v at_o at_j same class.1))
 
 module _ (table : Table) (graph : List Obj) (all : List Visit) where
-  -- ---- one visit against the first of its object
+  -- ---- one visit and the first of its object
 
   module _ (k t : ℕ) (v : Visit) (at_k : slice_get all k ≡ Some v) (first : IsFirstAt all v.object t) where
     place_within : first.place ≤ k
@@ -116,7 +116,7 @@ module _ (table : Table) (graph : List Obj) (all : List Visit) where
         ap (λ o. mutable_at table graph (record { object = o; ty = first.visit.ty; parent = 0; step = 0 })) (first.object ∙ sym object)
         ∙ ap (λ i. mutable_at table graph (record { object = w.object; ty = i; parent = 0; step = 0 })) (first.type ∙ sym type)
 
-    -- at another class
+    -- Case: the classes differ.
     pub clash_from :
         (w : Visit) → w.object ≡ v.object → w.ty ≡ t → ¬ (slice_get table.classes t ≡ slice_get table.classes v.ty)
         → IsTrue (mutable_at table graph w) ⊎ IsTrue (mutable_at table graph v) → ClashesBack table graph all k
@@ -160,7 +160,8 @@ module _ (table : Table) (graph : List Obj) (all : List Visit) where
 
   -- ---- the loop
 
-  -- a clash with any visit before is one with the first of them, where none before clash
+  -- If no earlier visits conflict, then a visit that conflicts with any earlier one conflicts with
+  -- the first of its object.
   found_back : AllHaveFirst all → (k i : ℕ) → NoneClash table graph all k → ClashAt table graph all i k → ClashesBack table graph all k
   found_back firsts k i none c =
       let f = firsts k c.other c.at_second in

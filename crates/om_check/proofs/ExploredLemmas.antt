@@ -1,4 +1,4 @@
--- One need more that was tested.
+-- One more required field is tested.
 use Rattle.std.proofs.Common.{ℕ, zero, suc, ◌<◌, ◌≡◌, ◌∙◌, ◌⊎◌, inl, inr, ⊎_elim, ◌++◌, List, [], ◌∷◌, length, Some, refl, sym, ap, subst, arith}
 use Rattle.std.specs.Prelude.{slice_get, option_and_then, option_map, IsTrue}
 use Rattle.std.proofs.lemmas.Option.{same_Some, slice_get_within}
@@ -20,7 +20,7 @@ use Rattle.om_scan.proofs.PathLemmas.{need_is_named}
 use Rattle.om_scan.proofs.IncreaseLemmas.{needs_increase}
 use Rattle.om_scan.proofs.PlaceLemmas.{slice_get-push_cases}
 
--- ---- the order of needs
+-- ---- the order of fields
 
 pub comes_later : (k j n r : ℕ) → ComesBefore k j n r → ComesBefore k j n (suc r)
 comes_later k j n r (inl earlier) = inl earlier
@@ -38,7 +38,7 @@ needs_compare k j n r = by_place (less_same_more k n) (less_same_more j r) where
   by_place (inr (inl same)) (inr (inl equal)) = inr (inl (same, equal))
   by_place (inr (inl same)) (inr (inr greater)) = inr (inr (inr (sym same, greater)))
 
--- what comes before the next need comes before this one, or is this one
+-- If a field precedes the next one, then it precedes this one or is this one.
 pub next_cases : (k j n r : ℕ) → ComesBefore k j n (suc r) → ComesBefore k j n r ⊎ IsThis k j n r
 next_cases k j n r (inl earlier) = inl (inl earlier)
 next_cases k j n r (inr same) = by_need (less_same_more j r) where
@@ -53,13 +53,13 @@ module _ (table : Table) (graph : List Obj) where
 
   -- ---- the order of paths
 
-  -- entries stand by increasing paths
+  -- The entries are ordered by increasing paths.
   abbrev pub AreInOrder : List (Entry ℕ) → Type 0
   AreInOrder told =
       (j k : ℕ) (a b : Entry ℕ) → j < k → slice_get told j ≡ Some a → slice_get told k ≡ Some b
       → IsBefore a.path b.path
 
-  -- the paths to needs go by the places of the needs
+  -- The paths to fields are ordered as the fields are.
   pub step_before :
       (told : List (Entry ℕ)) (m j n r i l a b : ℕ) (p e : Entry ℕ) → AreInOrder told → ComesBefore m j n r
       → slice_get told m ≡ Some p → slice_get told n ≡ Some e
@@ -73,7 +73,7 @@ module _ (table : Table) (graph : List Obj) where
       let less : i < l = needs_increase (node e.type) graph (vals.Ref e.object) j r i l a b same.1 at_j' at_r in
       subst (λ q. IsBefore (q.path ++ i ∷ []) (e.path ++ l ∷ [])) (sym is) (pushed_less e.path i l less)
 
-  -- a need whose path is before that of another comes before it
+  -- If the path of a field precedes that of another, then the field precedes the other.
   pub need_before :
       (told : List (Entry ℕ)) (m j n r i l a b : ℕ) (p e : Entry ℕ) → AreInOrder told
       → slice_get told m ≡ Some p → slice_get told n ≡ Some e
@@ -95,7 +95,7 @@ module _ (table : Table) (graph : List Obj) where
       (needs_compare m j n r)
 
   module _ (root : ℕ) (told : List (Entry ℕ)) (n r : ℕ) (known : AreExplored table graph root told n r) where
-    -- all entries so far have lesser paths than the need that comes next
+    -- The paths of all entries so far precede that of the next field.
     pub entries_before :
         (i a : ℕ) (e : Entry ℕ) → slice_get told n ≡ Some e → slice_get (entry_fields table graph e) r ≡ Some (i, a)
         → (k : ℕ) (f : Entry ℕ) → slice_get told k ≡ Some f → IsBefore f.path (e.path ++ i ∷ [])
@@ -107,7 +107,7 @@ module _ (table : Table) (graph : List Obj) where
         subst (λ p. IsBefore p (e.path ++ i ∷ [])) (sym l.path)
         (step_before told l.parent l.need n r l.number i l.type a l.entry e known.increasing l.before l.at at_n l.needed at_r)
 
-    -- the path to the need leads to its value
+    -- The path to the field leads to its value.
     pub need_leads :
         (i a : ℕ) (e : Entry ℕ) (w : Val) → slice_get told n ≡ Some e → slice_get (entry_fields table graph e) r ≡ Some (i, a)
         → IsTrue (is_asked_in table a) → field_of graph (vals.Ref e.object) i ≡ Some w
@@ -143,7 +143,7 @@ module _ (table : Table) (graph : List Obj) where
         subst (λ (q : ℕ × ℕ). IsTrue (is_asked_in table q.1) → IsMetNeed table graph more f q.0 q.1) need
         (subst (λ g. IsTrue (is_asked_in table a) → IsMetNeed table graph more g i a) is met)
 
-    -- the field was tested, where something is asked of it, and its object was met before
+    -- Case: the field was tested if it is required, and its object was visited before.
     pub explored_same :
         (i a : ℕ) (e : Entry ℕ) → slice_get told n ≡ Some e → slice_get (entry_fields table graph e) r ≡ Some (i, a)
         → (IsTrue (is_asked_in table a) → IsMetNeed table graph told e i a) → AreExplored table graph root told n (suc r)
@@ -190,7 +190,7 @@ module _ (table : Table) (graph : List Obj) where
       path = l.path;
     }
 
-    -- The need was tested, and its object is entered as a new one.
+    -- Case: the field was tested, and its object is entered as a new one.
     pub explored_more :
         (i a o : ℕ) (e : Entry ℕ) → slice_get told n ≡ Some e → slice_get (entry_fields table graph e) r ≡ Some (i, a)
         → IsTrue (is_asked_in table a) → field_of graph (vals.Ref e.object) i ≡ Some (vals.Ref o)
@@ -279,7 +279,7 @@ module _ (table : Table) (graph : List Obj) where
         entered = (f, Contains-push told f, refl, refl, never_before_itself (e.path ++ i ∷ []));
       }
 
-    -- the next visit, where all needs of this one were tested
+    -- If all fields of a visit were tested, then the next visit follows.
     pub explored_next :
         (e : Entry ℕ) → slice_get told n ≡ Some e → length (entry_fields table graph e) ≡ r → AreExplored table graph root told (suc n) 0
     explored_next e at_n all = record {

@@ -17,7 +17,8 @@ use Rattle.om_check.specs.Flat.{IsFlat, last_behind, last_of_all}
 
 -- ---- the parts so far
 
--- Pairs that justify the first k parts of an object at type 0. No number is above the last one.
+-- The pairs justify the first `k` parts of an object at type 0. No object number exceeds the last
+-- one.
 pub record ArePartly (table : Table) (graph : List Obj) (o last k : ℕ) (pairs : List (ℕ × ℕ)) : Type 0 where
   pub root : Contains pairs (o, 0)
   pub below : (p t : ℕ) → Contains pairs (p, t) → p ≤ last
@@ -51,7 +52,7 @@ module _ (table : Table) (graph : List Obj) (o : ℕ) where
     pair_is : {p t : ℕ} → o ≡ p → 0 ≡ t → ◌≡◌ {A = ℕ × ℕ} (o, 0) (p, t)
     pair_is first second = cc
 
-  -- ---- one part more
+  -- ---- one more part
 
   held_later : (pairs : List (ℕ × ℕ)) (pair : ℕ × ℕ) (v : Val) (u : ℕ) → IsHeld (table_shapes table) graph pairs v u → IsHeld (table_shapes table) graph (pair ∷ pairs) v u
   held_later pairs pair (vals.Int z) u held = record { fits = held.fits; listed = tt }
@@ -114,7 +115,7 @@ module _ (table : Table) (graph : List Obj) (o : ℕ) where
           (Contains-cases {X = ℕ × ℕ} (p, a) pairs (q, u) second))
           (Contains-cases {X = ℕ × ℕ} (p, a) pairs (q, t) first)
 
-    -- nothing is asked of the part
+    -- Case: the part's type is unconstrained.
     pub hidden_part : (IsTrue (is_asked_in table a) → ⊥) → IsPartly table graph o last k → IsPartly table graph o next (k + 1)
     hidden_part hidden partly = (partly.0, one_more last next k i a at_k more partly.0 partly.1 (λ asked. absurd (hidden asked)))
 
@@ -171,7 +172,7 @@ module _ (table : Table) (graph : List Obj) (o : ℕ) where
       one_type = λ p t u first second mutable. ap (slice_get table.classes) (partly.1.one p t u first second);
     }
 
--- ---- the last object behind all parts
+-- ---- the last object after all parts
 
 module _ (table : Table) (graph : List Obj) (o : ℕ) (parts : List (ℕ × ℕ)) (k i a : ℕ) (at_k : slice_get parts k ≡ Some (i, a)) (v : Val) (field : field_at graph o i ≡ Some v) (last : ℕ) where
   left : drop k parts ≡ (i, a) ∷ drop (k + 1) parts

@@ -1,4 +1,4 @@
--- What a search meets of a value that has its type.
+-- The objects that a search visits in a well-typed value.
 use Rattle.std.proofs.Common.{ℕ, zero, suc, ◌<◌, ◌≤◌, ◌≡◌, ◌∙◌, ◌++◌, List, [], ◌∷◌, length, Some, None, refl, sym, ap, subst, arith}
 use Rattle.std.proofs.lemmas.Option.{none-some, same_Some}
 use Rattle.om_model.proofs.Options.{slice_get_there}
@@ -21,7 +21,7 @@ use Rattle.om_check.specs.Met.{AreAllMet}
 use Rattle.om_check.proofs.VerdictLemmas.{all_searched}
 use Rattle.om_check.proofs.DecideLemmas.{start, root_kept, misfit_verdict}
 
--- each visit has a path
+-- Each visit has a path.
 path_there : (all : List Visit) (fuel k : ℕ) → AreOrdered all → k < length all → k ≤ fuel → (path : List ℕ) × IsPathOf all k path
 path_there all fuel zero ordered inside few = ([], λ told e are at_k. sym (are.root e at_k))
 path_there all zero (suc k) ordered inside few = absurd (omega (arith, few))
@@ -37,7 +37,7 @@ path_there all (suc fuel) (suc k) ordered inside few =
     )
 
 module _ (table : Table) (graph : List Obj) (lawful : IsLawful table) where
-  -- a value that has the type has no misfit
+  -- A value that has the type has no mismatch.
   pub never_misfit :
       (old new : List Visit) (o n step : ℕ) → old ≡ start table graph o ∷ [] → Searches table graph old new (Some (n, step))
       → HasType (table_shapes table) graph (vals.Ref o) 0 → ⊥
@@ -67,7 +67,7 @@ module _ (table : Table) (graph : List Obj) (lawful : IsLawful table) where
       subst (λ r. AreAllMet table graph (vals.Ref r) new) (root_kept table graph old new o is searches.grows)
       (explored_met new (length new) searches.tested (omega arith))
 
-  -- of a value that is no reference nothing is met
+  -- If a value is no reference, then there are no visits.
   pub none_met : (root : Val) → ((o : ℕ) → root ≡ vals.Ref o → ⊥) → AreAllMet table graph root []
   none_met root other = record {
     told = [];

@@ -1,4 +1,4 @@
--- What is noted of the objects that were met, while visits are added.
+-- The records about the visited objects, while visits are added.
 use Rattle.std.proofs.Common.{ℕ, zero, suc, ◌<◌, ◌≡◌, ◌∙◌, ◌⊎◌, inl, inr, ⊎_elim, List, [], ◌∷◌, ◌++◌, length, Option, Some, refl, sym, ap, subst, arith}
 use Rattle.std.specs.Prelude.{All, slice_get, slice_set, replicate}
 use Rattle.std.proofs.lemmas.List.Elements.{All-contains}
@@ -33,7 +33,7 @@ module _ (table : Table) where
   }
 
 module _ (table : Table) (all : List Visit) (first : List ℕ) (later : ℕ → ℕ → Type 0) (noted : AreNoted table all first later) where
-  -- ---- what was met
+  -- ---- visited objects
 
   pub met_never : (o : ℕ) (class : Option ℕ) → slice_get first o ≡ Some 0 → ¬ IsMet table all o class
   met_never o class at_o met = noted.unmet o met.0 met.1 at_o met.2 met.3
@@ -47,7 +47,7 @@ module _ (table : Table) (all : List Visit) (first : List ℕ) (later : ℕ → 
       → ¬ IsMet table all o (Some c)
   met_nowhere o t c at_o other unknown met = ⊎_elim other unknown (noted.known o t met.0 c met.1 at_o met.2 met.3 met.4)
 
-  -- ---- one visit more
+  -- ---- one more visit
 
   module _ (v : Visit) where
     more : List Visit
@@ -68,7 +68,7 @@ module _ (table : Table) (all : List Visit) (first : List ℕ) (later : ℕ → 
     still_met : (o : ℕ) (class : Option ℕ) → IsMet table all o class → IsMet table (all ++ v ∷ []) o class
     still_met o class met = (met.0, met.1, slice_get-append_left all (v ∷ []) met.0 met.1 met.2, met.3, met.4)
 
-    -- the object's first visit
+    -- The first visit of the object.
     pub noted_first :
         slice_get first v.object ≡ Some 0 → AreNoted table (all ++ v ∷ []) (slice_set first v.object (suc v.ty)) later
     noted_first at_o = record {
@@ -112,7 +112,7 @@ module _ (table : Table) (all : List Visit) (first : List ℕ) (later : ℕ → 
         none = λ j w less at_j is. noted.unmet v.object j w at_o (slice_get-append_below all (v ∷ []) j w less at_j) (is ∙ same);
       }
 
-    -- a later one, at a class that is new for it
+    -- A later visit at a new class.
     pub noted_later :
         (t c : ℕ) (later' : ℕ → ℕ → Type 0) → slice_get first v.object ≡ Some (suc t) → slice_get table.classes v.ty ≡ Some c
         → ((p d : ℕ) → later' p d → later p d ⊎ ((v.object ≡ p) × (c ≡ d))) → ((p d : ℕ) → later p d → later' p d) → later' v.object c
@@ -138,7 +138,7 @@ module _ (table : Table) (all : List Visit) (first : List ℕ) (later : ℕ → 
           (before o d is);
     }
 
--- ---- all that is kept
+-- ---- the whole record
 
 length-set : (xs : List ℕ) (k x : ℕ) → length (slice_set xs k x) ≡ length xs
 length-set [] k x = refl
@@ -172,7 +172,7 @@ module _ (table : Table) (objects : ℕ) (old new : Visits) (o t p s : ℕ) (lin
             (subst (λ all. AreNoted table all old.first (Has new.later)) (sym appended) noted);
       }
 
--- nothing comes with a class that is known
+-- Case: the class is known, and nothing is added.
 pub linked_known :
     (table : Table) (objects : ℕ) (visits : Visits) (later : Classed) (o c : ℕ) → AreLinked table objects visits → Has visits.later o c
     → Inserts visits.later later o c → AreLinked table objects (record { all = visits.all; first = visits.first; later = later })
@@ -192,7 +192,7 @@ linked_known table objects visits later o c linked has inserts = record {
   };
 }
 
--- the type of an object's first visit is one of those of visits
+-- The type of an object's first visit is a type of a visit.
 pub first_classed :
     (table : Table) (objects : ℕ) (visits : Visits) (o t : ℕ) → AreLinked table objects visits
     → All (λ (visit : Visit). visit.ty < length table.classes) (listed visits) → slice_get visits.first o ≡ Some (suc t)

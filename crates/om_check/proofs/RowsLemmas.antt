@@ -1,4 +1,4 @@
--- What the test of a need answers.
+-- The result of testing a required field.
 use Rattle.std.proofs.Common.{ℕ, suc, ◌≡◌, true, false, List, length, Some, refl, sym, subst}
 use Rattle.std.specs.Prelude.{slice_get}
 use Rattle.om_model.specs.Graph.{IsValue}
@@ -25,7 +25,7 @@ pub tests_false :
     → TestsNeed table graph old old need false
 tests_false table graph old need v valid there unfit = record { value = v; valid = valid; there = there; tested = (unfit, refl) }
 
--- an object fits the type at which it was met first
+-- An object matches the type at which it was visited first.
 pub first_fits :
     (table : Table) (graph : List Obj) (visits : Visits) (t : ℕ) (v : Val) (o : ℕ) → v ≡ vals.Ref o
     → AreLinked table (length graph) visits → FitAll table graph (listed visits) → slice_get visits.first o ≡ Some (suc t)

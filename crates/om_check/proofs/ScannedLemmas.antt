@@ -1,4 +1,4 @@
--- What the types that a scan tells say of the value.
+-- The consequences of the types that a scan determines.
 use Rattle.std.proofs.Common.{ℕ, zero, suc, ◌+◌, ◌<◌, ◌≡◌, ◌∙◌, List, [], ◌∷◌, length, Option, Some, refl, sym, ap, arith}
 use Rattle.std.specs.Prelude.{slice_get, slice_index, map, Contains}
 use Rattle.std.proofs.lemmas.Option.{same_Some, none-some}
@@ -18,7 +18,7 @@ use Rattle.std.proofs.lemmas.List.{length-append}
 use Rattle.om_model.proofs.Lists.{slice_get-append_left, slice_get-append_right}
 use Rattle.om_scan.proofs.PlaceLemmas.{mapped_at}
 
--- number k stands at place k
+-- Number `k` is at index `k`.
 pub numbered_there : (s : ℕ) (ts : List ℕ) (k n : ℕ) → n ≡ s + k → k < length ts → slice_get (numbered_from s ts) k ≡ Some (n, slice_index ts k)
 numbered_there s [] k n is less = absurd (omega arith)
 numbered_there s (t ∷ ts) zero n is less = let same : s ≡ n = omega (arith, is) in ap (λ m. Some (m, t)) same
@@ -45,13 +45,13 @@ pair_later types seconds k m p is at_m =
     ap (slice_get (pairs_with types seconds)) (is ∙ ap (λ n. n + m) (sym (length_numbered 0 types)))
     ∙ slice_get-append_right (numbered_from 0 types) (noted_in seconds) m ∙ at_m
 
--- ---- what is said of the value
+-- ---- consequences for the value
 
 pub first_pair : (types : List ℕ) (t : ℕ) → slice_get types 0 ≡ Some t → Contains (numbered_from 0 types) (0, t)
 first_pair [] t at_0 = absurd (none-some t at_0)
 first_pair (u ∷ types) t at_0 = slice_get-Contains (numbered_from 0 (u ∷ types)) 0 (0, t) (ap (λ w. Some (0, w)) (same_Some u t at_0))
 
--- numbers differ, so the pairs do
+-- The numbers are distinct, so the pairs are.
 pub numbers_apart : (table : Table) (types : List ℕ) → AreApart (map (key_of table) (numbered_from 0 types))
 numbers_apart table types j k key at_j at_k =
     let p = mapped_at (key_of table) (numbered_from 0 types) j key at_j in
@@ -61,7 +61,7 @@ numbers_apart table types j k key at_j at_k =
     let same = ap (λ (x : ℕ × Option ℕ). x.0) (p.2 ∙ sym q.2) in
     omega (arith, one, other, same)
 
--- the first object has the type that is number 0
+-- The first object has type 0.
 pub scanned_yes :
     (table : Table) (graph : List Obj) (types : List ℕ) → IsScanned table graph types
     → HasType (table_shapes table) graph (vals.Ref 0) 0 × IsYes table graph (vals.Ref 0) (numbered_from 0 types)

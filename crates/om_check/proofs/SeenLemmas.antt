@@ -1,4 +1,4 @@
--- What a scan saw of the needs of a visit.
+-- The required fields of a visit that a scan has tested.
 use Rattle.std.proofs.Common.{ℕ, ◌+◌, ◌-◌, ◌%◌, ◌^◌, ◌<◌, ◌≤◌, ◌≡◌, ◌≢◌, ◌∙◌, inl, ⊎_elim, Bool, true, false, List, [], length, Some, refl, sym, ap, subst, arith, eqb-true}
 use Rattle.std.specs.Prelude.{slice_get, slice_index, IsTrue, not, ◌==◌, ◌↔◌, if◌then◌else◌, MatchBool}
 use Rattle.std.proofs.lemmas.Bool.{false≢true, cases_lt}
@@ -19,7 +19,7 @@ use Rattle.om_check.proofs.SpentLemmas.{taken_at}
 
 -- ---- steps
 
--- a need more, in a step where it was not seen
+-- One more field, in one step if no scan has tested it.
 pub reach_more :
     (reached i seen start steps more : ℕ) → reached ≤ i → steps ≤ start + (reached - seen) → more ≤ steps + 1 → (i < seen → more ≡ steps)
     → more ≤ start + (i + 1 - seen)
@@ -28,7 +28,7 @@ reach_more reached i seen start steps more before few one known = ⊎_elim
     (λ late. omega (arith, before, few, one, late))
     (cases_lt i seen)
 
--- the fields that were reached are among those of the object
+-- The fields that were reached are fields of the object.
 pub few_rest :
     (size reached seen start steps : ℕ) → reached ≤ size → reached < 2 ^ 64 → steps ≤ start + (reached - seen) → steps ≤ start + rest_of size seen
 few_rest size reached seen start steps inside small few = by_test (seen == all_fields) refl where
@@ -43,7 +43,7 @@ need_few size reached i seen start steps more before inside small few one known 
     few_rest size (i + 1) seen start more (omega (arith, inside)) small (reach_more reached i seen start steps more before few one known)
 
 module _ (table : Table) (graph : List Obj) (taken : Taken) where
-  -- ---- needs
+  -- ---- required fields
 
   pub value_seen :
       (o i : ℕ) (v : Val) (a word : ℕ) (unfit : Bool) → word ≡ word_of graph v → word % 8 ≢ 0 → unfit ≡ is_unfit_field taken.unfit o i
@@ -64,7 +64,7 @@ module _ (table : Table) (graph : List Obj) (taken : Taken) where
     pub object_taken : (o u a : ℕ) → AreTaken table graph taken → slice_get (types_in taken) o ≡ Some u → IsSeenObject table graph taken o a → (table_shapes table).fits graph (vals.Ref o) a
     object_taken o u a are at_o seen = lawful.lawful.fits graph (vals.Ref o) u a (inl tt) (seen.taken_at u at_o) (are.fits o u at_o)
 
-    -- what was seen at a type was seen at each equal one
+    -- If a field was tested at a type, then it was tested at each equal type.
     seen_equal : (o i : ℕ) (v : Val) (a b : ℕ) → (table_shapes table).equal a b → IsSeen table graph taken o i v a → IsSeen table graph taken o i v b
     seen_equal o i v a b equal = by_value v where
       by_test :
@@ -81,7 +81,8 @@ module _ (table : Table) (graph : List Obj) (taken : Taken) where
         unfit = λ found fits. told.unfit found (lawful.lawful.fits graph (vals.Ref p) b a (inl tt) (sym equal) fits);
       }
 
-    -- a scan that took the visit's object at an equal type saw what it needs
+    -- If a scan has checked the visit's object at an equal type, then it has tested its required
+    -- fields.
     pub visit_seen : (v : Visit) → AreTaken table graph taken → v.ty < length table.classes → is_taken table taken v ≡ true → AreSeen table graph taken v (seen_of taken v.object)
     visit_seen v are typed is i a less needed =
         let at_o = taken_at table graph taken v is in
@@ -92,7 +93,7 @@ module _ (table : Table) (graph : List Obj) (taken : Taken) where
         let own = lawful.lawful.needs graph (vals.Ref v.object) v.ty at_o.0 i a (inl tt) equal needed in
         seen_equal v.object i (field_at graph v.object i) own.0 a (sym own.2) (are.seen v.object at_o.0 i own.0 at_o.1 less own.1)
 
-  -- nothing was taken
+  -- Case: the scan has checked no object.
   pub none_taken : types_in taken ≡ [] → AreTaken table graph taken
   none_taken none = record {
     many = let long = ap length none in omega (arith, long);

@@ -62,7 +62,7 @@ module _ (table : Table) (graph : List Obj) (types : List ℕ) where
         (λ other. contains_right (numbered_from 0 types) (noted_in new) p (extended (noted_in old) (noted_in new) p more other))
         (contains_cases (numbered_from 0 types) (noted_in old) p among)
 
-  -- one more may be noted
+  -- One more pair may be recorded.
   pub over_more :
       (old new : Seconds) (o t : ℕ) → AreOver table graph types old → AreSeconds table new → IsNoting table (noted_in old) (noted_in new) o t
       → IsNotedOver table graph types o t → HasPath table graph (vals.Ref 0) o t → AreOver table graph types new
@@ -89,7 +89,7 @@ module _ (table : Table) (graph : List Obj) (types : List ℕ) where
             (contains_push (noted_in old) (o, t) (p, u) (subst (λ xs. Contains xs (p, u)) pushed.1 among)))
             noting
 
-  -- a reference to an object that is at an equal type, or was noted there
+  -- Case: a reference to an object that has an equal type, or was recorded at one.
   pub finds_first :
       (seconds : Seconds) (p u t : ℕ) → AreOver table graph types seconds → slice_get types p ≡ Some u → (table_shapes table).equal u t
       → Finds table graph types seconds seconds (vals.Ref p) t
@@ -110,7 +110,7 @@ module _ (table : Table) (graph : List Obj) (types : List ℕ) where
         found = (listed.0, contains_right (numbered_from 0 types) (noted_in new) (p, listed.0) listed.1, listed.2);
       }
 
-  -- a value that is no object
+  -- Case: a value that is no object.
   pub finds_value :
       (seconds : Seconds) (v : Val) (t : ℕ) → AreOver table graph types seconds → ((o : ℕ) → v ≢ vals.Ref o) → (table_shapes table).fits graph v t
       → Finds table graph types seconds seconds v t
@@ -120,9 +120,9 @@ module _ (table : Table) (graph : List Obj) (types : List ℕ) where
     by_value (vals.Atom tag) other fits = fits
     by_value (vals.Ref o) other fits = absurd (other o refl)
 
-  -- ---- needs
+  -- ---- required fields
 
-  -- one field more, which is found where something is asked of it
+  -- One more field, which is found if it is required.
   pub finds_more :
       (old now new : Seconds) (o t r i a : ℕ) → FindsNeeds table graph types old now o t r → AreOver table graph types new
       → Extends (noted_in now) (noted_in new)
@@ -139,7 +139,7 @@ module _ (table : Table) (graph : List Obj) (types : List ℕ) where
         (same_or_not j r);
   }
 
-  -- nothing is asked of it
+  -- Case: the field's type is unconstrained.
   pub finds_hidden :
       (old now : Seconds) (o t r i a : ℕ) → FindsNeeds table graph types old now o t r → is_asked_in table a ≡ false
       → slice_get (object_typed table graph o t) r ≡ Some (i, a) → FindsNeeds table graph types old now o t (r + 1)

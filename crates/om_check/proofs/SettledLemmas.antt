@@ -1,4 +1,4 @@
--- What types and settled objects say of the value.
+-- The consequences of types and settled objects for the value.
 use Rattle.std.proofs.Common.{ℕ, ◌+◌, ◌<◌, ◌≤◌, ◌≡◌, ◌∙◌, ◌⊎◌, inl, inr, ⊎_elim, ◌++◌, List, length, Option, Some, refl, sym, ap, subst, arith}
 use Rattle.std.specs.Prelude.{slice_get, option_map, map, Contains, IsSomeAnd}
 use Rattle.std.proofs.lemmas.List.Sums.{sum_by-append}
@@ -34,7 +34,7 @@ use Rattle.om_check.proofs.ScannedLemmas.{first_pair, numbers_apart}
 abbrev cost_pair : List Obj → ℕ × ℕ → ℕ
 cost_pair graph pair = 1 + size_of graph pair.0
 
--- two lists whose elements are apart
+-- Two lists with distinct elements.
 apart_both :
     {X Y : Type 0} (f : X → Y) (xs ys : List X) → AreApart (map f xs) → AreApart (map f ys)
     → ((x y : X) → Contains xs x → Contains ys y → f x ≡ f y → ⊥) → AreApart (map f (xs ++ ys))
@@ -59,7 +59,7 @@ apart_both {X} f xs ys one other never j k z at_j at_k =
 
 module _ (table : Table) (graph : List Obj) (types : List ℕ) (seconds : Seconds) (lawful : IsLawful table) (is_graph : IsGraph graph)
     (settled : IsSettled table graph types seconds) where
-  -- each pair is a type of its object, or was noted
+  -- Each pair is a type of its object, or was recorded.
   cases : (o t : ℕ) → Contains (pairs_with types seconds) (o, t) → (slice_get types o ≡ Some t) ⊎ Contains (noted_in seconds) (o, t)
   cases o t among = ⊎_elim
       (λ one. inl (pair_at types o t one))

@@ -1,4 +1,4 @@
--- A check takes few steps.
+-- The bound on the steps of a check.
 use Rattle.std.proofs.Common.{ℕ, zero, suc, ◌+◌, ◌-◌, ◌<◌, ◌≤◌, ◌≡◌, ◌∙◌, ◌⊎◌, inl, inr, ⊎_elim, ◌++◌, Bool, true, false, List, [], ◌∷◌, length, take, Option, Some, None, refl, sym, ap, ap₂, subst, arith, eqb-true}
 use Rattle.std.specs.Prelude.{slice_get, slice_index, nat_lt, map, sum_by, Contains, unwrap_or, if◌then◌else◌}
 use Rattle.std.proofs.lemmas.Bool.{false≢true, eq-eqb, ltb-false, le-ltb}
@@ -25,7 +25,7 @@ use Rattle.om_scan.proofs.ScanLemmas.{pair_at, types_entries}
 use Rattle.om_scan.proofs.SizeLemmas.{sizes_are_few}
 use Rattle.om_check.proofs.VisitLemmas.{visit_within, visits_apart}
 
--- ---- lists whose elements are apart
+-- ---- lists with distinct elements
 
 apart_rest : {X : Type 0} (x : X) (xs : List X) → AreApart (x ∷ xs) → AreApart xs
 apart_rest x xs apart j k y at_j at_k = let same = apart (suc j) (suc k) y at_j at_k in omega (arith, same)
@@ -61,7 +61,7 @@ module _ (table : Table) (graph : List Obj) where
   spent-append taken (v ∷ old) added zero less = refl
   spent-append taken (v ∷ old) added (suc n) less = ap (λ m. counted table graph taken v + m) (spent-append taken old added n (omega arith))
 
-  -- ---- what was taken, and the visits that were not
+  -- ---- objects that a scan has checked, and the other visits
 
   abbrev cost : ℕ × ℕ → ℕ
   cost entry = 1 + size_of graph entry.0
@@ -70,7 +70,7 @@ module _ (table : Table) (graph : List Obj) where
     abbrev types : List ℕ
     types = types_in taken
 
-    -- the fields of a visit's object that a scan did not see
+    -- The fields of a visit's object that a scan did not test.
     abbrev rest : Visit → ℕ
     rest v = rest_of (size_of graph v.object) (seen_of taken v.object)
 
@@ -87,7 +87,7 @@ module _ (table : Table) (graph : List Obj) where
       by_test true before = before
       by_test false before = omega (arith, before, sum_by-cons cost (pair_of v) (all_pairs all))
 
-    -- one visit more
+    -- One more visit.
     more_within :
         (v : Visit) (all : List Visit) (n left less : ℕ) → less ≤ left
         → (is_taken table taken v ≡ true → (rest v + spent table graph taken all n) + sum_by cost (numbered_from 0 types) ≤ sum_by cost (all_pairs all) + left)
@@ -101,7 +101,7 @@ module _ (table : Table) (graph : List Obj) where
       by_test true is = known is
       by_test false is = omega (arith, within, fresh, sum_by-cons cost (pair_of v) (all_pairs all))
 
-    -- nothing is left of the visits' objects that were taken
+    -- The visits whose objects a scan has checked have no untested fields.
     abbrev NoneLeft : List Visit → Type 0
     NoneLeft all = (v : Visit) → Contains all v → is_taken table taken v ≡ true → rest v ≡ 0
 
@@ -112,7 +112,7 @@ module _ (table : Table) (graph : List Obj) where
         let before = spent_none all n (λ w among. none w (Contains-later v all w among)) in
         more_within v all n 0 0 (omega arith) (λ is. let own = none v (Contains-first v all) is in omega (arith, own, before)) (omega (arith, before))
 
-    -- of the last object that was taken something may be left, at one visit
+    -- Only the last object that a scan has checked may have untested fields, in one visit.
     rest_before : (v : Visit) → nat_lt (suc v.object) taken.objects ≡ true → rest v ≡ 0
     rest_before v is = subst (λ (b : Bool). rest_of (size_of graph v.object) (if b then all_fields else taken.seen) ≡ 0) (sym is) refl
 
@@ -139,7 +139,8 @@ module _ (table : Table) (graph : List Obj) where
         let less = ltb-false (suc v.object) taken.objects late in
         omega (arith, inside, few, less)
 
-    -- visits that were taken at one object have one key
+    -- If a scan has checked the object of two visits at their types, then these visits have the
+    -- same key.
     same_key :
         (v w : Visit) → v.ty < length table.classes → w.ty < length table.classes → is_taken table taken v ≡ true → is_taken table taken w ≡ true
         → w.object ≡ v.object → key_of table (pair_of w) ≡ key_of table (pair_of v)
@@ -197,7 +198,7 @@ module _ (table : Table) (graph : List Obj) where
               later
               (Contains-cases (pair_of v) (all_pairs all) p has)
 
-    -- no visit that was not taken has the key of one that was
+    -- No visit that a scan has not checked has the key of one that it has checked.
     not_taken : (v : Visit) → is_taken table taken v ≡ false → ¬ Contains (map (key_of table) (numbered_from 0 types)) (key_of table (pair_of v))
     not_taken v fresh has =
         let p = map-Contains (key_of table) (numbered_from 0 types) (key_of table (pair_of v)) has in
@@ -262,7 +263,7 @@ module _ (table : Table) (graph : List Obj) where
         apart = all_apart taken before.apart all visited.apart;
       }
 
-  -- the root's step, those of a scan and those of the visits so far are few
+  -- The steps of the root, of a scan and of the visits so far are within the bound.
   pub spent_few :
       (taken : Taken) (all : List Visit) (n r m : ℕ) → IsLawful table → AreTaken table graph taken → IsExplored table graph all n r
       → 1 + (spent table graph taken all m + scans.cost_of graph (types_in taken)) ≤ left_of graph taken + most_steps table graph
@@ -272,6 +273,6 @@ module _ (table : Table) (graph : List Obj) where
       let within = spent_within taken all m typed (pairs_apart all n r x) in
       omega (arith, few, within)
 
-  -- the root's step and those of a scan are few
+  -- The steps of the root and of a scan are within the bound.
   pub taken_few : (taken : Taken) → IsLawful table → AreTaken table graph taken → 1 + scans.cost_of graph (types_in taken) ≤ most_steps table graph
   taken_few taken lawful are = sizes_are_few table graph (numbered_from 0 (types_in taken)) (types_entries table graph (types_in taken) lawful are.many are.within)

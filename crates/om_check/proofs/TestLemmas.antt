@@ -1,4 +1,4 @@
--- What a visit costs, and the loop over all visits.
+-- The cost of a visit, and the loop over all visits.
 use Rattle.std.proofs.Common.{ℕ, suc, ◌+◌, ◌<◌, ◌≤◌, ◌≡◌, ◌∙◌, List, length, Some, None, ap, subst, arith}
 use Rattle.std.specs.Prelude.{slice_get}
 use Rattle.std.proofs.lemmas.List.{length-append}

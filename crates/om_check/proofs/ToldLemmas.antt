@@ -6,7 +6,7 @@ use Rattle.om_model.proofs.Options.{slice_get_there}
 use Rattle.om_check.specs.declared.visits.Visit.{Visit}
 use Rattle.om_check.specs.Told.{AreOrdered, IsPathOf, IsRestOf}
 
--- one step back
+-- One step back.
 pub rest_back :
     (all : List Visit) (k at : ℕ) (old new : List ℕ) (v : Visit) → AreOrdered all → IsRestOf all k at (reverse old)
     → 0 < at → slice_get all at ≡ Some v → new ≡ old ++ v.step ∷ [] → IsRestOf all k v.parent (reverse new)
@@ -24,7 +24,7 @@ rest_back all k at old new v ordered rest later at_v is =
           ∙ ap (λ steps. p.path ++ steps) (sym (ap reverse is ∙ reverse-append old (v.step ∷ [])));
     }
 
--- at the root
+-- Case: the root is reached.
 pub rest_at_root : (all : List Visit) (k at : ℕ) (steps path : List ℕ) → IsRestOf all k at steps → at ≤ 0 → path ≡ steps → IsPathOf all k path
 rest_at_root all k at steps path rest root is told e are at_k =
     let inside = rest.within in

@@ -1,4 +1,4 @@
--- What all visits say of the value, where none of their needs is a misfit.
+-- The consequences of all visits for the value, if none of their fields is a mismatch.
 use Rattle.std.proofs.Common.{ℕ, ◌<◌, ◌≤◌, ◌≡◌, ◌∙◌, inl, inr, ⊎_elim, ◌++◌, List, [], ◌∷◌, length, Some, refl, sym, ap, subst, arith}
 use Rattle.std.specs.Prelude.{slice_get, Contains, IsSomeAnd, IsTrue}
 use Rattle.std.proofs.lemmas.Option.{same_Some, slice_get_within}
@@ -34,7 +34,7 @@ abbrev pair_of : Visit → ℕ × ℕ
 pair_of v = (v.object, v.ty)
 
 module _ (table : Table) (graph : List Obj) where
-  -- lesser paths stand at lesser places
+  -- If the path of an entry is smaller, then its index is smaller.
   place_before :
       (told : List (Entry ℕ)) (j k : ℕ) (a b : Entry ℕ) → AreInOrder table graph told → slice_get told j ≡ Some a → slice_get told k ≡ Some b
       → IsBefore a.path b.path → j < k
@@ -84,7 +84,7 @@ module _ (table : Table) (graph : List Obj) where
               );
         }
 
-    -- ---- a clash
+    -- ---- an aliasing conflict
 
     mutable_forth :
         (k : ℕ) (e : Entry ℕ) (v : Visit) (o : ℕ) → slice_get x.told k ≡ Some e → slice_get all k ≡ Some v → o ≡ e.object
@@ -104,7 +104,7 @@ module _ (table : Table) (graph : List Obj) where
         (subst (λ t. (table_shapes table).mutable graph v.object t) type
         (subst (λ p. (table_shapes table).mutable graph p e.type) (is ∙ object) mutable)).1
 
-    -- entries that clash, by their places
+    -- If entries conflict, then the visits with their indices conflict.
     clash_back : (j k : ℕ) (a b : Entry ℕ) → slice_get x.told j ≡ Some a → slice_get x.told k ≡ Some b → AreClashing (table_shapes table) graph x.told a b → ClashAt table graph all j k
     clash_back j k a b at_j at_k c =
         let v = visit_of j a at_j in

@@ -1,4 +1,4 @@
--- Visits whose needs are tested one after another.
+-- Visits whose required fields are tested one after another.
 use Rattle.std.proofs.Common.{ℕ, suc, ◌+◌, ◌<◌, ◌≡◌, ◌∙◌, inl, inr, ⊎_elim, ◌++◌, List, [], ◌∷◌, length, get_or, true, false, Some, None, refl, sym, ap, subst, arith}
 use Rattle.std.specs.Prelude.{slice_get, All, IsSomeAnd, IsTrue}
 use Rattle.std.proofs.lemmas.List.{append-nil, append_assoc, length-append}
@@ -63,7 +63,7 @@ module _ (table : Table) (graph : List Obj) where
       let e = slice_get_there told k (omega (arith, inside, are.many)) in
       record { entry = e.0; at = e.1; object = are.objects k v e.0 at_k e.1; type = are.types k v e.0 at_k e.1 }
 
-  -- ---- what is known of a visit
+  -- ---- properties of a visit
 
   pub visit_within : (all : List Visit) (n r k : ℕ) (v : Visit) → IsExplored table graph all n r → slice_get all k ≡ Some v → IsWithin table graph v
   visit_within all n r k v x at_k =
@@ -78,7 +78,7 @@ module _ (table : Table) (graph : List Obj) where
       subst (λ i. (table_shapes table).fits graph (vals.Ref v.object) i) t.type
       (subst (λ o. (table_shapes table).fits graph (vals.Ref o) t.entry.type) t.object (x.explored.fit k t.entry t.at))
 
-  -- no object is visited twice at one class
+  -- No object is visited twice at one class.
   pub visits_apart :
       (all : List Visit) (n r j k : ℕ) (v w : Visit) → IsExplored table graph all n r → slice_get all j ≡ Some v → slice_get all k ≡ Some w
       → v.object ≡ w.object → slice_get table.classes v.ty ≡ slice_get table.classes w.ty → j ≡ k
@@ -96,9 +96,9 @@ module _ (table : Table) (graph : List Obj) where
       let within = visit_within all n r k (get_or all k d) x (slice_get-get_or all k d inside) in
       omega (arith, within.1, lawful.classed)
 
-  -- ---- one need more
+  -- ---- one more required field
 
-  -- visit n needs this at place r
+  -- This is required field `r` of visit `n`.
   pub record IsNeedOf (all : List Visit) (n r : ℕ) (need : Need) : Type 0 where
     pub visit : Visit
     pub at : slice_get all n ≡ Some visit
@@ -228,7 +228,7 @@ module _ (table : Table) (graph : List Obj) where
         explored = subst (λ o. AreExplored table graph o (x.told ++ f ∷ []) n (suc r)) (sym (root_still all (all ++ v ∷ []) some' grown)) more;
       }
 
-  -- what is tested and fits keeps what is known
+  -- If a tested field matches, then the invariant is preserved.
   fitting_explored :
       (all new : List Visit) (n r : ℕ) (need : Need) (w : Val) (x : IsExplored table graph all n r) → Told all n r need x
       → need.parent ≡ n → need.ty < length table.nodes → IsValue (length graph) w
@@ -264,7 +264,7 @@ module _ (table : Table) (graph : List Obj) where
   pub testing_first : (all : List Visit) (n : ℕ) → IsExplored table graph all n 0 → IsTesting table graph all all n 0
   testing_first all n x = record { grows = grows_not all; explored = x }
 
-  -- the need fits
+  -- Case: the field matches.
   pub testing_more :
       (old now new : List Visit) (n r : ℕ) (need : Need) → IsTesting table graph old now n r → IsNeedOf old n r need
       → need.ty < length table.nodes → TestsNeed table graph now new need true → IsTesting table graph old new n (r + 1)
@@ -278,7 +278,7 @@ module _ (table : Table) (graph : List Obj) where
             (fitting_explored now new n r need tests.value testing.explored t is.parent type tests.valid tests.there tests.tested.0 tests.tested.1);
       }
 
-  -- nothing is asked of the field
+  -- Case: the field's type is unconstrained.
   pub testing_hidden :
       (old now : List Visit) (n r i a : ℕ) (v : Visit) → IsTesting table graph old now n r → slice_get old n ≡ Some v
       → slice_get (visit_fields table graph v) r ≡ Some (i, a) → is_asked_in table a ≡ false → IsTesting table graph old now n (r + 1)
@@ -299,7 +299,7 @@ module _ (table : Table) (graph : List Obj) where
         });
       }
 
-  -- all needs were tested
+  -- Case: all fields were tested.
   pub testing_all :
       (old now : List Visit) (n r : ℕ) (v : Visit) → IsTesting table graph old now n r → slice_get old n ≡ Some v
       → length (visit_fields table graph v) ≡ r → TestsVisit table graph old now n None
@@ -319,7 +319,7 @@ module _ (table : Table) (graph : List Obj) where
         };
       }
 
-  -- ---- the first misfit
+  -- ---- the first mismatch
 
   misfit_searched :
       (root : ℕ) (told : List (Entry ℕ)) (n r i a : ℕ) (e : Entry ℕ) → AreExplored table graph root told n r
@@ -360,7 +360,7 @@ module _ (table : Table) (graph : List Obj) where
       subst (λ place. IsSomeAnd place (λ p. ¬ (table_shapes table).fits graph p.0 p.1)) (sym leads) unfit in
       misfit_is_least (table_shapes table) lawful graph (vals.Ref root) 0 told (e.path ++ i ∷ []) (misfit_searched root told n r i a e x at_n at_r) misfit
 
-  -- the need does not fit
+  -- Case: the field does not match.
   pub testing_until :
       (old now new : List Visit) (n r : ℕ) (need : Need) → IsLawful table → IsTesting table graph old now n r → IsNeedOf old n r need
       → TestsNeed table graph now new need false → TestsVisit table graph old new n (Some need.step)

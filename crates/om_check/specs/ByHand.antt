@@ -1,4 +1,4 @@
--- By hand: what the bound on the steps of a check comes to for a list of items.
+-- An example, computed by hand: the bound on the steps of a check for a list of items.
 use Rattle.std.specs.Prelude.{◌≡◌, List, [], ◌∷◌, pos, replicate, false, true}
 use Rattle.om_model.specs.declared.value.Val.TheVariants as vals
 use Rattle.om_model.specs.declared.value.Obj.{Obj}
@@ -7,8 +7,8 @@ use Rattle.om_types.specs.declared.shape.ShapeOf.TheVariants as shapes
 use Rattle.om_types.specs.Steps.{most_steps}
 use Rattle.om_types.specs.Table.{Table}
 
--- item list, where type item = Nil | Num of int | Text of string | Pair of item * item | Cell of
--- item ref
+-- The table of `item list`, where `type item = Nil | Num of int | Text of string | Pair of item *
+-- item | Cell of item ref`.
 abbrev pub item_table : Table
 item_table = record {
   nodes =
@@ -21,7 +21,7 @@ item_table = record {
   classes = 0 ∷ 1 ∷ 2 ∷ 3 ∷ 4 ∷ [];
 }
 
--- Nil, Nil and Text of 38 times c: five objects with seven fields
+-- The list of `Nil`, `Nil` and `Text` of 38 times `c`: five objects with seven fields.
 abbrev pub items : List Obj
 items =
     objects.Block 0 (vals.Int (pos 0) ∷ vals.Ref 1 ∷ [])
@@ -29,6 +29,6 @@ items =
     ∷ objects.Block 0 (vals.Ref 3 ∷ vals.Int (pos 0) ∷ []) ∷ objects.Block 1 (vals.Ref 4 ∷ [])
     ∷ objects.Bytes (replicate 38 99) ∷ []
 
--- the root, and twelve objects and fields at each of five classes
+-- One step for the root, and twelve for the objects and fields at each of five classes.
 abbrev pub TakesSixtyOne : Type 0
 TakesSixtyOne = most_steps item_table items ≡ 61

@@ -1,21 +1,21 @@
--- Which visits clash, by their places.
+-- Aliasing conflicts between visits, stated by their indices.
 use Rattle.std.specs.Prelude.{ℕ, ◌≡◌, ◌⊎◌, ◌<◌, ◌≤◌, Bool, IsTrue, List, length, Some, slice_get}
 use Rattle.om_model.specs.declared.value.Obj.{Obj}
 use Rattle.om_types.specs.Fitting.{is_mutable}
 use Rattle.om_types.specs.Table.{Table, node_or_none}
 use Rattle.om_check.specs.declared.visits.Visit.{Visit}
 
--- the object and the type are there
+-- The object and the type exist.
 abbrev pub IsWithin : Table → List Obj → Visit → Type 0
 IsWithin table graph v = (v.object < length graph) × (v.ty < length table.nodes)
 
--- whether the type says that the object, which fits it, may be changed
+-- Returns true if the object, which matches the type's representation, is mutable at the type.
 abbrev pub mutable_at : Table → List Obj → Visit → Bool
 mutable_at table graph v =
     is_mutable (node_or_none (slice_get table.nodes v.ty)) (slice_get graph v.object)
 
--- two visits of one object, the first of them before the other, and the object may be changed at
--- one of their types
+-- Visit `i` precedes visit `k`, both are of one object, and the object is mutable at one of their
+-- types.
 pub record ClashAt (table : Table) (graph : List Obj) (all : List Visit) (i k : ℕ) : Type 0 where
   pub one : Visit
   pub other : Visit
@@ -25,18 +25,18 @@ pub record ClashAt (table : Table) (graph : List Obj) (all : List Visit) (i k : 
   pub same : one.object ≡ other.object
   pub mutable : IsTrue (mutable_at table graph one) ⊎ IsTrue (mutable_at table graph other)
 
--- none of the first n clashes with one before it
+-- None of the first `n` visits conflicts with an earlier one.
 abbrev pub NoneClash : Table → List Obj → List Visit → ℕ → Type 0
 NoneClash table graph all n = (i k : ℕ) → k < n → ¬ ClashAt table graph all i k
 
--- no object is visited twice at one class
+-- No object is visited twice at one class.
 abbrev pub AreApart : Table → List Visit → Type 0
 AreApart table all =
     (j k : ℕ) (v w : Visit) → slice_get all j ≡ Some v → slice_get all k ≡ Some w
     → v.object ≡ w.object
     → slice_get table.classes v.ty ≡ slice_get table.classes w.ty → j ≡ k
 
--- visit f is of the object of visit k, and none before it is
+-- Visit `f` is the first visit of the object of visit `k`.
 pub record IsFirstOf (all : List Visit) (k f : ℕ) : Type 0 where
   pub within : f ≤ k
   pub first : Visit
@@ -44,11 +44,12 @@ pub record IsFirstOf (all : List Visit) (k f : ℕ) : Type 0 where
   pub same : (v : Visit) → slice_get all k ≡ Some v → first.object ≡ v.object
   pub none : (j : ℕ) (v : Visit) → j < f → slice_get all j ≡ Some v → ¬ (v.object ≡ first.object)
 
--- visit k clashes with its object's first visit
+-- Visit `k` conflicts with the first visit of its object.
 abbrev pub ClashesBack : Table → List Obj → List Visit → ℕ → Type 0
 ClashesBack table graph all k = (f : ℕ) × IsFirstOf all k f × ClashAt table graph all f k
 
--- visit k is the first that clashes with one before it, and i the first that it clashes with
+-- Visit `k` is the first that conflicts with an earlier one, and `i` is the first visit with which
+-- it conflicts.
 pub record IsFirstClash (table : Table) (graph : List Obj) (all : List Visit) (i k : ℕ)
     : Type 0 where
   pub clash : ClashAt table graph all i k

@@ -1,4 +1,4 @@
--- What a check knows from turn to turn.
+-- The invariant of a search.
 use Rattle.std.specs.Prelude.{ℕ, ◌≡◌, ◌⊎◌, ◌<◌, List, [], ◌∷◌, ◌++◌, length, Some, slice_get}
 use Rattle.std.specs.Prelude.{IsTrue}
 use Rattle.om_model.specs.declared.value.Val.{Val}
@@ -10,16 +10,17 @@ use Rattle.om_types.specs.Table.{Table, table_shapes, typed_fields, is_asked_in}
 use Rattle.om_check.specs.declared.visits.Visit.{Visit}
 use Rattle.om_check.specs.Told.{AreOrdered, AreTold}
 
--- field j of visit k comes before field r of visit n, by their places among those that have types
+-- Field `j` of visit `k` precedes field `r` of visit `n`. The fields are counted among the fields
+-- that have types.
 abbrev pub ComesBefore : ℕ → ℕ → ℕ → ℕ → Type 0
 ComesBefore k j n r = (k < n) ⊎ ((k ≡ n) × (j < r))
 
--- the fields of an object that have types at its type, by their places; those are needed of whose
--- values something is asked
+-- The fields of an object that have types at its type, in their order. A field is required if its
+-- type is constrained.
 abbrev pub entry_fields : Table → List Obj → Entry ℕ → List (ℕ × ℕ)
 entry_fields table graph e = typed_fields table graph (vals.Ref e.object) e.type
 
--- A need of an entry, at a type, is there, fits, and is entered.
+-- A required field of an entry exists, matches its type, and its object is entered.
 pub record IsMetNeed (table : Table) (graph : List Obj) (told : List (Entry ℕ)) (e : Entry ℕ)
     (i a : ℕ) : Type 0 where
   pub value : Val
@@ -27,7 +28,7 @@ pub record IsMetNeed (table : Table) (graph : List Obj) (told : List (Entry ℕ)
   pub fits : (table_shapes table).fits graph value a
   pub entered : IsEntered (table_shapes table) told value a (e.path ++ i ∷ [])
 
--- The entry stands at need j, numbered i, of the entry before it that leads to it.
+-- Required field `need`, number `number`, of an earlier entry leads to the entry.
 pub record IsLedTo (table : Table) (graph : List Obj) (told : List (Entry ℕ)) (n r : ℕ)
     (e : Entry ℕ) : Type 0 where
   pub parent : ℕ
@@ -41,7 +42,7 @@ pub record IsLedTo (table : Table) (graph : List Obj) (told : List (Entry ℕ)) 
   pub asked : IsTrue (is_asked_in table type)
   pub path : e.path ≡ entry.path ++ number ∷ []
 
--- The entries so far, where all needs before need r of entry n were tested.
+-- The entries so far. All required fields before field `r` of entry `n` are tested.
 pub record AreExplored (table : Table) (graph : List Obj) (root : ℕ) (told : List (Entry ℕ))
     (n r : ℕ) : Type 0 where
   pub rooted : slice_get told 0 ≡ Some (record { path = []; object = root; type = 0 })
@@ -66,12 +67,12 @@ pub record AreExplored (table : Table) (graph : List Obj) (root : ℕ) (told : L
       → slice_get (entry_fields table graph e) j ≡ Some (i, a) → IsTrue (is_asked_in table a)
       → IsMetNeed table graph told e i a
 
--- the first visit's object
+-- The object of the first visit.
 abbrev pub root_of : List Visit → ℕ
 root_of [] = 0
 root_of (v ∷ all) = v.object
 
--- the same of visits
+-- `AreExplored` for the entries of the visits.
 pub record IsExplored (table : Table) (graph : List Obj) (all : List Visit) (n r : ℕ) : Type 0 where
   pub told : List (Entry ℕ)
   pub are_told : AreTold all told

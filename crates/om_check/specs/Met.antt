@@ -1,4 +1,4 @@
--- All that is met of a value that has its type.
+-- All objects that the paths of a well-typed value reach.
 use Rattle.std.specs.Prelude.{ℕ, ◌≡◌, ◌<◌, List, Some, slice_get}
 use Rattle.om_model.specs.declared.value.Val.{Val}
 use Rattle.om_model.specs.declared.value.Val.TheVariants as vals
@@ -9,9 +9,13 @@ use Rattle.om_types.specs.Table.{Table, table_shapes}
 use Rattle.om_check.specs.declared.visits.Visit.{Visit}
 use Rattle.om_check.specs.Told.{AreOrdered, AreTold}
 
--- Each visit, told with its path: the path leads to the object at the type; where some path leads
--- to an object at a type, a visit is of it at an equal one, whose path is not after that one; no
--- object is visited twice at equal types; and the paths increase.
+-- The visits are complete and minimal:
+--
+-- - The path of each visit leads to its object at its type.
+-- - If some path leads to an object at a type, then that object is visited at an equal type, with a
+--   path that is not after that one.
+-- - No object is visited twice at equal types.
+-- - The paths increase.
 pub record AreAllMet (table : Table) (graph : List Obj) (root : Val) (all : List Visit)
     : Type 0 where
   pub told : List (Entry ℕ)

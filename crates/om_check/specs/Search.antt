@@ -1,4 +1,4 @@
--- What the search and its parts answer.
+-- The results of the search and its parts.
 use Rattle.std.specs.Prelude.{ℕ, zero, suc, ◌≡◌, ◌<◌, ◌≤◌, ◌+◌, ◌-◌, ◌^◌, ◌==◌, Contains}
 use Rattle.std.specs.Prelude.{if◌then◌else◌, Bool, false, List, [], ◌∷◌, ◌++◌, length, map, Option}
 use Rattle.std.specs.Prelude.{Some, None, slice_get, slice_index, MatchBool, MatchOption}
@@ -21,21 +21,21 @@ use Rattle.om_check.specs.Visits.{listed, AreLinked, Enters}
 use Rattle.om_check.specs.Told.{AreOrdered, IsPathOf}
 use Rattle.om_check.specs.Explored.{IsExplored, root_of}
 
--- ---- one need
+-- ---- one required field
 
--- each visit's object fits the type of the visit
+-- The object of each visit matches the type of the visit.
 abbrev pub FitAll : Table → List Obj → List Visit → Type 0
 FitAll table graph all =
     (k : ℕ) (v : Visit) → slice_get all k ≡ Some v
     → (table_shapes table).fits graph (vals.Ref v.object) v.ty
 
--- an object is entered; other values are not
+-- If the value is an object, then it is visited; otherwise nothing changes.
 abbrev pub EntersValue : Table → List Visit → List Visit → Need → Val → Type 0
 EntersValue table old new need (vals.Int z) = new ≡ old
 EntersValue table old new need (vals.Atom tag) = new ≡ old
 EntersValue table old new need (vals.Ref o) = Enters table old new o need.ty need.parent need.step
 
--- The value in question fits, and is entered; or it does not, and nothing changed.
+-- Either the value of the field matches and is visited, or it does not match and nothing changes.
 pub record TestsNeed (table : Table) (graph : List Obj) (old new : List Visit) (need : Need)
     (met : Bool) : Type 0 where
   pub value : Val
@@ -48,7 +48,7 @@ pub record TestsNeed (table : Table) (graph : List Obj) (old new : List Visit) (
 
 -- ---- one visit
 
--- the path to visit n, and from there to the field, is the least fault
+-- The path to visit `n`, extended by the field, is the first fault.
 pub record IsMisfitAt (table : Table) (graph : List Obj) (all : List Visit) (n step : ℕ)
     : Type 0 where
   pub in_range : n < length all
@@ -62,44 +62,44 @@ pub record Grows (old new : List Visit) : Type 0 where
   pub added : List Visit
   pub extends : new ≡ old ++ added
 
--- The first r fields of visit n were tested, where something is asked of them.
+-- Of the first `r` fields of visit `n`, all required ones are tested.
 pub record IsTesting (table : Table) (graph : List Obj) (old now : List Visit) (n r : ℕ)
     : Type 0 where
   pub grows : Grows old now
   pub explored : IsExplored table graph now n r
 
--- All that visit n needs was tested, up to the first misfit.
+-- All required fields of visit `n` are tested, up to the first mismatch.
 pub record TestsVisit (table : Table) (graph : List Obj) (old new : List Visit) (n : ℕ)
     (misfit : Option ℕ) : Type 0 where
   pub grows : Grows old new
   pub tested : MatchOption misfit (IsExplored table graph new (suc n) 0)
       (IsMisfitAt table graph new n)
 
--- what a visit's object needs at its type
+-- The required fields of a visit's object at its type.
 abbrev pub visit_needs : Table → List Obj → Visit → List (ℕ × ℕ)
 visit_needs table graph v = (table_shapes table).needs graph (vals.Ref v.object) v.ty
 
--- its fields that have types there, by their places
+-- The fields of a visit's object that have types, in their order.
 abbrev pub visit_fields : Table → List Obj → Visit → List (ℕ × ℕ)
 visit_fields table graph v = typed_fields table graph (vals.Ref v.object) v.ty
 
--- a scan saw what the visit's object needs at the fields below a number
+-- A scan has tested the required fields below number `seen` of the visit's object.
 abbrev pub AreSeen : Table → List Obj → Taken → Visit → ℕ → Type 0
 AreSeen table graph taken v seen =
     (i a : ℕ) → i < seen → Contains (visit_needs table graph v) (i, a)
     → IsSeen table graph taken v.object i (heap.field_at graph v.object i) a
 
--- the type is of the class of the one that is told
+-- The type has the class of the given one.
 abbrev pub is_of_class : Table → Option ℕ → ℕ → Bool
 is_of_class table None t = false
 is_of_class table (Some u) t = slice_index table.classes u == slice_index table.classes t
 
--- a scan took the visit's object at an equal type
+-- A scan has checked the visit's object at an equal type.
 abbrev pub is_taken : Table → Taken → Visit → Bool
 is_taken table taken v = is_of_class table (slice_get (types_in taken) v.object) v.ty
 
--- one step for the visit, and one for each field of its object; where a scan took it, one for each
--- field that was not seen
+-- The steps of a visit: one for the visit, and one for each field of its object. If a scan has
+-- checked the object, then one for each field that the scan did not test.
 abbrev pub counted : Table → List Obj → Taken → Visit → ℕ
 counted table graph taken v =
     if is_taken table taken v then rest_of (size_of graph v.object) (seen_of taken v.object)
@@ -114,28 +114,28 @@ cost_at table graph taken all n = cost_or_none table graph taken (slice_get all 
 
 -- ---- all visits
 
--- All that each visit needs was tested, up to the first misfit.
+-- All required fields of each visit are tested, up to the first mismatch.
 pub record Searches (table : Table) (graph : List Obj) (old new : List Visit)
     (misfit : Option (ℕ × ℕ)) : Type 0 where
   pub grows : Grows old new
   pub tested : MatchOption misfit (IsExplored table graph new (length new) 0)
       (λ at. IsMisfitAt table graph new at.0 at.1)
 
--- the steps of the first n visits
+-- The steps of the first `n` visits.
 abbrev pub spent : Table → List Obj → Taken → List Visit → ℕ → ℕ
 spent table graph taken [] n = 0
 spent table graph taken (v ∷ all) zero = 0
 spent table graph taken (v ∷ all) (suc n) =
     counted table graph taken v + spent table graph taken all n
 
--- visits as objects at types
+-- The visits as pairs of an object and a type.
 abbrev pub pairs_of : List Visit → List (ℕ × ℕ)
 pairs_of all = map (λ (v : Visit). (v.object, v.ty)) all
 
 -- ---- loops
 
--- The first r fields of visit n that have types were tested, up to the fields below `reached`, in a
--- step for each field that no scan saw.
+-- Of the fields with types of visit `n`, the first `r` are tested, up to the fields below
+-- `reached`. Each field that no scan has tested takes one step.
 pub record IsTestingVisit (table : Table) (graph : List Obj) (old now : Visits) (v : Visit)
     (n r seen start steps : ℕ) : Type 0 where
   pub linked : AreLinked table (length graph) now
@@ -147,7 +147,7 @@ pub record IsTestingVisit (table : Table) (graph : List Obj) (old now : Visits) 
       → reached ≤ i
   pub few : steps ≤ start + (reached - seen)
 
--- The needs of the first n visits were tested, in at most so many steps.
+-- The required fields of the first `n` visits are tested, within the bound on the steps.
 pub record IsSearching (table : Table) (graph : List Obj) (taken : Taken) (old now : Visits)
     (n start steps : ℕ) : Type 0 where
   pub linked : AreLinked table (length graph) now

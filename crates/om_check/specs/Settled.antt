@@ -1,4 +1,4 @@
--- What is known of objects that a scan noted at second classes, while each is settled.
+-- The state while the objects that a scan recorded at second classes are settled.
 use Rattle.std.specs.Prelude.{ℕ, ◌≡◌, ◌<◌, ◌≤◌, ◌+◌, List, ◌++◌, length, take, Some, slice_get}
 use Rattle.std.specs.Prelude.{sum_by, Contains, IsTrue}
 use Rattle.om_model.specs.declared.value.Val.{Val}
@@ -12,14 +12,15 @@ use Rattle.om_scan.specs.Seconds.{noted_in}
 use Rattle.om_scan.specs.Taken.{size_of}
 use Rattle.om_scan.specs.Scanned.{object_needs, object_typed, IsFoundIn, pairs_with, IsScannedBut}
 
--- The types of the objects are right but for what was noted, to which paths lead.
+-- The types of the objects are correct except for the recorded pairs, and paths lead to the
+-- recorded pairs.
 pub record AreOver (table : Table) (graph : List Obj) (types : List ℕ) (seconds : Seconds)
     : Type 0 where
   pub scanned : IsScannedBut table graph types seconds
   pub paths : (o t : ℕ) → Contains (noted_in seconds) (o, t) → HasPath table graph (vals.Ref 0) o t
 
--- The object fits the type, all that it needs there is found, and neither there nor at its first
--- type may it be changed.
+-- The object matches the type's representation, all its required fields are found, and it is
+-- mutable neither at that type nor at its first one.
 pub record IsSettledAt (table : Table) (graph : List Obj) (types : List ℕ) (seconds : Seconds)
     (o t : ℕ) : Type 0 where
   pub fits : (table_shapes table).fits graph (vals.Ref o) t
@@ -29,7 +30,7 @@ pub record IsSettledAt (table : Table) (graph : List Obj) (types : List ℕ) (se
   pub here : ¬ (table_shapes table).mutable graph o t
   pub first : (u : ℕ) → slice_get types o ≡ Some u → ¬ (table_shapes table).mutable graph o u
 
--- the first n that were noted are settled
+-- The first `n` recorded pairs are settled.
 pub record IsSettling (table : Table) (graph : List Obj) (types : List ℕ) (seconds : Seconds)
     (n : ℕ) : Type 0 where
   pub over : AreOver table graph types seconds
@@ -41,15 +42,15 @@ pub record Extends (old new : List (ℕ × ℕ)) : Type 0 where
   pub added : List (ℕ × ℕ)
   pub is : new ≡ old ++ added
 
--- More may be noted, and the value is found at the type.
+-- Further pairs may be recorded, and the value is found at the type.
 pub record Finds (table : Table) (graph : List Obj) (types : List ℕ) (old new : Seconds) (v : Val)
     (t : ℕ) : Type 0 where
   pub over : AreOver table graph types new
   pub extends : Extends (noted_in old) (noted_in new)
   pub found : IsFoundIn table graph (pairs_with types new) v t
 
--- More may be noted, and of the first r fields of an object that have types at a type those are
--- found of which something is asked.
+-- Further pairs may be recorded. Of the first `r` fields with types of an object, all required ones
+-- are found.
 pub record FindsNeeds (table : Table) (graph : List Obj) (types : List ℕ) (old new : Seconds)
     (o t r : ℕ) : Type 0 where
   pub over : AreOver table graph types new
@@ -59,23 +60,23 @@ pub record FindsNeeds (table : Table) (graph : List Obj) (types : List ℕ) (old
       → IsTrue (is_asked_in table a)
       → IsFoundIn table graph (pairs_with types new) (field_at graph o i) a
 
--- More may be noted, and the one at place n is settled too.
+-- Further pairs may be recorded, and pair `n` is settled, too.
 pub record Settles (table : Table) (graph : List Obj) (types : List ℕ) (old new : Seconds) (n : ℕ)
     : Type 0 where
   pub settling : IsSettling table graph types new (n + 1)
   pub extends : Extends (noted_in old) (noted_in new)
 
--- one for each pair, and one for each field of its object
+-- One step for each pair, and one for each field of its object.
 abbrev pub cost_of_pairs : List Obj → List (ℕ × ℕ) → ℕ
 cost_of_pairs graph pairs = sum_by (λ (pair : ℕ × ℕ). 1 + size_of graph pair.0) pairs
 
--- The first n are settled, in so many steps.
+-- The first `n` pairs are settled, within the bound on the steps.
 pub record IsCounting (table : Table) (graph : List Obj) (types : List ℕ) (seconds : Seconds)
     (n start steps : ℕ) : Type 0 where
   pub settling : IsSettling table graph types seconds n
   pub few : steps ≤ start + cost_of_pairs graph (take n (noted_in seconds))
 
--- all that was noted is settled
+-- All recorded pairs are settled.
 abbrev pub IsSettled : Table → List Obj → List ℕ → Seconds → Type 0
 IsSettled table graph types seconds =
     IsSettling table graph types seconds (length (noted_in seconds))

@@ -1,16 +1,16 @@
--- The visits of a check, each told with its path.
+-- The visits of a search, each with its path.
 use Rattle.std.specs.Prelude.{ℕ, ◌≡◌, ◌<◌, List, [], ◌∷◌, ◌++◌, length, Some, slice_get}
 use Rattle.om_types.specs.declared.fault.Fault.{Fault}
 use Rattle.om_types.specs.declared.fault.Fault.TheVariants.{Misfit, Clash}
 use Rattle.om_types.specs.Searched.{Entry}
 use Rattle.om_check.specs.declared.visits.Visit.{Visit}
 
--- each visit but the first comes after the one that leads to it
+-- Each visit except the first follows the visit that leads to it.
 abbrev pub AreOrdered : List Visit → Type 0
 AreOrdered all = (k : ℕ) (v : Visit) → 0 < k → slice_get all k ≡ Some v → v.parent < k
 
--- The same objects at the same types; the first has the empty path, and each other one the path of
--- its parent with its step.
+-- The entries have the objects and types of the visits. The first entry has the empty path. Each
+-- other entry has the path of its parent, extended by its step.
 pub record AreTold (all : List Visit) (told : List (Entry ℕ)) : Type 0 where
   pub many : length told ≡ length all
   pub objects :
@@ -25,18 +25,18 @@ pub record AreTold (all : List Visit) (told : List (Entry ℕ)) : Type 0 where
       → slice_get told k ≡ Some e → slice_get told v.parent ≡ Some p
       → e.path ≡ p.path ++ v.step ∷ []
 
--- the path to visit k
+-- The path to visit `k`.
 abbrev pub IsPathOf : List Visit → ℕ → List ℕ → Type 0
 IsPathOf all k path =
     (told : List (Entry ℕ)) (e : Entry ℕ) → AreTold all told → slice_get told k ≡ Some e
     → path ≡ e.path
 
--- the paths to two visits
+-- The fault is the aliasing conflict with the paths to the two visits.
 abbrev pub IsClashOf : List Visit → ℕ → ℕ → Fault → Type 0
 IsClashOf all i k (Misfit path) = ⊥
 IsClashOf all i k (Clash first second) = IsPathOf all i first × IsPathOf all k second
 
--- the path to visit k is that to visit at, and these steps
+-- The path to visit `k` is the path to visit `at`, extended by these steps.
 pub record IsRestOf (all : List Visit) (k at : ℕ) (steps : List ℕ) : Type 0 where
   pub within : at < length all
   pub rest :

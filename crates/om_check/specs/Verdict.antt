@@ -1,4 +1,4 @@
--- What a verdict says.
+-- The meaning of a verdict.
 use Rattle.std.specs.Prelude.{ℕ, List, map, Contains}
 use Rattle.om_model.specs.declared.value.Val.{Val}
 use Rattle.om_model.specs.declared.value.Obj.{Obj}
@@ -10,21 +10,21 @@ use Rattle.om_scan.specs.Paths.{HasPath}
 use Rattle.om_check.specs.declared.verdict.Verdict.{Verdict}
 use Rattle.om_check.specs.declared.verdict.Verdict.TheVariants.{Yes, No}
 
--- The pairs justify one another, have the root's object at an equal type where the root is a
--- reference, and no object twice at one class.
+-- The pairs justify one another. If the root is a reference, then they contain its object at an
+-- equal type. They contain no object twice at one class.
 pub record IsYes (table : Table) (graph : List Obj) (root : Val) (pairs : List (ℕ × ℕ))
     : Type 0 where
   pub typing : IsTyping (table_shapes table) graph pairs
   pub rooted : IsListed (table_shapes table) pairs root 0
   pub apart : AreApart (map (key_of table) pairs)
 
--- Yes where the value has the type that is number 0, else No with the least fault.
+-- `Yes` means that the value has type 0. `No` contains the first fault.
 abbrev pub IsVerdict : Table → List Obj → Val → Verdict → Type 0
 IsVerdict table graph root (Yes typing) =
     HasType (table_shapes table) graph root 0 × IsYes table graph root typing
 IsVerdict table graph root (No fault) = IsLeastFault (table_shapes table) graph root 0 fault
 
--- some path leads to each object of a Yes at its type
+-- Some path leads to each object of a `Yes` at its type.
 abbrev pub PairsHavePaths : Table → List Obj → Val → Verdict → Type 0
 PairsHavePaths table graph root (Yes typing) =
     (o t : ℕ) → Contains typing (o, t) → HasPath table graph root o t

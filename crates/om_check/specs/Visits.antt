@@ -1,4 +1,4 @@
--- The visits of a check, and what is noted of the objects that they are of.
+-- The visits of a search, and the records about their objects.
 use Rattle.std.specs.Prelude.{ℕ, suc, ◌≡◌, ◌⊎◌, ◌<◌, List, [], ◌∷◌, ◌++◌, length, Option}
 use Rattle.std.specs.Prelude.{Some, slice_get}
 use Rattle.om_types.specs.Table.{Table}
@@ -9,13 +9,13 @@ use Rattle.om_check.specs.declared.visits.Visits.{Visits}
 abbrev pub listed : Visits → List Visit
 listed v = v.all
 
--- some visit is of the object at a type of the class
+-- Some visit is of the object at a type of the class.
 abbrev pub IsMet : Table → List Visit → ℕ → Option ℕ → Type 0
 IsMet table all o class =
     (k : ℕ) × (v : Visit) × (slice_get all k ≡ Some v) × (v.object ≡ o)
     × (slice_get table.classes v.ty ≡ class)
 
--- the first visit of the object is at this type
+-- The first visit of the object is at this type.
 pub record IsFirstAt (all : List Visit) (o t : ℕ) : Type 0 where
   pub place : ℕ
   pub visit : Visit
@@ -24,7 +24,8 @@ pub record IsFirstAt (all : List Visit) (o t : ℕ) : Type 0 where
   pub type : visit.ty ≡ t
   pub none : (j : ℕ) (v : Visit) → j < place → slice_get all j ≡ Some v → ¬ (v.object ≡ o)
 
--- For each object it is noted at which type it was met first, and at which other classes.
+-- The records contain for each object the type of its first visit, and the other classes at which
+-- it was visited.
 pub record AreNoted (table : Table) (all : List Visit) (first : List ℕ) (later : ℕ → ℕ → Type 0)
     : Type 0 where
   pub unmet : (o k : ℕ) (v : Visit) → slice_get first o ≡ Some 0 → slice_get all k ≡ Some v
@@ -40,12 +41,13 @@ pub record AreLinked (table : Table) (objects : ℕ) (visits : Visits) : Type 0 
   pub many : length visits.first ≡ objects
   pub noted : AreNoted table (listed visits) visits.first (Has visits.later)
 
--- one visit more, at the end
+-- One more visit at the end.
 abbrev pub IsAppended : List Visit → List Visit → ℕ → ℕ → ℕ → ℕ → Type 0
 IsAppended old new o t parent step =
     new ≡ old ++ record { object = o; ty = t; parent = parent; step = step } ∷ []
 
--- The object was met at the type's class, and nothing changed; or it was not, and is entered.
+-- Either the object was visited at the type's class before and nothing changes, or it was not and a
+-- visit is added.
 abbrev pub Enters : Table → List Visit → List Visit → ℕ → ℕ → ℕ → ℕ → Type 0
 Enters table old new o t parent step =
     (IsMet table old o (slice_get table.classes t) × (new ≡ old))

@@ -1,4 +1,4 @@
-//! The typing that a scan tells: the pairs to which paths lead.
+//! The typing that a linear scan determines: the pairs of an object and a type to which paths lead.
 
 ghost use Rattle.std.specs.Prelude.{ℕ, ◌≡◌, ◌<◌, [], ◌∷◌, ◌++◌, length, IsTrue, IfOk, OnOk};
 ghost use Rattle.std.specs.Prelude.{Contains};
@@ -16,7 +16,8 @@ use om_scan::{Cells, Seconds};
 use om_type_table::TypeTable;
 use std::alloc::Global;
 
-/// Each object at its type, but for those at types of whose values nothing is asked.
+/// Returns each object with its type, without the objects at unconstrained types. (A type is
+/// unconstrained if every value has it.)
 pub fn told_typing(alloc: Global, table: &TypeTable, types: Cells) -> Result<Typing, Memory>
     requires { AreWithin (table_of table.now) types }
     ensures { IfOk result (AreReached (table_of table.now) types (numbered_from 0 types)) }
@@ -28,7 +29,7 @@ pub fn told_typing(alloc: Global, table: &TypeTable, types: Cells) -> Result<Typ
     Ok(Typing::listed(pairs))
 }
 
-/// The same, and then the objects that were noted.
+/// Returns the pairs of `told_typing` and the recorded objects at their second types.
 pub fn settled_typing(
     alloc: Global,
     table: &TypeTable,
@@ -48,7 +49,7 @@ pub fn settled_typing(
     Ok(Typing::listed(pairs))
 }
 
-/// Whether something is asked of the values of each of these types.
+/// Returns true only if all these types are constrained.
 fn are_asked(table: &TypeTable, types: &Cells) -> bool
     requires { AreWithin (table_of table.now) types.now }
     ensures { IsTrue result → AreAsked (table_of table.now) types.now }
@@ -64,8 +65,8 @@ fn are_asked(table: &TypeTable, types: &Cells) -> bool
     true
 }
 
-/// Whether something is asked of the values of each type of the table; not tried where the types
-/// are more than the objects.
+/// Returns true only if all types of the table are constrained. If there are more types than
+/// objects, it does not test them and returns false.
 fn all_asked(table: &TypeTable, objects: usize) -> bool
     ensures { IsTrue result → (t : ℕ) → t < length table.now.nodes
         → IsTrue (is_asked_in (table_of table.now) t) }
@@ -82,7 +83,7 @@ fn all_asked(table: &TypeTable, objects: usize) -> bool
     true
 }
 
-/// Each object at its type, but for those at types of whose values nothing is asked.
+/// Returns each object with its type, without the objects at unconstrained types.
 fn pairs_asked(alloc: Global, table: &TypeTable, types: &Cells) -> Result<Vec<(u64, usize)>, Memory>
     requires { AreWithin (table_of table.now) types.now }
     ensures { IfOk result (λ pairs.
@@ -96,7 +97,7 @@ fn pairs_asked(alloc: Global, table: &TypeTable, types: &Cells) -> Result<Vec<(u
     Ok(pairs)
 }
 
-/// Puts the objects that were noted at the end, but for those at such types.
+/// Appends the recorded objects at their second types, without those at unconstrained types.
 fn put_noted(
     pairs: &mut Vec<(u64, usize)>,
     table: &TypeTable,
@@ -114,7 +115,7 @@ fn put_noted(
     Ok(())
 }
 
-/// Puts an object at a type at the end, if something is asked of the type's values.
+/// Appends an object with a type, if the type is constrained.
 fn put_if_asked(
     pairs: &mut Vec<(u64, usize)>,
     table: &TypeTable,

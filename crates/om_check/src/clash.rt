@@ -1,5 +1,5 @@
-//! The first two visits of one object that clash: their types differ, and at one of them the object
-//! may be changed.
+//! Finds the first aliasing conflict: two visits of one object at different types, where the object
+//! is mutable at one of them.
 
 ghost use Rattle.std.specs.Prelude.{◌≡◌, ◌<◌, ◌↔◌, length, Some, All, IsTrue, MatchOption};
 ghost use Rattle.om_type_table.specs.Made.{table_of};
@@ -12,8 +12,9 @@ use om_fits::is_mutable;
 use om_heap::Heap;
 use om_type_table::TypeTable;
 
-/// The first visit that clashes with one before it, and the first one that it clashes with, which
-/// comes first here. Where nothing was met at a second class, no two visits are of one object.
+/// Returns the first visit that conflicts with an earlier one, preceded by the first visit with
+/// which it conflicts. If no object was visited at a second class of types, then there is no
+/// conflict.
 pub fn first_clash(heap: &Heap, table: &TypeTable, visits: &Visits) -> Option<(usize, usize)>
     requires within { All (IsWithin (table_of table.now) heap.now) (listed visits.now) }
     requires apart { AreApart (table_of table.now) (listed visits.now) }
@@ -34,8 +35,8 @@ pub fn first_clash(heap: &Heap, table: &TypeTable, visits: &Visits) -> Option<(u
     None
 }
 
-/// Whether visit k is of an object that was met before at another class, and may be changed at the
-/// type of the visit or at the first one.
+/// Returns true if the object of visit `k` was visited before at another class, and is mutable at
+/// the type of this visit or of its first visit.
 fn clashes_back(heap: &Heap, table: &TypeTable, visits: &Visits, k: usize) -> bool
     requires in_range { k < length (listed visits.now) }
     requires within { All (IsWithin (table_of table.now) heap.now) (listed visits.now) }
@@ -55,7 +56,7 @@ fn clashes_back(heap: &Heap, table: &TypeTable, visits: &Visits, k: usize) -> bo
     is_mutable_at(heap, table, visit) || is_mutable_at(heap, table, first)
 }
 
-/// Whether the visit's object may be changed at its type.
+/// Returns true if the visit's object is mutable at its type.
 fn is_mutable_at(heap: &Heap, table: &TypeTable, visit: Visit) -> bool
     requires { IsWithin (table_of table.now) heap.now visit }
     ensures { result ≡ mutable_at (table_of table.now) heap.now visit }
@@ -63,7 +64,7 @@ fn is_mutable_at(heap: &Heap, table: &TypeTable, visit: Visit) -> bool
     is_mutable(heap, visit.object, table.shape(visit.ty))
 }
 
-/// The first visit of the object of visit k.
+/// Returns the index of the first visit of the object of visit `k`.
 fn first_of(visits: &Visits, k: usize) -> usize
     requires in_range { k < length (listed visits.now) }
     ensures { IsFirstOf (listed visits.now) k result }

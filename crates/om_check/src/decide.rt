@@ -1,4 +1,4 @@
-//! Whether a value has the type that is number 0 of a table.
+//! Decides whether a value has type 0 of a table.
 
 ghost use Rattle.std.specs.Prelude.{◌≡◌, ◌≤◌, ◌<◌, ◌+◌, length, IfOk, IsTrue};
 ghost use Rattle.om_model.specs.declared.value.Val.TheVariants as vals;
@@ -33,7 +33,9 @@ use om_type_table::TypeTable;
 use om_types::fault::Fault;
 use std::alloc::Global;
 
-/// Whether the value has the type, and if not the least fault.
+/// Checks whether the value has type 0 of the table. Returns a typing if it does, and the first
+/// fault otherwise. Adds the steps taken to `steps`; their number is at most `most_steps`. Fails
+/// with `Memory` if memory runs out.
 pub fn check(
     alloc: Global,
     heap: &Heap,
@@ -57,8 +59,8 @@ pub fn check(
     }
 }
 
-/// The same of an object that fits the type: mostly a scan of the objects tells it, where the
-/// object is the first, and something is asked of it.
+/// As `check`, for an object that matches the type's representation. If the object is object 0 and
+/// the type is constrained, a linear scan of the heap usually suffices.
 fn check_object(
     alloc: Global,
     heap: &Heap,
@@ -94,7 +96,8 @@ fn check_object(
     }
 }
 
-/// The same of any object that fits the type, by a search of the heap alone.
+/// As `check`, for any object that matches the type's representation. Uses only a search of the
+/// heap.
 fn search_whole(
     alloc: Global,
     heap: &Heap,
@@ -115,9 +118,9 @@ fn search_whole(
     search_object(alloc, heap, objects, object, fitting, &none, steps)
 }
 
-/// The same of the first object, where a scan met objects at second classes: mostly they are
-/// settled, in as many steps as the scan took or one pair's more, and else a search of the heap,
-/// which has so many objects, tells it.
+/// As `check`, for object 0 after a scan that found objects at second classes. Usually these
+/// objects can be settled, in as many steps as the scan took plus those of one pair. Otherwise
+/// searches the heap, which has `objects` objects.
 fn settle_noted(
     alloc: Global,
     heap: &Heap,
@@ -162,7 +165,8 @@ fn settle_noted(
     }
 }
 
-/// The same by a search of the heap, which has so many objects, after a scan took these.
+/// As `check`, by a search of the heap, which has `objects` objects. `taken` contains the objects
+/// that a scan has checked.
 fn search_object(
     alloc: Global,
     heap: &Heap,
@@ -198,7 +202,7 @@ fn search_object(
     }
 }
 
-/// The clash of two visits.
+/// Returns the aliasing conflict of two visits, with their paths.
 fn clash(alloc: Global, visits: &Visits, first: usize, second: usize) -> Result<Fault, Memory>
     requires first { first < length (listed visits.now) }
     requires second { second < length (listed visits.now) }

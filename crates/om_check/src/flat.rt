@@ -1,4 +1,5 @@
-//! Whether a value surely has a type: it has few parts, which have no parts. No memory is taken.
+//! Fast path for small values: values with few parts, where no part has parts. It allocates no
+//! memory.
 
 ghost use Rattle.std.specs.Prelude.{◌≡◌, ◌<◌, ◌≤◌, length, IfSome, IsTrue};
 ghost use Rattle.om_model.specs.Graph.{IsValue};
@@ -15,11 +16,11 @@ use om_model::value::Val;
 use om_type_table::TypeTable;
 use om_types::shape::ShapeOf;
 
-/// A value of more parts is not tried.
+/// The maximum number of parts of a value for this fast path.
 const FEW: u64 = 8;
 
-/// Whether the value is an object that surely has the type that is number 0: it has few parts, and
-/// they have none. Where the answer is no it may have the type all the same.
+/// Fast path. Returns true only if the value is an object that has type 0, with few parts that have
+/// no parts. The answer false is inconclusive.
 pub fn surely_has(heap: &Heap, root: Val, table: &TypeTable) -> bool
     requires { IsValue (length heap.now) root }
     ensures sure { result ≡ is_sure (table_of table.now) heap.now root }
@@ -39,7 +40,7 @@ pub fn surely_has(heap: &Heap, root: Val, table: &TypeTable) -> bool
     }
 }
 
-/// The same of an object that fits the type, and has these parts.
+/// As `surely_has`, for an object that matches the type's representation and has these parts.
 fn are_flat(heap: &Heap, object: u64, table: &TypeTable, needs: Needs<'_>) -> bool
     requires object { object < length heap.now }
     requires fits { (table_shapes (table_of table.now)).fits heap.now (vals.Ref object) 0 }
@@ -65,8 +66,9 @@ fn are_flat(heap: &Heap, object: u64, table: &TypeTable, needs: Needs<'_>) -> bo
     true
 }
 
-/// The number of the last object, where the part has no parts: the part itself, if it is an object
-/// of which something is asked, which has to come behind the one that was the last.
+/// Returns the number of the last object after this part, or `None` if the part has parts or does
+/// not match. If the part is an object at a constrained type, then it becomes the last object, and
+/// its number must be greater than `last`.
 #[inline(always)]
 fn after_flat(heap: &Heap, part: Val, table: &TypeTable, ty: usize, last: u64) -> Option<u64>
     requires part { IsValue (length heap.now) part }

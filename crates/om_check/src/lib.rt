@@ -1,4 +1,7 @@
-//! Whether a value has a type, which is a number of a table, and if not the least fault.
+//! Decides whether a value has a type, which is a number of a type table. `check` returns a typing
+//! that justifies the answer yes (`IsYes`), or the first fault (`IsLeastFault`); both directions
+//! are proved. Its steps are bounded by `most_steps`. `met` returns all objects that the paths of a
+//! well-typed value reach. The crate checks values in a heap, not bytes.
 #![tactic(auto)]
 
 mod asked;

@@ -1,4 +1,4 @@
-//! All that is met of a value that has its type.
+//! All objects that the paths of a well-typed value reach.
 
 ghost use Rattle.std.specs.Prelude.{◌≡◌, ◌<◌, length, slice_get, IfOk, IfSome};
 ghost use Rattle.om_model.specs.declared.value.Val.TheVariants as vals;
@@ -21,8 +21,8 @@ use om_type_table::TypeTable;
 use std::alloc::Global;
 use std::marker::Model;
 
-/// Objects, each at each class of types at which it is met, in the order of their least paths.
-/// Contracts see the list of the visits.
+/// The objects of a value, each at each class of types at which it is reached, in the order of
+/// their first paths. Its model is the list of visits.
 #[derive(Drop)]
 pub struct AllMet {
     visits: Visits,
@@ -40,14 +40,14 @@ impl Model for AllMet {
 }
 
 impl AllMet {
-    /// How many there are.
+    /// Returns the number of visits.
     pub fn len(&self) -> usize
         ensures { result ≡ length self.now }
     {
         self.visits.len()
     }
 
-    /// Object and type of visit k.
+    /// Returns the object and the type of visit `k`.
     pub fn get(&self, k: usize) -> (u64, usize)
         requires { k < length self.now }
         ensures { IfSome (slice_get self.now k)
@@ -57,7 +57,8 @@ impl AllMet {
         (visit.object, visit.ty)
     }
 
-    /// The path to visit k, which is the least to its object at its class.
+    /// Returns the path to visit `k`, which is the first path to its object at its class. Fails
+    /// with `Memory` if memory runs out.
     pub fn path(&self, alloc: Global, k: usize) -> Result<Path, Memory>
         requires in_range { k < length self.now }
         requires ordered { AreOrdered self.now }
@@ -67,7 +68,8 @@ impl AllMet {
     }
 }
 
-/// All that is met of a value that has the type that is number 0.
+/// Returns all objects that the paths of a value with type 0 reach. Fails with `Memory` if memory
+/// runs out.
 pub fn met(alloc: Global, heap: &Heap, root: Val, table: &TypeTable) -> Result<AllMet, Memory>
     requires value { IsValue (length heap.now) root }
     requires has { HasType (table_shapes (table_of table.now)) heap.now root 0 }
@@ -83,7 +85,7 @@ pub fn met(alloc: Global, heap: &Heap, root: Val, table: &TypeTable) -> Result<A
     }
 }
 
-/// The same from an object on: a search meets it, and finds no misfit.
+/// As `met`, from an object on. A search visits the objects and finds no mismatch.
 fn met_from(alloc: Global, heap: &Heap, object: u64, table: &TypeTable) -> Result<AllMet, Memory>
     requires object { object < length heap.now }
     requires has { HasType (table_shapes (table_of table.now)) heap.now (vals.Ref object) 0 }

@@ -9,7 +9,8 @@ use om_model::Memory;
 use om_model::path::Path;
 use std::alloc::Global;
 
-/// The path to visit k: its steps are found from the last one back.
+/// Returns the path to visit `k`. Finds its steps from the last one back. Fails with `Memory` if
+/// memory runs out.
 pub fn path_of(alloc: Global, visits: &Visits, k: usize) -> Result<Path, Memory>
     requires in_range { k < length (listed visits.now) }
     requires ordered { AreOrdered (listed visits.now) }
@@ -25,14 +26,14 @@ pub fn path_of(alloc: Global, visits: &Visits, k: usize) -> Result<Path, Memory>
     reversed(alloc, steps)
 }
 
-/// Puts a step at the end.
+/// Appends a step.
 fn put_step(steps: &mut Vec<u64>, step: u64) -> Result<(), Memory>
     ensures { OnOk result (steps.new.items ≡ steps.old.items ++ step ∷ []) }
 {
     Ok(steps.push(step)?)
 }
 
-/// The path of these steps, the last one first.
+/// Returns the path of these steps in reverse order.
 fn reversed(alloc: Global, mut steps: Vec<u64>) -> Result<Path, Memory>
     ensures { IfOk result (λ path. path ≡ reverse steps.items) }
 {

@@ -1,4 +1,4 @@
-//! The visits of a trail from the first one on whose numbers are not tiny.
+//! The visits of a trail from the first one whose numbers are not tiny on.
 
 ghost use Rattle.std.specs.Prelude.{◌≡◌, ◌+◌, ◌^◌, ◌<◌, ◌≤◌, ◌↔◌, [], ◌∷◌, ◌++◌, length, slice_get};
 ghost use Rattle.std.specs.Prelude.{Some, vec_len, OnOk, IsTrue};
@@ -18,8 +18,8 @@ pub struct Short {
     pub step: u32,
 }
 
-/// Visits, which contracts see as their list. Each takes 16 bytes while the numbers of all are
-/// below 2^32, and those from then on twice as many.
+/// A list of visits, which is also its model. While all numbers are below 2^32, each visit takes 16
+/// bytes. From the first larger number on, each visit takes 32 bytes.
 #[derive(Drop)]
 pub struct Rest {
     shorts: Vec<Short>,
@@ -42,7 +42,7 @@ impl Model for Rest {
 }
 
 impl Rest {
-    /// No visit.
+    /// Creates an empty list.
     pub fn new(alloc: Global) -> Rest
         ensures { result ≡ [] }
     {
@@ -52,7 +52,7 @@ impl Rest {
         }
     }
 
-    /// How many there are.
+    /// Returns the number of visits.
     #[inline(always)]
     pub fn len(&self) -> usize
         ensures { result ≡ length self.now }
@@ -60,7 +60,7 @@ impl Rest {
         self.shorts.len() + self.longs.len()
     }
 
-    /// Visit k.
+    /// Returns visit `k`.
     #[inline(always)]
     pub fn get(&self, k: usize) -> Visit
         requires { k < length self.now }
@@ -74,7 +74,7 @@ impl Rest {
         }
     }
 
-    /// Puts a visit at the end.
+    /// Appends a visit. Fails with `Memory` if memory runs out.
     #[inline(always)]
     pub fn push(&mut self, visit: Visit) -> Result<(), Memory>
         ensures put { OnOk result (self.new ≡ self.old ++ visit ∷ []) }
@@ -84,7 +84,7 @@ impl Rest {
     }
 }
 
-/// Puts a visit at the end of the first list that has room for it and for those behind it.
+/// Appends a visit to the first list that has room for it and for the visits after it.
 #[inline(always)]
 fn put(shorts: &mut Vec<Short>, longs: &mut Vec<Visit>, visit: Visit) -> Result<(), Memory>
     requires { vec_len shorts.old + vec_len longs.old < 2 ^ 64 }
@@ -105,7 +105,7 @@ fn put(shorts: &mut Vec<Short>, longs: &mut Vec<Visit>, visit: Visit) -> Result<
     Ok(())
 }
 
-/// Whether all numbers are below 2^32.
+/// Returns true if all numbers of the visit are below 2^32.
 #[inline(always)]
 fn is_short(visit: Visit) -> bool
     ensures { IsTrue result ↔ IsShort visit }
@@ -113,7 +113,7 @@ fn is_short(visit: Visit) -> bool
     visit.object < 1 << 32 && visit.ty < 1 << 32 && visit.parent < 1 << 32 && visit.step < 1 << 32
 }
 
-/// The visit in little room.
+/// Converts a visit to its compact form.
 #[inline(always)]
 fn narrow(visit: Visit) -> Short
     requires { IsShort visit }
@@ -127,7 +127,7 @@ fn narrow(visit: Visit) -> Short
     }
 }
 
-/// The visit that takes little room.
+/// Converts a visit from its compact form.
 #[inline(always)]
 fn wide(short: Short) -> Visit
     ensures { result ≡ widened short }

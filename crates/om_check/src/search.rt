@@ -1,4 +1,5 @@
-//! Breadth first, each object is taken once at each class, and what it needs there is tested.
+//! Breadth-first search of the heap. Visits each object once at each class of types, and tests the
+//! fields that it requires there.
 
 ghost use Rattle.std.specs.Prelude.{ℕ, ◌≡◌, ◌≢◌, ◌<◌, ◌≤◌, ◌+◌, ◌%◌, ◌↔◌, length, All, IfOk, OnOk};
 ghost use Rattle.std.specs.Prelude.{IsTrue, Some, slice_get};
@@ -27,7 +28,8 @@ use om_model::value::Val;
 use om_scan::{Fitting, Steps, Taken, fits_type};
 use om_type_table::TypeTable;
 
-/// What an object needs: its field `step` is to have the type. It is visited at place `parent`.
+/// A required field: field `step` of the object must have the type. `parent` is the index of the
+/// object's visit.
 #[derive(Clone, Copy)]
 pub struct Need {
     pub parent: usize,
@@ -36,9 +38,9 @@ pub struct Need {
     pub ty: usize,
 }
 
-/// Tests what each visit needs, and enters the objects that are met. The answer is the first
-/// misfit: the place of a visit, and the number of its field that does not fit. What a scan tested
-/// was counted there, and is not tested again.
+/// Tests the required fields of each visit, and adds a visit for each new object. Returns the first
+/// mismatch: the index of a visit, and the number of its field that does not match. Fields that a
+/// scan has tested were counted there, and are not tested again.
 pub fn search(
     heap: &Heap,
     fitting: Fitting<'_>,
@@ -66,7 +68,8 @@ pub fn search(
     Ok(None)
 }
 
-/// Tests what visit n needs. The answer is the number of the first field that does not fit.
+/// Tests the required fields of visit `n`. Returns the number of the first field that does not
+/// match.
 fn test_visit(
     heap: &Heap,
     fitting: Fitting<'_>,
@@ -94,7 +97,7 @@ fn test_visit(
     take_visit(heap, fitting, visits, taken, n, visit, 0, steps)
 }
 
-/// Whether a scan took the visit's object at an equal type.
+/// Returns true if a scan has checked the visit's object at an equal type.
 #[inline(always)]
 fn was_taken(table: &TypeTable, taken: &Taken, visit: Visit) -> bool
     requires ty { visit.ty < length table.now.classes }
@@ -108,7 +111,7 @@ fn was_taken(table: &TypeTable, taken: &Taken, visit: Visit) -> bool
     }
 }
 
-/// Tests what visit n needs, whose object a scan took at an equal type.
+/// Tests the required fields of visit `n`, whose object a scan has checked at an equal type.
 #[inline(never)]
 fn take_seen(
     heap: &Heap,
@@ -135,8 +138,8 @@ fn take_seen(
     take_visit(heap, fitting, visits, taken, n, visit, seen, steps)
 }
 
-/// Tests what visit n needs, in a step for each need. A scan saw the needs at fields below a
-/// number.
+/// Tests the required fields of visit `n`, in one step for each. A scan has already tested the
+/// fields below number `seen`.
 #[inline(always)]
 fn take_visit(
     heap: &Heap,
@@ -179,7 +182,8 @@ fn take_visit(
     }
 }
 
-/// Tests these needs of visit n. It is compiled anew for each kind of needs.
+/// Tests these required fields of visit `n`. The compiler generates separate code for each form of
+/// the list of fields.
 #[inline(always)]
 fn test_needs(
     heap: &Heap,
@@ -237,7 +241,7 @@ fn test_needs(
     Ok(None)
 }
 
-/// Tests a need, in a step where no scan saw it.
+/// Tests a required field, and counts a step if no scan has tested it.
 #[inline(always)]
 fn take_need(
     heap: &Heap,
@@ -276,9 +280,9 @@ fn take_need(
     test_need(heap, fitting, visits, taken, need, word, false, next)
 }
 
-/// Tests a need, whose field has this word, and enters the object that is met. That is often object
-/// `next`; from then on the one after it may be the next. What a scan saw of the need is not tested
-/// again.
+/// Tests a required field that contains this word, and adds a visit if its object is new. The
+/// object is often `next`; afterwards `next` is the number after it. What a scan has already tested
+/// is not tested again.
 #[inline(always)]
 fn test_need(
     heap: &Heap,
@@ -331,8 +335,8 @@ fn test_need(
     Ok(true)
 }
 
-/// Whether the value of a need's field, which is no object and has this word, fits: where a scan
-/// saw it, that is known.
+/// Returns true if the value of a required field matches its type. The value is no object and has
+/// this word. If a scan has tested the field, then its result is used.
 #[inline(always)]
 fn value_fits(
     heap: &Heap,
@@ -361,8 +365,9 @@ fn value_fits(
     fits_type(heap, fitting, need.ty, word)
 }
 
-/// Whether an object, which has this word, fits a type at which it is met. Where a scan saw it at
-/// the type, that is known if the scan took the object, or found it unfit.
+/// Returns true if an object, given with its word, matches the type's representation. If a scan has
+/// inspected the object at that type, and has checked it or found a mismatch, then the result is
+/// known.
 #[inline(always)]
 fn object_fits(
     heap: &Heap,
@@ -393,7 +398,7 @@ fn object_fits(
     fits_type(heap, fitting, ty, word)
 }
 
-/// The number of the object that a reference's word names, which is often `guess`.
+/// Returns the number of the object to which a reference's word refers. It is often `guess`.
 #[inline(always)]
 fn number_near(heap: &Heap, guess: u64, word: u64) -> u64
     requires { IsReferenceWord heap.now word }

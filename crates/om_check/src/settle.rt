@@ -1,4 +1,5 @@
-//! Objects that a scan noted at second classes: what is below each of them there is tested.
+//! Settles the objects that a scan recorded at second classes of types: tests the fields that each
+//! requires there.
 
 ghost use Rattle.std.specs.Prelude.{ℕ, ◌≡◌, ◌<◌, ◌≤◌, ◌+◌, length, Some, slice_get, IfOk, IfSome};
 ghost use Rattle.std.specs.Prelude.{IsTrue};
@@ -21,9 +22,14 @@ use om_model::Memory;
 use om_model::value::Val;
 use om_scan::{Cells, Fitting, Seconds, Steps, fits_type};
 
-/// Tests what each object that was noted needs at its type, and notes what it meets there at a
-/// class that is new. The answer is all that is noted; none where a field or an object does not
-/// fit, or an object may be changed at one of its types, or more than so many steps are taken.
+/// Tests the required fields of each recorded object at its type, and records the objects that are
+/// reached there at a new class. Returns all recorded objects. Returns `None` in three cases:
+///
+/// - A field or an object does not match.
+/// - An object is mutable at one of its types.
+/// - More than `most` steps were taken before a pair.
+///
+/// Fails with `Memory` if memory runs out.
 pub fn settle(
     heap: &Heap,
     fitting: Fitting<'_>,
@@ -52,7 +58,7 @@ pub fn settle(
     Ok(Some(seconds))
 }
 
-/// The same of pair n. A step is counted for it, and for each of its needs.
+/// Settles pair `n`. Then counts one step for the pair and one for each field that has a type.
 fn settle_pair(
     heap: &Heap,
     fitting: Fitting<'_>,
@@ -92,7 +98,7 @@ fn settle_pair(
     Ok(true)
 }
 
-/// Tests the needs of an object at a type.
+/// Tests the required fields of an object at a type.
 fn settle_needs(
     heap: &Heap,
     fitting: Fitting<'_>,
@@ -132,7 +138,7 @@ fn settle_needs(
     Ok(true)
 }
 
-/// Tests need `place` of an object at a type, whose field has this word.
+/// Tests required field `place` of an object at a type. The field contains this word.
 #[inline(always)]
 fn settle_need(
     heap: &Heap,

@@ -1,4 +1,4 @@
-//! The typing of a value in which objects have several types.
+//! The typing of a value in which some objects have several types.
 
 ghost use Rattle.std.specs.Prelude.{◌≡◌, ◌+◌, ◌^◌, ◌<◌, length, slice_get, Some, IfOk};
 ghost use Rattle.om_scan.specs.Scanned.{pairs_with};
@@ -8,7 +8,8 @@ use om_model::Memory;
 use om_scan::{Cells, Seconds};
 use std::marker::Model;
 
-/// Each object at its type, and then those that have further types. Contracts see the list.
+/// Each object at its type, followed by the objects that have further types. Its model is that
+/// list.
 #[derive(Drop)]
 pub struct Settled {
     types: Cells,
@@ -31,7 +32,8 @@ impl Model for Settled {
 }
 
 impl Settled {
-    /// The objects at these types. More than can be numbered find no room.
+    /// Creates the typing of the objects at these types. Fails with `Memory` if there are 2^62
+    /// pairs or more in one of the lists.
     pub fn new(types: Cells, seconds: Seconds) -> Result<Settled, Memory>
         ensures { IfOk result (λ settled. settled ≡ pairs_with types seconds) }
     {
@@ -41,14 +43,14 @@ impl Settled {
         Ok(Settled { types, seconds })
     }
 
-    /// How many there are.
+    /// Returns the number of pairs.
     pub fn len(&self) -> usize
         ensures { result ≡ length self.now }
     {
         self.types.len() + self.seconds.len()
     }
 
-    /// Object and type number k.
+    /// Returns the object and the type of pair `k`.
     pub fn get(&self, k: usize) -> (u64, usize)
         requires { k < length self.now }
         ensures { slice_get self.now k ≡ Some (result.0, result.1) }

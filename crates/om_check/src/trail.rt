@@ -1,4 +1,4 @@
-//! Visits in a row that take little room while their numbers are small.
+//! A list of visits that is stored compactly while the numbers are small.
 
 ghost use Rattle.std.specs.Prelude.{◌≡◌, ◌+◌, ◌^◌, ◌<◌, ◌↔◌, [], ◌∷◌, ◌++◌, length, slice_get};
 ghost use Rattle.std.specs.Prelude.{Some, vec_len, OnOk, IsTrue};
@@ -10,7 +10,7 @@ use om_model::Memory;
 use std::alloc::Global;
 use std::marker::Model;
 
-/// A visit whose object and parent are below 2^32, and its type and step below 2^16.
+/// A visit whose object and parent are below 2^32, and whose type and step are below 2^16.
 #[derive(Clone, Copy)]
 pub struct Tiny {
     pub object: u32,
@@ -19,8 +19,8 @@ pub struct Tiny {
     pub step: u16,
 }
 
-/// Visits, which contracts see as their list. Each takes 12 bytes while all are tiny; from the
-/// first one on that is not, 16 bytes or 32.
+/// A list of visits, which is also its model. While all visits are tiny, each takes 12 bytes. From
+/// the first other visit on, each takes 16 or 32 bytes.
 #[derive(Drop)]
 pub struct Trail {
     tinies: Vec<Tiny>,
@@ -43,7 +43,7 @@ impl Model for Trail {
 }
 
 impl Trail {
-    /// No visit.
+    /// Creates an empty list.
     pub fn new(alloc: Global) -> Trail
         ensures { result ≡ [] }
     {
@@ -53,7 +53,7 @@ impl Trail {
         }
     }
 
-    /// How many there are.
+    /// Returns the number of visits.
     #[inline(always)]
     pub fn len(&self) -> usize
         ensures { result ≡ length self.now }
@@ -61,18 +61,18 @@ impl Trail {
         self.tinies.len() + self.rest.len()
     }
 
-    /// Whether there are more than k.
+    /// Returns true if there are more than `k` visits.
     #[inline(always)]
     pub fn has(&self, k: usize) -> bool
         ensures has { IsTrue result ↔ (k < length self.now) }
         ensures small { length self.now < 2 ^ 64 }
     {
-        // Mostly all are tiny.
+        // Usually all visits are tiny.
         let tinies = self.tinies.len();
         k < tinies || k - tinies < self.rest.len()
     }
 
-    /// Visit k.
+    /// Returns visit `k`.
     #[inline(always)]
     pub fn get(&self, k: usize) -> Visit
         requires { k < length self.now }
@@ -86,7 +86,7 @@ impl Trail {
         }
     }
 
-    /// Puts a visit at the end.
+    /// Appends a visit. Fails with `Memory` if memory runs out.
     #[inline(always)]
     pub fn push(&mut self, visit: Visit) -> Result<(), Memory>
         ensures { OnOk result (self.new ≡ self.old ++ visit ∷ []) }
@@ -95,7 +95,7 @@ impl Trail {
     }
 }
 
-/// Puts a visit at the end of the first list that has room for it and for those behind it.
+/// Appends a visit to the first list that has room for it and for the visits after it.
 #[inline(always)]
 fn put(tinies: &mut Vec<Tiny>, rest: &mut Rest, visit: Visit) -> Result<(), Memory>
     requires { vec_len tinies.old + length rest.old < 2 ^ 64 }
@@ -116,8 +116,8 @@ fn put(tinies: &mut Vec<Tiny>, rest: &mut Rest, visit: Visit) -> Result<(), Memo
     )
 }
 
-/// Puts a visit behind the tiny ones. It comes in parts, so that no tiny one is stored for this
-/// call.
+/// Appends a visit after the tiny ones. Takes the visit in parts, so that no tiny visit is stored
+/// for this call.
 #[inline(never)]
 fn put_in_rest(
     tinies: &Vec<Tiny>,
@@ -144,7 +144,7 @@ fn put_in_rest(
     })
 }
 
-/// Appends a visit. Memory is asked for only where no room is left.
+/// Appends a visit. Allocates memory only if the capacity does not suffice.
 #[inline(always)]
 fn append(tinies: &mut Vec<Tiny>, tiny: Tiny) -> Result<(), Memory>
     ensures { OnOk result (tinies.new.items ≡ tinies.old.items ++ tiny ∷ []) }
@@ -156,7 +156,7 @@ fn append(tinies: &mut Vec<Tiny>, tiny: Tiny) -> Result<(), Memory>
     Ok(())
 }
 
-/// Whether the numbers of a visit are tiny.
+/// Returns true if the numbers of the visit are tiny.
 #[inline(always)]
 fn is_tiny(visit: Visit) -> bool
     ensures { IsTrue result ↔ IsTiny visit }
@@ -164,7 +164,7 @@ fn is_tiny(visit: Visit) -> bool
     visit.object < 1 << 32 && visit.ty < 1 << 16 && visit.parent < 1 << 32 && visit.step < 1 << 16
 }
 
-/// The visit in little room.
+/// Converts a visit to its compact form.
 #[inline(always)]
 fn shrink(visit: Visit) -> Tiny
     requires { IsTiny visit }
@@ -178,7 +178,7 @@ fn shrink(visit: Visit) -> Tiny
     }
 }
 
-/// The visit that takes little room.
+/// Converts a visit from its compact form.
 #[inline(always)]
 fn enlarge(tiny: Tiny) -> Visit
     ensures { result ≡ enlarged tiny }

@@ -13,20 +13,20 @@ use om_model::Memory;
 use om_scan::{Cells, Seconds};
 use std::marker::Model;
 
-/// Objects at types, as a search met them, or as a scan told or noted them.
+/// Objects at types, as a search visited them, or as a scan determined or recorded them.
 #[derive(Drop)]
 pub enum Pairs {
     Searched(Visits),
-    /// The type of each object, by its number.
+    /// The type of each object, indexed by its number.
     Scanned(Cells),
-    /// The same, and then objects at further types.
+    /// The type of each object, indexed by its number, followed by objects at further types.
     Settled(Settled),
     /// Objects at types, in any order.
     Listed(Vec<(u64, usize)>),
 }
 
-/// Objects at types that justify one another: as a search met them, or by the objects' numbers, and
-/// then those at further types.
+/// Objects at types that justify one another. The order is that of a search, or that of the
+/// objects' numbers followed by the objects at further types.
 #[derive(Drop)]
 pub struct Typing {
     pairs: Pairs,
@@ -43,7 +43,7 @@ impl Model for Typing {
 }
 
 impl Typing {
-    /// The typing that the visits are.
+    /// Returns the typing that the visits form.
     pub fn of(visits: Visits) -> Typing
         ensures { result ≡ pairs_of (listed visits) }
     {
@@ -52,7 +52,7 @@ impl Typing {
         }
     }
 
-    /// Each object at its type.
+    /// Returns the typing of each object at its type.
     pub fn scanned(types: Cells) -> Typing
         ensures { result ≡ numbered_from 0 types }
     {
@@ -61,7 +61,8 @@ impl Typing {
         }
     }
 
-    /// Each object at its type, and then those that were noted.
+    /// Returns the typing of each object at its type, followed by the recorded objects. Fails with
+    /// `Memory` if there are too many.
     pub fn settled(types: Cells, seconds: Seconds) -> Result<Typing, Memory>
         ensures { IfOk result (λ typing. typing ≡ pairs_with types seconds) }
     {
@@ -71,7 +72,7 @@ impl Typing {
         })
     }
 
-    /// These pairs.
+    /// Returns the typing of these pairs.
     pub fn listed(pairs: Vec<(u64, usize)>) -> Typing
         ensures { result ≡ pairs.items }
     {
@@ -80,14 +81,14 @@ impl Typing {
         }
     }
 
-    /// How many there are.
+    /// Returns the number of pairs.
     pub fn len(&self) -> usize
         ensures { result ≡ length self.now }
     {
         count_in(&self.pairs)
     }
 
-    /// Object and type number k.
+    /// Returns the object and the type of pair `k`.
     pub fn get(&self, k: usize) -> (u64, usize)
         requires { k < length self.now }
         ensures { slice_get self.now k ≡ Some (result.0, result.1) }
@@ -96,7 +97,7 @@ impl Typing {
     }
 }
 
-/// How many there are.
+/// Returns the number of pairs.
 fn count_in(pairs: &Pairs) -> usize
     ensures { result ≡ length (pairs_in pairs.now) }
 {
@@ -108,7 +109,7 @@ fn count_in(pairs: &Pairs) -> usize
     }
 }
 
-/// Object and type number k.
+/// Returns the object and the type of pair `k`.
 fn pair_at(pairs: &Pairs, k: usize) -> (u64, usize)
     requires { k < length (pairs_in pairs.now) }
     ensures { slice_get (pairs_in pairs.now) k ≡ Some (result.0, result.1) }
@@ -124,7 +125,7 @@ fn pair_at(pairs: &Pairs, k: usize) -> (u64, usize)
     }
 }
 
-/// Pair k of a list.
+/// Returns pair `k` of a list.
 fn listed_at(pairs: &Vec<(u64, usize)>, k: usize) -> (u64, usize)
     requires { k < length pairs.now.items }
     ensures { slice_get pairs.now.items k ≡ Some (result.0, result.1) }

@@ -1,9 +1,9 @@
-//! What a check answers.
+//! The result of a check.
 
 use crate::typing::Typing;
 use om_types::fault::Fault;
 
-/// Whether a value has a type: with what justifies it, or with the least fault.
+/// The verdict on a value: `Yes` with the typing that justifies it, or `No` with the first fault.
 #[derive(Drop)]
 pub enum Verdict {
     Yes(Typing),

@@ -1,4 +1,4 @@
-//! The objects that a check has met, each at a type, in the order in which it meets them.
+//! The objects that a search has visited, each at a type, in the order of the visits.
 
 ghost use Rattle.std.specs.Prelude.{suc, ◌≡◌, ◌<◌, ◌^◌, ◌↔◌, ◌∷◌, [], length, All, Some, slice_get};
 ghost use Rattle.std.specs.Prelude.{slice_index, IfOk, OnOk, IsTrue};
@@ -12,8 +12,8 @@ use om_scan::{Cells, Classed};
 use om_type_table::TypeTable;
 use std::alloc::Global;
 
-/// An object at a type: a field, by its number, of the visit at `parent` leads to it. The first
-/// visit is the root's.
+/// An object at a type. Field `step` of the object of visit `parent` leads to it. The first visit
+/// is the visit of the root.
 #[derive(Clone, Copy)]
 pub struct Visit {
     pub object: u64,
@@ -26,13 +26,13 @@ pub struct Visit {
 #[derive(Drop)]
 pub struct Visits {
     pub all: Trail,
-    /// For each object one more than the type of its first visit, or 0.
+    /// For each object, one more than the type of its first visit, or 0 if it has not been visited.
     pub first: Cells,
-    /// What was met at a second class or a later one, with that class.
+    /// The objects that were visited at a second or later class, each with that class.
     pub later: Classed,
 }
 
-/// Whether a first visit, of which this is noted, is at this type.
+/// Returns true if the entry of `first` says that the first visit is at this type.
 #[inline(always)]
 pub fn is_at(first: u64, ty: usize) -> bool
     ensures { OnTrue result (first ≡ suc ty) }
@@ -41,7 +41,7 @@ pub fn is_at(first: u64, ty: usize) -> bool
 }
 
 impl Visits {
-    /// The visit of the root alone.
+    /// Creates the list with the visit of the root only. Fails with `Memory` if memory runs out.
     pub fn new(alloc: Global, objects: u64, table: &TypeTable, root: u64) -> Result<Visits, Memory>
         requires root { root < objects }
         requires rooted { 0 < length table.now.classes }
@@ -60,7 +60,7 @@ impl Visits {
         Ok(visits)
     }
 
-    /// No visit.
+    /// Creates a list without visits. Fails with `Memory` if memory runs out.
     pub fn none(alloc: Global) -> Result<Visits, Memory>
         ensures none { IfOk result (λ visits. listed visits ≡ []) }
     {
@@ -71,7 +71,7 @@ impl Visits {
         })
     }
 
-    /// How many there are.
+    /// Returns the number of visits.
     #[inline(always)]
     pub fn len(&self) -> usize
         ensures { result ≡ length (listed self.now) }
@@ -79,7 +79,7 @@ impl Visits {
         self.all.len()
     }
 
-    /// Whether there are more than k.
+    /// Returns true if there are more than `k` visits.
     #[inline(always)]
     pub fn has(&self, k: usize) -> bool
         ensures has { IsTrue result ↔ (k < length (listed self.now)) }
@@ -88,7 +88,7 @@ impl Visits {
         self.all.has(k)
     }
 
-    /// Visit k.
+    /// Returns visit `k`.
     #[inline(always)]
     pub fn get(&self, k: usize) -> Visit
         requires { k < length (listed self.now) }
@@ -97,7 +97,7 @@ impl Visits {
         self.all.get(k)
     }
 
-    /// One more than the type of an object's first visit, or 0.
+    /// Returns one more than the type of an object's first visit, or 0 if it has not been visited.
     #[inline(always)]
     pub fn first_at(&self, object: u64) -> u64
         requires { object < length self.now.first }
@@ -106,8 +106,8 @@ impl Visits {
         self.first.get(object as usize)
     }
 
-    /// Enters an object, of whose first visit this is noted, at a type, unless it was met at an
-    /// equal one.
+    /// Adds a visit of an object at a type, unless the object was visited at an equal type. `first`
+    /// is the object's entry. Fails with `Memory` if memory runs out.
     #[inline(always)]
     pub fn enter(
         &mut self,
@@ -140,8 +140,8 @@ impl Visits {
         self.enter_again(table, object, ty, parent, step, first)
     }
 
-    /// Enters an object that was met before, first at the type one below the number, unless it was
-    /// met at an equal one.
+    /// Adds a visit of an object that was visited before, unless it was visited at an equal type.
+    /// The type of its first visit is one below the number `first`.
     #[inline(never)]
     fn enter_again(
         &mut self,
@@ -176,7 +176,7 @@ impl Visits {
         Ok(())
     }
 
-    /// Puts a visit of an object at the end.
+    /// Appends a visit of an object.
     #[inline(always)]
     fn append(&mut self, object: u64, ty: usize, parent: usize, step: u64) -> Result<(), Memory>
         ensures all { OnOk result

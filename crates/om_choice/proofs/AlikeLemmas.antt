@@ -1,5 +1,5 @@
--- What is promised of a call by commands is promised by others that do the same for what its words
--- ask for.
+-- If two command sets agree on the requests that the arguments make, then the specification of a
+-- run by one of them implies that by the other.
 use Rattle.std.proofs.Common.{◌≡◌, ◌⊎◌, ◌++◌, ◌∷◌, ℕ, suc, List, [], Ok, Err, inl, inr, ap}
 use Rattle.std.specs.Prelude.{◌↔◌}
 use Rattle.om_edge.specs.State.{FilesState, Change, change}
@@ -12,7 +12,7 @@ use Rattle.om_promises.specs.Commands.{Item, Fetches, Given, Commands, Prepares,
 use Rattle.om_promises.specs.Promises.{IsOfOutcome, Promises}
 use Rattle.om_promises.specs.Outside.{IsUnsaid}
 
--- the same is said of an input, whether this or that is done
+-- The two tasks have the same outputs for an input.
 pub record IsAlike {A B : Type 0} (c : Commands A) (d : Commands B) (a : A) (b : B) : Type 0 where
   pub reads : c.Reads a ↔ d.Reads b
   pub first : (items : List Item) (bytes : List ℕ) (item : Item) (more : List ℕ)
@@ -24,7 +24,7 @@ pub record IsAlike {A B : Type 0} (c : Commands A) (d : Commands B) (a : A) (b :
   pub ends : (items : List Item) (bytes : List ℕ) (last : Reply)
       → c.Ends a items bytes last ↔ d.Ends b items bytes last
 
--- for these requests the same is wanted and found
+-- For these requests the sets request the same files and find tasks that agree.
 pub record AreAlike {A B : Type 0} (c : Commands A) (d : Commands B) (Asked : Request → Type 0)
     : Type 0 where
   pub wants : (request : Request) → Asked request → (files : Fetches) (turn : ℕ) (name : List ℕ)
@@ -170,9 +170,9 @@ module _ {A B : Type 0} (c : Commands A) (d : Commands B) where
       last = (same.ends [] [] all.last).0 h.last;
     })
 
-  -- ---- the words and the files
+  -- ---- the arguments and the files
 
-  -- the same files are wanted
+  -- The same files are requested.
   module _ (words : List (List ℕ))
       (wants : (request : Request) → Asks words request
       → (files : Fetches) (turn : ℕ) (name : List ℕ)
@@ -216,7 +216,7 @@ module _ {A B : Type 0} (c : Commands A) (d : Commands B) where
     }
 
   module _ (words : List (List ℕ)) (alike : AreAlike c d (Asks words)) where
-    -- the other does alike what is to be done
+    -- The other set finds a task that agrees.
     abbrev Alike : Fetches → A → Type 0
     Alike files a = (b : B) × IsAlike c d a b × Prepares d words files (Ok b)
 
@@ -232,7 +232,7 @@ module _ {A B : Type 0} (c : Commands A) (d : Commands B) where
     prepares_stop files s (Ok request, asks, h) =
         (Ok request, asks, (alike.stops request asks files s).0 h)
 
-    -- ---- the call
+    -- ---- the run
 
     module _ (call : Call) where
       may_be_too : (given : Given) → MayBe c words call given → MayBe d words call given

@@ -1,5 +1,5 @@
--- Commands that do what others do, with a part beside it, are lawful where the others are; and where
--- the words ask for no part, they promise what the others do.
+-- If commands are lawful, then the commands with an additional part are lawful. If the arguments
+-- determine no part, then the specifications of a run agree.
 use Rattle.std.proofs.Common.{◌≡◌, ◌⊎◌, ℕ, List, Result, Ok, Err, inl, inr, refl, sym, ap, ◌∙◌, subst}
 use Rattle.om_edge.specs.State.{FilesState, Change}
 use Rattle.om_outcome.specs.Outcome.{opened, whole, Request, Asks, ReadsFile}
@@ -14,7 +14,8 @@ use Rattle.om_choice.specs.Choice.{IsIdleAt, AreApart}
 use Rattle.om_choice.proofs.AlikeLemmas.{IsAlike, AreAlike, alike_back, wanted_fetches, account_too, promises_too}
 
 module _ {A B : Type 0} (part_by : Request → B) (c : Commands A) (d : Commands (B × A)) where
-  -- what is wanted and found is as for the others, and what is said of the input is as `d` has it
+  -- Files and tasks are those of the other commands, and the outputs for the input are those of
+  -- `d`.
   abbrev beside : Commands (B × A)
   beside = record {
     Wants = c.Wants;
@@ -26,7 +27,7 @@ module _ {A B : Type 0} (part_by : Request → B) (c : Commands A) (d : Commands
     Ends = d.Ends;
   }
 
-  -- ---- the words and the files
+  -- ---- the arguments and the files
 
   abbrev found : B → A → Result (B × A) Stop
   found part a = Ok (part, a)
@@ -63,7 +64,7 @@ module _ {A B : Type 0} (part_by : Request → B) (c : Commands A) (d : Commands
   by_wanted law request files others (Err s) same h =
       law.by_wanted request files others (Err s) same h
 
-  -- a file is read, or its stop is the result
+  -- A file is read, or its exit reason is the result.
   stop_there :
       {P : Type 0} (Fails : Stop → Type 0) (result : Result A Stop) (other : Result (B × A) Stop)
       → ((stop : Stop) → result ≡ Err stop → other ≡ Err stop)
@@ -111,7 +112,7 @@ module _ {A B : Type 0} (part_by : Request → B) (c : Commands A) (d : Commands
     from (inl inner) = inl inner
     from (inr f) = inr (fails request files stop f)
 
-  -- lawful where each act is
+  -- If each task is lawful, then the commands are.
   module _ (lawful_at : (part : B) (a : A) → AreLawfulAt c a → AreLawfulAt beside (part, a)) where
     at_act : AreLawful c → (act : B × A) → IsFound beside act → AreLawfulAt beside act
     at_act law (part, a) (request, files, (is, h)) =
@@ -165,7 +166,7 @@ module _ {A B : Type 0} (part_by : Request → B) (c : Commands A) (d : Commands
     from (inl none) = inl (idle_beside request none)
     from (inr none) = inr none
 
-  -- ---- no part is asked for
+  -- ---- the arguments determine no part
 
   module _ (words : List (List ℕ)) (IsNone : B → Type 0)
       (none : (request : Request) → Asks words request → IsNone (part_by request))

@@ -1,4 +1,4 @@
--- Two sets of lawful commands of which no request is for both are lawful as one.
+-- If two sets of lawful commands are disjoint, then their sum is lawful.
 use Rattle.std.proofs.Common.{◌≡◌, ◌⊎◌, ◌<◌, ℕ, List, Result, Ok, Err, inl, inr, ap}
 use Rattle.om_outcome.specs.Outcome.{opened, whole, Request, ReadsFile}
 use Rattle.om_outcome.specs.declared.stop.Stop.{Stop}
@@ -6,7 +6,7 @@ use Rattle.om_promises.specs.Commands.{Fetches, Commands}
 use Rattle.om_promises.specs.Lawful.{IsOnce, IsInner, IsWhole, FailsAtFile, IsFound, AreLawfulAt, AreLawful, AreInTurns}
 use Rattle.om_choice.specs.Choice.{Wants, Finds, choice, IsIdleAt, AreApart}
 
--- a stop of the one is one of both
+-- An exit reason of one set is one of the sum.
 stop_of : {A B : Type 0} (s stop : Stop) → ◌≡◌ {A = Result A Stop} (Err s) (Err stop) → ◌≡◌ {A = Result B Stop} (Err s) (Err stop)
 stop_of s stop e = let same : s ≡ stop = cc e in ap (λ s. Err s) same
 
@@ -14,7 +14,7 @@ module _ {A B : Type 0} (c : Commands A) (d : Commands B) (apart : AreApart c d)
   abbrev both : Commands (A ⊎ B)
   both = choice c d
 
-  -- a request is not for both
+  -- A request does not belong to both sets.
   not_wanted : {P : Type 0} (request : Request) (files others : Fetches) (turn later : ℕ) (name other : List ℕ)
       → c.Wants request files turn name → d.Wants request others later other → P
   not_wanted {P} request files others turn later name other w v = from (apart request) where
@@ -43,7 +43,7 @@ module _ {A B : Type 0} (c : Commands A) (d : Commands B) (apart : AreApart c d)
     from (inl idle) = absurd (idle.unwanted others turn name w)
     from (inr idle) = absurd (idle.unfound files s h)
 
-  -- a file that is read, or stops the run
+  -- A file is read, or it ends the run.
   abbrev Read : {X : Type 0} → Type 0 → List ℕ → Fetches → ℕ → Result X Stop → Type 0
   Read Held name files turn result =
       Held ⊎ ((stop : Stop) × ReadsFile name (files turn name) (Err stop) × (result ≡ Err stop))

@@ -1,4 +1,4 @@
--- Each of two sets of commands does the same as both, for words that ask for nothing of the other.
+-- If the arguments request nothing of the other set, then each set agrees with the sum.
 use Rattle.std.proofs.Common.{◌⊎◌, ℕ, List, Result, Ok, Err, inl, inr}
 use Rattle.om_outcome.specs.Outcome.{Request, Asks}
 use Rattle.om_outcome.specs.declared.stop.Stop.{Stop}
@@ -35,7 +35,7 @@ module _ {A B : Type 0} (c : Commands A) (d : Commands B) where
     from (inl idle) (inr other) = inr other
     from (inl idle) (inl other) = inl (idle_together request idle other)
 
-  -- what is done by the one is done by both
+  -- A task of the first set agrees with the same task of the sum.
   first_same : (a : A) → IsAlike c (choice c d) a (inl a)
   first_same a = record {
     reads = (λ h. h, λ h. h);

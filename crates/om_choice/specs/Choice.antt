@@ -1,4 +1,4 @@
--- Two sets of commands as one: a request is for one of them.
+-- The sum of two command sets: a request belongs to one of them.
 use Rattle.std.specs.Prelude.{ℕ, ◌⊎◌, List, Result, Ok, Err}
 use Rattle.std.proofs.Common.{inl, inr}
 use Rattle.om_outcome.specs.Outcome.{Request, Asks, Said, Reply}
@@ -39,7 +39,7 @@ module _ {A B : Type 0} (c : Commands A) (d : Commands B) where
   Ends (inl a) = c.Ends a
   Ends (inr b) = d.Ends b
 
-  -- what the one or the other does
+  -- The commands of both sets.
   abbrev pub choice : Commands (A ⊎ B)
   choice = record {
     Wants = Wants;
@@ -51,37 +51,38 @@ module _ {A B : Type 0} (c : Commands A) (d : Commands B) where
     Ends = Ends;
   }
 
--- nothing is wanted or found for the request
+-- The command set ignores the request: it requests no file and finds no task.
 pub record IsIdleAt {A : Type 0} (c : Commands A) (request : Request) : Type 0 where
   pub unwanted : (files : Fetches) (turn : ℕ) (name : List ℕ)
       → c.Wants request files turn name → ⊥
   pub unfound : (files : Fetches) (result : Result A Stop) → c.Finds request files result → ⊥
 
--- no request is for both
+-- The sets are disjoint: no request belongs to both.
 abbrev pub AreApart : {A B : Type 0} → Commands A → Commands B → Type 0
 AreApart c d = (request : Request) → IsIdleAt c request ⊎ IsIdleAt d request
 
--- the words ask for nothing of these commands
+-- The arguments request nothing of these commands.
 abbrev pub AskNothingOf : {A : Type 0} → Commands A → List (List ℕ) → Type 0
 AskNothingOf c words = (request : Request) → Asks words request → IsIdleAt c request
 
 module _ {A B : Type 0} (c : Commands A) (d : Commands B) where
-  -- what is wanted and found by neither is wanted and found by no choice
+  -- If both sets ignore a request, then the sum ignores it.
   abbrev pub AreIdleTogether : Type 0
   AreIdleTogether = (request : Request) → IsIdleAt c request → IsIdleAt d request
       → IsIdleAt (choice c d) request
 
-  -- where the words ask for nothing of the second, an account by the first is one by both
+  -- If the arguments request nothing of the second set, then an account by the first set is an
+  -- account by the sum.
   abbrev pub HaveAccountsOfFirst : Type 0
   HaveAccountsOfFirst = (words : List (List ℕ)) (call : Call) → AskNothingOf d words
       → Account c words call → Account (choice c d) words call
 
-  -- and what both promise is promised by the first
+  -- In this case, the specification by the sum implies the specification by the first set.
   abbrev pub PromiseAsFirst : Type 0
   PromiseAsFirst = (words : List (List ℕ)) (call : Call) → AskNothingOf d words
       → Promises (choice c d) words call → Promises c words call
 
-  -- the same where the words ask for nothing of the first
+  -- If the arguments request nothing of the first set, then the second set has both properties.
   abbrev pub HaveAccountsOfSecond : Type 0
   HaveAccountsOfSecond = (words : List (List ℕ)) (call : Call) → AskNothingOf c words
       → Account d words call → Account (choice c d) words call

@@ -1,6 +1,7 @@
-//! Two sets of commands as one, so that a command has its definitions, its laws and its own type of
-//! what may be done in crates of its own. These are definitions, and the laws on them: nothing here
-//! does anything.
+//! Combines two command sets into one, so that each command can have its definitions, its theorems
+//! and its own type of tasks in a separate crate. Proves that the sum of disjoint lawful sets is
+//! lawful (`choices_are_lawful`), and that a request behaves as in the set to which it belongs.
+//! Nothing here does anything.
 #![tactic(auto)]
 
 pub mod laws;

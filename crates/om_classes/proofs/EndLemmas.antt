@@ -1,4 +1,4 @@
--- The start of a parting, and its end.
+-- The initial and the final state of the refinement.
 use Rattle.std.proofs.Common.{ℕ, zero, suc, ◌<◌, ◌≤◌, ◌+◌, ◌≡◌, ◌∙◌, ⊎_elim, ◌⊎◌, inl, inr, List, [], ◌∷◌, ◌++◌, Some, refl, sym, ap, subst, length, get_or, arith}
 use Rattle.std.specs.Prelude.{Contains, slice_get, slice_index, All}
 use Rattle.std.specs.Global.{Vec}
@@ -61,7 +61,7 @@ ended all forms class are parts parted = record {
   at : (i : ℕ) → i < length all → slice_get class i ≡ Some (slice_index class i)
   at i below = slice_get-get_or class i 0 (subst (λ n. i < n) many below)
 
--- where nothing is to be done, each number has the sign of its class
+-- If `todo` is empty, then each number has the signature of its class.
 pub none_waits : (forms : List Form) (class : List ℕ) (signs members waiting : List (Vec ℕ)) (todo : List ℕ)
     → IsUnderWay forms class signs members waiting todo → todo ≡ [] → KeepsEqual forms class → IsParted forms class
 none_waits forms class signs members waiting todo under none keeps = record {
@@ -138,7 +138,7 @@ pub keeps_then : (forms : List Form) (old new : List ℕ) → KeepsEqual forms o
     → KeepsEqual forms new
 keeps_then forms old new keeps parts all are below = parts all are below (keeps all are below)
 
--- ---- a class is taken, and parted
+-- ---- a class is taken and split
 
 pub opened : (forms : List Form) (class : List ℕ) (signs members waiting new : List (Vec ℕ)) (todo taken : List ℕ) (c : ℕ)
     → IsUnderWay forms class signs members waiting (todo ++ c ∷ []) → IsTaken waiting c taken new
@@ -229,7 +229,7 @@ module _ (forms : List Form) (users : List (Vec ℕ)) (o w : List ℕ) (signs si
     ready = ready;
   }
 
--- more rooms leave what is to be done
+-- Adding empty lists preserves `IsReady`.
 pub ready_rooms : (waiting new : List (Vec ℕ)) (todo : List ℕ) (many : ℕ) → IsReady waiting todo → HasRooms waiting many new
     → length waiting ≤ many → IsReady new todo
 ready_rooms waiting new todo many ready more longer = record {
@@ -249,7 +249,7 @@ settled_as forms o o' signs signs' waited c is is_signs settled =
     (subst (λ l. (i : ℕ) → i < length o → slice_index o i ≡ c → Contains waited i
     ⊎ ((s : List ℕ) × SignAt l c s × IsSignOf forms (slice_index o) i s)) (sym is_signs) settled)
 
--- the members of a class are in its list
+-- The members of a class are in its list.
 pub members_there : (o o' : List ℕ) (members : List (Vec ℕ)) (c : ℕ) (v : Vec ℕ) (list : List ℕ) → o' ≡ o
     → slice_get members c ≡ Some v → list ≡ v.items → ((i : ℕ) → i < length o → Has members (slice_index o i) i)
     → (i : ℕ) → i < length o' → slice_index o' i ≡ c → Contains list i

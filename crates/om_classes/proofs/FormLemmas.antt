@@ -1,4 +1,4 @@
--- Forms stay what they are where names are added.
+-- Forms stay valid if names are added.
 use Rattle.std.proofs.Common.{ℕ, ◌<◌, ◌≡◌, ◌∙◌, ◌+◌, ⊎_elim, List, [], ◌∷◌, ◌++◌, sym, length, take, get_or}
 use Rattle.std.specs.List.{AllZip}
 use Rattle.std.proofs.lemmas.List.{append-nil, take_more}
@@ -20,7 +20,7 @@ AllZip-more P Q more (a ∷ as') [] all = absurd all
 AllZip-more P Q more (a ∷ as') (b ∷ bs) all =
     (more a b all.0, AllZip-more P Q more as' bs all.1)
 
--- one more element of the first list, with what stands for it
+-- Extends the relation by one more element of the first list and its partner.
 pub AllZip-next : {A B : Type 0} (R : A → B → Type 0) (xs : List A) (i : ℕ) (ys new : List B) (x : A) (y : B)
     → i < length xs → AllZip R (take i xs) ys → x ≡ get_or xs i x → R x y → new ≡ ys ++ y ∷ []
     → AllZip R (take (i + 1) xs) new

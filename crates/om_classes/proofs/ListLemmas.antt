@@ -1,4 +1,4 @@
--- Lists of numbers, one for each class or for each number.
+-- Lists of numbers, one list for each class or for each number.
 use Rattle.std.proofs.Common.{ℕ, ◌<◌, ◌+◌, ◌≡◌, ◌≢◌, ◌∙◌, ⊎_elim, ◌⊎◌, inl, inr, List, [], ◌∷◌, ◌++◌, Some, refl, sym, ap, subst, length, length-append, get_or, take, set}
 use Rattle.std.specs.Prelude.{Contains, slice_get, slice_index}
 use Rattle.std.specs.Global.{Vec}
@@ -11,7 +11,7 @@ use Rattle.om_model.proofs.Lists.{slice_get-append_left, slice_get-set_other, sl
 use Rattle.om_classes.specs.Lists.{Has, Keeps, IsPut, IsTaken, HasRooms, IsOfClass, IsShorter, KeepsMembers}
 use Rattle.om_classes.specs.Sign.{IsSetOf}
 
--- ---- an element that is replaced
+-- ---- replacing an element
 
 module _ (lists : List (Vec ℕ)) (at : ℕ) (v w : Vec ℕ) (below : at < length lists) (is : v ≡ get_or lists at v) where
   at_read : slice_get lists at ≡ Some v
@@ -77,7 +77,7 @@ pub members_shorter : (class : List ℕ) (wanted : ℕ) (old new : List (Vec ℕ
     → KeepsMembers class old new
 members_shorter class wanted old new is = record { many = is.many; kept = is.kept }
 
--- ---- lists with nothing
+-- ---- empty lists
 
 pub room_more : (old now new : List (Vec ℕ)) (w : Vec ℕ) (count : ℕ) → HasRooms old count now → w.items ≡ []
     → new ≡ now ++ w ∷ [] → HasRooms old (count + 1) new

@@ -1,4 +1,4 @@
--- What is looked at of a class.
+-- The inspected members of a class.
 use Rattle.std.proofs.Common.{ℕ, ◌<◌, ◌≡◌, ◌∙◌, ⊎_elim, ◌⊎◌, inl, inr, List, Some, sym, ap, subst, length, get_or}
 use Rattle.std.specs.Prelude.{Contains, slice_get, slice_index, All}
 use Rattle.std.specs.Global.{Vec}

@@ -1,4 +1,4 @@
--- What each turn of the loops over numbers keeps.
+-- Preservation of the invariants of the loops over numbers.
 use Rattle.std.proofs.Common.{ℕ, zero, suc, ◌<◌, ◌+◌, ◌≤◌, ◌≡◌, ◌≢◌, ◌∙◌, ⊎_elim, ◌⊎◌, inl, inr, List, [], ◌∷◌, ◌++◌, Some, refl, sym, ap, subst, length, length-append, get_or, take, set, arith}
 use Rattle.std.specs.Prelude.{Contains, slice_get, slice_index, false, ◌==◌}
 use Rattle.std.specs.Global.{Vec}
@@ -29,7 +29,7 @@ pub only_one : (P : ℕ → Type 0) (x k : ℕ) → P x → Contains (x ∷ []) 
 only_one P x k holds among = ⊎_elim (λ here. subst P here holds) (λ later. absurd (Contains-none k later))
     (Contains-cases x [] k among)
 
--- users of more parts
+-- The invariant for more parts.
 pub uses_more : (old now new : List (Vec ℕ)) (parts more all : List ℕ) (user : ℕ) → UsesSoFar old now parts user
     → Keeps now new → ((k : ℕ) → Contains more k → k < length now → Has new k user) → all ≡ parts ++ more
     → UsesSoFar old new all user
@@ -66,7 +66,7 @@ users_more forms i form now new held is keeps added = record {
   less : {j : ℕ} → j ≢ i → j < i + 1 → j < i
   less other below = omega arith
 
--- ---- what waits
+-- ---- pending numbers
 
 pub ready_put : (old new : List (Vec ℕ)) (todo : List ℕ) (class number : ℕ) → IsReady old todo → Contains todo class
     → IsPut old class number new → IsReady new todo
@@ -84,7 +84,7 @@ ready_more waiting todo new class ready within is = record {
       (Contains-push_cases todo class d (subst (λ l. Contains l d) is among));
 }
 
--- a list that is not empty has a number
+-- If the list of a class is not empty, then the class is in `todo`.
 pub not_empty : (waiting : List (Vec ℕ)) (todo : List ℕ) (class : ℕ) (v : Vec ℕ) → IsReady waiting todo
     → slice_get waiting class ≡ Some v → 0 < length v.items → Contains todo class
 not_empty waiting todo class v ready is some =
@@ -153,7 +153,7 @@ members_more old now new class left looked i within held keeps added = record {
       (next_cases looked i j within among);
 }
 
--- ---- names of places
+-- ---- classes of signatures
 
 pub named_none : (found : List (List ℕ)) (parted kept : ℕ) (numbers : List ℕ) (old : List (Vec ℕ)) → numbers ≡ []
     → NamedSoFar found parted kept 0 numbers old old

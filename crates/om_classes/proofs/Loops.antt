@@ -1,4 +1,4 @@
--- What the loops over heads and tags keep.
+-- Invariants of the loops over heads and tags.
 use Rattle.std.proofs.Common.{ℕ, ◌<◌, ◌≡◌, List, Some, length}
 use Rattle.std.specs.Prelude.{slice_get, slice_index, Contains}
 use Rattle.std.specs.Global.{Vec}
@@ -13,50 +13,50 @@ use Rattle.om_classes.specs.Lists.{Has, Keeps}
 use Rattle.om_classes.specs.Users.{parts_in}
 use Rattle.om_classes.specs.Parting.{IsReady, MarksUsers, AreSigned, HasMembers}
 
--- the tags so far have forms, by numbers of names that are old ones and new ones
+-- The tags so far have forms. The names are the old names and possibly new ones.
 pub record TagsSoFar (old names : List (List ℕ)) (tags : List (TagOf ℕ)) (forms : List TagForm) : Type 0 where
   pub grown : Grows old names
   pub distinct : AreDistinct names
   pub are : AreTagForms names tags forms
 
--- the heads so far have forms
+-- The heads so far have forms.
 pub record FormsSoFar (names : List (List ℕ)) (all : List (HeadOf ℕ)) (forms : List Form) : Type 0 where
   pub distinct : AreDistinct names
   pub are : AllZip (IsForm names) all forms
 
--- the parts so far have a user more
+-- The parts so far have the additional user.
 pub record UsesSoFar (old now : List (Vec ℕ)) (parts : List ℕ) (user : ℕ) : Type 0 where
   pub keeps : Keeps old now
   pub has : (k : ℕ) → Contains parts k → k < length old → Has now k user
 
--- the forms so far have used their parts
+-- The forms so far are registered as users of their parts.
 pub record UsersSoFar (forms : List Form) (below : ℕ) (users : List (Vec ℕ)) : Type 0 where
   pub many : length users ≡ length forms
   pub has :
       (i k : ℕ) (form : Form) → i < below → slice_get forms i ≡ Some form → Contains (parts_in form) k
       → k < length forms → Has users k i
 
--- the numbers so far wait
+-- The numbers so far are pending.
 pub record MarksSoFar (old now : List (Vec ℕ)) (todo class numbers : List ℕ) : Type 0 where
   pub keeps : Keeps old now
   pub ready : IsReady now todo
   pub marked : (u : ℕ) → Contains numbers u → Has now (slice_index class u) u
 
--- the users of the numbers so far wait
+-- The users of the numbers so far are pending.
 pub record UserMarksSoFar (old now : List (Vec ℕ)) (todo class : List ℕ) (users : List (Vec ℕ)) (left : ℕ)
     (looked : List ℕ) : Type 0 where
   pub keeps : Keeps old now
   pub ready : IsReady now todo
   pub marked : MarksUsers class users left looked now
 
--- the numbers so far have places
+-- The numbers so far have indices of signatures.
 pub record SignedSoFar (forms : List Form) (class : List ℕ) (old found : List (List ℕ)) (looked places : List ℕ)
     : Type 0 where
   pub grown : Grows old found
   pub distinct : AreDistinct found
   pub are : AreSigned forms (slice_index class) found looked places
 
--- the numbers so far are members
+-- The numbers so far are members.
 pub record MembersSoFar (old now : List (Vec ℕ)) (class : List ℕ) (left : ℕ) (looked : List ℕ) : Type 0 where
   pub keeps : Keeps old now
   pub has : HasMembers class left looked now

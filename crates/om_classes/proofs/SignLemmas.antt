@@ -1,4 +1,4 @@
--- Two heads say the same of classes exactly where they agree, with parts of one class each.
+-- Two heads have the same signature if and only if they agree, with parts of the same classes.
 use Rattle.std.proofs.Common.{ℕ, ◌<◌, ◌+◌, ◌*◌, ◌≡◌, ◌∙◌, ⊎_elim, List, [], ◌∷◌, ◌++◌, Option, Some, None, refl, sym, ap, subst, map, arith}
 use Rattle.std.specs.Prelude.{Contains, slice_get}
 use Rattle.std.specs.List.{AllZip}
@@ -19,7 +19,7 @@ use Rattle.om_classes.specs.Form.{code_of, IsTagForm, AreTagForms, IsPlain, IsTa
 use Rattle.om_classes.specs.Sign.{IsSetOf, offset, IsCode, AreCodes, IsSign}
 use Rattle.om_classes.proofs.SetLemmas.{same_sets}
 
--- ---- lists in step
+-- ---- lists related element by element
 
 module _ {A B : Type 0} (R : A → B → Type 0) where
   pub AllZip-there : (xs : List A) (ys : List B) → AllZip R xs ys → (x : A) → Contains xs x
@@ -113,7 +113,7 @@ module _ (names : List (List ℕ)) (distinct : AreDistinct names) (class : ℕ �
   from_arguments (Some a) None agree = absurd agree
   from_arguments (Some a) (Some b) agree = ap (λ k. k + 1) agree
 
-  -- the code is that of the tag
+  -- The code is the code of the tag.
   record Says (tag : TagOf ℕ) (code : ℕ) : Type 0 where
     form : TagForm
     named : IsTagForm names tag form
@@ -142,7 +142,7 @@ module _ (names : List (List ℕ)) (distinct : AreDistinct names) (class : ℕ �
       one.coded.is ∙ ap (λ n. n * WIDTH + offset class one.form.argument) name
       ∙ ap (λ o. two.form.name * WIDTH + o) far ∙ sym two.coded.is
 
-  -- the set has a code of each tag and no others
+  -- The set contains exactly the codes of the tags.
   record Tells (tags : List (TagOf ℕ)) (set : List ℕ) : Type 0 where
     codes : List ℕ
     once : IsSetOf codes set
@@ -192,7 +192,7 @@ module _ (names : List (List ℕ)) (distinct : AreDistinct names) (class : ℕ �
 
   -- ---- heads
 
-  -- what the sign is, by the head
+  -- The signature, by cases on the head.
   abbrev Told : HeadOf ℕ → List ℕ → Type 0
   Told (heads.Variable name) s = (k : ℕ) × (slice_get names k ≡ Some name) × (s ≡ 0 ∷ k ∷ [])
   Told (heads.Predeclared base ts) s = s ≡ 1 ∷ code_of base ∷ map class ts
@@ -296,13 +296,13 @@ module _ (names : List (List ℕ)) (distinct : AreDistinct names) (class : ℕ �
   from_heads heads.Absent heads.Absent s t agree one two = one ∙ sym two
   from_heads head other s t agree one two = absurd agree
 
-  -- heads that say the same agree
+  -- If two heads have the same signature, then they agree.
   pub agree_from_sign : (head other : HeadOf ℕ) (form form' : Form) (s : List ℕ) → IsForm names head form
       → IsForm names other form' → IsSign class form s → IsSign class form' s → HeadsAgree Same head other
   agree_from_sign head other form form' s is is' one two =
       heads_from head other s (told head form s is one) (told other form' s is' two)
 
-  -- and say the same where they agree
+  -- If two heads agree, then they have the same signature.
   pub sign_from_agree : (head other : HeadOf ℕ) (form form' : Form) (s t : List ℕ) → IsForm names head form
       → IsForm names other form' → IsSign class form s → IsSign class form' t → HeadsAgree Same head other → s ≡ t
   sign_from_agree head other form form' s t is is' one two agree =

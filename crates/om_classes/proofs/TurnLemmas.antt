@@ -1,4 +1,5 @@
--- A class that is parted: no two equal numbers are parted, and each number waits or has the sign of its class.
+-- Splitting a class separates no two equal numbers. Afterwards each number is pending or has the
+-- signature of its class.
 use Rattle.std.proofs.Common.{ℕ, zero, suc, ◌<◌, ◌+◌, ◌*◌, ◌≡◌, ◌≢◌, ◌∙◌, ⊎_elim, ◌⊎◌, inl, inr, List, [], ◌∷◌, ◌++◌, Option, Some, None, refl, sym, ap, subst, length, map, arith}
 use Rattle.std.specs.Prelude.{Contains, slice_get, slice_index}
 use Rattle.std.specs.Global.{Vec}
@@ -25,7 +26,7 @@ use Rattle.om_classes.specs.Lists.{Has}
 use Rattle.om_classes.specs.Parting.{IsSignOf, SignAt, SignedAt, AreNamed, AreMoved, IsLook, MarksUsers, HasMembers}
 use Rattle.om_classes.proofs.SignLemmas.{agree_from_sign, sign_from_agree}
 
--- ---- lists in step
+-- ---- lists related element by element
 
 pub AllZip-at : {A B : Type 0} (R : A → B → Type 0) (xs : List A) (ys : List B) (k : ℕ) (x : A) (y : B) → AllZip R xs ys
     → slice_get xs k ≡ Some x → slice_get ys k ≡ Some y → R x y
@@ -67,7 +68,7 @@ module _ (all : List (HeadOf ℕ)) (forms : List Form) (are : AreForms all forms
       s t (form_at are.names all forms i one.0 are.are one.1) (form_at are.names all forms j two.0 are.are two.1)
       one.2 two.2 agree
 
--- ---- signs of unchanged parts
+-- ---- signatures of unchanged parts
 
 module _ (old new : ℕ → ℕ) where
   abbrev Unchanged : List ℕ → Type 0
@@ -122,7 +123,7 @@ module _ (old new : ℕ → ℕ) where
 module _ (forms : List Form) (o w : List ℕ) (c : ℕ) (look : Look) (numbers : List ℕ) (old new : List (Vec ℕ))
     (is_look : IsLook forms o c look) (named : AreNamed look.found c look.kept numbers old new)
     (moved : AreMoved look.looked.items look.places.items numbers (length look.looked.items) o w) where
-  -- the number's new class is that of its sign
+  -- The new class of the number is the class of its signature.
   abbrev Fits : ℕ → Type 0
   Fits i = (p : ℕ) × (s : List ℕ) × (slice_get look.found p ≡ Some s) × (slice_get numbers p ≡ Some (slice_index w i))
       × IsSignOf forms (slice_index o) i s
@@ -164,7 +165,7 @@ module _ (forms : List Form) (o w : List ℕ) (c : ℕ) (look : Look) (numbers :
   within_new within i = ⊎_elim (λ placed. (named.fresh placed.place (slice_index w i) placed.named).1)
       (λ never. omega (arith, within i, never.1, named.more)) (moved i)
 
-  -- numbers whose heads agree stay together
+  -- If the heads of two numbers agree, then they stay together.
   module _ (all : List (HeadOf ℕ)) (are : AreForms all forms) (many : length all ≡ length o) where
     abbrev Together : ℕ → ℕ → Type 0
     Together = AreTogether (length all) (slice_index o)
@@ -191,7 +192,7 @@ module _ (forms : List Form) (o w : List ℕ) (c : ℕ) (look : Look) (numbers :
         → KeepsTogether (length all) (head_at all) (slice_index w)
     keeps_new parts = split_keeps (length all) (head_at all) parts (slice_index o) (slice_index w) together
 
-  -- each number waits or has the sign of its class
+  -- Each number is pending or has the signature of its class.
   module _ (users waiting now : List (Vec ℕ)) (many : length o ≡ length forms) (uses : AreUsers forms users)
       (kept : (d y : ℕ) → Has waiting d y → Has now d y) (marked : MarksUsers w users c look.looked.items now)
       (settled : (i : ℕ) → i < length o → slice_index o i ≢ c → Has waiting (slice_index o i) i
@@ -236,7 +237,7 @@ module _ (forms : List Form) (o w : List ℕ) (c : ℕ) (look : Look) (numbers :
                   (same_Some form.0 sign.0 (sym form.1 ∙ sign.1)) same) sign.2,
             )
 
-  -- each number is a member of its class
+  -- Each number is a member of its class.
   pub has_new : (members now : List (Vec ℕ)) → ((d y : ℕ) → Has members d y → Has now d y)
       → HasMembers w c look.looked.items now → ((i : ℕ) → i < length o → Has members (slice_index o i) i)
       → (i : ℕ) → i < length o → Has now (slice_index w i) i

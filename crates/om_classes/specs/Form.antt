@@ -1,4 +1,4 @@
--- Heads whose names are numbers.
+-- Heads whose names are replaced by numbers.
 use Rattle.std.specs.Prelude.{ℕ, ◌≡◌, List, [], ◌∷◌, Some, slice_get}
 use Rattle.std.specs.List.{AllZip}
 use Rattle.om_types.specs.declared.decl.Predeclared.{Predeclared}
@@ -28,7 +28,7 @@ code_of bases.Array = 13
 code_of bases.Ref = 14
 code_of bases.Any = 15
 
--- the tag by the number of its name
+-- The form of a tag has the number of its name and the same argument.
 pub record IsTagForm (names : List (List ℕ)) (tag : TagOf ℕ) (form : TagForm) : Type 0 where
   pub name : slice_get names form.name ≡ Some tag.name
   pub argument : tag.argument ≡ form.argument
@@ -36,24 +36,25 @@ pub record IsTagForm (names : List (List ℕ)) (tag : TagOf ℕ) (form : TagForm
 abbrev pub AreTagForms : List (List ℕ) → List (TagOf ℕ) → List TagForm → Type 0
 AreTagForms names = AllZip (IsTagForm names)
 
--- the form has no tags, and says this besides these parts
+-- The form has this label, these parts and no tags.
 pub record IsPlain (says ts : List ℕ) (form : Form) : Type 0 where
   pub label : form.label ≡ says
   pub parts : form.parts ≡ ts
   pub tags : form.tags ≡ []
 
--- the form has a number for the name, and is plain with it
+-- The label of the form is the kind and a number for the name; the form has these parts and no
+-- tags.
 abbrev pub IsNamed : List (List ℕ) → ℕ → List ℕ → List ℕ → Form → Type 0
 IsNamed names kind name parts form =
     (number : ℕ) × (slice_get names number ≡ Some name) × IsPlain (kind ∷ number ∷ []) parts form
 
--- the form has these tags alone
+-- The form has only these tags.
 pub record IsTagged (names : List (List ℕ)) (all : List (TagOf ℕ)) (form : Form) : Type 0 where
   pub label : form.label ≡ 4 ∷ []
   pub parts : form.parts ≡ []
   pub tags : AreTagForms names all form.tags
 
--- the head by the numbers of its names
+-- The form of a head. `names` maps the numbers to names.
 abbrev pub IsForm : List (List ℕ) → HeadOf ℕ → Form → Type 0
 IsForm names (heads.Variable name) form = IsNamed names 0 name [] form
 IsForm names (heads.Predeclared base parts) form = IsPlain (1 ∷ code_of base ∷ []) parts form
@@ -62,7 +63,7 @@ IsForm names (heads.Tuple parts) form = IsPlain (3 ∷ []) parts form
 IsForm names (heads.Variants tags) form = IsTagged names tags form
 IsForm names heads.Absent form = IsPlain (5 ∷ []) [] form
 
--- one by one they are, by numbers of the same names
+-- These are the forms of the heads, in order. All use the same numbering of names.
 pub record AreForms (all : List (HeadOf ℕ)) (forms : List Form) : Type 0 where
   pub names : List (List ℕ)
   pub distinct : AreDistinct names

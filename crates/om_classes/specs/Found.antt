@@ -4,7 +4,7 @@ use Rattle.om_types.specs.declared.head.HeadOf.{HeadOf}
 use Rattle.om_types.specs.Table.{head_at}
 use Rattle.om_types.specs.Equal.{EqualBy}
 
--- numbers have one class exactly where they are equal
+-- Two numbers have the same class if and only if they are equal.
 pub record AreClasses (all : List (HeadOf ℕ)) (found : List ℕ) : Type 0 where
   pub many : length found ≡ length all
   pub same :

@@ -1,4 +1,4 @@
--- Numbers that are parted into classes, one class at a time.
+-- Partition refinement, one class at a time.
 use Rattle.std.specs.Prelude.{ℕ, ◌≡◌, ◌≢◌, ◌<◌, ◌≤◌, ◌⊎◌, List, length, Some, slice_get}
 use Rattle.std.specs.Prelude.{slice_index, Contains}
 use Rattle.std.specs.List.{AllZip}
@@ -13,40 +13,40 @@ use Rattle.om_classes.specs.declared.form.Form.{Form}
 use Rattle.om_classes.specs.Lists.{Has}
 use Rattle.om_classes.specs.Sign.{IsSign}
 
--- ---- what waits
+-- ---- pending numbers
 
--- each class with something that waits is to be done
+-- Each class with pending numbers is in `todo`.
 pub record IsReady (waiting : List (Vec ℕ)) (todo : List ℕ) : Type 0 where
   pub has : (d y : ℕ) → Has waiting d y → Contains todo d
   pub within : (d : ℕ) → Contains todo d → d < length waiting
 
--- the users of those of the numbers that left the class wait
+-- If an inspected number left the class, then its users are pending.
 abbrev pub MarksUsers : List ℕ → List (Vec ℕ) → ℕ → List ℕ → List (Vec ℕ) → Type 0
 MarksUsers class users left looked waiting =
     (i u : ℕ) → Contains looked i → slice_index class i ≢ left → Has users i u
     → Has waiting (slice_index class u) u
 
--- ---- signs
+-- ---- signatures
 
--- the sign of a number is this
+-- The signature of number `i` is `s`.
 abbrev pub IsSignOf : List Form → (ℕ → ℕ) → ℕ → List ℕ → Type 0
 IsSignOf forms class i s = (form : Form) × (slice_get forms i ≡ Some form) × IsSign class form s
 
--- the class has this sign
+-- The signature of class `d` is `s`.
 abbrev pub SignAt : List (Vec ℕ) → ℕ → List ℕ → Type 0
 SignAt signs d s = (v : Vec ℕ) × (slice_get signs d ≡ Some v) × (v.items ≡ s)
 
--- the sign at this place is that of the number
+-- The signature at index `p` is the signature of number `i`.
 abbrev pub SignedAt : List Form → (ℕ → ℕ) → List (List ℕ) → ℕ → ℕ → Type 0
 SignedAt forms class found i p =
     (s : List ℕ) × (slice_get found p ≡ Some s) × IsSignOf forms class i s
 
--- each number has the place of its sign
+-- Each number is paired with the index of its signature.
 abbrev pub AreSigned : List Form → (ℕ → ℕ) → List (List ℕ) → List ℕ → List ℕ → Type 0
 AreSigned forms class found = AllZip (SignedAt forms class found)
 
--- Each place has a class of its sign. The kept place has the class that is parted, and the others
--- have new ones.
+-- Each index has a class with its signature. The kept index has the class that is split. The others
+-- have new classes.
 pub record AreNamed (found : List (List ℕ)) (parted kept : ℕ) (numbers : List ℕ)
     (old new : List (Vec ℕ)) : Type 0 where
   pub many : length numbers ≡ length found
@@ -58,7 +58,7 @@ pub record AreNamed (found : List (List ℕ)) (parted kept : ℕ) (numbers : Lis
   pub kept_is : (d : ℕ) → slice_get numbers kept ≡ Some d → d ≡ parted
   pub others : (d : ℕ) (s : List ℕ) → d ≢ parted → SignAt old d s → SignAt new d s
 
--- the places before this one have classes
+-- The indices below `below` have classes.
 pub record NamedSoFar (found : List (List ℕ)) (parted kept below : ℕ) (numbers : List ℕ)
     (old new : List (Vec ℕ))
     : Type 0 where
@@ -71,7 +71,7 @@ pub record NamedSoFar (found : List (List ℕ)) (parted kept below : ℕ) (numbe
 
 -- ---- moves
 
--- some place of the number has this class
+-- Some index of number `i`, before position `below`, has class `d`.
 pub record IsPlaced (looked places numbers : List ℕ) (below i d : ℕ) : Type 0 where
   pub at : ℕ
   pub place : ℕ
@@ -80,23 +80,23 @@ pub record IsPlaced (looked places numbers : List ℕ) (below i d : ℕ) : Type 
   pub placed : slice_get places at ≡ Some place
   pub named : slice_get numbers place ≡ Some d
 
--- of the numbers before this one each has the class of its place, and the others have the class
--- that they had
+-- Each of the inspected numbers before position `below` has the class of its index. All other
+-- numbers have their old class.
 abbrev pub AreMoved : List ℕ → List ℕ → List ℕ → ℕ → List ℕ → List ℕ → Type 0
 AreMoved looked places numbers below old new =
     (i : ℕ) → IsPlaced looked places numbers below i (slice_index new i)
     ⊎ (((k : ℕ) → k < below → slice_get looked k ≢ Some i)
     × (slice_index new i ≡ slice_index old i))
 
--- those that left a class are members of their classes
+-- The inspected numbers that left the class are members of their new classes.
 abbrev pub HasMembers : List ℕ → ℕ → List ℕ → List (Vec ℕ) → Type 0
 HasMembers class left looked members =
     (i : ℕ) → Contains looked i → slice_index class i ≢ left → Has members (slice_index class i) i
 
--- ---- what is looked at
+-- ---- inspected numbers
 
--- Numbers of the class with the places of their signs. Those of the class that are not looked at
--- have the kept sign.
+-- Inspected numbers of the class with the indices of their signatures. The members that are not
+-- inspected have the kept signature.
 pub record IsLook (forms : List Form) (class : List ℕ) (wanted : ℕ) (look : Look) : Type 0 where
   pub is : (i : ℕ) → Contains look.looked.items i
       → (i < length class) × (slice_index class i ≡ wanted)
@@ -107,9 +107,9 @@ pub record IsLook (forms : List Form) (class : List ℕ) (wanted : ℕ) (look : 
   pub distinct : AreDistinct look.found
   pub within : look.kept < length look.found
 
--- ---- the whole
+-- ---- the state of the refinement
 
--- A number waits, or has the sign of its class.
+-- The invariant between turns. Each number is pending or has the signature of its class.
 pub record IsUnderWay (forms : List Form) (class : List ℕ) (signs members waiting : List (Vec ℕ))
     (todo : List ℕ)
     : Type 0 where
@@ -124,8 +124,8 @@ pub record IsUnderWay (forms : List Form) (class : List ℕ) (signs members wait
       × IsSignOf forms (slice_index class) i s)
   pub ready : IsReady waiting todo
 
--- The same, but for the numbers of one class: they are among those that waited, or have the sign of
--- the class.
+-- The same invariant, except for the members of the class that is being split. They were pending or
+-- have the signature of the class.
 pub record IsOpen (forms : List Form) (class : List ℕ) (signs members waiting : List (Vec ℕ))
     (todo waited : List ℕ)
     (parted : ℕ) : Type 0 where
@@ -145,7 +145,7 @@ pub record IsOpen (forms : List Form) (class : List ℕ) (signs members waiting 
       × IsSignOf forms (slice_index class) i s)
   pub ready : IsReady waiting todo
 
--- no two equal numbers are parted
+-- No two equal numbers are separated.
 abbrev pub PartsNoEqual : List Form → List ℕ → List ℕ → Type 0
 PartsNoEqual forms old new =
     (all : List (HeadOf ℕ)) → AreForms all forms → PartsBelow (length all) (head_at all)

@@ -1,4 +1,4 @@
--- What a head says of classes, as a list of numbers.
+-- The signature of a head, as a list of numbers.
 use Rattle.std.specs.Prelude.{ℕ, ◌≡◌, ◌+◌, ◌*◌, ◌<◌, List, ◌++◌, Option, Some, None, map, Contains}
 use Rattle.std.specs.List.{AllZip}
 use Rattle.std.specs.List.Sorted.{IsStrictlyIncreasing}
@@ -6,18 +6,18 @@ use Rattle.om_classes.specs.declared.form.TagForm.{TagForm}
 use Rattle.om_classes.specs.declared.form.Form.{Form}
 use Rattle.om_classes.specs.declared.sign.TheConstants.{WIDTH}
 
--- the second list has the numbers of the first in order, each once
+-- `set` contains exactly the numbers of the first list, in strictly increasing order.
 pub record IsSetOf (numbers set : List ℕ) : Type 0 where
   pub increasing : IsStrictlyIncreasing set
   pub there : (x : ℕ) → Contains numbers x → Contains set x
   pub back : (x : ℕ) → Contains set x → Contains numbers x
 
--- 0 for no argument, and 1 more than the argument's class
+-- 0 for no argument; otherwise the argument's class plus 1.
 abbrev pub offset : (ℕ → ℕ) → Option ℕ → ℕ
 offset class None = 0
 offset class (Some argument) = class argument + 1
 
--- a number for the tag's name and the class of its argument
+-- The code of a tag: a number for its name and the class of its argument.
 pub record IsCode (class : ℕ → ℕ) (tag : TagForm) (code : ℕ) : Type 0 where
   pub below : offset class tag.argument < WIDTH
   pub is : code ≡ tag.name * WIDTH + offset class tag.argument
@@ -25,7 +25,7 @@ pub record IsCode (class : ℕ → ℕ) (tag : TagForm) (code : ℕ) : Type 0 wh
 abbrev pub AreCodes : (ℕ → ℕ) → List TagForm → List ℕ → Type 0
 AreCodes class = AllZip (IsCode class)
 
--- The label, the classes of the parts, and the codes of the tags in order, each once.
+-- The signature: the label, the classes of the parts, and the set of the codes of the tags.
 pub record IsSign (class : ℕ → ℕ) (form : Form) (sign : List ℕ) : Type 0 where
   pub codes : List ℕ
   pub are : AreCodes class form.tags codes

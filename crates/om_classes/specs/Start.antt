@@ -1,4 +1,4 @@
--- A parting as one value, and what it ends with.
+-- The state of the refinement as one value, and its final result.
 use Rattle.std.specs.Prelude.{ℕ, ◌≡◌, ◌<◌, List, length, slice_index}
 use Rattle.std.specs.Global.{Vec}
 use Rattle.om_types.specs.declared.head.HeadOf.{HeadOf}
@@ -18,13 +18,13 @@ IsOpenAt forms p waited parted =
     IsOpen forms p.class.items p.signs.items p.members.items p.waiting.items p.todo.items waited
     parted
 
--- equal numbers have one class
+-- Equal numbers have the same class.
 abbrev pub KeepsEqual : List Form → List ℕ → Type 0
 KeepsEqual forms class =
     (all : List (HeadOf ℕ)) → AreForms all forms → PartsBelow (length all) (head_at all)
     → KeepsTogether (length all) (head_at all) (slice_index class)
 
--- Equal numbers have one class, and each number has the sign of its class.
+-- Equal numbers have the same class, and each number has the signature of its class.
 pub record IsParted (forms : List Form) (class : List ℕ) : Type 0 where
   pub many : length class ≡ length forms
   pub signs : List (Vec ℕ)

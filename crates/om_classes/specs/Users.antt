@@ -1,4 +1,4 @@
--- The numbers in whose heads a number is a part.
+-- The users of a number: the numbers whose heads have it as a part.
 use Rattle.std.specs.Prelude.{ℕ, ◌≡◌, ◌<◌, List, ◌++◌, length, Some, slice_get, Contains}
 use Rattle.std.specs.List.{flat_map}
 use Rattle.std.specs.Global.{Vec}
@@ -7,11 +7,11 @@ use Rattle.om_classes.specs.declared.form.TagForm.{TagForm}
 use Rattle.om_classes.specs.declared.form.Form.{Form}
 use Rattle.om_classes.specs.Lists.{Has}
 
--- the parts, and the arguments of the tags
+-- The parts of a form and the arguments of its tags.
 abbrev pub parts_in : Form → List ℕ
 parts_in form = form.parts ++ flat_map (λ (tag : TagForm). listed_if tag.argument) form.tags
 
--- each number has those in whose heads it is a part
+-- The users of each number include all numbers whose heads have it as a part.
 pub record AreUsers (forms : List Form) (users : List (Vec ℕ)) : Type 0 where
   pub many : length users ≡ length forms
   pub has :

@@ -1,4 +1,4 @@
-//! The classes of equal numbers.
+//! Computes the equivalence classes of equal numbers.
 
 ghost use Rattle.std.specs.Prelude.{◌≡◌, ◌∷◌, [], ℕ, ◌<◌, length, slice_index, IfOk, Contains};
 ghost use Rattle.om_types.specs.Table.{head_at};
@@ -14,7 +14,8 @@ use om_model::Memory;
 use om_types::head::HeadOf;
 use std::alloc::Global;
 
-/// The classes of equal numbers: heads are over numbers.
+/// Returns the class of each number, so that two numbers have the same class if and only if they
+/// are equal. `all` holds the head of each number; the parts of a head are numbers too.
 pub fn classes(alloc: Global, all: &[HeadOf<usize>]) -> Result<Vec<usize>, Memory>
     requires { PartsBelow (length all.now) (head_at all.now) }
     ensures { IfOk result (λ found. AreClasses all.now found.items) }
@@ -25,13 +26,14 @@ pub fn classes(alloc: Global, all: &[HeadOf<usize>]) -> Result<Vec<usize>, Memor
     Ok(found)
 }
 
-/// Parts numbers until none waits.
+/// Refines the classes until no number is pending.
 fn parted(alloc: Global, forms: &[Form], users: &[Vec<usize>]) -> Result<Vec<usize>, Memory>
     requires { AreUsers forms.now users.now }
     ensures { IfOk result (λ class. IsParted forms.now class.items) }
 {
     let mut parting = start(alloc, forms)?;
-    // Each turn leaves one class less to be done, or makes one, so this ends long before.
+    // Each turn removes a class from `todo` or creates a class, so the loop ends long before this
+    // bound.
     for _turn in 0..u64::MAX {
         match parting.todo.pop() {
             Some(class) => turn(alloc, forms, users, &mut parting, class)?,
@@ -41,7 +43,7 @@ fn parted(alloc: Global, forms: &[Form], users: &[Vec<usize>]) -> Result<Vec<usi
     Err(Memory)
 }
 
-/// The classes.
+/// Returns the class of each number.
 fn class_of(parting: Parting) -> Vec<usize>
     ensures { result ≡ parting.class }
 {
@@ -56,7 +58,7 @@ fn class_of(parting: Parting) -> Vec<usize>
     class
 }
 
-/// One class with all numbers, which wait.
+/// Creates a single class that contains all numbers, all of them pending.
 fn start(alloc: Global, forms: &[Form]) -> Result<Parting, Memory>
     ensures under_way { IfOk result (IsUnderWayAt forms.now) }
     ensures zero { IfOk result (λ p. (i : ℕ) → slice_index p.class.items i ≡ 0) }
@@ -80,7 +82,7 @@ fn start(alloc: Global, forms: &[Form]) -> Result<Parting, Memory>
     })
 }
 
-/// So many zeros.
+/// Returns a vector of `many` zeros.
 fn zeros(alloc: Global, many: usize) -> Result<Vec<usize>, Memory>
     ensures many { IfOk result (λ v. length v.items ≡ many) }
     ensures zero { IfOk result (λ v. (i : ℕ) → slice_index v.items i ≡ 0) }
@@ -92,7 +94,7 @@ fn zeros(alloc: Global, many: usize) -> Result<Vec<usize>, Memory>
     Ok(found)
 }
 
-/// The numbers below one.
+/// Returns the numbers below `many`.
 fn numbers_below(alloc: Global, many: usize) -> Result<Vec<usize>, Memory>
     ensures { IfOk result (λ v. (i : ℕ) → i < many → Contains v.items i) }
 {
@@ -103,7 +105,7 @@ fn numbers_below(alloc: Global, many: usize) -> Result<Vec<usize>, Memory>
     Ok(found)
 }
 
-/// A list alone.
+/// Returns a vector with this list as its only element.
 fn alone(alloc: Global, list: Vec<usize>) -> Result<Vec<Vec<usize>>, Memory>
     ensures { IfOk result (λ v. v.items ≡ list ∷ []) }
 {

@@ -1,4 +1,4 @@
-//! Heads whose names are numbers.
+//! Heads whose names are replaced by numbers.
 
 ghost use Rattle.std.specs.Prelude.{◌≡◌, [], IfOk, OnOk};
 ghost use Rattle.om_store.specs.Held.{AreDistinct, Grows};
@@ -18,8 +18,7 @@ pub struct TagForm {
     pub argument: Option<usize>,
 }
 
-/// A head whose names are numbers: what it says besides its parts and tags, its parts, and its
-/// tags.
+/// A head whose names are numbers: a label for its kind and name, its parts, and its tags.
 #[derive(Drop)]
 pub struct Form {
     pub label: List<usize>,
@@ -27,7 +26,7 @@ pub struct Form {
     pub tags: List<TagForm>,
 }
 
-/// The forms of heads.
+/// Returns the forms of heads.
 pub fn forms_of(alloc: Global, all: &[HeadOf<usize>]) -> Result<List<Form>, Memory>
     ensures { IfOk result (AreForms all.now) }
 {
@@ -40,7 +39,7 @@ pub fn forms_of(alloc: Global, all: &[HeadOf<usize>]) -> Result<List<Form>, Memo
     Ok(forms)
 }
 
-/// The form of a head.
+/// Returns the form of a head, and adds its names to `names`.
 fn form_of(alloc: Global, names: &mut Names, head: &HeadOf<usize>) -> Result<Form, Memory>
     requires { AreDistinct names.old }
     ensures form { IfOk result (IsForm names.new head.now) }
@@ -71,7 +70,7 @@ fn form_of(alloc: Global, names: &mut Names, head: &HeadOf<usize>) -> Result<For
     }
 }
 
-/// A form of these.
+/// Builds a form from a label, parts and tags.
 fn formed(
     alloc: Global,
     label: &[usize],
@@ -91,7 +90,7 @@ fn formed(
     })
 }
 
-/// The forms of tags.
+/// Returns the forms of tags, and adds their names to `names`.
 fn tag_forms(
     alloc: Global,
     names: &mut Names,
@@ -111,7 +110,7 @@ fn tag_forms(
     Ok(forms)
 }
 
-/// A number for each predeclared type.
+/// Returns a distinct number for each predeclared type.
 fn code_of(base: Predeclared) -> usize
     ensures { result ≡ code_of base }
 {

@@ -1,4 +1,7 @@
-//! Classes of equal types, by numbers.
+//! Computes the equivalence classes of equal types by partition refinement. Types are given as
+//! numbers, each with a head whose parts are numbers. `classes` promises that two numbers have the
+//! same class if and only if they are equal (`AreClasses`). The crate does not know the types
+//! themselves.
 #![tactic(auto)]
 
 mod all_classes;

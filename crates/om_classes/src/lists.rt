@@ -1,4 +1,4 @@
-//! Lists of numbers, one for each class or for each number.
+//! Lists of numbers, one list for each class or for each number.
 
 ghost use Rattle.std.specs.Prelude.{◌≡◌, ◌<◌, ◌≤◌, ◌↔◌, IsTrue, length, vec_len, slice_index, IfOk};
 ghost use Rattle.std.specs.Prelude.{OnOk};
@@ -9,7 +9,7 @@ use om_model::Memory;
 use std::alloc::Global;
 use std::mem;
 
-/// Adds a number to a list.
+/// Appends `number` to the list at index `at`.
 pub fn put(lists: &mut Vec<Vec<usize>>, at: usize, number: usize) -> Result<(), Memory>
     requires { at < vec_len lists.old }
     ensures { OnOk result (IsPut lists.old.items at number lists.new.items) }
@@ -18,7 +18,7 @@ pub fn put(lists: &mut Vec<Vec<usize>>, at: usize, number: usize) -> Result<(), 
     Ok(())
 }
 
-/// Takes all numbers of a list.
+/// Removes all numbers of the list at index `at` and returns them.
 pub fn taken(alloc: Global, lists: &mut Vec<Vec<usize>>, at: usize) -> Vec<usize>
     requires { at < vec_len lists.old }
     ensures { IsTaken lists.old.items at result.items lists.new.items }
@@ -26,7 +26,7 @@ pub fn taken(alloc: Global, lists: &mut Vec<Vec<usize>>, at: usize) -> Vec<usize
     mem::replace(&mut lists[at], Vec::new(alloc))
 }
 
-/// Leaves in the list of a class only those that have the class, each once.
+/// Keeps, in the list of class `wanted`, only the numbers that have this class, each once.
 pub fn shorten(
     alloc: Global,
     lists: &mut Vec<Vec<usize>>,
@@ -41,7 +41,7 @@ pub fn shorten(
     Ok(())
 }
 
-/// Adds lists with nothing in them, until there are so many.
+/// Appends empty lists until there are `many` lists.
 pub fn make_rooms(alloc: Global, lists: &mut Vec<Vec<usize>>, many: usize) -> Result<(), Memory>
     requires { vec_len lists.old ≤ many }
     ensures { OnOk result (HasRooms lists.old.items many lists.new.items) }
@@ -52,7 +52,7 @@ pub fn make_rooms(alloc: Global, lists: &mut Vec<Vec<usize>>, many: usize) -> Re
     Ok(())
 }
 
-/// The numbers of a list that have a class, in order, each once.
+/// Returns the numbers of a list that have class `wanted`, in increasing order, each once.
 pub fn of_class(
     alloc: Global,
     numbers: &[usize],
@@ -71,7 +71,7 @@ pub fn of_class(
     Ok(found)
 }
 
-/// Whether a number has this class.
+/// Returns true if the number has class `wanted`.
 fn has_class(class: &[usize], number: usize, wanted: usize) -> bool
     ensures { IsTrue result
         ↔ ((number < length class.now) × (slice_index class.now number ≡ wanted)) }

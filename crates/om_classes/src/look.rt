@@ -1,4 +1,4 @@
-//! The numbers of a class that are looked at, by their signs.
+//! Inspects members of a class and computes their signatures.
 
 ghost use Rattle.std.specs.Prelude.{ℕ, ◌≡◌, ◌<◌, ◌⊎◌, List, length, slice_index, IfOk, OnOk};
 ghost use Rattle.std.specs.Prelude.{Contains};
@@ -12,7 +12,8 @@ use crate::signs::Signs;
 use om_model::Memory;
 use std::alloc::Global;
 
-/// Numbers of a class, the places of their signs, and the place of the sign that keeps the class.
+/// The result of inspecting a class: the inspected members, the signatures found, the index of each
+/// member's signature, and the index of the signature that keeps the class number.
 #[derive(Drop)]
 pub struct Look {
     pub looked: Vec<usize>,
@@ -21,8 +22,8 @@ pub struct Look {
     pub kept: usize,
 }
 
-/// Looks at those that wait alone. Those that do not wait have the sign of the class, which is
-/// kept.
+/// Inspects only the pending members. The other members have the signature of the class, which
+/// keeps the class number.
 pub fn look_at_few(
     alloc: Global,
     forms: &[Form],
@@ -52,7 +53,7 @@ pub fn look_at_few(
     })
 }
 
-/// Looks at all members. The sign of the most of them is kept.
+/// Inspects all members. The most frequent signature keeps the class number.
 pub fn look_at_all(
     alloc: Global,
     forms: &[Form],
@@ -79,7 +80,7 @@ pub fn look_at_all(
     })
 }
 
-/// The place that most have. Where there is none, it is made.
+/// Returns the most frequent index. If there is none, adds a signature.
 fn kept_place(
     alloc: Global,
     signs: &[Vec<usize>],
@@ -102,7 +103,7 @@ fn kept_place(
     Ok(added)
 }
 
-/// The place that most have.
+/// Returns the most frequent index.
 fn commonest(alloc: Global, places: &[usize], many: usize) -> Result<usize, Memory> {
     let mut counts = Vec::new(alloc);
     for _place in 0..many {
@@ -114,14 +115,14 @@ fn commonest(alloc: Global, places: &[usize], many: usize) -> Result<usize, Memo
     Ok(largest(counts.as_slice()))
 }
 
-/// Counts one more.
+/// Increments the count at index `at`.
 fn add_one(counts: &mut [usize], at: usize) {
     if at < counts.len() {
         counts[at] = counts[at].saturating_add(1);
     }
 }
 
-/// Where the largest count is.
+/// Returns the index of the largest count.
 fn largest(counts: &[usize]) -> usize {
     let mut best = 0;
     let mut most = 0;

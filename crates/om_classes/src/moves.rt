@@ -1,4 +1,4 @@
-//! A class that is parted.
+//! Splits a class: names the signatures and moves the members.
 
 ghost use Rattle.std.specs.Prelude.{ℕ, ◌≡◌, ◌≢◌, ◌<◌, ◌+◌, List, length, vec_len, slice_index};
 ghost use Rattle.std.specs.Prelude.{IfOk, OnOk, All};
@@ -14,7 +14,7 @@ use crate::signs::Signs;
 use om_model::Memory;
 use std::alloc::Global;
 
-/// The places of the numbers' signs.
+/// Returns the index of each member's signature, and adds the signatures to `found`.
 pub fn places_of(
     alloc: Global,
     forms: &[Form],
@@ -38,7 +38,7 @@ pub fn places_of(
     Ok(places)
 }
 
-/// A class for the sign at each place.
+/// Assigns a class to each signature in `found`.
 pub fn name_places(
     alloc: Global,
     found: &Signs,
@@ -60,7 +60,7 @@ pub fn name_places(
     Ok(numbers)
 }
 
-/// A class for the sign at the next place.
+/// Assigns a class to the signature at the next index.
 fn name_place(
     alloc: Global,
     found: &Signs,
@@ -86,7 +86,7 @@ fn name_place(
     Ok(())
 }
 
-/// Gives each number that was looked at the class of its place.
+/// Gives each inspected number the class of its signature.
 pub fn move_all(class: &mut Vec<usize>, looked: &[usize], places: &[usize], numbers: &[usize])
     requires looked { All (λ i. i < length class.old.items) looked.now }
     requires places { All (λ p. p < length numbers.now) places.now }
@@ -100,7 +100,7 @@ pub fn move_all(class: &mut Vec<usize>, looked: &[usize], places: &[usize], numb
     }
 }
 
-/// Adds those that left a class to the members of their classes.
+/// Adds the numbers that left a class to the members of their new classes.
 pub fn add_members(
     members: &mut Vec<Vec<usize>>,
     class: &[usize],
@@ -117,7 +117,7 @@ pub fn add_members(
     Ok(())
 }
 
-/// Adds a number to the members of its class, if it left a class.
+/// If a number left the class, adds it to the members of its new class.
 fn add_member(
     members: &mut Vec<Vec<usize>>,
     class: &[usize],

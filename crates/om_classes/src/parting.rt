@@ -1,4 +1,4 @@
-//! Numbers that are parted into classes, one class at a time.
+//! Partition refinement, one class at a time.
 
 ghost use Rattle.std.specs.Prelude.{◌≡◌, ◌<◌, ◌++◌, ◌∷◌, [], vec_len, IfOk, OnOk};
 ghost use Rattle.om_classes.specs.Lists.{KeepsMembers};
@@ -15,26 +15,26 @@ use crate::waits::mark_users;
 use om_model::Memory;
 use std::alloc::Global;
 
-/// Numbers in classes.
+/// The state of the refinement.
 #[derive(Drop)]
 pub struct Parting {
     /// The class of each number.
     pub class: Vec<usize>,
-    /// For each class the sign of those that do not wait.
+    /// For each class, the signature of the members that are not pending.
     pub signs: Vec<Vec<usize>>,
-    /// For each class its members, among numbers that have left it since all members were looked
-    /// at.
+    /// For each class, a list that contains its members. It may also contain numbers that have left
+    /// the class since all members were last inspected.
     pub members: Vec<Vec<usize>>,
-    /// For each class the members that wait to be looked at.
+    /// For each class, the members that are pending: they must be inspected.
     pub waiting: Vec<Vec<usize>>,
-    /// For each class how many members it has.
+    /// For each class, the number of its members.
     pub counts: Vec<usize>,
-    /// The classes with members that wait.
+    /// The classes with pending members.
     pub todo: Vec<usize>,
 }
 
-/// Parts a class by the signs of those that wait. It takes a step for each of them, or twice as
-/// many, and for each part of their heads.
+/// Splits a class by the signatures of its pending members. The work is one step for each pending
+/// member, or at most two, and one for each part of their heads.
 pub fn turn(
     alloc: Global,
     forms: &[Form],
@@ -55,9 +55,9 @@ pub fn turn(
     Ok(())
 }
 
-/// Where all members of a class will be looked at, it forgets those that left it. So it takes a
-/// step for each that stays or left since the time before, and a class that shrinks by little is
-/// not walked whole again and again.
+/// If all members of a class will be inspected, removes those that left it from its list. So the
+/// work is one step for each member that stays or that left since the last time. A class that
+/// shrinks slowly is not scanned completely every time.
 fn shorten_members(
     alloc: Global,
     parting: &mut Parting,
@@ -84,12 +84,12 @@ fn shorten_members(
     Ok(())
 }
 
-/// Whether those that waited are fewer than half of the members.
+/// Returns true if the pending members are fewer than half of all members.
 fn waits_few(parting: &Parting, waited: &[usize], parted: usize) -> bool {
     waited.len() < count_of(parting.counts.as_slice(), parted) / 2
 }
 
-/// Parts a class.
+/// Splits a class.
 fn part(
     alloc: Global,
     forms: &[Form],
@@ -126,8 +126,8 @@ fn part(
     Ok(())
 }
 
-/// Looks at those that waited alone, where they are fewer than half of the members, so that those
-/// that did not wait are the most.
+/// Inspects only the pending members if they are fewer than half of all members; otherwise inspects
+/// all members. In the first case the other members are the majority.
 fn look_at(
     alloc: Global,
     forms: &[Form],
@@ -149,7 +149,7 @@ fn look_at(
     Ok(look)
 }
 
-/// How many members a class has.
+/// Returns the number of members of a class.
 fn count_of(counts: &[usize], class: usize) -> usize {
     match counts.get(class) {
         Some(count) => *count,
@@ -157,7 +157,7 @@ fn count_of(counts: &[usize], class: usize) -> usize {
     }
 }
 
-/// Counts the members of classes after a move.
+/// Updates the member counts after a split.
 fn count_moves(
     counts: &mut Vec<usize>,
     class: &[usize],
@@ -173,7 +173,7 @@ fn count_moves(
     Ok(())
 }
 
-/// Counts a member less of one class, and one more of another.
+/// Decrements the count of one class and increments the count of another.
 fn count_move(counts: &mut Vec<usize>, from: usize, to: usize) -> Result<(), Memory> {
     for _class in counts.len()..to.saturating_add(1) {
         counts.push(0)?;

@@ -1,8 +1,8 @@
-//! Numbers in order, each once.
+//! Sets of numbers as sorted lists.
 
 ghost use Rattle.om_classes.specs.Sign.{IsSetOf};
 
-/// Puts numbers in order, each once.
+/// Sorts the numbers and removes repeats.
 pub fn as_set(numbers: &mut Vec<usize>)
     ensures { IsSetOf numbers.old.items numbers.new.items }
 {

@@ -1,4 +1,4 @@
-//! What a head says of classes.
+//! The signature of a head: its label and the classes of its parts.
 
 ghost use Rattle.std.specs.Prelude.{◌≡◌, ◌++◌, map, slice_index, IfOk, OnOk};
 ghost use Rattle.om_classes.specs.Sign.{IsSign, AreCodes, IsCode};
@@ -8,10 +8,10 @@ use crate::set::as_set;
 use om_model::Memory;
 use std::alloc::Global;
 
-/// More than the classes that are told apart.
+/// A number above every class that can be distinguished.
 const WIDTH: usize = 4_294_967_296;
 
-/// The class of a number, 0 where it has none.
+/// Returns the class of a number, or 0 if it has none.
 pub fn class_at(class: &[usize], number: usize) -> usize
     ensures { result ≡ slice_index class.now number }
 {
@@ -21,7 +21,8 @@ pub fn class_at(class: &[usize], number: usize) -> usize
     }
 }
 
-/// What a head says of the classes of its parts.
+/// Returns the signature of a head: its label, the classes of its parts, and the codes of its tags
+/// as a set.
 pub fn sign_of(alloc: Global, class: &[usize], form: &Form) -> Result<Vec<usize>, Memory>
     ensures { IfOk result (λ s. IsSign (slice_index class.now) form.now s.items) }
 {
@@ -33,7 +34,7 @@ pub fn sign_of(alloc: Global, class: &[usize], form: &Form) -> Result<Vec<usize>
     Ok(sign)
 }
 
-/// Adds the class of each part.
+/// Appends the class of each part.
 fn add_classes(class: &[usize], parts: &[usize], sign: &mut Vec<usize>) -> Result<(), Memory>
     ensures { OnOk result
         (sign.new.items ≡ sign.old.items ++ map (slice_index class.now) parts.now) }
@@ -44,7 +45,7 @@ fn add_classes(class: &[usize], parts: &[usize], sign: &mut Vec<usize>) -> Resul
     Ok(())
 }
 
-/// A number for the name and the class of each tag.
+/// Returns the code of each tag.
 fn codes_of(alloc: Global, class: &[usize], tags: &[TagForm]) -> Result<Vec<usize>, Memory>
     ensures { IfOk result (λ codes. AreCodes (slice_index class.now) tags.now codes.items) }
 {
@@ -55,7 +56,8 @@ fn codes_of(alloc: Global, class: &[usize], tags: &[TagForm]) -> Result<Vec<usiz
     Ok(codes)
 }
 
-/// A number for the name and the class of a tag.
+/// Returns a number that encodes the name of a tag and the class of its argument. Returns an error
+/// if the class is not below `WIDTH`.
 fn code_of(class: &[usize], tag: TagForm) -> Result<usize, Memory>
     ensures { IfOk result (IsCode (slice_index class.now) tag) }
 {

@@ -1,4 +1,4 @@
-//! Signs, each once.
+//! A set of signatures with indices.
 
 ghost use Rattle.std.specs.Prelude.{◌≡◌, ◌<◌, [], Some, length, slice_get, IfOk};
 ghost use Rattle.om_store.specs.Held.{Adds};
@@ -8,7 +8,7 @@ use om_model::Memory;
 use std::alloc::Global;
 use std::marker::Model;
 
-/// Signs, each once, in the order in which they came. Contracts see them as a list.
+/// Signatures without repeats, in the order of insertion. Contracts treat the set as a list.
 #[derive(Drop)]
 pub struct Signs {
     signs: IndexSet<Vec<usize>>,
@@ -30,7 +30,7 @@ impl Model for Signs {
 impl Signs {
     ghost use Rattle.om_store.specs.Held.{AreDistinct};
 
-    /// No signs.
+    /// Creates an empty set.
     pub fn new(alloc: Global) -> Signs
         ensures { result ≡ [] }
     {
@@ -39,14 +39,14 @@ impl Signs {
         }
     }
 
-    /// How many there are.
+    /// Returns the number of signatures.
     pub fn len(&self) -> usize
         ensures { result ≡ length self.now }
     {
         self.signs.len()
     }
 
-    /// The place of a sign, which is added where it is not there.
+    /// Returns the index of a signature. Adds the signature if it is not in the set.
     pub fn place(&mut self, sign: Vec<usize>) -> Result<usize, Memory>
         ensures ok { IfOk result (Adds self.old self.new sign.items) }
         ensures distinct { AreDistinct self.new }
@@ -60,7 +60,7 @@ impl Signs {
         }
     }
 
-    /// The sign at a place.
+    /// Returns the signature at an index.
     pub fn sign(&self, place: usize) -> &[usize]
         requires { place < length self.now }
         ensures { slice_get self.now place ≡ Some result.now }

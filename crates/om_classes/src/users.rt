@@ -1,4 +1,4 @@
-//! The numbers in whose heads a number is a part.
+//! The users of a number: the numbers whose heads have it as a part.
 
 ghost use Rattle.std.specs.Prelude.{ℕ, ◌<◌, length, IfOk, OnOk, Contains};
 ghost use Rattle.om_types.specs.Reached.{listed_if};
@@ -10,7 +10,7 @@ use crate::lists::{make_rooms, put};
 use om_model::Memory;
 use std::alloc::Global;
 
-/// The users of each number.
+/// Returns the users of each number.
 pub fn users_of(alloc: Global, forms: &[Form]) -> Result<Vec<Vec<usize>>, Memory>
     ensures { IfOk result (λ users. AreUsers forms.now users.items) }
 {
@@ -22,7 +22,7 @@ pub fn users_of(alloc: Global, forms: &[Form]) -> Result<Vec<Vec<usize>>, Memory
     Ok(users)
 }
 
-/// Adds a user of each part of a form.
+/// Adds `user` to the users of each part of a form.
 fn add_user(users: &mut Vec<Vec<usize>>, form: &Form, user: usize) -> Result<(), Memory>
     ensures keeps { OnOk result (Keeps users.old.items users.new.items) }
     ensures added { OnOk result
@@ -38,7 +38,7 @@ fn add_user(users: &mut Vec<Vec<usize>>, form: &Form, user: usize) -> Result<(),
     Ok(())
 }
 
-/// Adds a user of an argument.
+/// Adds `user` to the users of a tag's argument, if the tag has one.
 fn use_argument(
     users: &mut Vec<Vec<usize>>,
     argument: Option<usize>,
@@ -58,7 +58,7 @@ fn use_argument(
     }
 }
 
-/// Adds a user of a part, if there is such a number.
+/// Adds `user` to the users of a part, if such a number exists.
 fn use_part(users: &mut Vec<Vec<usize>>, part: usize, user: usize) -> Result<(), Memory>
     ensures keeps { OnOk result (Keeps users.old.items users.new.items) }
     ensures added { OnOk result (part < length users.old.items → Has users.new.items part user) }

@@ -1,4 +1,4 @@
-//! Numbers that wait to be looked at, by their classes.
+//! Pending numbers, by class.
 
 ghost use Rattle.std.specs.Prelude.{ℕ, ◌<◌, ◌≢◌, length, vec_len, slice_index, OnOk, Contains};
 ghost use Rattle.om_classes.specs.Lists.{Has, Keeps};
@@ -8,7 +8,7 @@ use crate::lists::put;
 use crate::sign::class_at;
 use om_model::Memory;
 
-/// Has the users of those that left a class wait.
+/// Marks the users of all numbers that left the class as pending.
 pub fn mark_users(
     waiting: &mut Vec<Vec<usize>>,
     todo: &mut Vec<usize>,
@@ -30,7 +30,7 @@ pub fn mark_users(
     Ok(())
 }
 
-/// Has the users of a number wait, if it left a class.
+/// Marks the users of a number as pending, if the number left the class.
 fn mark_users_of(
     waiting: &mut Vec<Vec<usize>>,
     todo: &mut Vec<usize>,
@@ -57,7 +57,7 @@ fn mark_users_of(
     Ok(())
 }
 
-/// Has numbers wait.
+/// Marks numbers as pending.
 fn mark_all(
     waiting: &mut Vec<Vec<usize>>,
     todo: &mut Vec<usize>,
@@ -77,7 +77,7 @@ fn mark_all(
     Ok(())
 }
 
-/// Has a number of a class wait.
+/// Marks a number of a class as pending.
 fn mark(
     waiting: &mut Vec<Vec<usize>>,
     todo: &mut Vec<usize>,
@@ -95,7 +95,7 @@ fn mark(
     Ok(())
 }
 
-/// Sees that a class is to be done.
+/// Ensures that a class is in `todo`.
 fn have_done(waiting: &[Vec<usize>], todo: &mut Vec<usize>, class: usize) -> Result<(), Memory>
     requires within { class < length waiting.now }
     requires ready { IsReady waiting.now todo.old.items }

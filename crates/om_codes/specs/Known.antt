@@ -1,4 +1,4 @@
--- What a code leaves to the numbers of its kind: of this there is one proof at most.
+-- The bounds on the numbers of a kind are a proposition: they have at most one proof.
 use Rattle.std.specs.Coded.{×_prop, Unit-prop, le_prop}
 use Rattle.om_model.specs.declared.code.CodeKind.{CodeKind}
 use Rattle.om_model.specs.declared.code.CodeKind.TheVariants as kinds

@@ -1,15 +1,16 @@
-//! The kind of the token that a code begins.
+//! Decodes the code byte that begins a token.
 
 ghost use Rattle.std.specs.Prelude.{◌≡◌, ◌<◌, IfOk};
 ghost use Rattle.om_format.specs.Code.{kind_of, IsKind};
 
 use om_model::code::{CodeFault, CodeKind};
 
-/// The kind of the token that the code begins, or why it begins none (`intext.h`).
+/// Returns the kind of the token that begins with this code (`intext.h`), or why no token begins
+/// with it.
 #[tactic(auto, unfolding(om_format::specs::Code::kind_of))]
 pub fn code_kind(code: u8) -> Result<CodeKind, CodeFault>
     ensures kind { result ≡ kind_of code }
-    // The numbers that it carries have the bits that the code leaves them, and a width is from one
+    // The numbers in the kind fit into the bits that the code has for them, and a width is from one
     // byte to eight.
     ensures known { IfOk result IsKind }
 {
@@ -21,7 +22,7 @@ pub fn code_kind(code: u8) -> Result<CodeKind, CodeFault>
     }
 }
 
-// A code that carries no number.
+// Decodes a code below 32, which carries no number.
 #[tactic(auto, unfolding(om_format::specs::Code::kind_of))]
 fn large_kind(code: u8) -> Result<CodeKind, CodeFault>
     requires { code < 32 }

@@ -1,12 +1,12 @@
-//! The kind of a token, with what its code leaves to its numbers.
+//! The kind of a token, with the bounds on its numbers.
 
 ghost use Rattle.om_format.specs.Code.{IsKind};
 ghost use Rattle.om_codes.specs.Known.{IsKind-prop};
 
 use om_model::code::CodeKind;
 
-/// The kind of some token: its numbers have the bits that its code leaves them, and a width is from
-/// one byte to eight.
+/// The kind of some token. Its numbers fit into the bits that the code has for them, and a width is
+/// from one byte to eight.
 #[derive(Clone, Copy)]
 pub struct Known {
     pub kind: CodeKind,

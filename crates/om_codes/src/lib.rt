@@ -1,4 +1,6 @@
-//! The codes that begin the tokens of a value (`intext.h`).
+//! The codes that begin the tokens of a marshalled value (`intext.h`). `code_kind` decodes a code
+//! byte. `spell_int`, `spell_block` and similar functions encode tokens as OCaml's runtime writes
+//! them (`extern.c`).
 #![tactic(auto)]
 
 mod kind;

@@ -1,4 +1,5 @@
-//! The spellings that the runtime writes (`extern.c`): at most nine bytes, and how many they are.
+//! Encodes tokens as the runtime writes them (`extern.c`). Each function returns at most nine bytes
+//! and their count.
 
 ghost use Rattle.std.specs.Prelude.{◌≡◌, ◌<◌, ◌≤◌, ◌^◌, ◌∷◌, take};
 ghost use Rattle.std.specs.Int.{bytes_high_first};
@@ -6,7 +7,7 @@ ghost use Rattle.om_model.specs.Graph.{IsInteger};
 ghost use Rattle.om_format.specs.Canonical.{integer_spelling, block_spelling, string_front};
 ghost use Rattle.om_format.specs.Canonical.{shared_spelling, doubles_front};
 
-/// An integer of 63 bits (`extern_int`).
+/// Encodes an integer of 63 bits (`extern_int`).
 #[tactic(auto, unfolding(om_format::specs::Canonical::integer_spelling))]
 pub fn spell_int(n: i64) -> ([u8; 9], usize)
     requires { IsInteger n }
@@ -22,7 +23,8 @@ pub fn spell_int(n: i64) -> ([u8; 9], usize)
     }
 }
 
-/// A block by its tag and size, or an atom as a block of size 0 (`extern_header`).
+/// Encodes the header of a block with this tag and size (`extern_header`). An atom is a block of
+/// size 0.
 #[tactic(auto, unfolding(om_format::specs::Canonical::block_spelling))]
 pub fn spell_block(tag: u8, size: u64) -> ([u8; 9], usize)
     requires tag { tag ≤ 243 }
@@ -41,7 +43,8 @@ pub fn spell_block(tag: u8, size: u64) -> ([u8; 9], usize)
     }
 }
 
-/// What comes before the content of a string of n bytes (`extern_string`).
+/// Encodes the code and the length that precede the content of a string of `n` bytes
+/// (`extern_string`).
 #[tactic(auto, unfolding(om_format::specs::Canonical::string_front))]
 pub fn spell_string_len(n: u64) -> ([u8; 9], usize)
     ensures spelled { take result.1 result.0 ≡ string_front n }
@@ -55,7 +58,8 @@ pub fn spell_string_len(n: u64) -> ([u8; 9], usize)
     }
 }
 
-/// What comes before the elements of an array of n doubles (`extern_double_array`).
+/// Encodes the code and the length that precede the elements of an array of `n` doubles
+/// (`extern_double_array`).
 #[tactic(auto, unfolding(om_format::specs::Canonical::doubles_front))]
 pub fn spell_double_array_len(n: u64) -> ([u8; 9], usize)
     requires { 1 ≤ n }
@@ -69,7 +73,7 @@ pub fn spell_double_array_len(n: u64) -> ([u8; 9], usize)
     }
 }
 
-/// A reference by its offset (`extern_shared_reference`).
+/// Encodes a shared reference with the offset `d` (`extern_shared_reference`).
 #[tactic(auto, unfolding(om_format::specs::Canonical::shared_spelling))]
 pub fn spell_shared(d: u64) -> ([u8; 9], usize)
     requires { 1 ≤ d }
@@ -84,7 +88,7 @@ pub fn spell_shared(d: u64) -> ([u8; 9], usize)
     }
 }
 
-// A code and a number of one byte.
+// Returns a code and a number of one byte.
 fn one(code: u8, number: u8) -> ([u8; 9], usize)
     ensures spelled { take result.1 result.0 ≡ code ∷ bytes_high_first 1 number }
     ensures few { result.1 ≤ 9 }
@@ -92,7 +96,7 @@ fn one(code: u8, number: u8) -> ([u8; 9], usize)
     ([code, number, 0, 0, 0, 0, 0, 0, 0], 2)
 }
 
-// Of two bytes, the most significant first.
+// Returns a code and a number of two bytes, most significant byte first.
 fn two(code: u8, number: u16) -> ([u8; 9], usize)
     ensures spelled { take result.1 result.0 ≡ code ∷ bytes_high_first 2 number }
     ensures few { result.1 ≤ 9 }
@@ -101,7 +105,7 @@ fn two(code: u8, number: u16) -> ([u8; 9], usize)
     ([code, b[0], b[1], 0, 0, 0, 0, 0, 0], 3)
 }
 
-// Of four.
+// Returns a code and a number of four bytes, most significant byte first.
 fn four(code: u8, number: u32) -> ([u8; 9], usize)
     ensures spelled { take result.1 result.0 ≡ code ∷ bytes_high_first 4 number }
     ensures few { result.1 ≤ 9 }
@@ -110,7 +114,7 @@ fn four(code: u8, number: u32) -> ([u8; 9], usize)
     ([code, b[0], b[1], b[2], b[3], 0, 0, 0, 0], 5)
 }
 
-// Of eight.
+// Returns a code and a number of eight bytes, most significant byte first.
 fn eight(code: u8, number: u64) -> ([u8; 9], usize)
     ensures spelled { take result.1 result.0 ≡ code ∷ bytes_high_first 8 number }
     ensures few { result.1 ≤ 9 }

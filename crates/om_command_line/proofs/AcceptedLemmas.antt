@@ -1,4 +1,4 @@
--- Words that clap accepts are read as something.
+-- If clap accepts the arguments, then they parse to some request.
 use Rattle.std.proofs.Common.{◌≡◌, ◌∙◌, ◌||◌, ◌&&◌, ℕ, Bool, true, false, not, List, [], ◌∷◌, Option, Some, None, codes, refl, sym, ap, subst, arith}
 use Rattle.std.specs.Prelude.{if◌then◌else◌, option_and_then}
 use Rattle.std.specs.List.{list_any}
@@ -21,7 +21,7 @@ use Rattle.om_command_line.proofs.SetLemmas.{form_fits, leaf_of, named_fault, na
 use Rattle.om_command_line.proofs.TableLemmas.{AreFound, all_found, each_own, next_place, no_short, ruled, rules_from}
 use Rattle.om_command_line.proofs.TopLemmas.{both_none, words_begin}
 
--- a number that clap accepts
+-- A number that clap accepts.
 number_there : (rows : List Row) (name : Text) (greatest : ℕ) (text : Text) → one_of name rows ≡ Some text → accepts false (Unsigned 0 greatest) text ≡ true → (n : ℕ) × HasNumber rows name greatest n
 number_there rows name greatest text has accepted =
     let in_range = accepts-Accepts false (Unsigned 0 greatest) text accepted in
@@ -35,7 +35,7 @@ either_word text accepted = go (bytes_eq text (codes "true")) (bytes_eq text (co
     go false true other is e = (false, (bytes_eq-Decides text (codes "false")).0 is)
     go false false other last e = cc e
 
--- clap's rows have each argument
+-- clap's rows contain each argument.
 module _ (c : List Rule) (rows : List Row) (are : AreRead c rows) where
   flag_there : (i : ℕ) (name : Text) → has_row name rows ≡ true → arg_by_id c name ≡ Some (ruled i (flag name)) → (used : Bool) × HasFlag rows name used
   flag_there i name has found =
@@ -81,7 +81,7 @@ module _ (c : List Rule) (rows : List Row) (are : AreRead c rows) where
       let later = arguments_there (next_place i (number name greatest)) rest (asks told.0) more have all.1 in
       (later.0, (told.0, told.1, later.1))
 
--- a command's name with words after it, in which clap finds no fault
+-- A command's name and arguments without a clap error.
 command_accepted : (form : Form) → form_of form.name ≡ Some form → (rest : List Text) → fault_of command_set (form.name ∷ rest) ≡ [] → (request : Request) × AreReadAs (form.name ∷ rest) request
 command_accepted form found rest none =
     let level = (both_none (level_fault (leaf_of form) [] nothing_held rest false []) [] (sym (named_fault form found rest) ∙ none)).0 in

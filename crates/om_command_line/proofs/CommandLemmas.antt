@@ -1,4 +1,4 @@
--- What a command tells clap, as it is made.
+-- The clap configuration of a command, as it is built.
 use Rattle.std.proofs.Common.{◌≡◌, ◌∙◌, ◌||◌, ◌<◌, ◌+◌, ℕ, false, List, [], ◌∷◌, ◌++◌, map, length, take, get_or, add-one, refl, sym, ap, ap₂, Result, Ok, Err, IfOk}
 use Rattle.std.specs.Prelude.{fold}
 use Rattle.std.proofs.Math.Seq.{take-suc}
@@ -23,7 +23,7 @@ pub made_added : (old : Command) (made : Result Command AllocError) (new : Comma
 made_added old (Ok sub) new app added is tells adds = command_added old sub new app added is tells adds
 made_added old (Err error) new app added is tells adds = absurd adds
 
--- ---- one argument more, and one command more
+-- ---- one more argument, and one more command
 
 rules_more : (xs : List Argument) (x : Argument) → map rule_for (map argument_of xs) ++ rule_for (argument_of x) ∷ [] ≡ map rule_for (map argument_of (xs ++ x ∷ []))
 rules_more [] x = refl

@@ -1,4 +1,4 @@
--- What the rows of a command hold, where clap finds no fault: each has one value, which its argument accepts.
+-- If clap reports no error, then each row of a command has one value, which its argument accepts.
 use Rattle.std.proofs.Common.{◌≡◌, ◌∙◌, inl, inr, ◌==◌, ◌||◌, ◌&&◌, Bool, true, false, not, List, [], ◌∷◌, ◌++◌, Some, None, codes, length, refl, sym, ap, subst, arith}
 use Rattle.std.specs.Prelude.{if◌then◌else◌, option_map, slice_get}
 use Rattle.std.specs.List.{find}
@@ -36,12 +36,12 @@ no_kind false k none = cc none
 at_row_past : (id : Text) (change : Row → List Row) (missing : List Row) (r : Row) (rs : List Row) → bytes_eq r.id id ≡ false → at_row id change missing (r ∷ rs) ≡ r ∷ at_row id change missing rs
 at_row_past id change missing r rs other = ap (λ b. if b then change r ++ rs else r ∷ at_row id change missing rs) other
 
--- a name that no row has
+-- A name that no row has.
 pub none_of : (name : Text) (rows : List Row) → has_row name rows ≡ false → find (λ r. bytes_eq r.id name) rows ≡ None
 none_of name [] absent = refl
 none_of name (r ∷ rs) absent = let apart = or_parts (bytes_eq r.id name) (has_row name rs) absent in rw apart.0 (none_of name rs apart.1)
 
--- a row of a new name comes last
+-- A row with a new name comes last.
 pub added_last : (id : Text) (change : Row → List Row) (new : Row) (rs : List Row) → has_row id rs ≡ false → at_row id change (new ∷ []) rs ≡ rs ++ new ∷ []
 added_last id change new [] absent = refl
 added_last id change new (r ∷ rs) absent =
@@ -62,7 +62,7 @@ has_last new (r ∷ rs) = go (bytes_eq r.id new.id) (has_last new rs)
     go true later = refl
     go false later = later
 
--- another row stays
+-- Other rows stay.
 pub has_still : (id : Text) (new : Row) (rs : List Row) → has_row id rs ≡ true → has_row id (rs ++ new ∷ []) ≡ true
 has_still id new [] has = cc has
 has_still id new (r ∷ rs) has = go (bytes_eq r.id id) has (has_still id new rs)
@@ -83,7 +83,7 @@ neither_and : (b : Bool) → (b && not false) ≡ false → b ≡ false
 neither_and true e = e
 neither_and false e = refl
 
--- an argument that was not used before has one row more, the last
+-- If an argument was not used before, then it adds a row at the end.
 pub set_adds : (values : List Text) (id : Text) (how : Reading) (rows : List Row) → has_row id rows ≡ false
     → with_values id how CommandLine values (at_row id (λ _. []) [] rows) ≡ rows ++ record { id = id; values = values; count = None; source = Some CommandLine; reading = how } ∷ []
 set_adds values id how rows absent =
@@ -91,7 +91,7 @@ set_adds values id how rows absent =
     ∙ added_last id (more_values CommandLine values) (record { id = id; values = values; count = None; source = Some CommandLine; reading = how }) rows absent
 
 module _ (c : List Rule) where
-  -- the argument of its name accepts its one value
+  -- The row has one value, and the argument of its name accepts that value.
   abbrev pub IsRead : Row → Type 0
   IsRead r =
       (a : Rule) × (arg_by_id c r.id ≡ Some a) × (text : Text) × (r.values ≡ text ∷ []) × (accepts a.ignore_case (parser_of_value a.parser) text ≡ true)
@@ -105,7 +105,7 @@ module _ (c : List Rule) where
   read_last new [] read are = (read, tt)
   read_last new (r ∷ rs) read (first, more) = (first, read_last new rs read more)
 
-  -- what clap tells of a row that is there
+  -- clap's result for a row that is present.
   pub row_read : (id : Text) (rs : List Row) → AreRead rs → has_row id rs ≡ true → (a : Rule) → arg_by_id c id ≡ Some a
       → (text : Text) × (first_of id rs ≡ Some text) × (one_of id rs ≡ Some (read_as (reading_by a) text)) × (accepts a.ignore_case (parser_of_value a.parser) text ≡ true)
   row_read id [] are has a is = cc has
@@ -127,7 +127,7 @@ module _ (c : List Rule) where
           let later = next (rw e at has) in
           (later.0, rw e later.1, rw e later.2, later.3)
 
-  -- ---- a use with no fault leaves rows that are read
+  -- ---- a use without errors preserves the invariant of the rows
 
   one_alone : (values : List Text) → range_kinds 1 1 (length values) ≡ [] → (text : Text) × (values ≡ text ∷ [])
   one_alone [] none = cc none
@@ -165,7 +165,7 @@ module _ (c : List Rule) where
         subst (λ vs. AreRead (used a vs rows)) (sym one.1)
         (subst (λ act. AreRead (used_as act a.id (reading_by a) (one.0 ∷ []) rows)) (sym is.0) (set_read one.0 (subst (λ act. action_fault act false a (one.0 ∷ []) rows ≡ []) is.0 at_one)))
 
-  -- and so does a use of a flag
+  -- A use of a flag preserves it too.
   module _ (name : Text) (own : arg_by_id c name ≡ Some (filled (rule_for (flag name)))) (rows : List Row) (are : AreRead rows) where
     abbrev flag_rule : Rule
     flag_rule = filled (rule_for (flag name))
@@ -192,7 +192,7 @@ module _ (c : List Rule) where
       subst (λ r. AreRead (used r values rows)) (sym is.1)
       (flag_use is.0 (subst (λ (r : Rule). arg_by_id c r.id ≡ Some r) is.1 own) rows are values (subst (λ r. use_fault false r values rows ≡ []) is.1 none))
 
-  -- ---- the value of an argument that is not used
+  -- ---- the default of an argument that is not used
 
   abbrev pub defaulted : Rule → Text → List Row → List Row
   defaulted a v rows = if has_row a.id rows then rows else with_values a.id (reading_by a) DefaultValue (v ∷ []) rows

@@ -1,4 +1,4 @@
--- The rows of a command after clap's walk over its words, where clap finds no fault.
+-- The rows of a command after clap has processed its arguments without an error.
 use Rattle.std.proofs.Common.{◌≡◌, ◌⊎◌, inl, inr, ◌&&◌, ◌==◌, ℕ, zero, suc, Bool, true, false, not, List, [], ◌∷◌, Option, Some, None, codes, drop, length, is_some, refl, sym, ap, subst}
 use Rattle.std.specs.Prelude.{if◌then◌else◌, encode_utf8, fold, slice_get}
 use Rattle.std.specs.List.{find, list_any}
@@ -17,14 +17,14 @@ use Rattle.om_command_line.proofs.SetLemmas.{leaf}
 use Rattle.om_command_line.proofs.TableLemmas.{AreFound, IsFound, IsOwn, TakesOne, IsFlag, both, is_lawful, are_lawful, is_named, name_of, next_place, ruled, rules_from, usual_accepted}
 use Rattle.om_command_line.proofs.TopLemmas.{both_none}
 
--- no subcommand is met
+-- The argument is no subcommand.
 abbrev GoesOn : Step → Type 0
 GoesOn (next wait) = Unit {0}
 GoesOn (trailing n) = Unit {0}
 GoesOn (subcommand name) = ⊥
 GoesOn value = Unit {0}
 
--- what a word comes to: rows that are read, and the walk goes on
+-- The result of an argument: the rows keep their invariant, and processing continues.
 abbrev IsFine : List Rule → Held × Step → Type 0
 IsFine c met = AreRead c met.0.rows × GoesOn met.1
 
@@ -42,7 +42,7 @@ no_subcommand positional word = refl
 takes : (a : Rule) → TakesOne a → takes_values a ≡ true
 takes a is = ap (λ (r : ValueRange). not (r.end_inclusive == 0)) is.1
 
--- a command, whose arguments clap finds by their ids
+-- A command whose arguments clap finds by their ids.
 module _ (name : Text) (own : List Rule) (each : (test : Rule → Bool) (a : Rule) → find test own ≡ Some a → IsOwn own a) (no_short : (x : ℕ) → arg_by_short own x ≡ None) where
   -- ---- the pending argument
 
@@ -58,7 +58,7 @@ module _ (name : Text) (own : List Rule) (each : (test : Rule → Bool) (a : Rul
     settle_read : settle_fault own false h ≡ [] → AreRead own (settled own h).rows
     settle_read none = pending_read h.pending none
 
-  -- ---- a word before it goes to a place
+  -- ---- an argument before it is assigned to a positional
 
   plain_fine : (wait : Waiting) (word : Text) (h : Held) → AreRead own h.rows → IsFine own (plain_word own wait word h)
   plain_fine idle word h are = (are, tt)
@@ -140,7 +140,7 @@ module _ (name : Text) (own : List Rule) (each : (test : Rule → Bool) (a : Rul
         subst (λ o. IsFine own (subcommand_or_other own o wait n word h)) (sym (no_subcommand wait word))
         (dashes_fine (bytes_eq word (codes "--")) (subst (λ o. other_fault (leaf name own) o word h ≡ []) (no_subcommand wait word) none))
 
-  -- ---- one more word
+  -- ---- one more argument
 
   module _ (h : Held) (wait : Waiting) (n : ℕ) (trails : Bool) (word : Text) where
     kept_read : (now : Held) → AreRead own now.rows → (b : Bool) → (if b then [] else settle_fault own false now) ≡ [] → AreRead own (if b then now else settled own now).rows
@@ -177,9 +177,10 @@ module _ (name : Text) (own : List Rule) (each : (test : Rule → Bool) (a : Rul
       let parts = both_none (turn_fault (leaf name own) [] w word) (walk_fault (leaf name own) [] (walked own [] w word) rest) none in
       walk_stands rest (walked own [] w word) (turn_at w stands word parts.0) parts.1
 
-  -- ---- after the walk
+  -- ---- after all arguments
 
-  -- no fault leaves rows that are read, and every required argument
+  -- If there is no error, then the rows keep their invariant, and all required arguments are
+  -- present.
   pub rows_hold : (rest : List Text) → level_fault (leaf name own) [] nothing_held rest false [] ≡ []
       → AreRead own (settled own (walk own [] nothing_held rest).held).rows × (list_any (λ a. a.required && not (is_given a.id (rows_after own [] rest))) own ≡ false)
   rows_hold rest none =
@@ -191,9 +192,9 @@ module _ (name : Text) (own : List Rule) (each : (test : Rule → Bool) (a : Rul
       let stands = walk_stands rest (walk_from nothing_held) (refl, tt) walks.0 in
       (settle_read last stands.1 settles.0, no_kinds (list_any (λ a. a.required && not (is_given a.id (finished own last))) own) kind.MissingRequiredArgument checks.1)
 
--- ---- the values of arguments that are not used
+-- ---- the defaults of arguments that are not used
 
--- each argument that has a value where it is not used has a row
+-- Each argument with a default has a row.
 abbrev pub HaveRows : List Argument → List Row → Type 0
 HaveRows [] rows = Unit {0}
 HaveRows (flag name ∷ rest) rows = (has_row name rows ≡ true) × HaveRows rest rows

@@ -1,4 +1,4 @@
--- Plain words are accepted, and ask for what they say.
+-- A command line in plain form is accepted, and makes the request that it spells out.
 use Rattle.std.proofs.Common.{◌≡◌, ◌∙◌, ◌⊎◌, inl, inr, ◌≤◌, ◌<◌, ◌^◌, ◌||◌, ◌&&◌, ℕ, Bool, true, false, true≢false, not, List, [], ◌∷◌, ◌++◌, append-nil, append_assoc, cond, Option, Some, None, codes, is_some, refl, sym, ap, subst, arith}
 use Rattle.std.specs.Prelude.{if◌then◌else◌, fold, map, option_and_then, option_map, slice_get, unwrap_or}
 use Rattle.std.specs.List.{find, flat_map, list_any}
@@ -48,12 +48,12 @@ row_kept name r (x ∷ xs) more found = go (bytes_eq x.id name) refl (row_kept n
     go true e later = rw e (rw e at found)
     go false e later = rw e (later (rw e at found))
 
--- a row of a new name
+-- A row with a new name.
 row_last : (name : Text) (r : Row) (rows : List Row) → has_row name rows ≡ false → bytes_eq r.id name ≡ true → row_of name (rows ++ r ∷ []) ≡ Some r
 row_last name r [] absent is = rw is refl
 row_last name r (x ∷ xs) absent is = let apart = or_parts (bytes_eq x.id name) (has_row name xs) absent in rw apart.0 (row_last name r xs apart.1 is)
 
--- a row of another name
+-- A row with another name.
 row_other : (name : Text) (r : Row) (rows : List Row) → bytes_eq r.id name ≡ false → row_of name (rows ++ r ∷ []) ≡ row_of name rows
 row_other name r [] other = rw other refl
 row_other name r (x ∷ xs) other = ap (λ o. cond (bytes_eq x.id name) (Some x) o) (row_other name r xs other)
@@ -70,7 +70,7 @@ none_after : (name : Text) (rows more : List Row) → has_row name more ≡ fals
 none_after name [] more absent = none_of name more absent
 none_after name (x ∷ xs) more absent = ap (λ o. cond (bytes_eq x.id name) (Some x) o) (none_after name xs more absent)
 
--- two texts that differ, in either order
+-- Inequality of two texts is symmetric.
 apart_too : (a b : Text) → bytes_eq a b ≡ false → bytes_eq b a ≡ false
 apart_too a b e = go (bytes_eq b a) refl
   where
@@ -80,12 +80,12 @@ apart_too a b e = go (bytes_eq b a) refl
 
 -- ---- the uses of options
 
--- the row of a default
+-- The row of a default.
 abbrev default_at : Text → Text → Row
 default_at name text = record { id = name; values = text ∷ []; count = None; source = Some DefaultValue; reading = AsWritten }
 
 module _ (level : Text) (c : List Rule) where
-  -- a use of a flag or an option that clap finds
+  -- A use of a flag or an option that clap finds.
   abbrev IsWritten : Use → Type 0
   IsWritten (alone name) =
       (spells name ≡ true) × (arg_by_id c name ≡ Some (ruled 1 (flag name))) × (arg_by_long c name ≡ Some (ruled 1 (flag name)))
@@ -122,7 +122,7 @@ module _ (level : Text) (c : List Rule) where
   all_written arguments found lawful [] plain = tt
   all_written arguments found lawful (one ∷ uses) (is, once, more) = (written 1 arguments found lawful one is, once, all_written arguments found lawful uses more)
 
-  -- none of the uses has a row yet
+  -- None of the uses has a row yet.
   abbrev AreFresh : List Row → List Use → Type 0
   AreFresh rows [] = Unit {0}
   AreFresh rows (one ∷ uses) = (has_row (used_in one) rows ≡ false) × AreFresh rows uses
@@ -155,7 +155,7 @@ module _ (level : Text) (c : List Rule) where
       (λ h' holds'. uses_come uses more h' n (rows ++ use_row one ∷ []) holds'
       (still_fresh (use_row one) rows uses (subst (λ t. is_used t uses ≡ false) (sym (use_named one)) once) fresh)))
 
-  -- ---- the words at their places
+  -- ---- the positional arguments
 
   abbrev place_rows : List Argument → List Text → List Row
   place_rows [] texts = []
@@ -167,7 +167,7 @@ module _ (level : Text) (c : List Rule) where
   place_rows (number name greatest ∷ rest) [] = []
   place_rows (number name greatest ∷ rest) (text ∷ texts) = row_at name text ∷ place_rows rest texts
 
-  -- none of them has a row yet
+  -- None of the positional arguments has a row yet.
   abbrev AreFree : List Row → List Argument → Type 0
   AreFree rows [] = Unit {0}
   AreFree rows (flag name ∷ rest) = AreFree rows rest
@@ -188,7 +188,7 @@ module _ (level : Text) (c : List Rule) where
       let apart = or_parts (bytes_eq r.id name) (is_named r.id rest) other in
       (has_other name r rows apart.0 first, still_free r rows rest apart.1 free)
 
-  -- the place after the last
+  -- The index after the last positional argument.
   abbrev last_place : ℕ → List Argument → ℕ
   last_place n [] = n
   last_place n (a ∷ rest) = last_place (next_place n a) rest
@@ -221,7 +221,7 @@ module _ (level : Text) (c : List Rule) where
       (λ h' holds'. places_come (next_place n (number name greatest)) rest (asks (digits_value 10 text)) uses texts request more (lawful_rest (number name greatest) rest lawful) plain h'
       (rows ++ row_at name text ∷ []) holds' (still_free (row_at name text) rows rest (fresh_name (number name greatest) rest lawful) free)))
 
-  -- each has its row
+  -- Each positional argument has its row.
   abbrev HavePlaces : List Row → List Argument → List Text → Type 0
   HavePlaces rows [] texts = Unit {0}
   HavePlaces rows (flag name ∷ rest) texts = HavePlaces rows rest texts
@@ -255,7 +255,7 @@ module _ (level : Text) (c : List Rule) where
         (still_free (row_at name text) rows rest (fresh_name (number name greatest) rest lawful) free)),
   )
 
-  -- ---- names that are not one
+  -- ---- distinct names
 
   apart : (x y : Text) (a b : Rule) → arg_by_id c x ≡ Some a → arg_by_id c y ≡ Some b → (a ≡ b → ⊥) → bytes_eq x y ≡ false
   apart x y a b first second differ = go (bytes_eq x y) refl
@@ -304,7 +304,7 @@ module _ (level : Text) (c : List Rule) where
   places_apart name a is long i (number other greatest ∷ rest) (here, more) (text ∷ texts) =
       rw (short_apart other name (ruled i (number other greatest)) a here.0 is refl long) (places_apart name a is long (next_place i (number other greatest)) rest more texts)
 
-  -- ---- the values of options that are not used
+  -- ---- the defaults of options that are not used
 
   module _ (own text : Text) (rows : List Row) where
     abbrev with_usual : List Row
@@ -432,7 +432,7 @@ module _ (level : Text) (c : List Rule) where
       rw (apart other name (taking other is.0 is.1) (ruled 1 (flag name)) is.3 found (λ e. let bad : Some Set ≡ Some SetTrue = ap (λ (r : Rule). r.action) e in cc bad))
       (flag_row_is name found uses more)
 
-  -- the option is not used, or used once
+  -- The option is not used, or is used once.
   abbrev IsShown : Text → ℕ → List Use → Type 0
   IsShown name greatest uses =
       ((row_of name (map use_row uses) ≡ None) × (text_after name uses ≡ None))
@@ -456,7 +456,7 @@ module _ (level : Text) (c : List Rule) where
           inr (text, (rw e (ap (λ n. Some (row_at n text)) same)), (rw e refl), is.5, omega (arith, most, least))
       go false e later = rw e later
 
-  -- ---- what clap tells of the arguments
+  -- ---- clap's results for the arguments
 
   number_shown : (rows : List Row) (name : Text) (greatest : ℕ) (text : Text) → row_of name rows ≡ Some (row_at name text) → IsNumeral 10 text → digits_value 10 text ≤ greatest
       → HasNumber rows name greatest (digits_value 10 text)
@@ -585,9 +585,9 @@ module _ (level : Text) (c : List Rule) where
           (places_kept rows (with_default rows (ruled i (number name greatest))) (λ n r e. one_kept i (number name greatest) n r rows e) rest texts have) plain,
     )
 
--- ---- a command that is written plainly
+-- ---- a command in plain form
 
--- the faults of a command, by where the walk ends
+-- The errors of a command, by the state in which processing ends.
 level_at : (s : Shape) (words : List Text) (w : Walk) → walk s.rules [] nothing_held words ≡ w → walk_fault s [] (walk_from nothing_held) words ≡ []
     → level_fault s [] nothing_held words false []
     ≡ or_else (settle_fault s.rules s.args_override_self w.held) (or_else (defaults_fault (settled s.rules w.held).rows s.rules) (check_fault s (finished s.rules w.held) false))

@@ -1,4 +1,4 @@
--- How clap walks over plain words.
+-- How clap processes arguments in plain form.
 use Rattle.std.proofs.Common.{◌≡◌, ◌∙◌, ◌==◌, ◌≤◌, ◌<◌, ◌^◌, ◌&&◌, ℕ, Bool, true, false, List, [], ◌∷◌, ◌++◌, append_assoc, drop, cond, Some, None, codes, refl, sym, ap, subst, arith}
 use Rattle.std.specs.Prelude.{if◌then◌else◌, fold}
 use Rattle.std.specs.Option.{option_map_or}
@@ -21,7 +21,7 @@ use Rattle.om_command_line.proofs.LevelLemmas.{set_adds}
 use Rattle.om_command_line.proofs.SetLemmas.{leaf}
 use Rattle.om_command_line.proofs.TableLemmas.{next_place, no_dashes, ruled, same_text, spelled, spells, taking}
 
--- ---- what clap sees in an argument
+-- ---- clap's view of an argument
 
 word_dashes : (word : List ℕ) → IsArgument word → bytes_eq word (45 ∷ 45 ∷ []) ≡ false
 word_dashes [] is = absurd is
@@ -35,11 +35,11 @@ no_short : (word : List ℕ) → IsArgument word → short_of word ≡ None
 no_short [] is = absurd is
 no_short (first ∷ rest) is = rw (ne_eqb first 45 is) refl
 
--- where the walk stands among the arguments of a command
+-- The state of processing among the arguments of a command.
 abbrev pub standing : Held → ℕ → Walk
 standing h n = record { held = h; waiting = idle; position = n; is_trailing = false; stopped = None }
 
--- it goes to the positional whose turn it is
+-- The argument is assigned to the next positional.
 argument_walked : (c : List Rule) (h : Held) (n : ℕ) (word : List ℕ) → IsArgument word
     → walked c [] (standing h n) word ≡ to_positional c (arg_by_index c n) word (standing h n) h
 unfolding walked
@@ -48,7 +48,7 @@ argument_walked c h n word is = rw (word_dashes word is, no_long word is, no_sho
 argument_turn : (s : Shape) (h : Held) (n : ℕ) (word : List ℕ) → IsArgument word → turn_fault s [] (standing h n) word ≡ step_fault s n h value
 argument_turn s h n word is = rw (word_dashes word is, no_long word is, no_short word is) refl
 
--- or to the option that waits for it
+-- The argument is assigned to the option that waits for a value.
 abbrev waiting_for : Text → Held → ℕ → Walk
 waiting_for id h n = record { held = h; waiting = waits_for id; position = n; is_trailing = false; stopped = None }
 
@@ -61,7 +61,7 @@ option_walked c id h n word is = rw (word_dashes word is, no_long word is, no_sh
 option_turn : (s : Shape) (id : Text) (h : Held) (n : ℕ) (word : List ℕ) → IsArgument word → turn_fault s [] (waiting_for id h n) word ≡ []
 option_turn s id h n word is = rw (word_dashes word is, no_long word is, no_short word is) refl
 
--- no fault in a first word, and none in the others
+-- If the first argument and the rest give no error, then the whole gives none.
 walk_no_fault : (s : Shape) (w next : Walk) (word : List ℕ) (rest : List (List ℕ)) → turn_fault s [] w word ≡ [] → walked s.rules [] w word ≡ next → walk_fault s [] next rest ≡ []
     → walk_fault s [] w (word ∷ rest) ≡ []
 unfolding walk_fault
@@ -71,7 +71,7 @@ pub walk_no_words : (s : Shape) (w : Walk) → walk_fault s [] w [] ≡ []
 unfolding walk_fault
 walk_no_words s w = refl
 
--- an option by its long name
+-- An option by its long name.
 long_walked : (c : List Rule) (h : Held) (n : ℕ) (word name : Text) (a : Rule) → bytes_eq word (45 ∷ 45 ∷ []) ≡ false → long_of word ≡ Some (name, None) → arg_by_long c name ≡ Some a
     → walked c [] (standing h n) word
     ≡ after_step c word (standing h n) (after_flag c idle word (long_met c (Some a) None h).0 (long_met c (Some a) None h).1).0 (after_flag c idle word (long_met c (Some a) None h).0 (long_met c (Some a) None h).1).1
@@ -104,7 +104,7 @@ digits_accepted text greatest numeral least small =
 
 -- ---- one use of an argument
 
--- the row of an argument that is used
+-- The row of an argument that is used.
 abbrev pub row_at : Text → Text → Row
 row_at name text = record { id = name; values = text ∷ []; count = None; source = Some CommandLine; reading = AsWritten }
 
@@ -120,17 +120,17 @@ module _ (level : Text) (c : List Rule) where
   abbrev own : Shape
   own = leaf level c
 
-  -- the walk goes on from one place to another, without a fault
+  -- Processing these arguments leads from one state to another without an error.
   abbrev pub Passes : Held → ℕ → List Text → Held → ℕ → Type 0
   Passes h n words h' n' =
       (rest : List Text) → (fold (walked c []) (standing h n) (words ++ rest) ≡ fold (walked c []) (standing h' n') rest)
       × (walk_fault own [] (standing h' n') rest ≡ [] → walk_fault own [] (standing h n) (words ++ rest) ≡ [])
 
-  -- there is no fault in what is held, and it comes to these rows
+  -- The state has no error and gives these rows.
   abbrev pub Holds : Held → List Row → Type 0
   Holds h rows = (settle_fault c false h ≡ []) × ((settled c h).rows ≡ rows)
 
-  -- a walk over these words comes to these rows
+  -- Processing these arguments gives these rows.
   abbrev pub Comes : Held → ℕ → List Text → ℕ → List Row → Type 0
   Comes h n words n' rows = (h' : Held) × Passes h n words h' n' × Holds h' rows
 
@@ -151,7 +151,7 @@ module _ (level : Text) (c : List Rule) where
         holds',
       )
 
-  -- what waits to be used, with one value
+  -- A pending argument with one value.
   pending_holds : (id text : Text) (a : Rule) (k : ℕ) (before rows after : List Row) → arg_by_id c id ≡ Some a → before ≡ rows → use_fault false a (text ∷ []) rows ≡ [] → used a (text ∷ []) rows ≡ after
       → Holds (record { rows = before; pending = Some (id, text ∷ []); skip = k }) after
   pending_holds id text a k before rows after by_id same none adds = (
@@ -224,7 +224,7 @@ module _ (level : Text) (c : List Rule) where
         pending_holds name text option_rule h.skip (settled c h).rows rows (rows ++ row_at name text ∷ []) by_id holds.1 option_fine (set_adds (text ∷ []) name AsWritten rows absent),
       )
 
-    -- a word at a place
+    -- A positional argument.
     place_comes : (id text : Text) (a : Rule) (n' : ℕ) → arg_by_id c id ≡ Some a → arg_by_index c n ≡ Some a → IsArgument text
         → to_positional c (Some a) text (standing h n) h ≡ standing (record (settled c h) { pending = Some (id, text ∷ []) }) n'
         → positional_fault c false a h ≡ settle_fault c false h → use_fault false a (text ∷ []) rows ≡ [] → used a (text ∷ []) rows ≡ rows ++ row_at id text ∷ []

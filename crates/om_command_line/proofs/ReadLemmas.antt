@@ -1,4 +1,4 @@
--- What is read of the words.
+-- Parsing of the arguments to a request.
 use Rattle.std.proofs.Common.{◌≡◌, ◌≢◌, ◌∙◌, ◌^◌, ℕ, Bool, true, false, List, [], ◌∷◌, Option, Some, None, Result, Ok, Err, refl, sym, ap, subst, inl, inr, unwrap_or, arith}
 use Rattle.std.specs.Prelude.{Box, if◌then◌else◌, find, option_and_then, option_map}
 use Rattle.std.specs.Box.{box_value}
@@ -29,7 +29,7 @@ use Rattle.om_command_line.proofs.RequestLemmas.{asked_whole, asks_whole, one_re
 
 -- ---- an argument
 
--- a getter of texts gives the word
+-- The getter for texts returns the argument.
 pub word_got : (found : Found) (name : List ℕ) (r : Option (Bor (List ℕ))) (usual text : Bor (List ℕ)) → option_map (λ s. s.now) r ≡ first_value found name → usual.now ≡ []
     → text ≡ unwrap_or r usual → text.now ≡ word_in (rows_of found) name
 word_got found name r usual text is empty given =
@@ -39,7 +39,7 @@ word_got found name r usual text is empty given =
     go None = empty
     go (Some s) = refl
 
--- a getter of numbers gives the number, where `parse` gives what `Gives` says
+-- If `parse` satisfies `Gives`, then the getter for numbers returns the number.
 module _ {E : Type 0} (Gives : List ℕ → Result ℕ E → Type 0) (parses : (text : List ℕ) (r : Result ℕ E) → Gives text r → ParsesUnsigned 64 10 text r)
     (found : Found) (name : List ℕ) (r : Option ℕ) (none : one_text found name ≡ None → r ≡ None)
     (value : (text : List ℕ) → one_text found name ≡ Some text → ReadsOne Gives text r) where
@@ -63,7 +63,7 @@ module _ {E : Type 0} (Gives : List ℕ → Result ℕ E → Type 0) (parses : (
 
 -- ---- the command's name
 
--- a name that no row of a table has is not found there
+-- If no row of a table has a name, then the lookup of the name fails.
 pub name_unknown :
     (name : List ℕ) (all : List Form)
     → AllByRecursion (λ (form : Form). name ≡ form.name → ⊥) all
@@ -78,7 +78,7 @@ name_unknown name (form ∷ all) (other, others) =
     go true same rest = absurd (other (sym ((bytes_eq-Decides form.name name).0 same)))
     go false apart rest = rw apart rest
 
--- ---- the command that was met
+-- ---- the command that clap found
 
 module _ {Z : Type 0} where
   name_in : (o : Option (Box SubCommand Z)) → option_map (λ b. (out-SubCommand (box_value b)).name.now) o ≡ option_map (λ (p : List ℕ × List Row). p.0) (subcommand_rows o)
@@ -97,7 +97,7 @@ met_read matches name arguments result is_name are_arguments reads command rows 
     let both : arguments ≡ rows = cc lists in
     subst (λ n. ReadsBy n rows result) same (subst (λ l. ReadsBy name l result) both reads)
 
--- ---- what clap answers of the command set
+-- ---- clap's result for the command set
 
 set_is_simple : is_simple command_set ≡ true
 unfolding clap_on_literals
@@ -107,7 +107,7 @@ set_is_free : is_simple_and_free command_set ≡ true
 unfolding clap_on_literals
 set_is_free = refl
 
--- it may be asked for, or it may not
+-- The request is possible, or it is a certificate of a single value.
 whole_some : (request other : Request) → if_whole request ≡ Some other → (is_whole request ≡ true) × (request ≡ other)
 whole_some request other e = go (is_whole request) refl e
   where
@@ -126,7 +126,7 @@ module _ (app : App) (set : app ≡ command_set) (words : List (List ℕ)) where
   met : (matches : ArgMatches) → HasMatchesOf app words matches → subcommand_rows_of matches ≡ subcommand_of command_set words
   met matches found = (found (ap is_simple set ∙ set_is_simple)).1 ∙ ap (λ a. subcommand_of a words) set
 
-  -- where it accepts the words
+  -- The claim if clap accepts the arguments.
   accepted_read : (matches : ArgMatches) → (is_simple_and_free app ≡ true → fault_of app words ≡ []) → HasMatchesOf app words matches → (result : Option Reading) → ReadsMet matches result
       → (request : Request) × (if_whole request ≡ option_map request_of result) × AreReadAs words request
   accepted_read matches accepts found result reads =
@@ -149,7 +149,7 @@ module _ (app : App) (set : app ≡ command_set) (words : List (List ℕ)) where
       cc bad
   asked_read matches accepts found (Err Memory) never = absurd never
 
-  -- where it refuses them
+  -- The claim if clap refuses the arguments.
   pub refused_words : (error : Error) → (is_simple_and_free app ≡ true → HasKind (fault_of app words) error) → kind_of error ≢ kinds.OutOfMemory → IsUsage words
   refused_words error refuses not_memory request asks = go (refuses (ap is_simple_and_free set ∙ set_is_free)) where
     none : fault_of app words ≡ []

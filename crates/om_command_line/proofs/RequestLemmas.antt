@@ -1,4 +1,4 @@
--- What accepted words ask for is one thing.
+-- Accepted arguments make at most one request.
 use Rattle.std.proofs.Common.{◌≡◌, ◌∙◌, ◌<◌, ◌^◌, ℕ, Bool, true, false, List, [], ◌∷◌, Option, Some, None, codes, refl, sym, ap, ap₂, unwrap_or, arith}
 use Rattle.std.specs.Prelude.{if◌then◌else◌, option_map}
 use Rattle.std.specs.Str.{bytes_eq}
@@ -12,7 +12,7 @@ use Rattle.om_command_line.specs.Requests.{asked, asked_by, flag_in, given_in, n
 use Rattle.om_command_line.proofs.SetLemmas.{form_fits}
 use Rattle.om_command_line.proofs.TableLemmas.{are_lawful, both, is_lawful, lawful_rest, small_number, small_option, small_optional}
 
--- ---- a command may ask for one thing alone, which its arguments tell
+-- ---- the arguments of a command determine its request
 
 word_told : (rows : List Row) (name text : List ℕ) → HasWord rows name text → text ≡ word_in rows name
 word_told rows name text has = ap (λ (o : Option (List ℕ)). unwrap_or o []) (sym has)
@@ -64,7 +64,7 @@ request_told command rows request (form, found, has) =
     ap (option_map (λ (f : Form). asked f.arguments f.asks rows)) found
     ∙ ap (λ r. Some r) (sym (arguments_told form.arguments form.asks rows request (form_fits command form found).0 has))
 
--- what accepted words are read as
+-- The request to which accepted arguments parse.
 pub reads_by : (words : List (List ℕ)) (request : Request) (command : List ℕ) (rows : List Row) → Accepted words command rows → AsksBy command rows request → AreReadAs words request
 unfolding AreReadAs
 reads_by words request command rows accepted by = (command, rows, accepted, by)
@@ -73,7 +73,7 @@ pub read_parts : (words : List (List ℕ)) (request : Request) → AreReadAs wor
 unfolding AreReadAs
 read_parts words request read = read
 
--- and what they ask for
+-- The request that they make.
 pub asks_whole : (words : List (List ℕ)) (request : Request) → AreReadAs words request → is_whole request ≡ true → Asks words request
 unfolding Asks
 asks_whole words request read whole = (read, whole)
@@ -82,7 +82,7 @@ pub asked_whole : (words : List (List ℕ)) (request : Request) → Asks words r
 unfolding Asks
 asked_whole words request asks = asks
 
--- clap reads one command of words
+-- clap parses arguments to at most one command.
 one_read : {X Y : Type 0} (read : Option (X × Y)) (x x' : X) (y y' : Y) → read ≡ Some (x, y) → read ≡ Some (x', y') → (x ≡ x') × (y ≡ y')
 one_read {X} {Y} read x x' y y' is is' =
     let e : ◌≡◌ {A = Option (X × Y)} (Some (x, y)) (Some (x', y')) = sym is ∙ is' in

@@ -1,4 +1,4 @@
--- The command set, as clap builds it, and what it makes of a command's name.
+-- The command set as clap builds it, and its treatment of a command's name.
 use Rattle.std.proofs.Common.{◌≡◌, ◌∙◌, ◌<◌, ◌&&◌, Bool, true, false, List, [], ◌∷◌, ◌++◌, map, length, Option, Some, None, append-nil, append_assoc, codes, is_some, refl, sym, ap, subst}
 use Rattle.std.specs.Prelude.{fold, nat_lt, option_map}
 use Rattle.std.specs.List.{find, list_all}
@@ -16,9 +16,9 @@ use Rattle.om_outcome.specs.CommandLine.{Form, command_set, form_of, forms}
 use Rattle.om_command_line.proofs.TableLemmas.{are_lawful, both, rules_from}
 use Rattle.om_model.proofs.Lists.{found_passes}
 
--- ---- what clap builds
+-- ---- clap's internal form
 
--- a command with these arguments
+-- A command with these arguments.
 abbrev pub leaf : Text → List Rule → Shape
 leaf name rules = record (new_shape name) {
   rules = rules;
@@ -59,7 +59,7 @@ fault_is words = ap (λ a. built_fault a nothing_held words) commands_are_built
 pub met_is : (words : List Text) → subcommand_of command_set words ≡ entered commands (stop_after [] command_names words)
 met_is words = ap (λ (a : App). entered a (stop_after a.top.rules (names_of a) words)) commands_are_built
 
--- ---- the command of a name
+-- ---- lookup of a command by name
 
 found_all : {X : Type 0} (test all : X → Bool) (xs : List X) (x : X) → list_all all xs ≡ true → find test xs ≡ Some x → all x ≡ true
 found_all test all [] x each found = cc found
@@ -69,7 +69,7 @@ found_all test all (y ∷ ys) x each found = go (test y) refl (found_all test al
     go true e later = let is : Some y ≡ Some x = (rw e at found) in let same : y ≡ x = cc is in subst (λ z. all z ≡ true) same (both (all y) (list_all all ys) each).0
     go false e later = later (rw e at found)
 
--- the name is the command's
+-- If the lookup succeeds, then the name is the command's name.
 pub found_name : (word : Text) (form : Form) → form_of word ≡ Some form → word ≡ form.name
 found_name word form found = sym ((bytes_eq-Decides form.name word).0 (found_passes (λ (f : Form). bytes_eq f.name word) forms form found))
 
@@ -102,7 +102,7 @@ leaves_found word (f ∷ fs) = go (bytes_eq f.name word) refl (leaves_found word
     go true e later = rw e refl
     go false e later = rw e later
 
--- what clap meets at a first word
+-- The command that clap recognizes at a first argument.
 pub met_by : (word : Text) → subcommand_met command_names idle word ≡ option_map (λ (f : Form). f.name) (form_of word)
 met_by word = ap (option_map (λ (s : Text × List Text). s.0)) (names_found word forms) ∙ go (form_of word)
   where
@@ -123,7 +123,7 @@ no_help word form found = go (bytes_eq word (codes "help")) refl
 
 -- ---- a command's name
 
--- the walk stops at a command's name, with the words after it
+-- Processing stops at a command's name, with the arguments after it.
 abbrev stopped_at : Walk → Text → List Text → Walk
 stopped_at w name rest = record w { stopped = Some (name, rest) }
 
@@ -133,12 +133,12 @@ stopped_walk c names w name before [] = ap (stopped_at w name) (sym (append-nil 
 stopped_walk c names w name before (word ∷ rest) =
     stopped_walk c names w name (before ++ word ∷ []) rest ∙ ap (stopped_at w name) (append_assoc before (word ∷ []) rest)
 
--- clap meets the command, and finds it
+-- clap recognizes the command and finds it.
 abbrev IsNamed : Form → Type 0
 IsNamed form =
     (subcommand_met command_names idle form.name ≡ Some form.name) × (find (λ s. answers_to form.name (label_of s)) commands.subs ≡ Some (leaf_of form)) × (bytes_eq form.name (codes "help") ≡ false)
 
--- what the whole parse comes to, by where the walk ends
+-- The error of the whole parse, by the state in which processing ends.
 abbrev fault_after : Walk → Kinds
 fault_after w =
     or_else (entered_fault commands w.stopped)
@@ -183,12 +183,12 @@ module _ (form : Form) (found : form_of form.name ≡ Some form) where
     unfolding defaults_fault
     within = ap (fault_within rest) named.1
 
-    -- the fault is the command's own
+    -- The error is the command's own error.
     pub named_fault : fault_of command_set (name ∷ rest) ≡ or_else (level_fault (leaf_of form) [] nothing_held rest false []) []
     named_fault =
         fault_is (name ∷ rest)
         ∙ (ap (λ k. or_else k (fault_after (walk [] command_names nothing_held (name ∷ rest)))) name_passes ∙ (ap fault_after name_walk ∙ within))
 
-    -- and so are the arguments
+    -- The arguments are the command's own arguments.
     pub named_met : subcommand_of command_set (name ∷ rest) ≡ Some (name, rows_after (rules_of form) [] rest)
     named_met = met_is (name ∷ rest) ∙ (ap (λ (w : Walk). entered commands w.stopped) name_walk ∙ ap (option_map (λ s. rows_at s rest)) named.1)

@@ -1,4 +1,4 @@
--- What clap builds of the arguments of a command, and how it finds them again.
+-- clap's internal form of the arguments of a command, and how clap finds them.
 use Rattle.std.proofs.Common.{◌≡◌, ◌∙◌, ◌⊎◌, inl, inr, ◌==◌, ◌<◌, ◌≤◌, ◌+◌, ◌&&◌, ℕ, Bool, true, false, not, List, [], ◌∷◌, ◌++◌, map, length, min, Option, Some, None, is_some, codes, refl, sym, ap, subst, arith}
 use Rattle.std.specs.Prelude.{◌^◌, nat_lt}
 use Rattle.std.specs.List.{find, list_any}
@@ -33,13 +33,13 @@ pub both : (a b : Bool) → (a && b) ≡ true → (a ≡ true) × (b ≡ true)
 both true b e = (refl, e)
 both false b e = cc e
 
--- ---- what clap builds of an argument
+-- ---- clap's internal form of an argument
 
--- where the next place is i
+-- The rule of an argument, if the next positional index is `i`.
 abbrev pub ruled : ℕ → Argument → Rule
 ruled i a = with_index i (filled (rule_for a))
 
--- an option with a number up to the greatest, and the texts where it is not used
+-- An option with a number up to `greatest` and these defaults.
 abbrev pub taking : Text → ℕ → List Text → Rule
 taking name greatest usual =
     with_index 1 (filled (record (new_rule name) { long = Some name; parser = Some (Unsigned 0 greatest); defaults = usual }))
@@ -57,9 +57,9 @@ name_of (optional name greatest) = name
 name_of (wanted name) = name
 name_of (number name greatest) = name
 
--- ---- arguments that clap can tell from one another
+-- ---- arguments that clap can distinguish
 
--- clap reads the name after two hyphens as it is
+-- clap reads the name after two hyphens unchanged.
 abbrev pub spells : Text → Bool
 spells name = option_map_or (λ (p : Text × Option Text). bytes_eq p.0 name && not (is_some p.1)) (long_of (codes "--" ++ name)) false
 
@@ -75,7 +75,7 @@ pub no_dashes : (name : Text) → spells name ≡ true → bytes_eq (codes "--" 
 no_dashes [] e = cc e
 no_dashes (x ∷ xs) e = refl
 
--- the name can be written, the value where the option is not used is accepted, and numbers fit a word
+-- The name can be written, the default is accepted, and numbers fit in 64 bits.
 abbrev pub is_lawful : Argument → Bool
 is_lawful (flag name) = spells name
 is_lawful (option name greatest usual) =
@@ -87,7 +87,7 @@ is_lawful (number name greatest) = nat_lt greatest (2 ^ 64)
 abbrev pub is_named : Text → List Argument → Bool
 is_named name arguments = list_any (λ a. bytes_eq name (name_of a)) arguments
 
--- no two have one name, and each is lawful
+-- The arguments have distinct names, and each is lawful.
 abbrev pub are_lawful : List Argument → Bool
 are_lawful [] = true
 are_lawful (a ∷ rest) = is_lawful a && (not (is_named (name_of a) rest) && are_lawful rest)
@@ -119,7 +119,7 @@ small_optional name greatest lawful = ltb-true greatest (2 ^ 64) (both (spells n
 pub small_number : (name : Text) (greatest : ℕ) → is_lawful (number name greatest) ≡ true → greatest < 2 ^ 64
 small_number name greatest lawful = ltb-true greatest (2 ^ 64) lawful
 
--- clap finds an argument by its id, and by its long name or its place
+-- clap finds the argument by its id, and by its long name or its positional index.
 abbrev pub IsFound : List Rule → ℕ → Argument → Type 0
 IsFound c i (flag name) =
     (arg_by_id c name ≡ Some (ruled i (flag name))) × (arg_by_long c name ≡ Some (ruled i (flag name)))
@@ -143,7 +143,7 @@ found_here i (optional name greatest) c = (rw (same_text name) refl, rw (same_te
 found_here i (wanted name) c = (rw (same_text name) refl, rw (eq-eqb i i refl) refl)
 found_here i (number name greatest) c = (rw (same_text name) refl, rw (eq-eqb i i refl) refl)
 
--- ---- an argument in front changes nothing
+-- ---- a preceding argument changes nothing
 
 skip_id : (b : Argument) (j : ℕ) (c : List Rule) (n : Text) → bytes_eq (name_of b) n ≡ false → arg_by_id (ruled j b ∷ c) n ≡ arg_by_id c n
 skip_id (flag name) j c n e = rw e refl
@@ -159,7 +159,7 @@ skip_long (optional name greatest) j c n e = rw e refl
 skip_long (wanted name) j c n e = refl
 skip_long (number name greatest) j c n e = refl
 
--- places are few
+-- Positional indices are small.
 next_up : (i : ℕ) → i < 1000 → min (i + 1) usize_max ≡ i + 1
 next_up i few = omega arith
 
@@ -181,7 +181,7 @@ found_past b j c i (optional name greatest) e few least found = (skip_id b j c n
 found_past b j c i (wanted name) e few least found = (skip_id b j c name e ∙ found.0, skip_index b j c i few least ∙ found.1)
 found_past b j c i (number name greatest) e few least found = (skip_id b j c name e ∙ found.0, skip_index b j c i few least ∙ found.1)
 
--- the next place is the same or one more
+-- The next positional index is the same or one more.
 next_within : (i : ℕ) (a : Argument) → i < 1000 → (i ≤ next_place i a) × (next_place i a ≤ i + 1)
 next_within i (flag name) few = (omega arith, omega arith)
 next_within i (option name greatest usual) few = (omega arith, omega arith)
@@ -197,7 +197,7 @@ are_past b j c i (a ∷ rest) fresh few least short (found, more) =
     let within = next_within i a (omega (arith, short)) in
     (found_past b j c i a apart.0 few least found, are_past b j c (next_place i a) rest apart.1 few (omega (arith, within.0, least)) (omega (arith, within.1, short)) more)
 
--- clap finds each argument
+-- clap finds each argument.
 pub all_found : (i : ℕ) (arguments : List Argument) → are_lawful arguments ≡ true → i + length arguments < 1000 → AreFound (rules_from i arguments) i arguments
 all_found i [] lawful short = tt
 all_found i (a ∷ rest) lawful short =
@@ -218,20 +218,20 @@ no_short i (optional name greatest ∷ rest) x = no_short (next_place i (optiona
 no_short i (wanted name ∷ rest) x = no_short (next_place i (wanted name)) rest x
 no_short i (number name greatest ∷ rest) x = no_short (next_place i (number name greatest)) rest x
 
--- ---- what clap may find
+-- ---- rules that clap may find
 
 abbrev pub one_value : ValueRange
 one_value = record { start_inclusive = 1; end_inclusive = 1 }
 
--- it takes one value
+-- The rule takes one value.
 abbrev pub TakesOne : Rule → Type 0
 TakesOne a = (action_of a ≡ Set) × (unwrap_or_range a.range ≡ one_value)
 
--- it is a flag
+-- The rule is that of a flag.
 abbrev pub IsFlag : Rule → Type 0
 IsFlag a = (name : Text) × (a ≡ filled (rule_for (flag name)))
 
--- a rule that clap finds by its id
+-- A rule that clap finds by its id.
 abbrev pub IsOwn : List Rule → Rule → Type 0
 IsOwn c a = (arg_by_id c a.id ≡ Some a) × (TakesOne a ⊎ IsFlag a)
 

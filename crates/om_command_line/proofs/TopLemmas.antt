@@ -1,4 +1,4 @@
--- Words in which clap finds no fault begin with a command's name.
+-- If clap reports no error, then the arguments begin with a command's name.
 use Rattle.std.proofs.Common.{◌≡◌, ◌∙◌, ◌⊎◌, inl, inr, ℕ, Bool, true, false, List, [], ◌∷◌, Option, Some, None, codes, length, refl, sym, ap, subst, true≢false}
 use Rattle.std.specs.Prelude.{if◌then◌else◌, option_map, slice_get}
 use Rattle.std.specs.Option.{option_map_or}
@@ -15,14 +15,14 @@ use Rattle.om_outcome.specs.CommandLine.{Form, command_set, form_of}
 use Rattle.om_command_line.proofs.SetLemmas.{command_names, commands, fault_is, found_name, met_by, top}
 use Rattle.om_command_line.proofs.TableLemmas.{is_text}
 
--- no fault in two steps, none in either
+-- If two steps together give no error, then neither does.
 pub both_none : (a b : Kinds) → or_else a b ≡ [] → (a ≡ []) × (b ≡ [])
 both_none [] b none = (refl, none)
 both_none (k ∷ ks) b none = cc none
 
--- ---- a first word
+-- ---- a first argument
 
--- it is a command's name, or clap meets no command
+-- The argument is a command's name, or clap recognizes no command.
 command_or_none : (word : Text) → ((form : Form) × (form_of word ≡ Some form)) ⊎ (subcommand_met command_names idle word ≡ None)
 command_or_none word = go (form_of word) refl
   where
@@ -30,13 +30,13 @@ command_or_none word = go (form_of word) refl
     go None e = inr (met_by word ∙ ap (option_map (λ (f : Form). f.name)) e)
     go (Some form) e = inl (form, e)
 
--- ---- one that names no command
+-- ---- an argument that names no command
 
--- what a word comes to, and what it is then
+-- The error of an argument, followed by the error of the step after it.
 abbrev fault_then : Kinds → Held × Step → Kinds
 fault_then fault met = or_else fault (step_fault top 1 met.0 met.1)
 
--- a bundle of flags: none is known
+-- A bundle of flags is refused, because no flag is known.
 bundle_refused : (word flags : Text) → fault_then (bundle_fault [] false flags nothing_held) (after_flag [] idle word (bundle [] flags nothing_held).0 (bundle [] flags nothing_held).1) ≡ [] → ⊥
 unfolding flags_fault bundle_met
 bundle_refused word [] none = let bad : kind.UnknownArgument ∷ kind.InvalidSubcommand ∷ [] ≡ [] = none in cc bad
@@ -66,7 +66,7 @@ word_refused word unnamed no_dashes none =
     (if b then (nothing_held, trailing 1) else long_or_other [] idle word (long_of word) nothing_held)) no_dashes) ∙ at_none in
     flag_refused word (long_of word) at_flag
 
--- after `--` no word is taken, and without one a command is missing
+-- After `--` no argument is accepted; without an argument a command is missing.
 dashes_refused : (rest : List Text) → built_fault commands nothing_held (codes "--" ∷ rest) ≡ [] → ⊥
 unfolding clap_on_literals
 dashes_refused [] none = let bad : kind.MissingSubcommand ∷ [] ≡ [] = none in cc bad
@@ -94,7 +94,7 @@ unnamed_refused word rest unnamed none = go (is_text (codes "--") word)
             absurd (true≢false (subst (λ w. bytes_eq (codes "--") w ≡ false) same other))
         flipped false e = e
 
--- the words begin with a command's name
+-- The arguments begin with a command's name.
 pub words_begin : (words : List Text) → fault_of command_set words ≡ [] → (form : Form) × (rest : List Text) × (words ≡ form.name ∷ rest) × (form_of form.name ≡ Some form)
 words_begin words none = go words (sym (fault_is words) ∙ none)
   where

@@ -1,4 +1,4 @@
--- What a command tells clap.
+-- The clap configuration of a command.
 use Rattle.std.specs.Prelude.{ℕ, ◌≡◌, true, false, List, [], map, fold, Result, Ok, Err}
 use Rattle.std.specs.Borrow.{Bor}
 use Rattle.std.specs.declared.alloc.AllocError.{AllocError}
@@ -10,11 +10,11 @@ use Rattle.om_outcome.specs.CommandLine.{command_set, shape_for}
 use Rattle.om_command_line.specs.declared.command_set.Argument.{Argument}
 use Rattle.om_command_line.specs.declared.command_set.Argument.TheVariants as arguments
 
--- a command: its name and its arguments
+-- A command: its name and its arguments.
 abbrev pub Form : Type 0
 Form = Bor (List ℕ) × Bor (List Argument)
 
--- the argument, as the definitions know it
+-- The argument in terms of the specification.
 abbrev pub argument_of : Argument → outcome.Argument
 argument_of (arguments.Flag name) = outcome.flag name.now
 argument_of (arguments.Option name greatest usual) = outcome.option name.now greatest usual.now
@@ -22,15 +22,15 @@ argument_of (arguments.Optional name greatest) = outcome.optional name.now great
 argument_of (arguments.Word name) = outcome.wanted name.now
 argument_of (arguments.Number name greatest) = outcome.number name.now greatest
 
--- a command of this name with these arguments, and no other command
+-- A single command with this name and these arguments.
 abbrev pub app_with : List ℕ → List Argument → App
 app_with name more = record { top = shape_for name (map argument_of more); subs = [] }
 
--- it has these arguments, none of which holds for its subcommands too
+-- The command has this configuration, and none of its arguments is global.
 abbrev pub Tells : Command → App → Type 0
 Tells command app = (app_of command ≡ app) × ((out-Command command).has_globals ≡ false)
 
--- the commands, before the first is added and with some of them
+-- The program without commands, and with some of them.
 abbrev pub program : App
 program = record { top = record command_set.top { is_leaf = true }; subs = [] }
 
@@ -38,7 +38,7 @@ abbrev pub program_with : List Form → App
 program_with forms =
     fold with_subcommand program (map (λ form. (app_with form.0.now form.1.now).top) forms)
 
--- the command was made, and was added
+-- The command was built and was added.
 abbrev pub AddsMade : Command → Result Command AllocError → Command → Type 0
 AddsMade old (Ok added) new = AddsSubcommand old added new
 AddsMade old (Err error) new = ⊥

@@ -1,4 +1,4 @@
--- The words as texts, and what is asked for.
+-- The arguments as texts, and their request.
 use Rattle.std.specs.Prelude.{ℕ, ◌^◌, ◌≡◌, Bool, false, if◌then◌else◌, List, [], ◌∷◌, map, Option}
 use Rattle.std.specs.Prelude.{Some, None, option_map, option_and_then, unwrap_or, codes, Result, Ok}
 use Rattle.std.specs.Prelude.{Err, String, string_bytes}
@@ -44,30 +44,30 @@ request_of (requests.Certify file type lines reading) =
 request_of (requests.Generate n count type) = outcome.own (outcome.generate n count type.now)
 request_of (requests.Scan limit) = outcome.own (outcome.scan limit)
 
--- what `check` asks for, with a certificate or without
+-- The request of `check`, with or without a certificate.
 abbrev pub check_asks : Bool → (file type : List ℕ) → Bool → Reading → outcome.Request
 check_asks certified file type lines reading =
     if certified then outcome.own (outcome.certify file type lines reading)
     else outcome.tell outcome.the_verdict file type lines reading
 
--- the arguments of a command
+-- The arguments of a command.
 abbrev pub arguments_of : ArgMatches → List Row
 arguments_of matches = rows_of (found_of matches)
 
--- the word of this name, or the empty one
+-- The argument with this name, or the empty text.
 abbrev pub word_in : List Row → List ℕ → List ℕ
 word_in rows name = unwrap_or (first_of name rows) []
 
--- whether the flag of this name is used
+-- True if the flag with this name is used.
 abbrev pub flag_in : List Row → List ℕ → Bool
 flag_in rows name = bytes_eq (word_in rows name) (codes "true")
 
--- how texts are put
+-- The style for printing values.
 abbrev pub style_in : List Row → Style
 style_in rows =
     outcome.styled_by (flag_in rows (codes "pretty")) (flag_in rows (codes "decimal"))
 
--- the number of 64 bits in a text, if there is one
+-- The 64-bit number in a text, if there is one.
 abbrev pub number_of : Option (List ℕ) → Option ℕ
 number_of None = None
 number_of (Some text) =
@@ -75,27 +75,27 @@ number_of (Some text) =
     then Some (digits_value 10 (without_leading_plus text))
     else None
 
--- the number of this name, if it is given
+-- The number with this name, if it is given.
 abbrev pub given_in : List Row → List ℕ → Option ℕ
 given_in rows name = number_of (one_of name rows)
 
--- the number of this name, or 0
+-- The number with this name, or 0.
 abbrev pub number_in : List Row → List ℕ → ℕ
 number_in rows name = unwrap_or (given_in rows name) 0
 
--- how values are read, where this one is told of, if it is one alone
+-- The options for reading values, with this number for `--only`.
 abbrev pub choosing_in : List Row → Option ℕ → Reading
 choosing_in rows only =
     outcome.read_by (number_in rows (codes "limit")) (number_in rows (codes "skip")) only
 
--- how all values are read, and where one alone may be asked for
+-- The options for reading all values, and the options for a command that accepts `--only`.
 abbrev pub reading_in : List Row → Reading
 reading_in rows = choosing_in rows None
 
 abbrev pub choice_in : List Row → Reading
 choice_in rows = choosing_in rows (given_in rows (codes "only"))
 
--- what is asked for, where all arguments are there
+-- The request, if all arguments are present.
 abbrev pub asked : (arguments : List Argument) → Asking arguments → List Row → outcome.Request
 asked [] asks rows = asks
 asked (flag name ∷ rest) asks rows = asked rest (asks (flag_in rows name)) rows
@@ -104,32 +104,33 @@ asked (optional name greatest ∷ rest) asks rows = asked rest (asks (given_in r
 asked (wanted name ∷ rest) asks rows = asked rest (asks (word_in rows name)) rows
 asked (number name greatest ∷ rest) asks rows = asked rest (asks (number_in rows name)) rows
 
--- the same by a command's name
+-- The request by a command's name.
 abbrev pub asked_by : List ℕ → List Row → Option outcome.Request
 asked_by command rows = option_map (λ form. asked form.arguments form.asks rows) (form_of command)
 
--- it, if words may ask for it
+-- The request, unless it is a certificate of a single value.
 abbrev pub if_whole : outcome.Request → Option outcome.Request
 if_whole request = if outcome.is_whole request then Some request else None
 
--- what a command with these arguments asks for is read
+-- The result is the request of a command with these arguments.
 abbrev pub ReadsBy : List ℕ → List Row → Option Request → Type 0
 ReadsBy command rows result =
     option_and_then if_whole (asked_by command rows) ≡ option_map request_of result
 
--- the same of the command that was met
+-- The result is the request of the command that clap found.
 abbrev pub ReadsMet : ArgMatches → Option Request → Type 0
 ReadsMet matches result =
     (command : List ℕ) (rows : List Row) → subcommand_rows_of matches ≡ Some (command, rows)
     → ReadsBy command rows result
 
--- the same, where it is a refusal that it asks for nothing
+-- The same, with `Usage` if there is no request.
 abbrev pub ReadsAsked : ArgMatches → Result Request Unread → Type 0
 ReadsAsked matches (Ok request) = ReadsMet matches (Some request)
 ReadsAsked matches (Err Usage) = ReadsMet matches None
 ReadsAsked matches (Err Memory) = ⊥
 
--- what the words ask for is read, or they ask for nothing; or memory ran out
+-- The result is the request of the arguments, or `Usage` if they make none. If memory ran out,
+-- nothing is specified.
 abbrev pub ReadsWords : List (List ℕ) → Result Request Unread → Type 0
 ReadsWords words (Ok request) = outcome.Asks words (request_of request)
 ReadsWords words (Err Usage) = outcome.IsUsage words

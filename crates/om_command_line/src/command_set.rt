@@ -1,4 +1,4 @@
-//! The commands, and what `clap` is told of them.
+//! The commands and their `clap` configuration.
 
 ghost use Rattle.std.specs.Prelude.{◌≡◌, IfOk, false};
 ghost use Rattle.clap.specs.Words.{app_of, rule_of};
@@ -15,32 +15,32 @@ use std::alloc::{AllocError, Global};
 enum Argument<'a> {
     /// `--NAME`, which is used or not.
     Flag(&'a str),
-    /// `--NAME N`: a number up to the greatest, or the usual one where it is not used.
+    /// `--NAME N`: a number with a maximum and a default.
     Option(&'a str, u64, &'a str),
-    /// `--NAME N`: a number up to the greatest, or none.
+    /// `--NAME N`: a number with a maximum and without a default.
     Optional(&'a str, u64),
-    /// A word that is known by its place.
+    /// A required positional argument.
     Word(&'a str),
-    /// A number up to the greatest, known by its place.
+    /// A required positional number with a maximum.
     Number(&'a str, u64),
 }
 
 /// A command: its name and its arguments.
 type Form<'a> = (&'a str, &'a [Argument<'a>]);
 
-// The greatest limit of words on 64 bits in a value.
+// The maximum for the limit of 64-bit words in a value.
 const GREATEST_LIMIT: u64 = 1 << 40;
 
-// The greatest number of bytes that are passed over.
+// The maximum number of bytes to skip.
 const GREATEST_SKIP: u64 = 1 << 48;
 
-// The greatest number of a value that is told of alone.
+// The maximum number of a value for `--only`.
 const GREATEST_ONLY: u64 = (1 << 63) - 1;
 
-// The greatest NUMBER of a value that is made.
+// The maximum NUMBER of a generated value.
 const GREATEST_NUMBER: u64 = 2147483647;
 
-// The greatest COUNT of its items.
+// The maximum COUNT of its items.
 const GREATEST_COUNT: u64 = 1000000;
 
 const LIMIT: Argument<'static> = Argument::Option("limit", GREATEST_LIMIT, "134217728");
@@ -96,7 +96,7 @@ static FORMS: [Form<'static>; 11] = [
     ("scan", &[LIMIT]),
 ];
 
-// What clap is told of an argument.
+// Returns the clap rule of an argument.
 fn rule<'a>(alloc: Global, argument: Argument<'a>) -> Arg<'a>
     ensures rule { rule_of result ≡ rule_for (argument_of argument.entry) }
     ensures local { result.global ≡ false }
@@ -117,7 +117,7 @@ fn rule<'a>(alloc: Global, argument: Argument<'a>) -> Arg<'a>
     }
 }
 
-// A command of this name with these arguments.
+// Builds a command with this name and these arguments.
 fn made<'a>(
     alloc: Global,
     name: &'a str,
@@ -132,7 +132,7 @@ fn made<'a>(
     Ok(command)
 }
 
-// A command is wanted, and none asks for help.
+// Builds the program without commands. A command is required, and there is no help command or flag.
 fn program<'a>(alloc: Global) -> Command<'a>
     ensures { app_of result ≡ the_program }
 {
@@ -143,7 +143,7 @@ fn program<'a>(alloc: Global) -> Command<'a>
         .disable_help_subcommand(true)
 }
 
-// One command more, where it was made.
+// Adds a command, if it could be built.
 fn with<'a>(
     all: Command<'a>,
     made: Result<Command<'a>, AllocError>,
@@ -153,7 +153,7 @@ fn with<'a>(
     all.subcommand(made?)
 }
 
-// The commands of a table.
+// Builds the program with the commands of a table.
 fn made_of<'a>(alloc: Global, forms: &'a [Form<'a>]) -> Result<Command<'a>, AllocError>
     ensures { IfOk result (λ command. app_of command ≡ program_with forms.entry.now) }
 {
@@ -164,7 +164,7 @@ fn made_of<'a>(alloc: Global, forms: &'a [Form<'a>]) -> Result<Command<'a>, Allo
     Ok(all)
 }
 
-/// The commands, with their arguments.
+/// Returns the clap configuration of all commands with their arguments.
 pub fn command_set<'a>(alloc: Global) -> Result<Command<'a>, AllocError>
     ensures { IfOk result (λ command. app_of command ≡ the_command_set) }
 {

@@ -1,18 +1,18 @@
-//! Laws over the definitions. The functions do nothing: what each ensures is the law.
+//! Laws over the definitions, as contracts of lemma functions.
 
 ghost use Rattle.om_command_line.specs.Laws.{AcceptedWordsAreRead, HasOneRequest, PlainWordsAsk};
 
-/// Words ask for one thing at most.
+/// States that arguments make at most one request.
 pub fn one_request()
     ensures { HasOneRequest }
 {}
 
-/// Plain words are accepted, and ask for what they say.
+/// States that a command line in plain form is accepted and makes the request that it spells out.
 pub fn plain_words_ask()
     ensures { PlainWordsAsk }
 {}
 
-/// Words in which clap finds no fault are read as something.
+/// States that arguments without a clap error parse to some request.
 pub fn accepted_words_are_read()
     ensures { AcceptedWordsAreRead }
 {}

@@ -1,4 +1,4 @@
-//! What the words ask for.
+//! Parsing of the arguments to a request.
 
 ghost use Rattle.std.specs.Prelude.{◌≡◌, ◌≢◌, option_map};
 ghost use Rattle.clap.specs.Words.{kind_of};
@@ -16,19 +16,19 @@ use om_outcome::reading::Reading;
 use om_outcome::style::Style;
 use std::alloc::{AllocError, Global};
 
-/// What the words ask for: where texts are read, with whether a place in one is told by its line
-/// and column; where texts of values are, with whether decimals in them stand for doubles; where
-/// values are read, with how they are.
+/// The request of a command line. `lines` is true if positions in texts are reported by line and
+/// column. `decimal` is true if decimals stand for doubles in the texts of values. `reading` holds
+/// the options for reading values.
 #[derive(Clone, Copy)]
 pub enum Request<'a> {
-    /// Whether the values of the input have the type.
+    /// Reports whether the values of the input have the type.
     Check {
         file: &'a str,
         type_text: &'a str,
         lines: bool,
         reading: Reading,
     },
-    /// The texts of the values of the input, at the type.
+    /// Prints the texts of the values of the input, at the type.
     Show {
         file: &'a str,
         type_text: &'a str,
@@ -36,7 +36,7 @@ pub enum Request<'a> {
         lines: bool,
         reading: Reading,
     },
-    /// The text of the part at the path, at the type.
+    /// Prints the text of the part at the path, at the type.
     Get {
         file: &'a str,
         type_text: &'a str,
@@ -45,8 +45,8 @@ pub enum Request<'a> {
         lines: bool,
         reading: Reading,
     },
-    /// The bytes of the values of the input at the type, after the lines of a script that edit
-    /// them; where `compat` asks for that, a value that a reader on 32 bits cannot hold is refused.
+    /// Writes the bytes of the values of the input at the type, after the edits of a script. If
+    /// `compat` is true, refuses a value that a 32-bit reader cannot hold.
     Edit {
         file: &'a str,
         type_text: &'a str,
@@ -56,29 +56,29 @@ pub enum Request<'a> {
         decimal: bool,
         reading: Reading,
     },
-    /// Whether the search trees in the values of the input, which have the type, are sound.
+    /// Reports whether the search trees in the values of the input, which have the type, are valid.
     Trees {
         file: &'a str,
         type_text: &'a str,
         lines: bool,
         reading: Reading,
     },
-    /// The values of the input as they are.
+    /// Prints the values of the input without a type.
     Dump {
         reading: Reading,
     },
-    /// Whether the two values of the input are the same.
+    /// Reports whether the two values of the input are the same.
     Same {
         reading: Reading,
     },
-    /// The bytes of the values that the lines of the input are, at the type.
+    /// Writes the bytes of the values that the input lines denote, at the type.
     Build {
         file: &'a str,
         type_text: &'a str,
         lines: bool,
         decimal: bool,
     },
-    /// Whether a certificate shows of each value whether it has the type.
+    /// Reports whether a certificate proves, for each value, whether it has the type.
     Verify {
         file: &'a str,
         type_text: &'a str,
@@ -86,26 +86,27 @@ pub enum Request<'a> {
         lines: bool,
         reading: Reading,
     },
-    /// A certificate of the values of the input: why each has the type, or has not.
+    /// Writes a certificate for the values of the input: the reason why each has the type or does
+    /// not have it.
     Certify {
         file: &'a str,
         type_text: &'a str,
         lines: bool,
         reading: Reading,
     },
-    /// What is said of the value that is made from a number, with so many items, at the type.
+    /// Prints the line for the generated value of a number, with `count` items, at the type.
     Generate {
         number: u64,
         count: u64,
         type_text: &'a str,
     },
-    /// Where values stand in the input.
+    /// Reports where values are in the input.
     Scan {
         limit: u64,
     },
 }
 
-/// Why nothing is read of the words: they ask for nothing, or memory ran out.
+/// Error of parsing the arguments: they make no request, or memory ran out.
 #[derive(Clone, Copy)]
 pub enum Unread {
     Usage,
@@ -123,21 +124,21 @@ impl From<AllocError> for Unread {
     }
 }
 
-// The word of this name.
+// Returns the argument with this name, or the empty text.
 fn word<'a>(arguments: &ArgMatches<'a>, name: &str) -> &'a str
     ensures { result.now ≡ word_in (arguments_of arguments.now) name.now }
 {
     arguments.get_str(name).unwrap_or("")
 }
 
-// Whether the flag of this name is used.
+// Returns true if the flag with this name is used.
 fn flag(arguments: &ArgMatches, name: &str) -> bool
     ensures { result ≡ flag_in (arguments_of arguments.now) name.now }
 {
     word(arguments, name) == "true"
 }
 
-// How texts are put.
+// Returns the style for printing values.
 fn style(arguments: &ArgMatches) -> Style
     ensures { result ≡ style_in (arguments_of arguments.now) }
 {
@@ -147,21 +148,21 @@ fn style(arguments: &ArgMatches) -> Style
     }
 }
 
-// The number of this name, if it is given.
+// Returns the number with this name, if it is given.
 fn given(arguments: &ArgMatches, name: &str) -> Option<u64>
     ensures { result ≡ given_in (arguments_of arguments.now) name.now }
 {
     arguments.get_one::<u64>(name)
 }
 
-// The number of this name, or 0.
+// Returns the number with this name, or 0.
 fn number(arguments: &ArgMatches, name: &str) -> u64
     ensures { result ≡ number_in (arguments_of arguments.now) name.now }
 {
     given(arguments, name).unwrap_or(0)
 }
 
-// How values are read, where this one is told of, if it is one alone.
+// Returns the options for reading values, with this number for `--only`.
 fn choosing(arguments: &ArgMatches, only: Option<u64>) -> Reading
     ensures { result ≡ choosing_in (arguments_of arguments.now) only }
 {
@@ -172,21 +173,22 @@ fn choosing(arguments: &ArgMatches, only: Option<u64>) -> Reading
     }
 }
 
-// How all values are read.
+// Returns the options for reading all values.
 fn reading(arguments: &ArgMatches) -> Reading
     ensures { result ≡ reading_in (arguments_of arguments.now) }
 {
     choosing(arguments, None)
 }
 
-// How values are read, where one alone may be asked for.
+// Returns the options for reading values, for a command that accepts `--only`.
 fn choice(arguments: &ArgMatches) -> Reading
     ensures { result ≡ choice_in (arguments_of arguments.now) }
 {
     choosing(arguments, given(arguments, "only"))
 }
 
-// What `check` asks for: the lines, or a certificate, which is one of all values.
+// Returns the request of `check`: the lines, or a certificate. A certificate of a single value is
+// no request.
 fn check_request<'a>(
     certified: bool,
     file: &'a str,
@@ -217,7 +219,8 @@ fn check_request<'a>(
     }
 }
 
-// What a command asks for. An argument that it has not is empty, or 0, and not looked at.
+// Returns the request of a command. Arguments that the command does not have are empty or 0, and
+// are not used.
 fn request_by<'a>(command: &str, arguments: &ArgMatches<'a>) -> Option<Request<'a>>
     ensures { ReadsBy command.now (arguments_of arguments.now) result }
 {
@@ -289,7 +292,7 @@ fn request_by<'a>(command: &str, arguments: &ArgMatches<'a>) -> Option<Request<'
     }
 }
 
-// What the command that was met asks for.
+// Returns the request of the command that clap found.
 fn request_met<'a>(matches: &ArgMatches<'a>) -> Option<Request<'a>>
     ensures { ReadsMet matches.now result }
 {
@@ -297,7 +300,7 @@ fn request_met<'a>(matches: &ArgMatches<'a>) -> Option<Request<'a>>
     request_by(command, arguments)
 }
 
-// The same, where words that ask for nothing are refused.
+// Returns the same request, or `Usage` if there is none.
 fn request_asked<'a>(matches: &ArgMatches<'a>) -> Result<Request<'a>, Unread>
     ensures { ReadsAsked matches.now result }
 {
@@ -307,7 +310,7 @@ fn request_asked<'a>(matches: &ArgMatches<'a>) -> Result<Request<'a>, Unread>
     }
 }
 
-// Why clap refuses the words.
+// Returns the reason why clap refuses the arguments.
 fn refusal_of(error: &Error) -> Unread
     ensures { (result ≡ unreads.Usage) → kind_of error.now ≢ kinds.OutOfMemory }
 {
@@ -317,7 +320,8 @@ fn refusal_of(error: &Error) -> Unread
     }
 }
 
-/// What the words ask for.
+/// Parses the arguments, without the program's name, to a request. Returns `Usage` if they make no
+/// request, and `Memory` if memory runs out.
 pub fn read_words<'a>(alloc: Global, words: &'a [String]) -> Result<Request<'a>, Unread>
     ensures { ReadsWords (texts words.entry.now) result }
 {

@@ -1,4 +1,4 @@
--- FILE and SCRIPT are what is wanted in the first two turns.
+-- FILE and SCRIPT are requested in the first two turns.
 use Rattle.std.proofs.Common.{ℕ, zero, suc, ◌<◌, List, inl, inr, refl, arith}
 use Rattle.om_edge.specs.State.{FilesState, Change, change}
 use Rattle.om_outcome.specs.Outcome.{Request, Asks, Language}
@@ -32,7 +32,7 @@ module _ {D T E : Type 0} (language : Language D T E) (words : List (List ℕ)) 
       from (inl (first, f)) = omega (arith, first)
       from (inr (second, s)) = omega (arith, second)
 
-    -- two turns, one after the other
+    -- Two turns in sequence.
     pub new_fetches :
         (before between after : FilesState)
         → FetchedIn (change before between) 0 → FetchedIn (change between after) 1

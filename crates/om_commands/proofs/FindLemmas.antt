@@ -1,4 +1,5 @@
--- What is to be done by the files: it is one, by the files that are wanted, each of which is read or stops the run.
+-- The task that the files determine: there is at most one, it depends only on the requested files,
+-- and each of them is read or ends the run.
 use Rattle.std.proofs.Common.{◌≡◌, ◌⊎◌, ℕ, Bool, List, Option, Some, Result, Ok, Err, inl, inr, refl, sym, ap, ◌∙◌, subst}
 use Rattle.std.specs.Prelude.{MatchResult}
 use Rattle.om_outcome.specs.Outcome as outcome
@@ -13,14 +14,14 @@ use Rattle.om_promises.proofs.OnceLemmas.{Then_once}
 use Rattle.om_commands.specs.Tasks.{by_turns, WantsFile, WantsScript, Wants, Finds, commands}
 use Rattle.om_commands.proofs.GivenLemmas.{IsGivenWork, work_given}
 
--- a file that is read is whole
+-- If a file is read, then it is read completely.
 pub whole_or :
     {S : Type 0} (found : Found) → ((bytes : List ℕ) × (found ≡ opened (whole bytes))) ⊎ S
     → IsWhole found ⊎ S
 whole_or found (inl read) = inl (inl read)
 whole_or found (inr stops) = inr stops
 
--- what is read of a text, or the stop that tells its refusal, is one
+-- The result of reading a text, or the exit reason that reports its refusal, is unique.
 pub refusal_once :
     {X R : Type 0} (Reads : Result X R → Type 0) (stop : R → Stop)
     → IsOnce Reads → IsOnce (OrRefusal Reads stop)
@@ -34,7 +35,7 @@ refusal_once Reads stop one (Err s) (Err t) (refusal, refuses, is) (other, refus
     let same : refusal ≡ other = cc (one (Err refusal) (Err other) refuses refuses') in
     ap (λ s. Err s) (is ∙ (ap stop same ∙ sym is'))
 
--- the file is read, or it stops the run
+-- The file is read, or it ends the run.
 abbrev pub IsRead : {X : Type 0} → List ℕ → Found → Result X Stop → Type 0
 IsRead name found result = ((bytes : List ℕ) × (found ≡ opened (whole bytes)))
     ⊎ ((stop : Stop) × ReadsFile name found (Err stop) × (result ≡ Err stop))
@@ -45,7 +46,7 @@ pub file_read :
 file_read name found (Ok bytes) reads = inl (bytes, reads)
 file_read name found (Err stop) reads = inr (stop, reads, refl)
 
--- a file that the first stage reads
+-- A file that the first stage reads.
 pub then_read :
     {X Y : Type 0} (name : List ℕ) (found : Found)
     (first : Result X Stop → Type 0) (next : X → Result Y Stop → Type 0)
@@ -62,7 +63,7 @@ then_read {X} {Y} name found first next reads result (given, h, m) = from given 
       let same : s ≡ stop = cc is in inr (stop, fault, m ∙ ap (λ s. Err s) same)
 
 module _ {D T E : Type 0} (language : Language D T E) (lawful : IsLawful language) where
-  -- ---- what is found is one
+  -- ---- the task is unique
 
   text_once : (lined : Bool) (text : List ℕ) → IsOnce (language.ReadsDeclarations lined text)
   text_once lined text (Ok d) (Ok e) h k =
@@ -155,7 +156,7 @@ module _ {D T E : Type 0} (language : Language D T E) (lawful : IsLawful languag
       (λ work found. found ≡ Ok (task work (limit_of request)))
       (work_once (by_turns files) request) (λ work found other h k. h ∙ sym k)
 
-  -- the type of the work was read
+  -- The type of the task was read from a file.
   pub finds_given :
       (request : Request) (files : Fetches) (a : Task T E)
       → Finds language request files (Ok a) → IsGivenWork language a.work
@@ -165,7 +166,7 @@ module _ {D T E : Type 0} (language : Language D T E) (lawful : IsLawful languag
       subst (λ a. IsGivenWork language a.work) (sym is)
       (work_given language (by_turns files) request work h)
 
-  -- ---- it is by the files that are wanted
+  -- ---- the task depends only on the requested files
 
   pub type_by :
       (file other : List ℕ → Found) (typed : List ℕ × AskedType) (result : Result T Stop)
@@ -188,7 +189,7 @@ module _ {D T E : Type 0} (language : Language D T E) (lawful : IsLawful languag
   script_by lined decimal script other name result same (text, reads, next) =
       (text, subst (λ found. ReadsFile name found text) same reads, next)
 
-  -- what is found by the lines of SCRIPT
+  -- The task that the lines of SCRIPT determine.
   abbrev Lines : (lined decimal : Bool) → Fetches → List ℕ → Bool → Result (Work T E) Stop → T → Type 0
   Lines lined decimal files name compat result type =
       Then (ReadsScriptOf language lined decimal (files 1) name)
@@ -235,7 +236,7 @@ module _ {D T E : Type 0} (language : Language D T E) (lawful : IsLawful languag
   finds_by request files others result same (work, h, next) =
       (work, work_by request files others work same h, next)
 
-  -- ---- each of them is read, or stops the run
+  -- ---- each requested file is read, or ends the run
 
   pub type_read :
       (file : List ℕ → Found) (typed : List ℕ × AskedType) (result : Result T Stop)
@@ -271,7 +272,7 @@ module _ {D T E : Type 0} (language : Language D T E) (lawful : IsLawful languag
       (λ type. Then (ReadsScriptOf language typed.1.lines typed.1.decimal files.script name)
       (λ script found. found ≡ Ok (edits type script compat))) (type_read files.file typed)
 
-  -- FILE of the words is the one that is wanted
+  -- FILE of the arguments is the requested file.
   same_file :
       (f : List ℕ) (t : AskedType) (name : List ℕ) (files : Fetches)
       (result : Result (Work T E) Stop) (type : AskedType)
@@ -348,9 +349,9 @@ module _ {D T E : Type 0} (language : Language D T E) (lawful : IsLawful languag
       (λ work found. found ≡ Ok (task work (limit_of request)))
       (λ given found. script_wanted request files given name found w) result h)
 
-  -- ---- a stop of the outside comes of one of them
+  -- ---- an exit reason of the environment comes from a requested file
 
-  -- the stop is none of the outside, or comes of this file
+  -- The environment did not cause the exit reason, or this file led to it.
   abbrev pub ComesOf : List ℕ → Found → Stop → Type 0
   ComesOf name found stop = IsInner stop ⊎ ReadsFile name found (Err stop)
 
@@ -383,7 +384,7 @@ module _ {D T E : Type 0} (language : Language D T E) (lawful : IsLawful languag
   script_inside lined decimal script name stop (Ok text, reads, (refusal, refuses, e)) =
       inl (subst IsInner (sym e) tt)
 
-  -- the stop is none of the outside, or a file that is wanted stops the run
+  -- The environment did not cause the exit reason, or a requested file ends the run.
   abbrev IsInside : Request → Fetches → Stop → Type 0
   IsInside request files stop =
       IsInner stop ⊎ FailsAtFile (commands language) request files (Err stop)
@@ -440,7 +441,7 @@ module _ {D T E : Type 0} (language : Language D T E) (lawful : IsLawful languag
       let same : s ≡ stop = cc is in
       subst (IsInside request files) same (work_inside request files s h)
 
-  -- ---- one file at most is wanted in a turn
+  -- ---- in each turn at most one file is requested
 
   pub wants_once :
       (request : Request) (files : Fetches) (turn : ℕ)

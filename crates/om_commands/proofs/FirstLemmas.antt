@@ -1,4 +1,5 @@
--- What is said of the first values is said of the first items, and more has to come after them.
+-- The output for the first values is the output for the first items, and the run continues after
+-- them.
 use Rattle.std.proofs.Common.{◌≡◌, ◌⊎◌, ℕ, List, [], ◌∷◌, ◌++◌, length, inl, inr, refl, sym, ap, ◌∙◌, subst, arith}
 use Rattle.om_model.specs.Bytes.{AreBytes}
 use Rattle.om_model.specs.declared.refusal.ReadRefusal.{ReadRefusal}
@@ -15,7 +16,7 @@ use Rattle.om_commands.specs.Tasks.{items_of, IsRefused, StopsHere, commands}
 use Rattle.om_commands.proofs.FrontLemmas.{cut_of}
 use Rattle.om_commands.proofs.ItemLemmas.{items_once, items_more}
 
--- a front is nothing, or a value that is cut
+-- A proper prefix of a value is empty, or a truncated value.
 pub front_end : (limit : ℕ) (rest : List ℕ) → IsFront limit rest
     → (end : End) × IsTail limit rest end × ((refusal : ReadRefusal) → end ≡ refused refusal → ⊥)
 front_end limit [] front = (clean, refl, λ refusal e. cc e)
@@ -38,7 +39,7 @@ module _ {D T E : Type 0} (language : Language D T E) where
           (ap (λ items. items ++ value t ∷ []) at ∙ sym (items_more earlier t)) trees said more,
     )
 
-    -- the first values, as items
+    -- The first values, as items.
     pub says_first :
         (bytes : List ℕ) (trees : List Tree) (said : List Said) (rest : List ℕ)
         → SayFirst language a bytes trees said rest
@@ -50,11 +51,11 @@ module _ {D T E : Type 0} (language : Language D T E) where
     }
 
   module _ (a : Task T E) (trees : List Tree) (rest : List ℕ) (are_bytes : AreBytes rest) where
-    -- the command does not stop
+    -- The command does not end the run here.
     abbrev Free : Type 0
     Free = (stop : Stop) → StopsAt language a.work a.limit trees rest stop → ⊥
 
-    -- more has to come after bytes that are no value and are not refused
+    -- If bytes are no value and are not refused, then the run continues.
     pub goes_on :
         (end : End) → IsTail a.limit rest end
         → ((refusal : ReadRefusal) → end ≡ refused refusal → ⊥) → Free

@@ -1,4 +1,5 @@
--- Values at the front of bytes are items at the front, at commands whose next item is a value.
+-- If the next item of a command is always a value, then the first values of the bytes are the first
+-- items.
 use Rattle.std.proofs.Common.{◌≡◌, ℕ, List, [], ◌∷◌, ◌++◌, refl, sym, ap, ◌∙◌, subst}
 use Rattle.std.specs.Prelude.{◌↔◌}
 use Rattle.om_format.specs.Stream.{SpellAll}

@@ -1,9 +1,9 @@
--- The type of what is to be done was read.
+-- The type of a task was read.
 use Rattle.std.proofs.Common.{◌≡◌, ℕ, Bool, List, Ok, Err, sym, subst}
 use Rattle.om_outcome.specs.Outcome.{Fetches, Request, AskedType, asked_with, asked_type, tell, get, edit, dump, compare, own, Saying, the_part, Work, tells, edits, dumps, compares, Language, ReadsTypeOf, TellsAt, EditsBy, FindsWork}
 use Rattle.om_promises.specs.LawfulLanguage.{IsGiven}
 
--- the type of the work was read
+-- The type of the work was read.
 abbrev pub IsGivenWork : {D T E : Type 0} → Language D T E → Work T E → Type 0
 IsGivenWork language (tells saying t) = IsGiven language t
 IsGivenWork language (edits t script compat) = IsGiven language t
@@ -11,7 +11,7 @@ IsGivenWork language dumps = Unit {0}
 IsGivenWork language compares = Unit {0}
 
 module _ {D T E : Type 0} (language : Language D T E) (files : Fetches) where
-  -- the type of the work was read
+  -- If a type is read from a file, then it was read over declarations.
   pub type_given : (f : List ℕ) (u : AskedType) (t : T) → ReadsTypeOf language files.file (f, u) (Ok t) → IsGiven language t
   type_given f u t (Err s, h, other) = absurd (cc other)
   type_given f u t (Ok text, h, (Err s, g, other)) = absurd (cc other)

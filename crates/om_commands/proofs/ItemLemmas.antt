@@ -1,4 +1,5 @@
--- Values as items: what is said of them, where the run stops and how the input ends are one, and stay.
+-- Values as items: their output, the exit reason and the end of the input are unique, and remain if
+-- more bytes follow.
 use Rattle.std.proofs.Common.{◌≡◌, ◌⊎◌, ◌<◌, ℕ, Bool, true, false, List, [], ◌∷◌, ◌++◌, length, Option, Some, None, Ok, Err, inl, inr, refl, sym, ap, ◌∙◌, subst, arith}
 use Rattle.std.specs.Prelude.{◌↔◌, IsTrue, codes}
 use Rattle.om_model.specs.Bytes.{AreBytes}
@@ -22,7 +23,7 @@ use Rattle.om_commands.proofs.StayLemmas.{tail_after, stops_more}
 
 -- ---- values as items
 
--- values are known by their items
+-- If the items of two lists of values are equal, then the values are.
 pub items_once : (trees others : List Tree) → items_of trees ≡ items_of others → trees ≡ others
 items_once [] [] e = refl
 items_once [] (u ∷ others) e = absurd (cc e)
@@ -36,20 +37,20 @@ pub items_length : (trees : List Tree) → length (items_of trees) ≡ length tr
 items_length [] = refl
 items_length (t ∷ trees) = omega (arith, items_length trees)
 
--- one value more
+-- One more value.
 pub items_more : (trees : List Tree) (tree : Tree)
     → items_of (trees ++ tree ∷ []) ≡ items_of trees ++ value_item tree ∷ []
 items_more [] tree = refl
 items_more (t ∷ trees) tree = ap (λ items. value_item t ∷ items) (items_more trees tree)
 
--- the value of an item is one
+-- The value of an item is unique.
 pub tree_once : (item : Item) (t u : Tree) → item ≡ value_item t → item ≡ value_item u → t ≡ u
 tree_once item t u h k = cc
 
--- ---- what is read of the bytes
+-- ---- reading the bytes
 
 module _ (limit : ℕ) (bytes : List ℕ) (are_bytes : AreBytes bytes) where
-  -- the first value is one, and so is the rest
+  -- The first value and the rest are unique.
   pub value_once :
       (t u : Tree) (more rest : List ℕ)
       → SpellAll limit bytes (t ∷ []) more → SpellAll limit bytes (u ∷ []) rest
@@ -64,7 +65,7 @@ module _ (limit : ℕ) (bytes : List ℕ) (are_bytes : AreBytes bytes) where
       (streams_once one_judgement_lem limit bytes [] [] end other are_bytes
       (bytes, refl, h) (bytes, refl, k)).1
 
-  -- where there is a value, no tail begins
+  -- If a value begins here, then no tail does.
   pub no_tail :
       (t : Tree) (more : List ℕ) (end : End)
       → SpellAll limit bytes (t ∷ []) more → IsTail limit bytes end → ⊥
@@ -74,7 +75,7 @@ module _ (limit : ℕ) (bytes : List ℕ) (are_bytes : AreBytes bytes) where
 -- ---- the next value, as an item
 
 module _ {D T E : Type 0} (language : Language D T E) (limit : ℕ) where
-  -- it is one, and so is the rest
+  -- The next item and the rest are unique.
   pub first_once :
       (bytes : List ℕ) → AreBytes bytes → (item other : Item) (more rest : List ℕ)
       → IsFirstValue language limit bytes item more → IsFirstValue language limit bytes other rest
@@ -83,7 +84,7 @@ module _ {D T E : Type 0} (language : Language D T E) (limit : ℕ) where
       let one = value_once limit bytes are_bytes h.tree k.tree more rest h.spelled k.spelled in
       (h.is ∙ (ap value_item one.0 ∙ sym k.is), one.1)
 
-  -- it has bytes
+  -- The next item has at least one byte.
   pub first_front :
       (bytes : List ℕ) (item : Item) (more : List ℕ) → IsFirstValue language limit bytes item more
       → (first : List ℕ) × (bytes ≡ first ++ more) × (0 < length first)
@@ -91,7 +92,7 @@ module _ {D T E : Type 0} (language : Language D T E) (limit : ℕ) where
       let s = h.spelled in
       (s.0, s.2 ∙ ap (λ more. s.0 ++ more) s.4, spelled_some limit s.0 h.tree s.3)
 
-  -- it stays one when bytes follow
+  -- The next item stays the same if more bytes follow.
   pub first_stays :
       (bytes : List ℕ) (item : Item) (more later : List ℕ)
       → IsFirstValue language limit bytes item more
@@ -102,14 +103,14 @@ module _ {D T E : Type 0} (language : Language D T E) (limit : ℕ) where
     spelled = spell_after limit bytes more later (h.tree ∷ []) h.spelled;
   }
 
--- ---- what is said
+-- ---- the output
 
 pub both_same : (said other : Said) → said.text ≡ other.text → said.well ≡ other.well → said ≡ other
 both_same said other text well =
     ap (λ text. record { text = text; well = said.well }) text
     ∙ ap (λ well. record { text = other.text; well = well }) well
 
--- what is decided in one way is one
+-- Two flags that decide the same property are equal.
 decided_once : {P : Type 0} (a b : Bool) → (IsTrue a ↔ P) → (IsTrue b ↔ P) → a ≡ b
 decided_once true true h k = refl
 decided_once false false h k = refl
@@ -136,7 +137,7 @@ module _ {D T E : Type 0} (language : Language D T E) (lawful : IsLawful languag
       both_same said other (text ∙ sym text') (well ∙ sym well')
   says_once compares given earlier tree said other (few, is) (few', is') = is ∙ sym is'
 
-  -- ---- where the run stops
+  -- ---- where the run ends
 
   module _ (limit : ℕ) (trees : List Tree) (bytes : List ℕ) (are_bytes : AreBytes bytes) where
     stops_once :
@@ -155,7 +156,7 @@ module _ {D T E : Type 0} (language : Language D T E) (lawful : IsLawful languag
     stops_once dumps given stop other h k = absurd h
     stops_once compares given stop other (two, some, is) (two', some', is') = is ∙ sym is'
 
-    -- what is refused is no stop of the command
+    -- The refusal of a value is no exit reason of the command itself.
     stop_or_refused :
         (work : Work T E) (stop other : Stop)
         → outcome.StopsAt language work limit trees bytes stop
@@ -173,7 +174,7 @@ module _ {D T E : Type 0} (language : Language D T E) (lawful : IsLawful languag
         let same : h.refusal ≡ k.refusal = cc one in
         h.is ∙ (ap (λ r. value (length trees) (refusal_text r)) same ∙ sym k.is)
 
-    -- there is one reason, and one stop
+    -- The exit reason is unique.
     abbrev Why : Work T E → Stop → Type 0
     Why work stop = outcome.StopsAt language work limit trees bytes stop
         ⊎ IsRefused language (task work limit) (length trees) bytes stop
@@ -184,7 +185,7 @@ module _ {D T E : Type 0} (language : Language D T E) (lawful : IsLawful languag
     why_once work given stop other (inr h) (inl k) = absurd (stop_or_refused work other stop k h)
     why_once work given stop other (inr h) (inr k) = refused_once work stop other h k
 
-    -- of no value something is said there
+    -- Where the run ends, no value has an output.
     why_apart :
         (work : Work T E) → IsGivenWork language work → (tree : Tree) (more : List ℕ) (said : Said)
         (stop : Stop) → SpellAll limit bytes (tree ∷ []) more
@@ -213,7 +214,7 @@ module _ {D T E : Type 0} (language : Language D T E) (lawful : IsLawful languag
   stop_inner dumps limit trees bytes stop at = absurd at
   stop_inner compares limit trees bytes stop (two, some, is) = subst IsInner (sym is) tt
 
-  -- ---- how the input ends
+  -- ---- the end of the input
 
   finishes_once : (work : Work T E) (trees : List Tree) → IsOnce (Finishes language work trees)
   finishes_once (tells saying type) trees last other h k = h ∙ sym k
@@ -260,7 +261,7 @@ module _ {D T E : Type 0} (language : Language D T E) (lawful : IsLawful languag
   ends_inner work trees (cut n) stop h =
       let is : stop ≡ value (length trees) (truncated_text n) = cc h in subst IsInner (sym is) tt
 
-  -- ---- the laws of a task
+  -- ---- the conditions for a lawful task
 
   module _ (a : Task T E) (given : IsGivenWork language a.work) where
     said_once : (items : List Item) (item : Item) → IsOnce (SaysOf language a.work items item)

@@ -1,4 +1,4 @@
--- The commands on values are lawful, where the language is.
+-- If the language is lawful, then the commands on values are lawful.
 use Rattle.om_outcome.specs.Outcome.{Language}
 use Rattle.om_promises.specs.Lawful.{AreLawful}
 use Rattle.om_promises.specs.LawfulLanguage.{IsLawful}

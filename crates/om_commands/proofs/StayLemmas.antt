@@ -1,4 +1,4 @@
--- What is refused, and what stops a run, stays so when bytes follow.
+-- Refusals and exit reasons remain if more bytes follow.
 use Rattle.std.proofs.Common.{◌≡◌, ℕ, List, [], ◌∷◌, ◌++◌, refl, sym, subst, length-append, arith}
 use Rattle.std.proofs.lemmas.List.{take-append-le}
 use Rattle.om_model.specs.declared.refusal.ReadRefusal.{ReadRefusal}
@@ -9,7 +9,7 @@ use Rattle.om_outcome.specs.Outcome.{Language, Work, tells, edits, dumps, compar
 use Rattle.om_outcome.specs.declared.stop.Stop.{Stop}
 use Rattle.om_promises.proofs.ValueLemmas.{spell_after}
 
--- what is refused in the first bytes is refused in all
+-- If the first bytes are refused, then all bytes are refused.
 pub tail_after :
     (limit : ℕ) (tail more : List ℕ) (refusal : ReadRefusal)
     → IsTail limit tail (refused refusal) → IsTail limit (tail ++ more) (refused refusal)
@@ -23,7 +23,7 @@ front_none : (xs ys : List ℕ) → xs ++ ys ≡ [] → xs ≡ []
 front_none [] ys e = refl
 front_none (x ∷ xs) ys e = absurd (cc e)
 
--- a stop stays one where more bytes come
+-- An exit reason remains if more bytes follow.
 pub stops_more :
     {D T E : Type 0} (language : Language D T E) (work : Work T E) (limit : ℕ) (trees : List Tree)
     (rest more : List ℕ) (stop : Stop)

@@ -1,4 +1,4 @@
--- The commands on values take their files turn by turn: FILE, and then SCRIPT.
+-- The commands on values request their files turn by turn: FILE, and then SCRIPT.
 use Rattle.std.proofs.Common.{◌≡◌, ◌<◌, ℕ, List, Option, Some, Ok, Err, inl, inr, refl, sym, ap, ◌∙◌, arith}
 use Rattle.om_outcome.specs.Outcome.{Found, opened, whole, Request, AskedType, tell, get, edit, dump, compare, own, script_of, Language, ReadsTypeOf}
 use Rattle.om_promises.specs.Commands.{Fetches}
@@ -15,7 +15,7 @@ pub is_before : (turn : ℕ) → turn ≡ 1 → 0 < turn
 is_before turn e = omega arith
 
 module _ {D T E : Type 0} (language : Language D T E) (lawful : IsLawful language) where
-  -- where there is a SCRIPT there is no PATH
+  -- If there is a SCRIPT, then there is no PATH.
   script_path :
       (request : Request) (name : List ℕ) → script_of request ≡ Some name
       → HasPath language request
@@ -26,7 +26,7 @@ module _ {D T E : Type 0} (language : Language D T E) (lawful : IsLawful languag
   script_path (compare most) name e = absurd (cc e)
   script_path (own request) name e = absurd (cc e)
 
-  -- FILE is wanted before SCRIPT
+  -- FILE is requested before SCRIPT.
   file_before :
       (request : Request) (files : Fetches) (name : List ℕ)
       → (w : WantsScript language request files name) → WantsFile language request w.typed.0
@@ -55,7 +55,7 @@ module _ {D T E : Type 0} (language : Language D T E) (lawful : IsLawful languag
     },
   )
 
-  -- where the type is read, FILE is
+  -- If the type is read, then FILE was read completely.
   pub file_whole :
       (file : List ℕ → Found) (typed : List ℕ × AskedType) (type : T)
       → ReadsTypeOf language file typed (Ok type)

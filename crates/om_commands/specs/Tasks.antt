@@ -1,4 +1,4 @@
--- The commands on the values of the input, in the general form: an item is a value.
+-- The commands on the values of the input, in the general form: each item is a value.
 use Rattle.std.specs.Prelude.{ℕ, ◌<◌, ◌≡◌, ◌⊎◌, List, [], ◌∷◌, length, Some, IfSome, Result, Ok}
 use Rattle.om_model.specs.declared.refusal.ReadRefusal.{ReadRefusal}
 use Rattle.om_format.specs.Stream.{SpellAll, End, clean, refused, cut, IsTail}
@@ -12,11 +12,11 @@ use Rattle.om_outcome.specs.declared.stop.Stop.{Stop}
 use Rattle.om_outcome.specs.declared.stop.Stop.TheVariants.{Value as value}
 use Rattle.om_promises.specs.Commands.{Item, value as value_item, Fetches, Commands}
 
--- FILE is fetched in the first turn, and SCRIPT in the second one
+-- FILE is fetched in the first turn, and SCRIPT in the second.
 abbrev pub by_turns : Fetches → outcome.Fetches
 by_turns files = record { file = files 0; script = files 1 }
 
--- values, as items of the input
+-- Values as items of the input.
 abbrev pub items_of : List Tree → List Item
 items_of [] = []
 items_of (tree ∷ trees) = value_item tree ∷ items_of trees
@@ -24,18 +24,18 @@ items_of (tree ∷ trees) = value_item tree ∷ items_of trees
 module _ {D T E : Type 0} (language : Language D T E) where
   -- ---- the files
 
-  -- PATH, where the words have one, is a path
+  -- If the arguments have a PATH, then it is a valid path.
   abbrev pub HasPath : Request → Type 0
   HasPath request =
       IfSome (path_of request) (λ text. (path : List ℕ) × language.ReadsPath text (Some path))
 
-  -- FILE is wanted where PATH, if there is one, is a path
+  -- FILE is requested unless there is an invalid PATH.
   pub record WantsFile (request : Request) (name : List ℕ) : Type 0 where
     pub has_path : HasPath request
     pub type : AskedType
     pub typed : typed_by request ≡ Some (name, type)
 
-  -- SCRIPT is wanted where FILE and TYPE are read
+  -- SCRIPT is requested if FILE and TYPE are read without errors.
   pub record WantsScript (request : Request) (files : Fetches) (name : List ℕ) : Type 0 where
     pub scripted : script_of request ≡ Some name
     pub typed : List ℕ × AskedType
@@ -47,7 +47,7 @@ module _ {D T E : Type 0} (language : Language D T E) where
   Wants request files turn name =
       ((turn ≡ 0) × WantsFile request name) ⊎ ((turn ≡ 1) × WantsScript request files name)
 
-  -- what is to be done with the values, and their limit
+  -- The task for the values, with their limit.
   abbrev pub Finds : Request → Fetches → Result (Task T E) Stop → Type 0
   Finds request files =
       Then (FindsWork language (by_turns files) request) (λ work found.
@@ -55,14 +55,14 @@ module _ {D T E : Type 0} (language : Language D T E) where
 
   -- ---- the values
 
-  -- the bytes are a value under the limit, and then the rest
+  -- The bytes are a value within the limit, followed by the rest.
   pub record IsFirstValue (limit : ℕ) (bytes : List ℕ) (item : Item) (more : List ℕ)
       : Type 0 where
     pub tree : Tree
     pub is : item ≡ value_item tree
     pub spelled : SpellAll limit bytes (tree ∷ []) more
 
-  -- after these values this is said of the next
+  -- After these values, this is the output for the next one.
   pub record SaysOf (work : Work T E) (items : List Item) (item : Item) (said : Said)
       : Type 0 where
     pub earlier : List Tree
@@ -71,21 +71,21 @@ module _ {D T E : Type 0} (language : Language D T E) where
     pub is : item ≡ value_item tree
     pub says : outcome.Says language work earlier tree said
 
-  -- after so many values one more may come
+  -- After `n` values the command accepts one more.
   abbrev pub MayCome : Work T E → ℕ → Type 0
   MayCome (tells saying type) n = Unit {0}
   MayCome (edits type script compat) n = Unit {0}
   MayCome dumps n = Unit {0}
   MayCome compares n = n < 2
 
-  -- a value may come, and what comes is refused
+  -- The command accepts one more value, but the bytes here are refused.
   pub record IsRefused (a : Task T E) (n : ℕ) (bytes : List ℕ) (stop : Stop) : Type 0 where
     pub may : MayCome a.work n
     pub refusal : ReadRefusal
     pub tail : IsTail a.limit bytes (refused refusal)
     pub is : stop ≡ value n (refusal_text refusal)
 
-  -- the command stops here, or a value is refused
+  -- The command ends here, or the value here is refused.
   pub record StopsHere (a : Task T E) (items : List Item) (bytes : List ℕ) (stop : Stop)
       : Type 0 where
     pub trees : List Tree
@@ -93,7 +93,7 @@ module _ {D T E : Type 0} (language : Language D T E) where
     pub why : outcome.StopsAt language a.work a.limit trees bytes stop
         ⊎ IsRefused a (length trees) bytes stop
 
-  -- the last reply, where the bytes end after the values, or cut one more
+  -- The final reply if the bytes end after the values, or if one more value is truncated.
   abbrev pub EndsBy : Work T E → List Tree → End → Reply → Type 0
   EndsBy work trees clean last = outcome.Finishes language work trees last
   EndsBy work trees (refused refusal) last = ⊥

@@ -1,4 +1,4 @@
-//! The laws. Each function does nothing: what it ensures is the law.
+//! The theorems as contracts of lemma functions, which do nothing themselves.
 
 ghost use Rattle.om_outcome.specs.Outcome.{Language, Task};
 ghost use Rattle.om_promises.specs.CommandLaws.{HaveOneOutcome, HaveOneStop, StopsStay};
@@ -16,7 +16,7 @@ ghost use Rattle.om_commands.specs.Tasks.{commands};
 use om_promises::laws::{Act, files_in_turns, lawful_commands, promised, promises_of_commands};
 use std::marker::PhantomData;
 
-/// What declarations, types and lines of scripts are, and what texts are read as them.
+/// A language: what declarations, types and lines of scripts are, and how texts are read as them.
 pub trait Speaks {
     ghost declarations: { Type 0 };
 
@@ -27,7 +27,7 @@ pub trait Speaks {
     ghost language: { Language declarations types lines };
 }
 
-/// The commands on values, in a language.
+/// The commands on values, over a language.
 pub struct OnValues<L>(PhantomData<L>);
 
 impl<L: Speaks> Act for OnValues<L> {
@@ -36,14 +36,14 @@ impl<L: Speaks> Act for OnValues<L> {
     ghost commands = { commands L.language };
 }
 
-/// The commands on values are lawful, where the language is.
+/// States that the commands on values are lawful if the language is.
 pub fn commands_are_lawful<L: Speaks>()
     requires { IsLawful L.language }
     ensures { AreLawful (commands L.language) }
 {}
 
-/// So words, files and an input have one outcome, and the input holds one stop at most, which stays
-/// and comes last.
+/// States that arguments, files and an input have at most one outcome. The input contains at most
+/// one exit reason. It remains if more bytes follow, and it comes last.
 pub fn commands_answer_once<L: Speaks>()
     requires { IsLawful L.language }
     ensures outcome { HaveOneOutcome (commands L.language) }
@@ -55,13 +55,14 @@ pub fn commands_answer_once<L: Speaks>()
     lawful_commands::<OnValues<L>>();
 }
 
-/// They take their files turn by turn.
+/// States that the commands request their files turn by turn.
 pub fn commands_take_turns<L: Speaks>()
     requires { IsLawful L.language }
     ensures { AreInTurns (commands L.language) }
 {}
 
-/// So what is promised of a call follows from its account, and from that all else.
+/// States that the specification of a run follows from its account, and all other properties follow
+/// from the specification.
 pub fn commands_keep_promises<L: Speaks>()
     requires { IsLawful L.language }
     ensures account { ArePromised (commands L.language) }

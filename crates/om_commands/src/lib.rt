@@ -1,6 +1,7 @@
-//! The commands that read values, as commands in the general form: the files that each wants, what
-//! it says of a value, where it stops, and how it ends. These are definitions, and the laws on
-//! them: nothing here does anything.
+//! The commands that read values, as commands in the general form: the files that each requests,
+//! its output for a value, where it ends the run, and its final reply. The crate consists of
+//! definitions and theorems (`commands_are_lawful`, `commands_keep_promises`), and nothing here
+//! does anything.
 #![tactic(auto)]
 
 pub mod laws;

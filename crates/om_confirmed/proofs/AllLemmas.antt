@@ -1,4 +1,4 @@
--- What is certified is confirmed, by all commands as by the one that certifies and the one that
+-- The law for all commands follows from the law for the command that certifies and the one that
 -- verifies.
 use Rattle.std.proofs.Common.{◌≡◌, Some, refl}
 use Rattle.om_outcome.specs.CommandLine.{certify}
@@ -8,7 +8,7 @@ use Rattle.om_certified.specs.Certified.{PutCertificatesAreAccepted}
 use Rattle.om_session.specs.All.{on_certificates, on_certificates_after, on_certified, on_certified_after, all_commands, IsOfCertificates, IsOfSections, IsPart}
 use Rattle.om_session.proofs.PartLemmas.{part_at_once}
 
--- what asks to certify values is for the command that certifies
+-- If a request asks to certify values, then it is for the command that certifies.
 of_sections : (request : Request) (asked : Asked) → certified_by request ≡ Some asked
     → IsOfSections request
 of_sections (own (certify file type lines reading)) asked is = tt

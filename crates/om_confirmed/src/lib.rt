@@ -1,6 +1,6 @@
-//! Two calls of the program, one after the other: what `check --cert` put is accepted by `verify`,
-//! which says what `check` says. This is a law on what is promised of calls: nothing here does
-//! anything.
+//! Proves, for the whole program, that `verify` accepts what `check --cert` wrote, and prints what
+//! `check` prints. This is a law about the specifications of two calls; the crate contains no
+//! executable code.
 #![tactic(auto)]
 
 pub mod laws;

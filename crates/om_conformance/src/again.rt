@@ -1,4 +1,4 @@
-//! Streams of the folder, read and written again.
+//! Reads streams of the folder and writes their values again.
 
 ghost use Rattle.std.specs.Prelude.{◌≤◌, length, IfOk};
 
@@ -10,11 +10,11 @@ use std::alloc::Global;
 use std::io::ErrorKind;
 use std::{fs, io};
 
-/// So many words a value may have.
+/// The greatest number of 64-bit words that a value may have.
 const LIMIT: u64 = 1 << 27;
 
-// Writes the value that the bytes begin with: how many bytes it took, or none where they begin with
-// no whole value.
+// Writes the first value in the bytes. Returns the number of bytes it had, or `None` if the bytes
+// do not begin with a complete value.
 fn write_first<K: Sink>(alloc: Global, bytes: &[u8], sink: &mut K) -> io::Result<Option<usize>> {
     let mut reader = Reader::new(alloc, LIMIT);
     let Ok(fed) = reader.feed(bytes) else {
@@ -30,7 +30,8 @@ fn write_first<K: Sink>(alloc: Global, bytes: &[u8], sink: &mut K) -> io::Result
     }
 }
 
-// Writes the values that the bytes begin with, one after another: how many bytes they took.
+// Writes the consecutive values at the beginning of the bytes. Returns the total number of bytes
+// they had.
 fn write_values<K: Sink>(alloc: Global, bytes: &[u8], sink: &mut K) -> io::Result<usize>
     ensures { IfOk result (λ taken. taken ≤ length bytes.now) }
 {
@@ -44,8 +45,8 @@ fn write_values<K: Sink>(alloc: Global, bytes: &[u8], sink: &mut K) -> io::Resul
     Ok(bytes.len() - rest.len())
 }
 
-/// Prints what is written of the values of the stream `NAME`: the same bytes, up to a place where
-/// no whole value begins, or else the bytes.
+/// Writes the values of the stream `NAME` again, and prints the result. If it equals the stream up
+/// to an offset where no complete value begins, prints that; otherwise prints the bytes.
 pub fn answer(rt: &HostRuntime, stream: &str) -> io::Result<()> {
     let alloc = rt.alloc();
     let name = format!(in alloc; "{stream}.stream")?;

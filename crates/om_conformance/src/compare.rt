@@ -1,4 +1,4 @@
-//! Answers as texts, in one format: those of the reader, and those of the plain program.
+//! Formats results as text, in one format for the reader and for the reference program.
 
 use om_heap::{Kind, Placed};
 use om_model::Memory;
@@ -9,7 +9,7 @@ use om_read::Value;
 use om_reference::{Graph, Judgement, graph_of, judge};
 use std::alloc::{AllocError, Global};
 
-/// A value, and how many bytes it took.
+/// A value, and the number of its bytes.
 #[derive(Drop)]
 pub struct Read {
     pub value: Value,
@@ -37,7 +37,7 @@ fn push_doubles(alloc: Global, text: &mut String, all: &[u64]) -> Result<(), All
     Ok(())
 }
 
-// Adds what stands in an object of a heap after its kind.
+// Appends the contents of an object of a heap, after its kind.
 fn push_content(alloc: Global, text: &mut String, placed: &Placed<'_>) -> Result<(), AllocError> {
     let heap = placed.heap;
     let o = placed.object;
@@ -63,7 +63,7 @@ fn push_content(alloc: Global, text: &mut String, placed: &Placed<'_>) -> Result
     Ok(())
 }
 
-/// The root, and the objects in their order.
+/// Returns the root and the objects in order, as text.
 pub fn value_text(alloc: Global, value: &Value) -> Result<String, AllocError> {
     let root = value.root;
     let mut text = format!(in alloc; "{root:?}")?;
@@ -82,7 +82,8 @@ pub fn value_text(alloc: Global, value: &Value) -> Result<String, AllocError> {
     Ok(text)
 }
 
-/// What a reader makes of some bytes, as text: there is no value where more bytes have to come.
+/// Returns the result of a reader for some bytes as text. There is no value if more bytes are
+/// needed.
 pub fn read_text(
     alloc: Global,
     answer: &Result<Option<Read>, ReadRefusal>,
@@ -130,7 +131,7 @@ fn graph_text(alloc: Global, graph: &Graph, taken: usize) -> Result<String, Allo
     Ok(text)
 }
 
-/// The answer of the plain program as text.
+/// Returns the result of the reference program as text.
 pub fn plain_text(alloc: Global, bytes: &[u8], limit: u64) -> Result<String, Memory> {
     let text = match judge(alloc, limit, bytes)? {
         Judgement::Front => String::from_str(alloc, "Cut"),

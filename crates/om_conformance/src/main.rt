@@ -1,11 +1,17 @@
-//! Answers that are compared with stored ones. The first word of a line of standard input says
-//! which table it belongs to: `stream NAME at TYPE` asks what `run` says of a stream of the folder
-//! that OCaml wrote (`make.sh`), `value NAME at TYPE` of one with declarations of its own,
-//! `prefixes LIMIT BYTES` what becomes of each prefix of some bytes, `again NAME` what is written
-//! of the values of such a stream, `decls TEXT` what becomes of declarations, `type TYPE over TEXT`
-//! of a type over them, `table TYPE over TEXT` the table of the types that it reaches, `steps BYTES
-//! at TYPE over TEXT` in how many steps a value is checked (`steps.rt`), and `run`, with what a run
-//! is given between tabs, how it ends (`runs.rt`).
+//! Prints answers to questions, which a script compares with stored answers. Each line of standard
+//! input is a question. Its first word names the table to which it belongs:
+//!
+//! - `stream NAME at TYPE` prints what `run` prints for a stream of the folder that OCaml wrote
+//!   (`make.sh`).
+//! - `value NAME at TYPE` does so for a stream with declarations of its own.
+//! - `prefixes LIMIT BYTES` prints the result of reading each prefix of some bytes.
+//! - `again NAME` prints the result of writing the values of a stream again.
+//! - `decls TEXT` prints the result of reading declarations.
+//! - `type TYPE over TEXT` prints the result of reading a type over them.
+//! - `table TYPE over TEXT` prints the table of the types that the type reaches.
+//! - `steps BYTES at TYPE over TEXT` prints the number of steps in which a value is checked
+//!   (`steps.rt`).
+//! - `run`, with the inputs of a run separated by tabs, prints how the run ends (`runs.rt`).
 #![tactic(auto)]
 
 mod again;
@@ -21,7 +27,7 @@ mod values;
 use std::io;
 use std::io::ErrorKind;
 
-// Prints what is answered to a question of a kind that has no plain program of texts.
+// Prints the answer to a question of a kind for which the reference program has no answer in text.
 fn put_answer(rt: &HostRuntime, kind: &str, rest: &str) -> io::Result<()> {
     match kind {
         "stream" => streams::answer(rt, rest),
@@ -35,8 +41,8 @@ fn put_answer(rt: &HostRuntime, kind: &str, rest: &str) -> io::Result<()> {
     }
 }
 
-// Prints what is answered to a question, and tells the number of texts that the plain program
-// answers alike.
+// Prints the answer to a question. Returns the number of texts for which the reference program
+// gives the same answer.
 fn answer(rt: &HostRuntime, question: &str) -> io::Result<u64> {
     let Some((kind, rest)) = question.split_once(' ') else {
         return Err(ErrorKind::InvalidInput.into());

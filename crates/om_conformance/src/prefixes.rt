@@ -1,4 +1,4 @@
-//! What becomes of each prefix of some bytes.
+//! Prints the result of reading each prefix of some bytes.
 
 use crate::compare::{Read, plain_text, read_text};
 use om_model::refusal::ReadRefusal;
@@ -7,7 +7,7 @@ use std::alloc::Global;
 use std::io;
 use std::io::ErrorKind;
 
-// What a reader makes of the bytes, which it gets in one piece.
+// Returns the result of a reader that gets the bytes in one chunk.
 fn read_whole(alloc: Global, bytes: &[u8], limit: u64) -> Result<Option<Read>, ReadRefusal> {
     let mut reader = Reader::new(alloc, limit);
     let fed = reader.feed(bytes)?;
@@ -20,7 +20,7 @@ fn read_whole(alloc: Global, bytes: &[u8], limit: u64) -> Result<Option<Read>, R
     }))
 }
 
-// What a reader makes of the bytes, which it gets one at a time.
+// Returns the result of a reader that gets the bytes one at a time.
 fn read_by_byte(alloc: Global, bytes: &[u8], limit: u64) -> Result<Option<Read>, ReadRefusal> {
     let mut reader = Reader::new(alloc, limit);
     for i in 0..bytes.len() {
@@ -35,8 +35,8 @@ fn read_by_byte(alloc: Global, bytes: &[u8], limit: u64) -> Result<Option<Read>,
     Ok(None)
 }
 
-/// What the reader answers to the bytes in one piece; what it answers to them one by one, and what
-/// the plain program does, where they differ.
+/// Returns the result of the reader for the bytes in one chunk. If the results for single bytes or
+/// of the reference program differ, includes them.
 fn answer_text(rt: &HostRuntime, bytes: &[u8], limit: u64) -> io::Result<String> {
     let alloc = rt.alloc();
     let mut text = read_text(alloc, &read_whole(alloc, bytes, limit))?;
@@ -55,7 +55,7 @@ fn answer_text(rt: &HostRuntime, bytes: &[u8], limit: u64) -> io::Result<String>
     Ok(text)
 }
 
-/// Prints from how many bytes on which answer is given.
+/// Prints the result for each prefix length at which the result changes.
 fn answer_prefixes(rt: &HostRuntime, bytes: &[u8], limit: u64) -> io::Result<()> {
     let mut last = String::new(rt.alloc());
     for n in 0..bytes.len() + 1 {
@@ -68,7 +68,7 @@ fn answer_prefixes(rt: &HostRuntime, bytes: &[u8], limit: u64) -> io::Result<()>
     Ok(())
 }
 
-/// Prints what becomes of the prefixes for `LIMIT BYTES`: a limit of words, and the bytes in
+/// Prints the results for the prefixes for `LIMIT BYTES`: a limit in 64-bit words, and the bytes in
 /// hexadecimal digits.
 pub fn answer(rt: &HostRuntime, question: &str) -> io::Result<()> {
     let Some((limit, digits)) = question.split_once(' ') else {

@@ -1,13 +1,18 @@
-//! What whole runs end with, in memory: the input comes in pieces of several sizes, and calls may
-//! fail. A question gives between tabs settings, the input in hexadecimal digits, the text of
-//! `f.ml` behind `=`, or `none`, and the words.
+//! Prints how whole runs end. A run happens in memory, its input comes in chunks of several sizes,
+//! and I/O calls may fail. A question consists of these parts, separated by tabs: settings, the
+//! input in hexadecimal digits, the text of `f.ml` after `=` (or `none`), and the arguments.
 //!
-//! A setting is `fetch=N`, `read=N` or `take=N` where the call N of this kind fails, counted from
-//! 0, and `put=N` where the call N of each of out and err does, `put_out=N` and `put_err=N` of one
-//! of them; several numbers stand with commas. `out=N` or `err=N` is there where so many bytes fit,
-//! `piece=N` where a take gives at most so many bytes, and `script=` with hexadecimal digits where
-//! there is a file `script` of these bytes; so `file=` in the place of `=`, for a text of more than
-//! one line, and `word=` for one word more, behind the others.
+//! The settings are:
+//!
+//! - `fetch=N`, `read=N` or `take=N`: call N of this kind fails. Calls are counted from 0.
+//! - `put=N`: call N of each of out and err fails. `put_out=N` and `put_err=N` do so for one of
+//!   them. Several numbers are separated by commas.
+//! - `out=N` or `err=N`: the sink has room for this number of bytes.
+//! - `piece=N`: a read returns at most this number of bytes.
+//! - `script=` with hexadecimal digits: there is a file `script` with these bytes.
+//! - `file=` with hexadecimal digits, instead of `=`: the text of `f.ml`, if it has more than one
+//!   line.
+//! - `word=` with hexadecimal digits: one more argument, after the others.
 
 use om_edge::{MemFiles, MemSink, MemSource};
 use om_outcome::status::Status;
@@ -16,7 +21,7 @@ use std::alloc::Global;
 use std::io;
 use std::io::{ErrorKind, Write};
 
-/// What a run is given.
+/// The inputs of a run.
 #[derive(Drop)]
 struct Given {
     settings: String,
@@ -25,7 +30,7 @@ struct Given {
     words: Vec<String>,
 }
 
-/// What a setting has behind `=`, among settings with blanks between.
+/// Returns the text after `=` of a setting, among settings separated by blanks.
 fn setting_in<'a>(settings: &'a str, name: &str) -> Option<&'a str> {
     for setting in settings.split(' ') {
         match setting.split_once('=') {
@@ -40,17 +45,17 @@ fn setting_in<'a>(settings: &'a str, name: &str) -> Option<&'a str> {
     None
 }
 
-/// What a setting has behind `=`.
+/// Returns the text after `=` of a setting.
 fn setting<'a>(given: &'a Given, name: &str) -> Option<&'a str> {
     setting_in(given.settings.as_str(), name)
 }
 
-/// The number of a setting.
+/// Returns the number of a setting.
 fn number(given: &Given, name: &str) -> Option<u64> {
     setting(given, name)?.parse().ok()
 }
 
-// Adds the numbers of the calls of a kind that fail.
+// Appends the numbers of the calls of a kind that fail.
 fn add_failing(found: &mut Vec<u64>, given: &Given, name: &str) -> io::Result<()> {
     let Some(numbers) = setting(given, name) else {
         return Ok(());
@@ -64,14 +69,14 @@ fn add_failing(found: &mut Vec<u64>, given: &Given, name: &str) -> io::Result<()
     Ok(())
 }
 
-// The calls of a kind that fail.
+// Returns the numbers of the calls of a kind that fail.
 fn failing(alloc: Global, given: &Given, name: &str) -> io::Result<Vec<u64>> {
     let mut found = Vec::new(alloc);
     add_failing(&mut found, given, name)?;
     Ok(found)
 }
 
-// How many bytes fit.
+// Returns the number of bytes for which a sink has room.
 fn room(given: &Given, name: &str) -> usize {
     match number(given, name) {
         Some(room) => room as usize,
@@ -79,7 +84,7 @@ fn room(given: &Given, name: &str) -> usize {
     }
 }
 
-// The bytes that hexadecimal digits stand for.
+// Returns the bytes that hexadecimal digits encode.
 fn decoded(alloc: Global, digits: &str) -> io::Result<Vec<u8>> {
     match hex::decode(alloc, digits) {
         Ok(bytes) => Ok(bytes),
@@ -87,7 +92,7 @@ fn decoded(alloc: Global, digits: &str) -> io::Result<Vec<u8>> {
     }
 }
 
-// The files: f.ml and a script, where they are there.
+// Returns the files `f.ml` and `script`, if they are given.
 fn files_of(alloc: Global, given: &Given) -> io::Result<Vec<(String, Vec<u8>)>> {
     let mut pairs = Vec::new(alloc);
     if let Some(text) = &given.file {
@@ -106,7 +111,7 @@ fn files_of(alloc: Global, given: &Given) -> io::Result<Vec<(String, Vec<u8>)>> 
     Ok(pairs)
 }
 
-// Puts what was written, and whether its last line was cut.
+// Appends what was written, and whether its last line is truncated.
 fn put_written(text: &mut Vec<u8>, before: &[u8], written: &[u8]) -> io::Result<()> {
     match written {
         [] => Ok(()),
@@ -121,7 +126,7 @@ fn put_written(text: &mut Vec<u8>, before: &[u8], written: &[u8]) -> io::Result<
     }
 }
 
-// Puts the bytes of values that were written, in hexadecimal digits, if there are some.
+// Appends the bytes of the written values in hexadecimal digits, if there are any.
 fn put_values(alloc: Global, text: &mut Vec<u8>, written: &[u8]) -> io::Result<()> {
     match written {
         [] => Ok(()),
@@ -132,7 +137,7 @@ fn put_values(alloc: Global, text: &mut Vec<u8>, written: &[u8]) -> io::Result<(
     }
 }
 
-// Whether the words are of a command that writes values.
+// Returns true if the arguments name a command that writes values.
 fn writes_values(words: &[String]) -> bool {
     match words {
         [command, ..] => command.as_str() == "edit" || command.as_str() == "build",
@@ -140,7 +145,7 @@ fn writes_values(words: &[String]) -> bool {
     }
 }
 
-// Puts how many calls of a kind failed, if some did.
+// Appends the number of failed calls of a kind, if any failed.
 fn put_faults(text: &mut Vec<u8>, kind: &str, faults: u64) -> io::Result<()> {
     if faults > 0 {
         writeln!(text, "failed to {kind}: {faults}")?;
@@ -148,7 +153,7 @@ fn put_faults(text: &mut Vec<u8>, kind: &str, faults: u64) -> io::Result<()> {
     Ok(())
 }
 
-/// What is around a run.
+/// The environment of a run.
 #[derive(Drop)]
 struct Outside {
     input: MemSource,
@@ -157,7 +162,7 @@ struct Outside {
     err: MemSink,
 }
 
-// The input, of which a take gives at most so many bytes.
+// Returns the input, of which a read returns at most `piece` bytes.
 fn input_of(alloc: Global, given: &Given, piece: usize) -> io::Result<MemSource> {
     let bytes = Vec::from_slice(alloc, given.input.as_slice())?;
     let takes = failing(alloc, given, "take")?;
@@ -167,7 +172,7 @@ fn input_of(alloc: Global, given: &Given, piece: usize) -> io::Result<MemSource>
     Ok(MemSource::new(bytes, piece, takes))
 }
 
-// The files, and the calls on them that fail.
+// Returns the files, with the calls on them that fail.
 fn opener_of(alloc: Global, given: &Given) -> io::Result<MemFiles> {
     let pairs = files_of(alloc, given)?;
     let fetches = failing(alloc, given, "fetch")?;
@@ -178,7 +183,7 @@ fn opener_of(alloc: Global, given: &Given) -> io::Result<MemFiles> {
     Ok(MemFiles::new(alloc, pairs, fetches, reads))
 }
 
-// A sink with this much room, of which these calls fail besides those of both.
+// Returns a sink with its room. Its own failing calls are added to those of both sinks.
 fn sink_of(alloc: Global, given: &Given, name: &str, own: &str) -> io::Result<MemSink> {
     let mut puts = failing(alloc, given, "put")?;
     add_failing(&mut puts, given, own)?;
@@ -208,7 +213,7 @@ fn run_outside(alloc: Global, words: &[String], outside: &mut Outside) -> Status
     )
 }
 
-// What a run has put, its status, and how many calls failed.
+// Returns the output of a run, its status, and the numbers of failed calls.
 fn text_of(
     alloc: Global,
     words: &[String],
@@ -229,15 +234,15 @@ fn text_of(
     Ok(text)
 }
 
-/// What a run puts on out, what on err, its status, and how many calls failed, with the input in
-/// pieces of at most so many bytes.
+/// Returns what a run writes to out and to err, its status, and the numbers of failed calls. The
+/// input comes in chunks of at most `piece` bytes.
 fn ending(alloc: Global, given: &Given, piece: usize) -> io::Result<Vec<u8>> {
     let mut outside = outside_of(alloc, given, piece)?;
     let status = run_outside(alloc, given.words.as_slice(), &mut outside);
     text_of(alloc, given.words.as_slice(), &outside, status)
 }
 
-// The file's text: none, or what stands behind `=`.
+// Returns the text of the file after `=`, or `None` for no file.
 fn file_of(alloc: Global, text: &str) -> io::Result<Option<Vec<u8>>> {
     match text.strip_prefix("=") {
         Some(text) => Ok(Some(Vec::from_slice(alloc, text.as_bytes())?)),
@@ -245,7 +250,7 @@ fn file_of(alloc: Global, text: &str) -> io::Result<Option<Vec<u8>>> {
     }
 }
 
-// The word that hexadecimal digits stand for.
+// Returns the argument that hexadecimal digits encode.
 fn decoded_word(alloc: Global, digits: &str) -> io::Result<String> {
     match String::from_utf8(decoded(alloc, digits)?) {
         Ok(word) => Ok(word),
@@ -253,7 +258,7 @@ fn decoded_word(alloc: Global, digits: &str) -> io::Result<String> {
     }
 }
 
-// What a question gives.
+// Parses the inputs of a run from a question.
 fn given_by(alloc: Global, question: &str) -> io::Result<Given> {
     let mut parts = question.split('\t');
     let (Some(settings), Some(digits), Some(file)) = (parts.next(), parts.next(), parts.next())
@@ -276,8 +281,8 @@ fn given_by(alloc: Global, question: &str) -> io::Result<Given> {
     })
 }
 
-/// Prints the ending of a run. Where no size of pieces is set, it prints too where the run ends
-/// otherwise with smaller ones.
+/// Prints how a run ends. If no chunk size is set, also prints where the run ends differently with
+/// smaller chunks.
 pub fn answer(rt: &HostRuntime, question: &str) -> io::Result<()> {
     let alloc = rt.alloc();
     let given = given_by(alloc, question)?;

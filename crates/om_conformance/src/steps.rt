@@ -1,11 +1,11 @@
-//! Whether a value has a type, and in how many steps that is found: one for the root, one for each
-//! object at each class of types at which it is met, and one for each of its fields there, up to
-//! the first that does not fit. Of a value that has the type, its text is told too, and how many
-//! objects at types justify it.
+//! Prints if a value has a type, and the number of steps of the check. The root is one step. Each
+//! object is one step for each class of types at which it occurs. Each of its fields there is one
+//! step, up to the first mismatch. For a value that has the type, also prints its text and the
+//! number of pairs of objects and types that justify it.
 //!
-//! A question gives the bytes of a value in hexadecimal digits, a type and declarations, and then,
-//! each behind a tab, lines of a script. Each line edits the value, also after one that was
-//! refused, and then the value is checked anew.
+//! A question gives the bytes of a value in hexadecimal digits, a type and declarations. Lines of a
+//! script may follow, each after a tab. Each line edits the value, even after a refused line, and
+//! then the value is checked again.
 
 ghost use Rattle.std.specs.Prelude.{◌<◌, length, IfOk};
 ghost use Rattle.om_model.specs.Graph.{IsValue};
@@ -33,10 +33,10 @@ use std::alloc::Global;
 use std::io;
 use std::io::ErrorKind;
 
-/// So many words a value may have.
+/// The greatest number of 64-bit words that a value may have.
 const LIMIT: u64 = 10_000;
 
-// The table of a type.
+// Returns the table of a type.
 fn table_for(alloc: Global, question: &str) -> io::Result<TypeTable> {
     let Some((decls, ty)) = accepted(alloc, question) else {
         return Err(ErrorKind::InvalidInput.into());
@@ -47,7 +47,7 @@ fn table_for(alloc: Global, question: &str) -> io::Result<TypeTable> {
     }
 }
 
-// The value of the bytes that digits stand for.
+// Returns the value of the bytes in hexadecimal digits.
 fn value_of(alloc: Global, digits: &str) -> io::Result<Value>
     ensures { IfOk result (λ value. IsValue (length value.heap) value.root) }
 {
@@ -83,7 +83,7 @@ fn put_fault(rt: &HostRuntime, fault: &Fault) -> io::Result<()> {
     }
 }
 
-// How many objects at types justify that the value has its type.
+// Returns the number of pairs of objects and types that justify that the value has its type.
 fn pairs_of(value: &Rooted<'_>, table: &TypeTable, typing: &Typing) -> u64 {
     let mut pairs: u64 = 0;
     for k in 0..typing.len() {
@@ -107,7 +107,7 @@ fn put_shown(rt: &HostRuntime, value: &Rooted<'_>, table: &TypeTable) -> io::Res
     }
 }
 
-// Prints that a value has its type: its text, and how many objects at types justify it.
+// Prints that a value has its type, with its text and the number of pairs that justify it.
 fn put_typed(
     rt: &HostRuntime,
     value: &Rooted<'_>,
@@ -137,8 +137,8 @@ fn put_told(
     }
 }
 
-// Prints where `is_fault` denies a fault that is told, or says that a value that has the type does
-// not fit at its root.
+// Prints a line if `is_fault` rejects a fault that was reported, or accepts a mismatch at the root
+// of a value that has the type.
 fn put_doubt(
     rt: &HostRuntime,
     value: &Rooted<'_>,
@@ -156,7 +156,7 @@ fn put_doubt(
     print!(rt; " (but not for is_fault)")
 }
 
-// Prints whether the value has the type, and in how many steps that is found.
+// Prints if the value has the type, and the number of steps of the check.
 fn put_verdict(rt: &HostRuntime, value: &Rooted<'_>, table: &TypeTable) -> io::Result<()> {
     let mut steps = Steps::new();
     let Ok(verdict) = check(rt.alloc(), value.heap, value.root, table, &mut steps) else {
@@ -174,7 +174,7 @@ fn put_refusal(rt: &HostRuntime, table: &TypeTable, refusal: &EditRefusal) -> io
     rt.stdout().write_all(text.as_slice())
 }
 
-// Edits the value by a line, and prints what is answered to it.
+// Edits the value by a line of a script, and prints the answer.
 fn put_edit(rt: &HostRuntime, value: &mut Value, table: &TypeTable, line: &str) -> io::Result<()>
     requires value { IsValue (length value.old.heap) value.old.root }
     ensures { IsValue (length value.new.heap) value.new.root }
@@ -195,7 +195,7 @@ fn put_edit(rt: &HostRuntime, value: &mut Value, table: &TypeTable, line: &str) 
     }
 }
 
-// Prints what an edit is answered, the value after it, and what a check of it says.
+// Prints the answer to an edit, the value after it, and the result of checking the value.
 fn answer_edit(rt: &HostRuntime, value: &mut Value, table: &TypeTable, line: &str) -> io::Result<()>
     requires value { IsValue (length value.old.heap) value.old.root }
     ensures { IsValue (length value.new.heap) value.new.root }
@@ -210,7 +210,7 @@ fn answer_edit(rt: &HostRuntime, value: &mut Value, table: &TypeTable, line: &st
     put_verdict(rt, &rooted, table)
 }
 
-// Prints what becomes of the value by each line, which are parted by tabs.
+// Prints the results of editing the value by each line. The lines are separated by tabs.
 fn answer_edits(
     rt: &HostRuntime,
     value: &mut Value,
@@ -225,8 +225,8 @@ fn answer_edits(
     Ok(())
 }
 
-// Prints what a check says of the value of these digits, and what becomes of it by lines, if there
-// are some.
+// Prints the result of checking the value of these digits, and the results of editing it by lines,
+// if there are any.
 fn answer_over(
     rt: &HostRuntime,
     digits: &str,
@@ -245,8 +245,8 @@ fn answer_over(
     }
 }
 
-/// Prints what a check says of the value of `BYTES at TYPE over TEXT`, and what becomes of it by
-/// the lines behind that.
+/// Prints the result of checking the value of `BYTES at TYPE over TEXT`, and the results of editing
+/// it by the lines after that.
 pub fn answer(rt: &HostRuntime, question: &str) -> io::Result<()> {
     let (first, lines) = match question.split_once('\t') {
         Some((first, lines)) => (first, Some(lines)),

@@ -1,4 +1,4 @@
-//! What `run` says of streams in the folder, which OCaml wrote.
+//! Prints what `run` prints for streams in the folder, which OCaml wrote.
 
 use om_edge::{DiskFiles, StdSink, StdSource};
 use om_outcome::status::Status;
@@ -7,8 +7,8 @@ use std::fs::File;
 use std::io;
 use std::io::ErrorKind;
 
-/// Checks the values of a stream at a type over the declarations of a file, by the adapters of the
-/// program itself. What belongs on out goes there, and what belongs on err into `told`.
+/// Checks the values of a stream at a type over the declarations of a file, with the I/O adapters
+/// of the program. Output to out goes to standard output, and output to err is appended to `told`.
 fn check(
     rt: &HostRuntime,
     file: &str,
@@ -37,8 +37,8 @@ fn check(
     ))
 }
 
-/// Prints what `run` puts on out for a stream at a type over the declarations of a file, what on
-/// err, and its status.
+/// Prints what `run` writes to out and to err for a stream at a type over the declarations of a
+/// file, and its status.
 pub fn put_answer(rt: &HostRuntime, file: &str, stream: &str, ty: &str) -> io::Result<()> {
     let mut told = Vec::new(rt.alloc());
     let status = check(rt, file, stream, ty, &mut told)?;
@@ -49,7 +49,7 @@ pub fn put_answer(rt: &HostRuntime, file: &str, stream: &str, ty: &str) -> io::R
     println!(rt; "status {}", status.code())
 }
 
-/// Prints what `run` says of `NAME at TYPE`, over no declarations.
+/// Prints what `run` prints for `NAME at TYPE`, over no declarations.
 pub fn answer(rt: &HostRuntime, question: &str) -> io::Result<()> {
     let Some((stream, ty)) = question.split_once(" at ") else {
         return Err(ErrorKind::InvalidInput.into());

@@ -1,5 +1,5 @@
-//! The table of the types that a type reaches: a line for each, with its text, its shape over
-//! numbers, the first type that is equal to it, and its names.
+//! Prints the table of the types that a type reaches. There is one line for each type, with its
+//! text, its shape over indices, the first type that is equal to it, and its names.
 
 ghost use Rattle.std.specs.Prelude.{◌<◌, length, IfSome};
 ghost use Rattle.om_types.specs.Accepted.{AreWellFormed, AreSound, IsSoundType};
@@ -19,7 +19,7 @@ use std::alloc::Global;
 use std::io;
 use std::io::ErrorKind;
 
-// The first type that has the class of this one.
+// Returns the first type in the class of this one.
 fn first_of_class(table: &TypeTable, number: usize) -> usize
     requires { number < length table.now.classes }
 {
@@ -31,7 +31,7 @@ fn first_of_class(table: &TypeTable, number: usize) -> usize
     number
 }
 
-// The line of a type.
+// Returns the line of a type.
 fn line_of(alloc: Global, table: &TypeTable, number: usize) -> Result<List<u8>, Memory> {
     if number >= table.len() || number >= table.count() {
         return Err(Memory);
@@ -45,7 +45,7 @@ fn line_of(alloc: Global, table: &TypeTable, number: usize) -> Result<List<u8>, 
     line(alloc, &row, None)
 }
 
-// The lines of a table.
+// Returns the lines of a table.
 fn lines_of(alloc: Global, table: &TypeTable) -> Result<Vec<List<u8>>, Memory> {
     let mut found = Vec::new(alloc);
     for number in 0..table.len() {
@@ -54,7 +54,7 @@ fn lines_of(alloc: Global, table: &TypeTable) -> Result<Vec<List<u8>>, Memory> {
     Ok(found)
 }
 
-/// The declarations and the type of a question that are accepted.
+/// Returns the declarations and the type of a question, if they are accepted.
 pub fn accepted(alloc: Global, question: &str) -> Option<(List<Decl>, Ty)>
     ensures well { IfSome result (λ both. AreWellFormed both.0) }
     ensures sound { IfSome result (λ both. IsSoundType both.0 both.1) }
@@ -71,7 +71,7 @@ pub fn accepted(alloc: Global, question: &str) -> Option<(List<Decl>, Ty)>
     Some((decls, ty))
 }
 
-// Puts a text behind a word, as a line.
+// Appends a line that consists of a word and a text.
 fn put_line(out: &mut Vec<u8>, word: &[u8], text: &[u8]) -> Result<(), Memory> {
     out.extend_from_slice(word)?;
     out.extend_from_slice(text)?;
@@ -79,8 +79,8 @@ fn put_line(out: &mut Vec<u8>, word: &[u8], text: &[u8]) -> Result<(), Memory> {
     Ok(())
 }
 
-// What the calls over types as they are written say: what the type expands to, whether its values
-// lie flat, and which declarations are records that do.
+// Returns the results of the calls for types given as trees: the expansion of the type, whether its
+// values are flat float arrays, and which declarations are flat float records.
 fn written_lines(alloc: Global, decls: &[Decl], t: &Ty) -> Result<Vec<u8>, Memory>
     requires { AreSound decls.now }
 {
@@ -88,7 +88,7 @@ fn written_lines(alloc: Global, decls: &[Decl], t: &Ty) -> Result<Vec<u8>, Memor
     lines_in(alloc, &environment, t)
 }
 
-// The same, with the places of declared names.
+// Returns the same lines, given the environment of the declarations.
 fn lines_in(alloc: Global, decls: &SoundEnvironment<'_>, t: &Ty) -> Result<Vec<u8>, Memory> {
     let mut out = Vec::new(alloc);
     let whole = expand(alloc, decls, t)?;
@@ -106,7 +106,7 @@ fn lines_in(alloc: Global, decls: &SoundEnvironment<'_>, t: &Ty) -> Result<Vec<u
     Ok(out)
 }
 
-// Prints lines, and those of the plain program where they differ.
+// Prints lines. If lines of the reference program differ, prints those too.
 fn put_lines(rt: &HostRuntime, found: &[List<u8>], plain: &[List<u8>]) -> io::Result<()> {
     for (at, line) in found.iter().enumerate() {
         print!(rt; "{at} ")?;
@@ -126,7 +126,7 @@ fn put_lines(rt: &HostRuntime, found: &[List<u8>], plain: &[List<u8>]) -> io::Re
     Ok(())
 }
 
-/// Prints the table of `TYPE over TEXT`, and what the plain program says where it differs.
+/// Prints the table of `TYPE over TEXT`, and the lines of the reference program that differ.
 pub fn answer(rt: &HostRuntime, question: &str) -> io::Result<()> {
     let alloc = rt.alloc();
     let Some((decls, ty)) = accepted(alloc, question) else {

@@ -1,5 +1,5 @@
-//! What is answered to texts of declarations, and of types over them, by the proved reader and by
-//! the plain program.
+//! Prints the answers of the proved reader and of the reference program to texts of declarations,
+//! and to texts of types over them.
 
 ghost use Rattle.om_types.specs.Accepted.{AreWellFormed};
 
@@ -19,7 +19,7 @@ fn text_of(alloc: Global, fault: &DeclFault) -> Result<List<u8>, Memory> {
     fault_text(alloc, &Places::Bytes, fault)
 }
 
-// Prints a fault behind the name of what it was found in.
+// Prints a fault, after the name of the text in which it was found.
 fn put_fault(rt: &HostRuntime, found_in: &str, fault: &DeclFault) -> io::Result<()> {
     let Ok(text) = text_of(rt.alloc(), fault) else {
         return Err(ErrorKind::OutOfMemory.into());
@@ -29,7 +29,7 @@ fn put_fault(rt: &HostRuntime, found_in: &str, fault: &DeclFault) -> io::Result<
     println!(rt; "")
 }
 
-// The answer of the plain program that refuses a text.
+// Returns the refusal of the reference program as text.
 fn plain_text(alloc: Global, fault: Fault) -> Result<String, AllocError> {
     match fault {
         Fault::Refused(why, place) => format!(in alloc; "{why:?} at {place}"),
@@ -37,7 +37,8 @@ fn plain_text(alloc: Global, fault: Fault) -> Result<String, AllocError> {
     }
 }
 
-// Whether both programs refuse a text alike. The two tags that share a hash may be any two.
+// Returns true if both programs refuse a text in the same way. If the refusal is about two tags
+// with the same hash, any two such tags are accepted.
 fn is_same_fault(alloc: Global, plain: Fault, fault: &DeclFault) -> Result<bool, Memory> {
     if let DeclFault::HashClash(_, one, other) = fault {
         if !share_a_hash(one.as_slice(), other.as_slice()) {
@@ -49,7 +50,7 @@ fn is_same_fault(alloc: Global, plain: Fault, fault: &DeclFault) -> Result<bool,
     Ok(plain.as_bytes() == text.as_slice())
 }
 
-// Prints what the plain program answers, where it differs. The answer is 1 where it does not.
+// Prints the answer of the reference program if it differs. Returns 1 if it does not differ.
 fn put_plain(rt: &HostRuntime, agrees: bool, refusal: Option<Fault>) -> io::Result<u64> {
     if agrees {
         return Ok(1);
@@ -64,7 +65,7 @@ fn put_plain(rt: &HostRuntime, agrees: bool, refusal: Option<Fault>) -> io::Resu
     Ok(0)
 }
 
-// Prints how the answer of the plain program differs from an answer, if it does.
+// Prints how the answer of the reference program differs from an answer, if it does.
 fn compare(
     rt: &HostRuntime,
     same: bool,
@@ -84,8 +85,8 @@ fn compare(
     put_plain(rt, agrees, refusal)
 }
 
-/// Prints what becomes of a text of declarations. The answer is the number of texts that the plain
-/// program answers alike.
+/// Prints the answer to a text of declarations. Returns the number of texts for which the reference
+/// program gives the same answer.
 pub fn answer(rt: &HostRuntime, text: &str) -> io::Result<u64> {
     let plain = plain_decls(rt.alloc(), text.as_bytes());
     let (same, refusal, fault) = match (read_decls(rt.alloc(), text.as_bytes()), plain) {
@@ -101,7 +102,7 @@ pub fn answer(rt: &HostRuntime, text: &str) -> io::Result<u64> {
     compare(rt, same, refusal, fault.as_ref())
 }
 
-// Prints what becomes of a type over declarations that neither program refuses.
+// Prints the answer to a type over declarations that neither program refuses.
 fn answer_over<'a>(
     rt: &HostRuntime,
     ty: &'a str,
@@ -124,7 +125,7 @@ fn answer_over<'a>(
     compare(rt, same, refusal, fault.as_ref())
 }
 
-/// Prints what becomes of `TYPE over TEXT`, a type and declarations. The answer is as for
+/// Prints the answer to `TYPE over TEXT`, a type and declarations. Returns a number as for
 /// declarations.
 pub fn answer_type(rt: &HostRuntime, question: &str) -> io::Result<u64> {
     let Some((ty, text)) = question.split_once(" over ") else {

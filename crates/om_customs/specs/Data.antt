@@ -6,19 +6,19 @@ use Rattle.om_customs.specs.declared.native.NativeStep.TheVariants.{More, Value,
 use Rattle.om_model.specs.Bytes.{signed}
 use Rattle.om_format.specs.Code.{native_bytes}
 
--- the number of the first n bytes, or how many are missing to its end
+-- The number in the first `n` bytes, or the number of bytes that are missing.
 abbrev pub number_step : ℕ → List ℕ → NativeStep
 number_step n bytes =
     if nat_lt (length bytes) n then More (n - length bytes) else Value (signed (take n bytes))
 
--- a kind byte, and the number that it announces
+-- A kind byte, and the number that it announces.
 abbrev pub native_step : List ℕ → NativeStep
 native_step [] = More 1
 native_step (kind ∷ rest) =
     if native_bytes kind == 0 then BadNative kind else number_step (native_bytes kind) rest
 
--- what each answer says, of the bytes that the kind byte announces: none where there is no kind
--- byte, or another than 1 and 2
+-- The number of bytes that the kind byte announces: 0 if there is no kind byte, or if it is neither
+-- 1 nor 2. The definition after it says what each result means.
 abbrev pub announced : List ℕ → ℕ
 announced bytes = native_bytes (slice_index bytes 0)
 

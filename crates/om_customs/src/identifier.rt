@@ -1,11 +1,12 @@
-//! The identifiers of customs.
+//! The identifiers of custom blocks.
 
 ghost use Rattle.std.specs.Prelude.{◌≡◌};
 ghost use Rattle.om_format.specs.Code.{custom_of};
 
 use om_model::code::CustomKind;
 
-/// The custom of this identifier, where it is one that is read (`ints.c`).
+/// Returns the kind of the custom block with this identifier (`ints.c`), or `None` if the tool does
+/// not support it.
 #[tactic(auto, unfolding(om_format::specs::Code::custom_of))]
 pub fn ident(bytes: [u8; 3]) -> Option<CustomKind>
     ensures { result ≡ custom_of bytes }

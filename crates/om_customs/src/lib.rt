@@ -1,4 +1,6 @@
-//! The customs that are read: `Int32`, `Int64` and `Nativeint` (`ints.c`).
+//! The supported custom blocks: `Int32`, `Int64` and `Nativeint` (`ints.c`). `ident` decodes their
+//! identifiers, `read_native` decodes the data of a `Nativeint`, and `spell` encodes custom blocks
+//! as the runtime writes them.
 #![tactic(auto)]
 
 mod identifier;

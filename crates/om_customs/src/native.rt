@@ -5,19 +5,19 @@ ghost use Rattle.om_customs.specs.Data.{number_step, native_step, IsStep};
 
 use om_model::bytes::signed;
 
-/// What the first bytes of a `Nativeint`'s data say: that more of them are missing, or which number
-/// it is.
+/// The result of decoding the first bytes of a `Nativeint`'s data.
 #[derive(Clone, Copy)]
 pub enum NativeStep {
-    /// How many bytes are missing to the kind byte's end, or after it to the number's.
+    /// The number of bytes that are missing: up to the end of the kind byte if it is missing,
+    /// otherwise up to the end of the number.
     More(usize),
     /// The number.
     Value(i64),
-    /// A kind byte that announces no number.
+    /// An invalid kind byte.
     BadNative(u8),
 }
 
-/// The step that the first bytes of a `Nativeint`'s data decide (`ints.c`). Bytes may follow the
+/// Decodes the data of a `Nativeint` at the beginning of `bytes` (`ints.c`). Bytes may follow the
 /// number.
 pub fn read_native(bytes: &[u8]) -> NativeStep
     ensures step { result ≡ native_step bytes.now }
@@ -31,7 +31,7 @@ pub fn read_native(bytes: &[u8]) -> NativeStep
     }
 }
 
-// The number of so many bytes.
+// Decodes a number of `size` bytes.
 fn number(bytes: &[u8], size: usize) -> NativeStep
     requires some { 1 ≤ size }
     requires few { size ≤ 8 }

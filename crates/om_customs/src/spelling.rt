@@ -1,4 +1,4 @@
-//! The customs that the runtime writes (`extern.c`, `ints.c`).
+//! Encodes custom blocks as the runtime writes them (`extern.c`, `ints.c`).
 
 ghost use Rattle.std.specs.Prelude.{◌≡◌, ◌≤◌, ◌∷◌, take};
 ghost use Rattle.om_format.specs.Canonical.{custom_spelling, native_spelling, signed_bytes};
@@ -7,8 +7,8 @@ use om_model::code::Custom;
 
 const CODE: u8 = 0x19;
 
-/// The bytes of a custom from its code on, and how many they are. A `Nativeint` has four bytes
-/// where it fits them.
+/// Returns the bytes of a custom block, beginning with its code, and their count. A `Nativeint` has
+/// four bytes if it fits into them, otherwise eight.
 #[tactic(auto, unfolding(om_format::specs::Canonical::custom_spelling))]
 pub fn spell(c: Custom) -> ([u8; 13], usize)
     ensures spelled { take result.1 result.0 ≡ custom_spelling c }
@@ -45,7 +45,7 @@ fn int64(number: i64) -> ([u8; 13], usize)
     )
 }
 
-// The kind byte tells how many bytes the number has.
+// Encodes a `Nativeint`. The kind byte states the size of the number.
 fn native(number: i64) -> ([u8; 13], usize)
     ensures spelled { take result.1 result.0 ≡ 0x19 ∷ 95 ∷ 110 ∷ 0 ∷ native_spelling number }
     ensures few { result.1 ≤ 13 }

@@ -20,23 +20,23 @@ use Rattle.om_format.proofs.SpellFacts.{none_from_room}
 use Rattle.om_format.proofs.SpellSteps.{AllStepsPass, or_else_none, fails_if_none}
 use Rattle.om_cut.specs.Cut.{HasRoom, IsCut, IsCutAfter, IsSized}
 
--- steps that pass, and then others
+-- If all steps of a list pass, and the steps after them do not fail, then none fails.
 none_after : (m : ℕ) (xs ys : List Step) → AllStepsPass xs → first_refusal m ys ≡ None → first_refusal m (xs ++ ys) ≡ None
 none_after m [] ys p q = q
 none_after m (x ∷ xs) ys p q =
     cond_both (ltb m x.ends) None (or_else x.refusal (first_refusal m (xs ++ ys))) (λ r. r ≡ None) (λ _. refl)
     (λ _. or_else_none x.refusal (first_refusal m (xs ++ ys)) p.0 (none_after m xs ys p.1 q))
 
--- a step that is not decided yet
+-- A step that is not decided yet does not fail.
 undecided : (m k : ℕ) (r : Option ReadRefusal) (steps : List Step) → m < k → first_refusal m (step k r ∷ steps) ≡ None
 undecided m k r steps h = rw (lt-ltb m k h) refl
 
--- the steps of the end, before the end
+-- Before the end of the token the steps of the end are not decided.
 before_end : (m : ℕ) (c : Context) (n : ℕ) (all : Sums) (b : Bool) → m < n → first_refusal m (cond b (end_steps c n all) []) ≡ None
 before_end m c n all true h = rw (lt-ltb m n h) refl
 before_end m c n all false h = refl
 
--- a sum of words on 32 bits that the header allows
+-- If the header allows the sum of the words on 32 bits, then there is no refusal.
 words32_allowed : (p : ℕ) (head : Head) (found : ℕ) (big : Bool) → head.big ≡ big → (big ≡ false → found ≤ head.w32) → words32_refusal ltb p head found ≡ None
 words32_allowed p head found true e h = rw e refl
 words32_allowed p head found false e h =
@@ -45,7 +45,7 @@ words32_allowed p head found false e h =
 words64_allowed : (p : ℕ) (head : Head) (found : ℕ) → found ≤ head.w64 → words64_refusal ltb p head found ≡ None
 words64_allowed p head found h = fails_if_none (ltb head.w64 found) (SizeMismatch p W64 head.w64 found) (le-ltb head.w64 found h)
 
--- ---- fields that are not whole
+-- ---- incomplete fields
 
 fields_cut : (c : Context) (code : ℕ) (kind : CodeKind) (rest : List ℕ) (m : ℕ) → m < 1 + field_bytes kind → c.taken + (1 + fixed_bytes kind) ≤ c.head.length → first_refusal m (steps_after c code kind rest) ≡ None
 fields_cut c code kind rest m short room =
@@ -62,7 +62,7 @@ cut_in_fields kind rest fixed field few32 few64 e f short = record {
   passes = λ c code room. fields_cut c code kind rest (1 + length rest) (omega (arith, short, f)) (let r = room.room in let o = room.open_before in omega (arith, r, o, e));
 }
 
--- ---- a token whose size is known
+-- ---- a token of known size
 
 known_cut :
     (c : Context) (code : ℕ) (kind : CodeKind) (rest : List ℕ) (measure : Option Measure) (m n few32 few64 : ℕ) → m < n → n ≡ 1 + fixed_bytes kind + variable_bytes kind rest → HasRoom c n few32 few64
@@ -105,7 +105,7 @@ cut_in_content kind rest fixed variable measure n few32 few64 f s e short words3
 
 -- ---- with the code
 
--- nothing of a token
+-- Case: no byte of the token.
 pub cut_of_nothing : (bytes : List ℕ) (few32 few64 : ℕ) → length bytes ≡ 0 → IsCut 1 few32 few64 bytes
 unfolding token_steps
 cut_of_nothing [] few32 few64 none' = record { some = omega arith; is_part = omega arith; passes = λ c room. refl }
@@ -127,12 +127,12 @@ cut_with_code code kind rest n few32 few64 e cut = record {
       steps_of_kind c code kind rest (length (code ∷ rest)) e (subst (λ m. first_refusal m (steps_after c code kind rest) ≡ None) same (cut.passes c code room));
 }
 
--- of bytes, by the first and the others
+-- Case: at least one byte; by the code and the bytes after it.
 pub cut_of_bytes : (bytes : List ℕ) (kind : CodeKind) (n few32 few64 : ℕ) → 0 < length bytes → kind_of (get_or bytes 0 0) ≡ Ok kind → IsCutAfter kind (drop 1 bytes) n few32 few64 → IsCut n few32 few64 bytes
 cut_of_bytes [] kind n few32 few64 some e cut = absurd (omega (arith, some))
 cut_of_bytes (code ∷ rest) kind n few32 few64 some e cut = cut_with_code code kind rest n few32 few64 e cut
 
--- ---- the size by the kind
+-- ---- the size by kind
 
 pub sized_small_string : (kind : CodeKind) (rest : List ℕ) (size n : ℕ) → kind ≡ kinds.SmallString size → n ≡ size → IsSized kind rest n (Some (measures.Bytes n))
 sized_small_string kind rest size n is e =

@@ -1,4 +1,4 @@
--- Tokens that pass while values are still to come.
+-- Tokens that pass while values are pending.
 use Rattle.std.proofs.Common.{ℕ, ◌+◌, ◌<◌, ◌≤◌, ◌≡◌, ◌∙◌, false, List, [], ◌∷◌, ◌++◌, length, map, Option, inr, refl, sym, subst, subst₂, arith, append-nil, append_assoc, length-append}
 use Rattle.std.specs.Prelude.{All}
 use Rattle.std.specs.List.{concat, AllZip}
@@ -22,20 +22,20 @@ use Rattle.om_format.proofs.SpellHeaders.{HeaderPasses-facts}
 use Rattle.om_format.proofs.SpellValues.{raw_measures-spelled, length-concat_push, bytes_of_tokens}
 use Rattle.om_cut.specs.Laws.{UnderwayIsFront}
 
--- after n bytes of data and tokens of these measures values are to come, and the header has room
--- for a byte of each, and for the words so far
+-- After `n` bytes of data and tokens of these measures values are pending. The header has room for
+-- one byte of each pending value, and for the words so far.
 pub record GoesOn (head : Head) (n : ℕ) (ms : List (Option Measure)) : Type 0 where
   pub open_before : 0 < pending ms
   pub room : n + pending ms ≤ head.length
   pub w32 : head.big ≡ false → all_words32 ms ≤ head.w32
   pub w64 : all_words64 ms ≤ head.w64
 
--- before the next of tokens, or after the last, one is to come
+-- A value is pending before the next token, and after the last one.
 open_here : (ms : List (Option Measure)) (ts : List Token) → OpenBefore ms ts → 0 < pending (ms ++ map measure_of ts) → 0 < pending ms
 open_here ms [] o p = rw (append-nil ms) at p
 open_here ms (t ∷ ts) o p = o.0
 
--- where all go on the first of them fit
+-- If values are pending after all tokens, then the first token fits.
 fits_here : (head : Head) (n rest : ℕ) (ms : List (Option Measure)) (ts : List Token) → GoesOn head (n + rest) (ms ++ map measure_of ts) → OpenBefore ms ts → length ts ≤ rest → FitsUpTo head n ms
 fits_here head n rest ms ts g o l =
     let room' = g.room in
@@ -50,7 +50,7 @@ fits_here head n rest ms ts g o l =
       end = λ none. absurd (omega (arith, none, some));
     }
 
--- spelled tokens pass, with others before them, where values are to come after them all
+-- If values are pending after all tokens, then the encoded tokens pass.
 pub tokens_go_on :
     (header : List ℕ) (before : List (List ℕ)) (ms : List (Option Measure)) (ts : List Token) (pieces : List (List ℕ)) → map raw_measure before ≡ ms → AllZip Spells ts pieces → OpenBefore ms ts → EachRefersBack (objects ms) ts
     → ((head_of header).objects ≡ 0 → All IsNoReference ts) → GoesOn (head_of header) (length (concat before) + length (concat pieces)) (ms ++ map measure_of ts)
@@ -80,7 +80,7 @@ tokens_go_on header before ms (t ∷ ts) (piece ∷ pieces) e s o r table g =
           (λ z. All-tail IsNoReference t ts (table z)) (rw there g'),
     )
 
--- THE LAW
+-- The law.
 pub underway_is_front : UnderwayIsFront
 underway_is_front limit bytes header pieces tokens rest n few32 few64 u cut room =
     let head = head_of header in

@@ -1,4 +1,4 @@
--- The part of a token at the end of the bytes.
+-- The incomplete token at the end of the bytes.
 use Rattle.std.specs.Prelude.{ℕ, ◌+◌, ◌<◌, ◌≤◌, ◌≡◌, false, List, [], ◌∷◌, length, take, Option}
 use Rattle.std.specs.Prelude.{None}
 use Rattle.om_model.specs.declared.code.CodeKind.{CodeKind}
@@ -9,16 +9,17 @@ use Rattle.om_format.specs.Words.{of_object, fields}
 use Rattle.om_format.specs.Step.{Context, step, overlong, first_refusal, field_refusal}
 use Rattle.om_format.specs.Step.{variable_steps, steps_after, token_steps}
 
--- at this place a value is to come, and what the header states has room for a token of n bytes, for
--- a byte of each other value to come, and for so many words
+-- A value is pending at this offset. The sizes that the header states leave room for a token of `n`
+-- bytes and for one byte of each other pending value. They also leave room for `few32` and `few64`
+-- words.
 pub record HasRoom (c : Context) (n few32 few64 : ℕ) : Type 0 where
   pub open_before : 0 < c.sums.pending
   pub room : c.taken + n + c.sums.pending ≤ c.head.length + 1
   pub w32 : c.head.big ≡ false → c.sums.w32 + few32 ≤ c.head.w32
   pub w64 : c.sums.w64 + few64 ≤ c.head.w64
 
--- A proper part of a token that has n bytes at least: wherever there is room for it, no step fails
--- that is decided in the part.
+-- A proper prefix of a token that has at least `n` bytes. If there is room for the token, then no
+-- step that the prefix decides fails.
 pub record IsCut (n few32 few64 : ℕ) (part : List ℕ) : Type 0 where
   pub some : 0 < n
   pub is_part : IsPart part
@@ -26,7 +27,7 @@ pub record IsCut (n few32 few64 : ℕ) (part : List ℕ) : Type 0 where
       (c : Context) → HasRoom c n few32 few64
       → first_refusal (length part) (token_steps c part) ≡ None
 
--- the same of a token of this kind, by the bytes after its code
+-- `IsCut` for a token of this kind, stated on the bytes after its code.
 pub record IsCutAfter (kind : CodeKind) (rest : List ℕ) (n few32 few64 : ℕ) : Type 0 where
   pub some : 0 < n
   pub is_part : length rest < fixed_bytes kind + variable_bytes kind rest
@@ -34,8 +35,8 @@ pub record IsCutAfter (kind : CodeKind) (rest : List ℕ) (n few32 few64 : ℕ) 
       (c : Context) (code : ℕ) → HasRoom c n few32 few64
       → first_refusal (1 + length rest) (steps_after c code kind rest) ≡ None
 
--- a token of this kind has so many bytes after the fixed ones, makes an object of this measure
--- without fields, or none, and its fields are sound anywhere
+-- A token of this kind has `variable` bytes after the fixed ones. It makes an object of this
+-- measure without fields, or no object. Its fields are sound in every context.
 pub record IsSized (kind : CodeKind) (rest : List ℕ) (variable : ℕ) (measure : Option Measure)
     : Type 0 where
   pub variable_is : variable ≡ variable_bytes kind rest

@@ -1,4 +1,4 @@
--- Bytes that lead to a place inside a value are a front of it.
+-- If bytes lead to an offset inside a value, then they are a prefix of that value.
 use Rattle.std.specs.Prelude.{ℕ, ◌^◌, ◌<◌, ◌≤◌, ◌≡◌, List, [], ◌++◌, All}
 use Rattle.std.specs.List.{concat, AllZip}
 use Rattle.om_format.specs.Header.{head_of}
@@ -8,7 +8,7 @@ use Rattle.om_format.specs.Spelled.{IsHeader, IsNoReference}
 use Rattle.om_format.specs.Front.{IsFront, context}
 use Rattle.om_cut.specs.Cut.{HasRoom, IsCut}
 
--- the bytes are a header under the limit, spellings of tokens that may stand there, and the rest
+-- The bytes are a header under the limit, encodings of tokens that may follow it, and the rest.
 pub record IsUnderway
     (limit : ℕ) (bytes header : List ℕ) (pieces : List (List ℕ)) (tokens : List Token)
     (rest : List ℕ)
@@ -22,7 +22,7 @@ pub record IsUnderway
   pub refer_back : EachRefersBack 0 tokens
   pub unshared : (head_of header).objects ≡ 0 → All IsNoReference tokens
 
--- they are a front where the rest is a part of a token for which there is room
+-- If the rest is a part of a token for which there is room, then the bytes are a prefix of a value.
 abbrev pub UnderwayIsFront : Type 0
 UnderwayIsFront =
     (limit : ℕ) (bytes header : List ℕ) (pieces : List (List ℕ)) (tokens : List Token)

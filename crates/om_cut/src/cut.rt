@@ -1,4 +1,4 @@
-//! The part of a token at the end of the bytes.
+//! Checks the incomplete token at the end of the bytes.
 
 ghost use Rattle.std.specs.Prelude.{◌≡◌, ◌≤◌, ◌<◌, ◌^◌, length, take, IfSome};
 ghost use Rattle.std.specs.Bool.{OnTrue};
@@ -16,7 +16,7 @@ use om_headers::words_of;
 use om_model::bytes::big_endian;
 use om_model::code::{CodeKind, CustomKind, Measure};
 
-/// How many bytes each token of the kind has after its code.
+/// Returns the number of bytes that every token of the kind has after its code.
 fn fixed_len(kind: CodeKind) -> u64
     ensures is { result ≡ fixed_bytes kind }
     ensures few { result < 2 ^ 8 }
@@ -33,7 +33,7 @@ fn fixed_len(kind: CodeKind) -> u64
     }
 }
 
-/// How many of those bytes the steps read: none of a double or a short integer.
+/// Returns how many of the fixed bytes the steps read: none for a double or a short integer.
 fn field_len(kind: CodeKind) -> usize
     ensures { result ≡ field_bytes kind }
 {
@@ -51,7 +51,7 @@ fn field_len(kind: CodeKind) -> usize
     }
 }
 
-/// The number of the first `width` bytes.
+/// Returns the number that the first `width` bytes encode, most significant byte first.
 fn number_at(rest: &[u8], width: u8) -> u64
     requires few { width ≤ 8 }
     requires whole { width ≤ length rest.now }
@@ -60,7 +60,7 @@ fn number_at(rest: &[u8], width: u8) -> u64
     big_endian(&rest[..usize::from(width)])
 }
 
-/// The custom that the first three bytes name.
+/// Returns the custom kind that the first three bytes identify.
 fn custom_at(rest: &[u8]) -> Option<CustomKind>
     requires { 3 ≤ length rest.now }
     ensures { result ≡ custom_of (take 3 rest.now) }
@@ -68,8 +68,9 @@ fn custom_at(rest: &[u8]) -> Option<CustomKind>
     ident([rest[0], rest[1], rest[2]])
 }
 
-/// How many bytes the token has after the fixed ones, and the object that it makes, where its
-/// fields are whole and sound, and it is no block and no `Nativeint`.
+/// Returns the number of bytes after the fixed ones, and the measure of the token's object. Returns
+/// `None` if the token is a block or a `Nativeint`, or if its fields are not sound. The caller
+/// guarantees that the fields are complete.
 #[tactic(auto, using(crate::proofs::CutLemmas::sized_small_string, crate::proofs::CutLemmas::sized_int, crate::proofs::CutLemmas::sized_str, crate::proofs::CutLemmas::sized_double, crate::proofs::CutLemmas::sized_doubles, crate::proofs::CutLemmas::sized_int32, crate::proofs::CutLemmas::sized_int64))]
 fn content(kind: CodeKind, rest: &[u8]) -> Option<(u64, Option<Measure>)>
     requires known { IsKind kind }
@@ -108,7 +109,7 @@ fn content(kind: CodeKind, rest: &[u8]) -> Option<(u64, Option<Measure>)>
     }
 }
 
-/// Whether so many words are enough for the object.
+/// Returns true if `w32` and `w64` words are enough for the object.
 fn has_words(measure: Option<Measure>, w32: u64, w64: u64) -> bool
     requires { ForSome measure IsCountable }
     ensures { OnTrue result
@@ -124,8 +125,8 @@ fn has_words(measure: Option<Measure>, w32: u64, w64: u64) -> bool
     true
 }
 
-/// How many bytes a token of this kind has at least, of which some are missing, if its part surely
-/// passes what is decided in it.
+/// Returns a lower bound of the length of an incomplete token of this kind, if the bytes that are
+/// there surely pass every step that they decide.
 #[tactic(auto, using(crate::proofs::CutLemmas::cut_in_fields, crate::proofs::CutLemmas::cut_in_content))]
 fn kind_cut_len(kind: CodeKind, rest: &[u8], w32: u64, w64: u64) -> Option<u64>
     requires { IsKind kind }
@@ -149,8 +150,10 @@ fn kind_cut_len(kind: CodeKind, rest: &[u8], w32: u64, w64: u64) -> Option<u64>
     Some(n)
 }
 
-/// How many bytes the token at the end of the bytes has at least, of which these are a part, if the
-/// part surely passes what is decided in it, where its object may have so many words.
+/// Checks `bytes`, a proper prefix of a token. If the prefix surely passes every step that it
+/// decides, returns a lower bound of the token's length in bytes. The object of the token may have
+/// at most `w32` words on 32 bits and `w64` words on 64 bits. Returns `None` if the result is
+/// inconclusive.
 pub fn cut_len(bytes: &[u8], w32: u64, w64: u64) -> Option<u64>
     ensures { IfSome result (λ n. IsCut n w32 w64 bytes.now) }
 {

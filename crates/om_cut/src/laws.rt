@@ -1,9 +1,10 @@
-//! The law, as a contract.
+//! The law of truncated values, as the contract of a lemma function.
 
 ghost use Rattle.om_cut.specs.Laws.{UnderwayIsFront};
 
-/// Bytes that lead to a place inside a value, and end there in a part of a token for which there is
-/// room, are a front. It does nothing: what it ensures is the law.
+/// Proves that certain bytes are a prefix of a value. They consist of a header, complete tokens and
+/// a part of a token, and the header has room for that token. This is a lemma function: it does
+/// nothing at run time.
 pub fn underway_is_front()
     ensures { UnderwayIsFront }
 {}

@@ -1,5 +1,7 @@
-//! The end of a piece of a value's bytes: whether the part of a token that stands there passes what
-//! is decided in it, so that the bytes are a front of a value.
+//! Decides whether bytes that end inside a token are a prefix of some value. `cut_len` checks the
+//! incomplete token at the end of the bytes and returns a lower bound of its length. The law
+//! `underway_is_front` says: if the header has room for that token, then all the bytes are a prefix
+//! of a value. `cut_len` returns `None` if it cannot decide.
 #![tactic(auto)]
 
 mod cut;

@@ -1,5 +1,5 @@
--- A decimal that is no farther from the double than both of its neighbours, where these read as it,
--- is the nearest one.
+-- If a decimal is no farther from the double than both neighbours that read as it, then it is the
+-- nearest one.
 use Rattle.std.proofs.Common.{◌≡◌, ◌≢◌, ℕ, ◌+◌, ◌-◌, ◌*◌, ◌%◌, ◌^◌, ◌<◌, ◌≤◌, inl, inr, arith, subst, sym, ◌∙◌}
 use Rattle.std.proofs.lemmas.Bool.{cases_lt}
 use native.Mathlib.Nat.{mul-le-mul_right, mul-pos}
@@ -11,14 +11,14 @@ use Rattle.om_decimal.proofs.NearestLemmas.{between}
 abbrev pub gap : ℕ → ℕ → ℕ
 gap x y = (x - y) + (y - x)
 
--- of two places the one above, and which is at least a unit higher, is no nearer
+-- A position at least one unit above is no nearer.
 above : (x u o y : ℕ) → x + u ≤ o → 2 * y ≤ 2 * x + u → gap x y ≤ gap o y
 above x u o y h k = omega arith
 
 above_tie : (x u o y : ℕ) → 0 < u → x + u ≤ o → 2 * y ≤ 2 * x + u → gap x y ≡ gap o y → 2 * y ≡ 2 * x + u
 above_tie x u o y p h k e = omega arith
 
--- and so is one that is at least a unit lower; x is a unit below
+-- A position at least one unit below is no nearer; `x` is one unit below the decimal.
 below : (x u o y : ℕ) → o ≤ x → 2 * x + u ≤ 2 * y → gap (x + u) y ≤ gap o y
 below x u o y h k = omega arith
 

@@ -1,4 +1,4 @@
--- A double that is neither below nor above a positive one is that one.
+-- If a double is neither below nor above a positive double, then both are equal.
 use Rattle.std.proofs.Common.{◌≡◌, ℕ, zero, suc, ◌+◌, ◌-◌, ◌*◌, ◌/◌, ◌^◌, ◌<◌, ◌≤◌, Bool, true, false, cond, eqb, ltb, ◌&&◌, ◌||◌, ◌⊎◌, T, refl, sym, ap, ◌∙◌, inl, inr, arith, true≢false}
 use native.Mathlib.Nat.{mul-div_cancel, eq_of_mul-eq-mul_right}
 use lib.Dec.{eqb→eq, ltb→lt}
@@ -7,7 +7,7 @@ use lib.Ieee.Fits.{down_pos, and_l, and_r}
 use lib.Ieee.Bits.{of_bits-to_bits}
 use lib.Ieee.Exact.{HasValue}
 
--- ---- two doubles with one value are one
+-- ---- two doubles with one value are equal
 
 bits_of_value : (f : Format) (x : Float) (s : Bool) (a : ℕ) → HasValue x s a (2 ^ low f)
     → to_bits f x ≡ cond s (top f) 0 + (size a - prec f) * hid f + a / 2 ^ (size a - prec f)
@@ -21,7 +21,7 @@ bits_of_value f (fin t m e) s a v =
 pub same_value : (f : Format) (x y : Float) (s : Bool) (a : ℕ) → T (fits f x) → T (fits f y) → HasValue x s a (2 ^ low f) → HasValue y s a (2 ^ low f) → x ≡ y
 same_value f x y s a p q v w = sym (of_bits-to_bits f x p) ∙ ap (of_bits f) (bits_of_value f x s a v ∙ sym (bits_of_value f y s a w)) ∙ of_bits-to_bits f y q
 
--- ---- one that is level with another has its value
+-- ---- a double that is level with another one has the same value
 
 either : (a b : Bool) → T (a || b) → T a ⊎ T b
 either true b t = inl tt

@@ -1,5 +1,5 @@
--- A greater number has no lesser double, so a number has one, and what lies between two numbers of
--- one double has it too.
+-- Rounding is monotone: a greater number has no lesser double. So a number has one double, and a
+-- number between two numbers of one double has the same double.
 use Rattle.std.proofs.Common.{◌≡◌, ℕ, ◌+◌, ◌-◌, ◌*◌, ◌^◌, ◌<◌, ◌≤◌, false, T, sym, ap, ◌∙◌, subst, inl, inr, arith}
 use Rattle.std.proofs.lemmas.Bool.{cases_lt}
 use Rattle.std.proofs.lemmas.Float.{lt_irrefl, lt_of_lt_of_le}
@@ -20,7 +20,7 @@ use lib.Ieee.Fits.{round-fits}
 use Rattle.om_decimal.proofs.LevelLemmas.{same_value, value_of_level}
 use Rattle.om_decimal.proofs.SizeLemmas.{units_lt, value_of_size, no_infinity}
 
--- where one finite double is at most another one, so is its size
+-- If one finite double is at most another one, then so is its size.
 size_le : (x y : ℕ) → x < 2047 * 2 ^ 52 → y < 2047 * 2 ^ 52 → T (le (of_bits binary64 x) (of_bits binary64 y)) → x ≤ y
 size_le x y X Y h =
     elim (cases_lt y x) [
@@ -47,27 +47,27 @@ nearest_mono a b c d x y B D h p q =
       ]
     ]
 
--- a number has one double
+-- A number has one double.
 pub one_nearest : (a b x y : ℕ) → 0 < b → IsNearestBits binary64 a b x → IsNearestBits binary64 a b y → x ≡ y
 one_nearest a b x y B p q = omega (arith, nearest_mono a b a b x y B B (omega arith) p q, nearest_mono a b a b y x B B (omega arith) q p)
 
--- at one power
+-- With one power.
 pub power_mono : (x y power d e : ℕ) → d ≤ e → IsNearest x d power → IsNearest y e power → x ≤ y
 power_mono x y power d e h p q =
     nearest_mono _ _ _ _ x y (ten_to_pos (342 - power)) (ten_to_pos (342 - power)) (mul-le-mul_right (10 ^ (342 - power)) (mul-le-mul_right (10 ^ (power - 342)) h)) p q
 
--- the number is the same
+-- The number is the same.
 moved : (digits power k : ℕ) → digits * 10 ^ (power + k - 342) * 10 ^ (342 - power) ≡ digits * 10 ^ k * 10 ^ (power - 342) * 10 ^ (342 - (power + k))
 moved digits power k =
     tens_eq digits (power + k - 342) (342 - power) (k + (power - 342)) (342 - (power + k)) (omega arith)
     ∙ ap (λ x. x * 10 ^ (342 - (power + k))) (ap (λ x. digits * x) (pow-add 10 k (power - 342)) ∙ sym (mul_assoc digits (10 ^ k) (10 ^ (power - 342))))
 
--- the same decimal with lesser powers
+-- The same decimal with a lower power.
 pub lowered : (size digits power k : ℕ) → IsNearest size digits (power + k) → IsNearest size (digits * 10 ^ k) power
 lowered size digits power k p =
     (p.0 ∙ round_same binary64 false _ _ _ _ (ten_to_pos (342 - (power + k))) (ten_to_pos (342 - power)) (moved digits power k), p.1)
 
--- and back
+-- The same decimal with a higher power.
 pub lifted : (size digits power k : ℕ) → IsNearest size (digits * 10 ^ k) power → IsNearest size digits (power + k)
 lifted size digits power k p =
     (p.0 ∙ round_same binary64 false _ _ _ _ (ten_to_pos (342 - power)) (ten_to_pos (342 - (power + k))) (sym (moved digits power k)), p.1)
@@ -75,7 +75,7 @@ lifted size digits power k p =
 huge : (digits power : ℕ) → 0 < digits → 651 ≤ power → 10 ^ 309 * 10 ^ (342 - power) ≤ digits * 10 ^ (power - 342)
 huge digits power some g = omega (arith, tens_le 1 digits 309 (342 - power) (power - 342) 0 some (omega arith))
 
--- a decimal that reads as a finite double has one of the table's powers
+-- If a decimal reads as a finite double, then its power is below 651.
 pub few_powers : (size digits power : ℕ) → IsSome size → Reads size digits power → power < 651
 few_powers size digits power some r =
     elim (cases_lt power 651) [
@@ -85,7 +85,7 @@ few_powers size digits power some r =
           absurd (omega (arith, some.1, e))
     ]
 
--- what lies between two decimals that read as a double does so too
+-- A decimal between two decimals that read as a double reads as it too.
 pub between : (size x y z power : ℕ) → IsSome size → x ≤ y → y ≤ z → IsNearest size x power → IsNearest size z power → IsNearest size y power
 between size x y z power some h k p q =
     let v = round binary64 false (y * 10 ^ (power - 342)) (10 ^ (342 - power)) in

@@ -1,5 +1,5 @@
--- Where neither of the two decimals next to a tenth reads as the double, none of a greater power
--- does.
+-- If neither of the two decimals next to a tenth of the digits reads as the double, then no decimal
+-- of a greater power does.
 use Rattle.std.proofs.Common.{◌≡◌, ℕ, ◌+◌, ◌-◌, ◌*◌, ◌/◌, ◌^◌, ◌<◌, inl, inr, arith, sym, subst}
 use Rattle.std.proofs.lemmas.Bool.{cases_lt}
 use native.Mathlib.Nat.{mul-pos}

@@ -1,4 +1,4 @@
--- What is read from the text of a double is the double.
+-- Reading the text of a double gives the double.
 use Rattle.std.proofs.Common.{◌≡◌, ℕ, suc, ◌+◌, ◌-◌, ◌*◌, ◌^◌, ◌<◌, ◌≤◌, Bool, true, false, not, T, List, [], ◌∷◌, ◌++◌, length, eqb, get_or, refl, sym, ap, ◌∙◌, subst, arith, ne_eqb, inl, inr, ◌⊎◌}
 use Rattle.std.proofs.lemmas.Float.{not_nan_f64_bits}
 use Rattle.std.proofs.lemmas.Str.Parse.{digit_from_value}
@@ -23,7 +23,7 @@ use Rattle.om_decimal.proofs.LayoutLemmas.{IsWorth, IsNumeralOf, size_text_is, z
 number : (bits : ℕ) → size_of bits ≤ infinite → T (not (is_nan (of_bits binary64 bits)))
 number bits h = subst (λ b. T (not b)) (nan_bits_is binary64 bits) (not_nan_f64_bits bits h)
 
--- the double with these bits is the one nearest to the parts, with its sign
+-- The double with these bits is the one nearest to the parts, with its sign.
 nearest_is : (bits digits power : ℕ) (p : Parts) → bits < 2 ^ 64 → size_of bits ≤ infinite → IsNearest (size_of bits) digits power → IsWorth p digits power → nearest binary64 (is_negative bits) p ≡ of_bits binary64 bits
 nearest_is bits digits power p few h near worth =
     round_same binary64 (is_negative bits) _ _ _ _ (ten_to_pos _) (ten_to_pos _) worth

@@ -1,4 +1,4 @@
--- A rounded number is no NaN.
+-- A rounded number is not a NaN.
 use Rattle.std.proofs.Common.{ℕ, zero, suc, ◌+◌, ◌*◌, ◌^◌, Bool, true, false, cond, not, T, sym, subst}
 use lib.Dec.{ltb}
 use lib.Ieee.{Format, inf, prec, low, emax, odd, units, round, is_nan}

@@ -1,4 +1,4 @@
--- The numbers that are compared have room, and are the units of the double and of the decimal.
+-- The compared numbers fit into the limbs, and are the units of the double and of the decimal.
 use Rattle.std.proofs.Common.{◌≡◌, ℕ, ◌+◌, ◌-◌, ◌*◌, ◌^◌, ◌<◌, ◌≤◌, ap, ◌∙◌, arith, add-one}
 use native.Mathlib.Nat.{mul-le-mul, lt_of_le_of_lt, pow-le-pow_right, pow-suc}
 use lib.Dec.{lit<}

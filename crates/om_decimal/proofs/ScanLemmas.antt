@@ -1,4 +1,5 @@
--- The text of a numeral is read whole before what stops it, and what is read has a length.
+-- If the bytes after a numeral cannot continue it, then the numeral is read whole. The lengths of
+-- what is read.
 use Rattle.std.proofs.Common.{◌≡◌, ◌≢◌, ◌∙◌, ℕ, ◌+◌, ◌-◌, ◌<◌, ◌≤◌, Bool, true, false, true≢false, cond, ◌&&◌, ◌||◌, eqb, List, [], ◌∷◌, ◌++◌, length, get_or, drop, slice_range, Option, Some, None, refl, sym, ap, subst, inl, inr, arith, append_assoc, length-append, length-take, add-zero, ne_eqb, le-leb, ltb-true, drop_at, take_at, get_or-append-add, get_or-drop}
 use Rattle.std.proofs.lemmas.Bool.{and_parts, and_right, cond_both, cases_Bool}
 use Rattle.std.proofs.lemmas.Str.Parse.{digit_from_value}
@@ -30,7 +31,7 @@ byte_after front rest i k e = rw (← e) (get_or-append-add front rest k 0)
 byte_at_end : (front rest : List ℕ) (i : ℕ) → length front ≡ i → get_or (front ++ rest) i 0 ≡ get_or rest 0 0
 byte_at_end front rest i e = rw add-zero at (byte_after front rest i 0 e)
 
--- ---- what stops a numeral
+-- ---- bytes that end a numeral
 
 record IsStop (after : List ℕ) : Type 0 where
   digits : digits_len after ≡ 0
@@ -42,7 +43,7 @@ stop_is : (after : List ℕ) → Stops after → IsStop after
 stop_is [] h = record { digits = refl; point = refl; lower = refl; upper = refl }
 stop_is (b ∷ bs) h = record { digits = rw h.0; point = ne_eqb b 46 h.1; lower = ne_eqb b 101 h.2; upper = ne_eqb b 69 h.3 }
 
--- ---- the exponent, from byte b on; the numeral has n bytes
+-- ---- the exponent, from byte `b` on; the numeral has `n` bytes
 
 abbrev Tail : List ℕ → ℕ → ℕ → Bool → List ℕ → Type 0
 Tail bs b n negative exponent =
@@ -121,7 +122,7 @@ regrouped p after =
     append_assoc p.whole _ after
     ∙ ap (λ t. p.whole ++ t) (append_assoc (cond p.point (46 ∷ p.fraction) []) (exponent_text p.exponent_negative p.exponent) after)
 
--- the parts come back from their text
+-- Scanning the text of a numeral gives its parts.
 pub scan_before : (p : Parts) (after : List ℕ) → IsWellFormed p → Stops after → scan_numeral (text_of p ++ after) ≡ p
 scan_before p after w stop =
     ap scan_numeral (regrouped p after)
@@ -134,7 +135,7 @@ run_over : (p : ℕ → Bool) (xs ys : List ℕ) → list_all p xs ≡ true → 
 run_over p [] ys all = omega arith
 run_over p (x ∷ xs) ys all = let both = and_parts (p x) (list_all p xs) all in rw both.0 (omega (arith, run_over p xs ys both.1))
 
--- behind the digits, of which there may be none, stands neither a point nor an exponent
+-- After the digits, of which there may be none, there is neither a point nor an exponent.
 no_decimal : (bs : List ℕ) (a : ℕ) → digits_end bs 0 ≡ a → IsStop (drop a bs) → is_decimal (scan_numeral bs) ≡ false
 unfolding scan_numeral
 no_decimal bs a end stop =
@@ -151,7 +152,7 @@ no_decimal_in ds after digits h =
     let end : digits_end (ds ++ after) 0 ≡ length ds = omega (arith, run_over is_ascii_digit ds after digits, stop.digits) in
     no_decimal (ds ++ after) (length ds) end (subst IsStop (sym (drop_at ds after (length ds) refl)) stop)
 
--- an integer that is stopped is no decimal
+-- If the bytes after an integer continue no decimal, then the integer is not a decimal.
 pub integer_no_decimal : (negative : Bool) (ds after : List ℕ) → list_all is_ascii_digit ds ≡ true → 0 < length ds → Stops after → decimal_at (sign_text negative ++ (ds ++ after)) ≡ None
 integer_no_decimal negative [] after digits some h = absurd (omega arith)
 integer_no_decimal true (d ∷ ds) after digits some h = rw (no_decimal_in (d ∷ ds) after digits h)
@@ -159,12 +160,12 @@ integer_no_decimal false (d ∷ ds) after digits some h =
     let minus : eqb d 45 ≡ false = ne_eqb d 45 (λ e. true≢false (sym (and_parts _ _ digits).0 ∙ ap is_ascii_digit e)) in
     rw (minus, no_decimal_in (d ∷ ds) after digits h)
 
--- nor does a decimal begin with any byte that is neither a digit nor a minus
+-- No decimal begins with a byte that is neither a digit nor a minus.
 pub other_no_decimal : (b : ℕ) (bs : List ℕ) → is_ascii_digit b ≡ false → b ≢ 45 → decimal_at (b ∷ bs) ≡ None
 unfolding scan_numeral
 other_no_decimal b bs digit minus = rw (ne_eqb b 45 minus, digit)
 
--- ---- how long a decimal is
+-- ---- the length of a decimal
 
 at_least : (test : Bool) (x y n : ℕ) → n ≤ x → n ≤ y → n ≤ cond test x y
 at_least test x y n one other = cond_both test x y (λ m. n ≤ m) (λ e. one) (λ e. other)

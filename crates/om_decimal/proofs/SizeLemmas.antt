@@ -1,4 +1,4 @@
--- A double's size tells its number, and greater sizes are greater numbers.
+-- A double's size determines its number, and greater sizes have greater numbers.
 use Rattle.std.proofs.Common.{◌≡◌, ℕ, zero, suc, ◌+◌, ◌-◌, ◌*◌, ◌/◌, ◌%◌, ◌^◌, ◌<◌, ◌≤◌, false, T, refl, sym, ◌∙◌, subst, inl, inr, arith, lt-ltb, le-ltb}
 use Rattle.std.proofs.lemmas.Bool.{cases_lt}
 use native.Mathlib.Nat.{mul-lt-mul_of_pos_right, mul-le-mul_right, mul-le-mul_left, pow-suc}
@@ -14,7 +14,7 @@ units_low n h = rw (lt-ltb n (2 ^ 52) h) refl
 pub units_high : (n : ℕ) → 2 ^ 52 ≤ n → units_of n ≡ (2 ^ 52 + n % 2 ^ 52) * 2 ^ (n / 2 ^ 52 - 1)
 units_high n h = rw (le-ltb n (2 ^ 52) h) refl
 
--- a significand from 2 ^ 52 on is no less than 2 ^ 52
+-- A scaled significand of at least 2 ^ 52 is no less than 2 ^ 52.
 scaled_from : (t j : ℕ) → 2 ^ 52 ≤ (2 ^ 52 + t) * 2 ^ j
 scaled_from t j = let p : 1 ≤ 2 ^ j = pow_pos j in omega (arith, mul-le-mul_left (2 ^ 52 + t) p)
 
@@ -51,7 +51,7 @@ field_is (suc j) t h =
     let q : n / 2 ^ 52 - 1 ≡ j = omega arith in
     sym (units_high n (omega arith) ∙ (λ i. (2 ^ 52 + p i) * 2 ^ q i))
 
--- the number of a finite double
+-- The number of a finite double.
 pub value_of_size : (n : ℕ) → n < 2047 * 2 ^ 52 → HasValue (of_bits binary64 n) false (units_of n) (2 ^ 1074)
 value_of_size n h =
     let e : n / 2 ^ 52 * 2 ^ 52 + n % 2 ^ 52 ≡ n = omega arith in
@@ -59,7 +59,7 @@ value_of_size n h =
     subst (λ k. HasValue (of_bits binary64 k) false (units_of k) (2 ^ 1074)) e
     (subst (λ a. HasValue (of_bits binary64 (n / 2 ^ 52 * 2 ^ 52 + n % 2 ^ 52)) false a (2 ^ 1074)) (field_is (n / 2 ^ 52) (n % 2 ^ 52) (omega arith)) v)
 
--- no number reaches infinity
+-- No number reaches infinity.
 pub no_infinity : (x : Float) (a c : ℕ) → HasValue x false a c → T (le (inf false) x) → ⊥
 unfolding le
 no_infinity nan a c v h = h

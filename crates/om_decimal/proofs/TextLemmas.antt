@@ -1,4 +1,4 @@
--- The text of a double is what the function of its bits is.
+-- The text of a double is the value of `double_text` at its bits.
 use Rattle.std.proofs.Common.{◌≡◌, ℕ, ◌++◌, Bool, true, false, cond, eqb, leb, List, Option, Some, None, refl, inl, inr, arith, eqb-true}
 use Rattle.std.proofs.lemmas.Bool.{eqb-false, leb-true, leb-false}
 use Rattle.std.specs.Prelude.{codes}

@@ -7,11 +7,12 @@ use Rattle.om_decimal.specs.Layout.{IsDecimalOf, IsByBits, IsDoubleText, size_te
 use Rattle.om_decimal.proofs.NearestLemmas.{between}
 use Rattle.om_decimal.proofs.ClosestLemmas.{gap, some_unit, more, units_mono}
 
--- what lies between two places that are equally far is nearer
+-- A point between two equally distant points is nearer.
 inside : (x u m z y : ℕ) → 0 < u → m ≡ x + u → m + u ≤ z → gap x y ≡ gap z y → gap x y ≤ gap m y → ⊥
 inside x u m z y p e h same k = omega arith
 
--- of two equally near decimals that read as the double no digits between are farther from it
+-- If two decimals are equally near and read as the double, then no digits between them are farther
+-- from it.
 pub none_between : (size d e power : ℕ) → IsSome size → Reads size d power → Reads size e power → d + 1 < e → distance size d power ≡ distance size e power
     → (Reads size (d + 1) power → distance size d power ≤ distance size (d + 1) power) → ⊥
 none_between size d e power some r t l same near =
@@ -23,7 +24,7 @@ none_between size d e power some r t l same near =
     inside (decimal_units d power) (decimal_units 1 power) (decimal_units (d + 1) power) (decimal_units e power) (double_units size power) (some_unit power) (more d power)
     (omega (arith, more (d + 1) power, units_mono (d + 1 + 1) e power (omega arith))) same (near middle)
 
--- of two equally near ones with even digits the first one is not less
+-- If two decimals are equally near and both have even digits, then the first is not less.
 no_two : (size d e power : ℕ) → IsSome size → IsShortest size d power → IsShortest size e power → d < e → ⊥
 no_two size d e power some s t l =
     let same : distance size d power ≡ distance size e power = omega (arith, s.closest e t.reads, t.closest d s.reads) in

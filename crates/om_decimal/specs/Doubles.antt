@@ -1,5 +1,5 @@
--- Doubles by the decimals that read as them. A decimal is digits * 10 ^ (power - 342), and a
--- double's size is its bits without the sign.
+-- Doubles and the decimals that read as them. A decimal denotes digits * 10 ^ (power - 342). The
+-- size of a double is its bits without the sign.
 use Rattle.std.specs.Prelude.{ℕ, ◌+◌, ◌-◌, ◌*◌, ◌/◌, ◌%◌, ◌^◌, ◌<◌, ◌≤◌, ◌≡◌, ◌≢◌, Bool, nat_lt}
 use Rattle.std.specs.Prelude.{nat_le, if◌then◌else◌}
 use Rattle.std.specs.Float.Ieee.{binary64}
@@ -11,40 +11,40 @@ is_negative bits = nat_le (2 ^ 63) bits
 abbrev pub size_of : ℕ → ℕ
 size_of bits = bits % 2 ^ 63
 
--- the size of the infinities; those of NaNs are greater
+-- The size of the infinities. The sizes of NaNs are greater.
 abbrev pub infinite : ℕ
 infinite = 2047 * 2 ^ 52
 
--- neither 0 nor infinite
+-- Neither 0 nor infinite.
 abbrev pub IsSome : ℕ → Type 0
 IsSome size = (0 < size) × (size < infinite)
 
--- the double of this size is the one nearest to the decimal
+-- The double of this size is the one nearest to the decimal.
 abbrev pub IsNearest : (size digits power : ℕ) → Type 0
 IsNearest size digits power =
     IsNearestBits binary64 (digits * 10 ^ (power - 342)) (10 ^ (342 - power)) size
 
--- a decimal of 1 to 19 digits that reads as the double of this size
+-- A decimal of 1 to 19 digits that reads as the double of this size.
 pub record Reads (size digits power : ℕ) : Type 0 where
   pub some : 0 < digits
   pub few : digits < 10 ^ 19
   pub nearest : IsNearest size digits power
 
--- ---- how near a decimal is
+-- ---- the distance between a decimal and a double
 
--- a double's size in units of the least double above 0, by the field of its exponent
+-- A double's size in units of the least double above 0, computed from its exponent field.
 abbrev pub units_of : ℕ → ℕ
 units_of size =
     if nat_lt size (2 ^ 52) then size else (2 ^ 52 + size % 2 ^ 52) * 2 ^ (size / 2 ^ 52 - 1)
 
--- a decimal with this power, and the double, each as so many of one unit
+-- A decimal with this power, and the double, as multiples of one common unit.
 abbrev pub decimal_units : ℕ → ℕ → ℕ
 decimal_units digits power = digits * 10 ^ (power - 342) * 2 ^ 1074
 
 abbrev pub double_units : ℕ → ℕ → ℕ
 double_units size power = units_of size * 10 ^ (342 - power)
 
--- how far the decimal is from the double
+-- The distance between the decimal and the double.
 abbrev pub distance : (size digits power : ℕ) → ℕ
 distance size digits power =
     (decimal_units digits power - double_units size power)
@@ -52,12 +52,12 @@ distance size digits power =
 
 -- ---- the shortest decimal
 
--- no decimal with a greater power reads as the double
+-- No decimal with a greater power reads as the double.
 abbrev pub IsHighest : ℕ → ℕ → Type 0
 IsHighest size power = (digits above : ℕ) → Reads size digits above → above ≤ power
 
--- Of the decimals that read as the double it has the greatest power, of these it is the nearest
--- one, and of two that are equally near the one whose digits are even.
+-- Among the decimals that read as the double, the shortest one has the greatest power. Among these
+-- it is the nearest one. If two are equally near, it is the one with even digits.
 pub record IsShortest (size digits power : ℕ) : Type 0 where
   pub reads : Reads size digits power
   pub highest : IsHighest size power
@@ -66,21 +66,21 @@ pub record IsShortest (size digits power : ℕ) : Type 0 where
   pub even : (other : ℕ) → Reads size other power → other ≢ digits
       → distance size digits power ≡ distance size other power → digits % 2 ≡ 0
 
--- no decimal of at most 19 digits reads as the double
+-- No decimal of at most 19 digits reads as the double.
 abbrev pub HasNone : ℕ → Type 0
 HasNone size = (digits power : ℕ) → ¬ Reads size digits power
 
--- ---- on the way to it
+-- ---- steps of the search
 
--- The next digits are no better: where they read as the double, twice the double is at most what
--- stands halfway, twice; and if it is that, the digits are even.
+-- The next digits are no better choice. If they read as the double, then twice the double is at
+-- most twice the halfway point. If both are equal, the digits are even.
 abbrev pub IsNoBetterAbove : (size digits power : ℕ) → Type 0
 IsNoBetterAbove size digits power =
     Reads size (digits + 1) power
     → (2 * double_units size power ≤ decimal_units (2 * digits + 1) power)
     × (2 * double_units size power ≡ decimal_units (2 * digits + 1) power → digits % 2 ≡ 0)
 
--- nor are the digits before
+-- The previous digits are no better choice.
 abbrev pub IsNoBetterBelow : (size digits power : ℕ) → Type 0
 IsNoBetterBelow size digits power =
     Reads size (digits - 1) power

@@ -1,4 +1,4 @@
--- The text of a double: of a finite one as a decimal, which is a literal of OCaml's reference
+-- The text of a double. A finite double is printed as a decimal, a literal of OCaml's reference
 -- manual.
 use Rattle.std.specs.Prelude.{ℕ, ◌+◌, ◌-◌, ◌≤◌, ◌≡◌, ◌⊎◌, Bool, true, false, nat_lt, nat_le}
 use Rattle.std.specs.Prelude.{if◌then◌else◌, List, [], ◌∷◌, ◌++◌, length, take, drop, replicate}
@@ -7,27 +7,27 @@ use Rattle.std.specs.Fmt.{decimal, sign_text}
 use Rattle.om_leaves.specs.Leaves.{float_text}
 use Rattle.om_decimal.specs.Doubles.{is_negative, size_of, infinite, IsSome, IsShortest, HasNone}
 
--- 48 is `0`, 46 the point, 101 `e`, 45 the minus
+-- 48 is `0`, 46 the point, 101 `e`, 45 the minus.
 abbrev pub zeros : ℕ → List ℕ
 zeros n = replicate n 48
 
--- the point stands behind so many digits, with zeros where there are fewer
+-- The point follows the first `n` digits. If there are fewer digits, zeros fill the gap.
 abbrev pub pointed : List ℕ → ℕ → List ℕ
 pointed digits n = take n digits ++ (zeros (n - length digits) ++ 46 ∷ drop n digits)
 
--- the digits behind the first one, after a point if there are any
+-- The digits after the first one, preceded by a point if there are any.
 abbrev pub behind_point : List ℕ → List ℕ
 behind_point [] = []
 behind_point (d ∷ ds) = 46 ∷ d ∷ ds
 
--- the first digit, the others, and an exponent
+-- The first digit, the other digits, and an exponent.
 abbrev pub scientific : List ℕ → Bool → ℕ → List ℕ
 scientific digits negative exponent =
     take 1 digits
     ++ (behind_point (drop 1 digits) ++ 101 ∷ (sign_text negative ++ decimal exponent))
 
--- The digits, of which the point stands behind the one of number place - 342. From 338 to 342
--- there are at most four zeros behind the point, and from 343 to 358 at most 16 digits before it.
+-- The digits, with the point after digit number place - 342. From 338 to 342, at most four zeros
+-- follow the point. From 343 to 358, at most 16 digits precede it.
 abbrev pub placed : List ℕ → ℕ → List ℕ
 placed digits place =
     if nat_lt place 338 then scientific digits true (343 - place)
@@ -37,11 +37,11 @@ placed digits place =
     (if nat_le place 358 then pointed digits (place - 342)
     else scientific digits false (place - 343)))
 
--- the decimal's text
+-- The text of the decimal.
 abbrev pub size_text : ℕ → ℕ → List ℕ
 size_text digits power = placed (decimal digits) (length (decimal digits) + power)
 
--- the double is neither 0 nor infinite, and this is its shortest decimal
+-- The double is finite and not 0, and this text is its shortest decimal.
 pub record IsDecimalOf (bits : ℕ) (text : List ℕ) : Type 0 where
   pub some : IsSome (size_of bits)
   pub digits : ℕ
@@ -49,7 +49,7 @@ pub record IsDecimalOf (bits : ℕ) (text : List ℕ) : Type 0 where
   pub shortest : IsShortest (size_of bits) digits power
   pub text_is : text ≡ sign_text (is_negative bits) ++ size_text digits power
 
--- it is infinite, or a NaN, or has no decimal, and its text has its bits
+-- The double is infinite, a NaN, or has no decimal, and its text shows its bits.
 pub record IsByBits (bits : ℕ) (text : List ℕ) : Type 0 where
   pub none : (infinite ≤ size_of bits) ⊎ (IsSome (size_of bits) × HasNone (size_of bits))
   pub text_is : text ≡ float_text bits
@@ -58,6 +58,6 @@ pub record IsZero (bits : ℕ) (text : List ℕ) : Type 0 where
   pub zero_is : size_of bits ≡ 0
   pub text_is : text ≡ sign_text (is_negative bits) ++ codes "0."
 
--- the text of the double with these bits
+-- The text of the double with these bits.
 abbrev pub IsDoubleText : ℕ → List ℕ → Type 0
 IsDoubleText bits text = IsZero bits text ⊎ (IsDecimalOf bits text ⊎ IsByBits bits text)

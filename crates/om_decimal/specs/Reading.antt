@@ -1,4 +1,4 @@
--- Decimals in a text, and the doubles that they stand for.
+-- Decimals in a text, and the doubles that they denote.
 use Rattle.std.specs.Prelude.{ℕ, ◌+◌, ◌≡◌, ◌≢◌, Bool, false, ◌&&◌, ◌||◌, ◌==◌, nat_lt}
 use Rattle.std.specs.Prelude.{if◌then◌else◌, List, [], ◌∷◌, ◌++◌, length, drop, slice_index, Option}
 use Rattle.std.specs.Prelude.{Some, None, to_bits}
@@ -6,26 +6,26 @@ use Rattle.std.specs.Char.{is_ascii_digit}
 use Rattle.std.specs.Float.Ieee.{binary64}
 use Rattle.fast_float.specs.Text.{Parts, scan, nearest}
 
--- 45 is the minus
+-- 45 is the minus.
 abbrev pub begins_with_minus : List ℕ → Bool
 begins_with_minus text = slice_index text 0 == 45
 
 abbrev pub minus_len : List ℕ → ℕ
 minus_len text = if begins_with_minus text then 1 else 0
 
--- the longest numeral at the front, behind a minus
+-- The longest numeral at the beginning of the text, after a minus if there is one.
 abbrev pub numeral_in : List ℕ → Parts
 numeral_in text = scan (drop (minus_len text) text)
 
--- digits stand before the point, and there is a point or an exponent
+-- There are digits before the point, and there is a point or an exponent.
 abbrev pub is_decimal : Parts → Bool
 is_decimal p = nat_lt 0 (length p.whole) && (p.point || nat_lt 0 (length p.exponent))
 
--- the bits of the double nearest to the number
+-- The bits of the double nearest to the number.
 abbrev pub bits_of : Bool → Parts → ℕ
 bits_of negative p = to_bits binary64 (nearest binary64 negative p)
 
--- the decimal at the front of a text: the bits of its double, and how many bytes it has
+-- The decimal at the beginning of a text: the bits of its double, and its length in bytes.
 abbrev pub decimal_at : List ℕ → Option (ℕ × ℕ)
 decimal_at text =
     if is_decimal (numeral_in text)
@@ -35,12 +35,13 @@ decimal_at text =
     )
     else None
 
--- no decimal goes on with these bytes: 46 is the point, 101 and 69 are `e` and `E`
+-- No decimal continues with these bytes: 46 is the point, 101 and 69 are `e` and `E`.
 abbrev pub Stops : List ℕ → Type 0
 Stops [] = Unit {0}
 Stops (b ∷ bs) = (is_ascii_digit b ≡ false) × (b ≢ 46) × (b ≢ 101) × (b ≢ 69)
 
--- all of the text is a decimal that stands for the double with these bits, before whatever stops it
+-- The whole text is a decimal that denotes the double with these bits, if followed by bytes that
+-- continue no decimal.
 abbrev pub IsRead : List ℕ → ℕ → Type 0
 IsRead text bits =
     (after : List ℕ) → Stops after → decimal_at (text ++ after) ≡ Some (bits, length text)

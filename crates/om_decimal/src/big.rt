@@ -1,4 +1,4 @@
-//! Integers of at most 4,736 bits, for an exact comparison.
+//! Natural numbers of at most 4,736 bits, for exact comparisons.
 
 ghost use Rattle.std.specs.Prelude.{◌≡◌, ℕ, ◌+◌, ◌*◌, ◌^◌, ◌<◌, ◌≤◌, length, slice_index};
 ghost use Rattle.std.specs.Ordering.{nat_cmp};
@@ -9,7 +9,7 @@ use std::marker::Model;
 
 const LIMBS: usize = 74;
 
-/// A natural number; its limbs from `len` on are 0.
+/// A natural number of 64-bit limbs, the lowest first. The limbs from `len` on are 0.
 #[derive(Drop)]
 pub struct Big {
     limbs: [u64; LIMBS],
@@ -24,7 +24,7 @@ impl Model for Big {
     ghost invariant = { λ b. (b.len ≤ 74) × AreZeroFrom b.limbs b.len };
 }
 
-/// Multiplies the first `len` limbs and adds to them, and answers what is carried out of them.
+/// Multiplies the first `len` limbs by `by`, adds `add`, and returns the carry.
 fn mul_add_limbs(limbs: &mut [u64; LIMBS], len: usize, by: u64, add: u64) -> u64
     requires { len ≤ 74 }
     ensures value { number_below limbs.new len + result * limb_weight len
@@ -40,7 +40,7 @@ fn mul_add_limbs(limbs: &mut [u64; LIMBS], len: usize, by: u64, add: u64) -> u64
     carry
 }
 
-/// Compares the first `len` limbs of two numbers, from the highest one on.
+/// Compares the first `len` limbs of two numbers, starting with the highest.
 fn compare_limbs(a: &[u64], b: &[u64], len: usize) -> Ordering
     requires { (len ≤ length a.now) × (len ≤ length b.now) }
     ensures { result ≡ nat_cmp (number_below a.now len) (number_below b.now len) }
@@ -70,7 +70,7 @@ impl Big {
         big
     }
 
-    /// Multiplies it and adds to it.
+    /// Multiplies the number by `by` and adds `add`.
     pub fn mul_add(&mut self, by: u64, add: u64)
         requires { self.old * by + add < limb_weight 74 }
         ensures { self.new ≡ self.old * by + add }
@@ -95,7 +95,7 @@ impl Big {
         self.times_tens(left);
     }
 
-    /// Times ten, so many times.
+    /// Multiplies the number by ten to the power `n`.
     fn times_tens(&mut self, n: u64)
         requires { self.old * 10 ^ n < limb_weight 74 }
         ensures { self.new ≡ self.old * 10 ^ n }

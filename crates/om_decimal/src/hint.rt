@@ -1,11 +1,11 @@
-//! The digits that are tried first. Nothing is known of them: they are tested.
+//! A first guess of the digits. Nothing is proved about the guess; it is tested afterwards.
 
 use crate::reads::BIAS;
 use crate::size::Size;
 use fast_float::Numeral;
 use ryu::Buffer;
 
-/// The digits behind a number. What has no room is cut off.
+/// Appends decimal digits to a number. Wraps around on overflow.
 fn with_digits(number: u64, digits: &[u8]) -> u64 {
     let mut all = number;
     for digit in digits {
@@ -16,7 +16,7 @@ fn with_digits(number: u64, digits: &[u8]) -> u64 {
     all
 }
 
-/// The digits and the power of the decimal with which a numeral is written.
+/// Returns the digits and the power of a numeral.
 fn decimal_of(numeral: &Numeral<'_>) -> (u64, u64) {
     let fraction = numeral.fraction();
     let digits = with_digits(with_digits(0, numeral.whole()), fraction);
@@ -29,7 +29,8 @@ fn decimal_of(numeral: &Numeral<'_>) -> (u64, u64) {
     (digits, power.wrapping_sub(fraction.len() as u64))
 }
 
-/// A decimal that should read as the double of this size.
+/// Returns a decimal that should read as the double of this size. Uses the formatter of the
+/// library.
 pub fn hint(size: Size) -> (u64, u64) {
     let double = f64::from_bits(size.bits);
     let mut buffer = Buffer::new();

@@ -1,13 +1,13 @@
-//! The laws, as contracts. The functions do nothing: what each ensures is the law.
+//! The laws. The functions do nothing and exist only for their contracts.
 
 ghost use Rattle.om_decimal.specs.Laws.{DoublesAreReadBack, DoublesHaveOneText};
 
-/// A double has one text, which is a function of its bits.
+/// Proves that a double has exactly one text, which is a function of its bits.
 pub fn doubles_have_one_text()
     ensures { DoublesHaveOneText }
 {}
 
-/// What is read from a double's text is the double, with all its bits.
+/// Proves that reading a double's text gives the same double, with all its bits.
 pub fn doubles_are_read_back()
     ensures { DoublesAreReadBack }
 {}

@@ -1,4 +1,4 @@
-//! A decimal as text.
+//! The text of a decimal.
 
 ghost use Rattle.std.specs.Prelude.{◌≡◌, ◌++◌, ◌<◌, ◌≤◌, ◌∷◌, length, OnOk, decimal};
 ghost use Rattle.std.specs.Fmt.{sign_text};
@@ -8,7 +8,7 @@ use itoa::Buffer;
 use om_leaves::put;
 use om_model::Memory;
 
-/// Puts so many zeros.
+/// Appends `count` zeros.
 fn put_zeros(text: &mut Vec<u8>, count: usize) -> Result<(), Memory>
     requires { count ≤ 16 }
     ensures { OnOk result (text.new.items ≡ text.old.items ++ zeros count) }
@@ -17,7 +17,8 @@ fn put_zeros(text: &mut Vec<u8>, count: usize) -> Result<(), Memory>
     put(text, &all[..count])
 }
 
-/// Puts digits of which the point stands behind so many, with zeros where there are fewer.
+/// Appends digits with a decimal point after the first `count` ones. If there are fewer digits,
+/// zeros fill the gap.
 fn put_pointed(text: &mut Vec<u8>, digits: &[u8], count: usize) -> Result<(), Memory>
     requires { count ≤ 16 }
     ensures { OnOk result (text.new.items ≡ text.old.items ++ pointed digits.now count) }
@@ -29,7 +30,7 @@ fn put_pointed(text: &mut Vec<u8>, digits: &[u8], count: usize) -> Result<(), Me
     put(text, &digits[whole..])
 }
 
-/// Puts the exponent.
+/// Appends the exponent.
 fn put_exponent(text: &mut Vec<u8>, negative: bool, exponent: u64) -> Result<(), Memory>
     ensures { OnOk result (text.new.items
         ≡ text.old.items ++ 101 ∷ (sign_text negative ++ decimal exponent)) }
@@ -38,7 +39,7 @@ fn put_exponent(text: &mut Vec<u8>, negative: bool, exponent: u64) -> Result<(),
     put(text, Buffer::new().format(exponent).as_bytes())
 }
 
-/// Puts the first digit, the others behind a point, and the exponent.
+/// Appends the first digit, the other digits after a decimal point, and the exponent.
 fn put_scientific(
     text: &mut Vec<u8>,
     digits: &[u8],
@@ -57,7 +58,8 @@ fn put_scientific(
     put_exponent(text, negative, exponent)
 }
 
-/// Puts digits of which the point stands behind the one of number `place` - 342.
+/// Appends digits with the decimal point after digit number `place` - 342. Uses an exponent if the
+/// number is very large or very small.
 fn put_placed(text: &mut Vec<u8>, digits: &[u8], place: u64) -> Result<(), Memory>
     requires { 0 < length digits.now }
     ensures { OnOk result (text.new.items ≡ text.old.items ++ placed digits.now place) }
@@ -75,7 +77,7 @@ fn put_placed(text: &mut Vec<u8>, digits: &[u8], place: u64) -> Result<(), Memor
     }
 }
 
-/// Puts a decimal.
+/// Appends a decimal.
 #[tactic(auto, using(std::proofs::lemmas::Fmt::decimal_nonempty))]
 pub fn put_size(text: &mut Vec<u8>, digits: u64, power: u64) -> Result<(), Memory>
     requires { power < 651 }

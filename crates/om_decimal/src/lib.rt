@@ -1,5 +1,7 @@
-//! Doubles as decimals: of a double the shortest text that is read as it, with all its bits; and
-//! what a decimal in a text stands for.
+//! Prints and reads doubles as decimals. `put_double` appends the shortest decimal that reads as
+//! the double, with all its bits. `read_decimal` returns the double nearest to a decimal. The laws
+//! prove that the text is unique (`DoublesHaveOneText`) and that reading it gives the same bits
+//! (`DoublesAreReadBack`).
 #![tactic(auto)]
 
 mod big;

@@ -1,4 +1,4 @@
-//! Of the decimals with one power that read as a double the nearest one.
+//! Finds, among the decimals with one power that read as a double, the nearest one.
 
 ghost use Rattle.std.specs.Prelude.{◌≡◌, ◌*◌, ◌+◌, ◌-◌, ◌<◌, ◌^◌, true, false};
 ghost use Rattle.std.specs.Ordering.{nat_cmp};
@@ -10,7 +10,8 @@ use crate::reads::{BIAS, reads};
 use crate::size::Size;
 use std::cmp::Ordering;
 
-/// The digits of the double's size, as an integer, and the power of two that they are times.
+/// Returns the significand of the double as an integer, and the exponent of the power of two by
+/// which it is multiplied.
 fn parts_of(size: Size) -> (u64, u64)
     ensures value { result.0 * 2 ^ result.1 ≡ units_of size.bits }
     ensures small { (result.0 < 2 ^ 53) × (result.1 < 2046) }
@@ -22,7 +23,8 @@ fn parts_of(size: Size) -> (u64, u64)
     ((1 << 52) + (size.bits & ((1 << 52) - 1)), field - 1)
 }
 
-/// Twice the double against the decimal halfway between these digits and the next ones, twice.
+/// Compares the double with the decimal halfway between `digits` and `digits + 1`. Both sides are
+/// doubled.
 fn against_halfway(size: Size, digits: u64, power: u64) -> Ordering
     requires small { power < 651 }
     ensures { result
@@ -39,7 +41,7 @@ fn against_halfway(size: Size, digits: u64, power: u64) -> Ordering
     double.compare(&decimal)
 }
 
-/// Whether the next digits are better.
+/// Returns true if `digits + 1` is a better choice.
 fn is_better_above(size: Size, digits: u64, power: u64) -> bool
     requires reads { Reads size.bits digits power }
     ensures so { result ≡ true → Reads size.bits (digits + 1) power }
@@ -55,7 +57,8 @@ fn is_better_above(size: Size, digits: u64, power: u64) -> bool
     }
 }
 
-/// Whether the digits before are better; then those themselves are no better than they.
+/// Returns true if `digits - 1` is a better choice. In that case `digits` is no better than `digits
+/// - 1`.
 fn is_better_below(size: Size, digits: u64, power: u64) -> bool
     requires reads { Reads size.bits digits power }
     ensures so { result ≡ true → Reads size.bits (digits - 1) power }
@@ -72,7 +75,7 @@ fn is_better_below(size: Size, digits: u64, power: u64) -> bool
     }
 }
 
-/// Goes up while the next digits are better.
+/// Increments the digits while this is better.
 fn up(size: Size, digits: u64, power: u64) -> u64
     requires reads { Reads size.bits digits power }
     ensures reads { Reads size.bits result power }
@@ -85,7 +88,7 @@ fn up(size: Size, digits: u64, power: u64) -> u64
     digits
 }
 
-/// Goes down while the digits before are better.
+/// Decrements the digits while this is better.
 fn down(size: Size, digits: u64, power: u64) -> u64
     requires reads { Reads size.bits digits power }
     requires above { IsNoBetterAbove size.bits digits power }
@@ -100,7 +103,8 @@ fn down(size: Size, digits: u64, power: u64) -> u64
     digits
 }
 
-/// From a decimal that reads as the double, one with the same power that is nearest to it.
+/// Returns, for a decimal that reads as the double, the digits of the nearest one with the same
+/// power.
 pub fn nearest(size: Size, digits: u64, power: u64) -> u64
     requires reads { Reads size.bits digits power }
     ensures reads { Reads size.bits result power }

@@ -1,4 +1,4 @@
-//! The greatest power of the decimals that read as a double.
+//! Finds the greatest power of the decimals that read as a double.
 
 ghost use Rattle.std.specs.Prelude.{ℕ, ◌+◌, ◌<◌, MatchOption};
 ghost use Rattle.om_decimal.specs.Doubles.{IsNearest, Reads, IsHighest};
@@ -6,7 +6,7 @@ ghost use Rattle.om_decimal.specs.Doubles.{IsNearest, Reads, IsHighest};
 use crate::reads::reads;
 use crate::size::Size;
 
-/// The digits of a decimal with the next power that reads as the double, if one does.
+/// Returns the digits of a decimal with the next power that reads as the double, if there is one.
 fn higher(size: Size, digits: u64, power: u64) -> Option<u64>
     requires reads { Reads size.bits digits power }
     ensures { MatchOption result
@@ -23,7 +23,8 @@ fn higher(size: Size, digits: u64, power: u64) -> Option<u64>
     }
 }
 
-/// From a decimal that reads as the double, one with the greatest power that does.
+/// Returns, for a decimal that reads as the double, a decimal with the greatest power that reads as
+/// it.
 pub fn raised(size: Size, digits: u64, power: u64) -> (u64, u64)
     requires reads { Reads size.bits digits power }
     ensures reads { Reads size.bits result.0 result.1 }

@@ -1,11 +1,11 @@
-//! Decimals in a text.
+//! Reads decimals in a text.
 
 ghost use Rattle.std.specs.Prelude.{◌≡◌, ◌≤◌, true, length, IfSome};
 ghost use Rattle.om_decimal.specs.Reading.{begins_with_minus, is_decimal, decimal_at};
 
 use fast_float::Numeral;
 
-/// Whether a minus stands at the front.
+/// Returns true if the text begins with a minus.
 fn begins_with_minus(text: &[u8]) -> bool
     ensures value { result ≡ begins_with_minus text.now }
     ensures some { result ≡ true → 1 ≤ length text.now }
@@ -16,16 +16,16 @@ fn begins_with_minus(text: &[u8]) -> bool
     }
 }
 
-/// Whether a numeral is that of a decimal: there are digits before the point, and there is a point
-/// or an exponent.
+/// Returns true if the numeral is a decimal: it has digits before the point, and it has a point or
+/// an exponent.
 fn is_decimal(numeral: &Numeral<'_>) -> bool
     ensures { result ≡ is_decimal numeral.now }
 {
     !numeral.whole().is_empty() && (numeral.has_point() || !numeral.exponent().is_empty())
 }
 
-/// The decimal at the front of a text: the bits of the double nearest to it, which may be infinite,
-/// and how many bytes it has.
+/// Reads the decimal at the beginning of a text. Returns the bits of the nearest double, which may
+/// be infinite, and the decimal's length in bytes. Returns `None` if there is no decimal.
 pub fn read_decimal(text: &[u8]) -> Option<(u64, usize)>
     ensures value { result ≡ decimal_at text.now }
     ensures within { IfSome result (λ r. r.1 ≤ length text.now) }

@@ -1,4 +1,4 @@
-//! Whether a decimal reads as a double.
+//! Decides whether a decimal reads as a double.
 
 ghost use Rattle.std.specs.Prelude.{◌≡◌, true, false};
 ghost use Rattle.om_decimal.specs.Doubles.{Reads};
@@ -6,19 +6,19 @@ ghost use Rattle.om_decimal.specs.Doubles.{Reads};
 use crate::size::Size;
 use fast_float::nearest_bits;
 
-/// The size of infinity.
+/// The size of infinity: its bits without the sign.
 pub const INFINITE: u64 = 0x7ff0_0000_0000_0000;
 
-/// A decimal is digits * 10 ^ (power - BIAS).
+/// The bias of powers: a decimal denotes digits * 10 ^ (power - BIAS).
 pub const BIAS: u64 = 342;
 
-/// A decimal with this power, or a greater one, reads as infinity.
+/// Decimals with this power or a greater one read as infinity.
 pub const POWERS: u64 = 651;
 
-/// The least number of more than 19 digits.
+/// The least number with more than 19 digits.
 pub const TOO_MANY: u64 = 10_000_000_000_000_000_000;
 
-/// Whether a decimal of at most 19 digits reads as the double of this size.
+/// Returns true if a decimal of at most 19 digits reads as the double of this size.
 #[inline]
 pub fn reads(size: Size, digits: u64, power: u64) -> bool
     ensures so { result ≡ true → Reads size.bits digits power }

@@ -1,4 +1,4 @@
-//! A decimal that reads as a double, where the one that was tried does not.
+//! Searches for a decimal that reads as a double, if the guess does not.
 
 ghost use Rattle.std.specs.Prelude.{ℕ, ◌+◌, ◌<◌, ◌≤◌, ◌^◌, MatchOption};
 ghost use Rattle.om_decimal.specs.Doubles.{IsNearest, Reads, HasNone};
@@ -8,8 +8,8 @@ use crate::reads::{POWERS, TOO_MANY, reads};
 use crate::size::Size;
 use fast_float::nearest_bits;
 
-/// The least digits with which the decimal of this power reads as no lesser double than that of
-/// this size; or the greatest digits, where there are none.
+/// Returns the least digits whose decimal with this power reads as a double of at least this size.
+/// If there are none, returns the greatest digits.
 fn least_digits(size: u64, power: u64) -> u64
     requires { power < 651 }
     ensures range { (0 < result) × (result < 10 ^ 19) }
@@ -31,8 +31,8 @@ fn least_digits(size: u64, power: u64) -> u64
     low
 }
 
-/// A decimal that reads as the double of this size, by a search of all powers. No run is known to
-/// come here.
+/// Searches all powers for a decimal that reads as the double of this size. No input is known that
+/// needs this search.
 #[cold]
 #[inline(never)]
 fn search(size: Size) -> Option<(u64, u64)>
@@ -47,7 +47,7 @@ fn search(size: Size) -> Option<(u64, u64)>
     None
 }
 
-/// A decimal that reads as the double of this size, if one does.
+/// Returns a decimal that reads as the double of this size, if there is one.
 pub fn some_decimal(size: Size) -> Option<(u64, u64)>
     ensures { MatchOption result (HasNone size.bits) (λ d. Reads size.bits d.0 d.1) }
 {

@@ -1,4 +1,4 @@
-//! The shortest decimal that reads as a double.
+//! Finds the shortest decimal that reads as a double.
 
 ghost use Rattle.std.specs.Prelude.{MatchOption};
 ghost use Rattle.om_decimal.specs.Doubles.{HasNone, IsShortest};
@@ -8,7 +8,8 @@ use crate::raised::raised;
 use crate::search::some_decimal;
 use crate::size::Size;
 
-/// The digits and the power of the shortest decimal, if any decimal reads as the double.
+/// Returns the digits and the power of the shortest decimal, or `None` if no decimal of at most 19
+/// digits reads as the double.
 pub fn shortest(size: Size) -> Option<(u64, u64)>
     ensures { MatchOption result (HasNone size.bits) (λ d. IsShortest size.bits d.0 d.1) }
 {

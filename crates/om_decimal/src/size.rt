@@ -2,7 +2,7 @@
 
 ghost use Rattle.om_decimal.specs.Doubles.{IsSome};
 
-/// The bits of a double without its sign, of one that is neither 0 nor infinite.
+/// The bits of a double without its sign. The double is finite and not 0.
 #[derive(Clone, Copy)]
 pub struct Size {
     pub bits: u64,

@@ -1,4 +1,4 @@
-//! Doubles as text.
+//! Prints doubles.
 
 ghost use Rattle.std.specs.Prelude.{◌≡◌, ◌<◌, ◌^◌, ◌++◌, OnOk, codes};
 ghost use Rattle.std.specs.Fmt.{sign_text};
@@ -13,17 +13,17 @@ use crate::size::Size;
 use om_leaves::{put, put_float};
 use om_model::Memory;
 
-/// The bit of the sign.
+/// The sign bit.
 const SIGN: u64 = 1 << 63;
 
-/// Puts the minus of a negative double.
+/// Appends the minus of a negative double.
 fn put_sign(text: &mut Vec<u8>, bits: u64) -> Result<(), Memory>
     ensures { OnOk result (text.new.items ≡ text.old.items ++ sign_text (is_negative bits)) }
 {
     put(text, if bits >= SIGN { b"-" } else { b"" })
 }
 
-/// Puts a zero.
+/// Appends a zero with its sign.
 fn put_zero(text: &mut Vec<u8>, bits: u64) -> Result<(), Memory>
     ensures { OnOk result (text.new.items
         ≡ text.old.items ++ (sign_text (is_negative bits) ++ codes "0.")) }
@@ -32,7 +32,7 @@ fn put_zero(text: &mut Vec<u8>, bits: u64) -> Result<(), Memory>
     put(text, b"0.")
 }
 
-/// Puts a decimal with the sign of a double.
+/// Appends a decimal with the sign of a double.
 fn put_signed(text: &mut Vec<u8>, bits: u64, digits: u64, power: u64) -> Result<(), Memory>
     requires { (digits < 10 ^ 19) × (power < 651) }
     ensures { OnOk result (text.new.items
@@ -42,7 +42,7 @@ fn put_signed(text: &mut Vec<u8>, bits: u64, digits: u64, power: u64) -> Result<
     put_size(text, digits, power)
 }
 
-/// Puts a double: a finite one as the shortest decimal, any other one by its bits.
+/// Appends a double: a finite one as the shortest decimal, any other one by its bits.
 pub fn put_double(text: &mut Vec<u8>, bits: u64) -> Result<(), Memory>
     ensures { OnOk result (text.new.items ≡ text.old.items ++ double_text bits) }
 {

@@ -1,4 +1,5 @@
--- So no lexeme of its text has a decimal in it, and the text with decimals stands for it.
+-- No lexeme of the text of a literal contains a decimal, and the plain text of its text with
+-- decimals is the text.
 use Rattle.std.proofs.Common.{◌≡◌, ◌≢◌, ◌∙◌, ℕ, ◌+◌, ◌==◌, true, false, List, [], ◌∷◌, ◌++◌, length, map, slice_index_or, refl, sym, ap, subst, arith, inl, inr, append-nil, append_assoc, length-append}
 use Rattle.std.specs.List.{flat_map, AllByRecursion}
 use Rattle.std.proofs.lemmas.Bool.{or_cases, false≢true, eqb-true}
@@ -16,7 +17,7 @@ use Rattle.om_decimal_texts.proofs.BackLemmas.{text_is_read_back}
 use Rattle.om_decimal_readback.specs.Laws.{LiteralsAreApart, TextsWithDecimalsAreReadBack}
 use Rattle.om_decimal_readback.proofs.KindLemmas.{shuts, AreShut, IsBefore, AreSpaced, literal_spaced}
 
--- no number goes on with this byte
+-- No number continues with this byte.
 abbrev EndsNumber : ℕ → Type 0
 EndsNumber b = (b ≢ 46) × (is_name_byte b ≡ false)
 
@@ -61,7 +62,7 @@ symbol_ends symbols.Hash rest shut = absurd (false≢true shut)
 abbrev kinds_at : ℕ → List Part → Kinds
 kinds_at place ps = map (λ (l : Lexeme). l.kind) (lexemes_of place ps)
 
--- what is behind begins with no byte of a number
+-- The rest of the text does not begin with a byte that continues a number.
 parts_end : (ps : List Part) (place : ℕ) → AreParts ps [] → AreShut (kinds_at place ps) → EndsNumber (first_of (flat_map part_bytes ps))
 parts_end [] place are shut = ((λ h. omega arith), refl)
 parts_end (Separator b ∷ ps) place are shut = separator_ends b are.0

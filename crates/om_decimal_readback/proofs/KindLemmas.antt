@@ -1,4 +1,4 @@
--- In a literal an integer is last, or before a symbol that no number goes on with.
+-- In a literal, an integer is last or precedes a symbol that cannot continue a number.
 use Rattle.std.proofs.Common.{◌≡◌, ℕ, Bool, true, false, [], ◌∷◌, ◌++◌, Option, Some, None, refl, sym, subst, append_assoc}
 use Rattle.om_lex.specs.declared.lexeme.LexemeKind.{LexemeKind}
 use Rattle.om_lex.specs.declared.lexeme.LexemeKind.TheVariants as kinds
@@ -7,7 +7,7 @@ use Rattle.om_lex.specs.declared.lexeme.Symbol.TheVariants as symbols
 use Rattle.om_grammar.specs.Grammar.{Kinds, mark}
 use Rattle.om_literal_grammar.specs.Literal.{Literal, labelled, again, Plain, integer, character, string, double, truth, unit, constant, applied, fields, tuple, empty_array, array, Parts, no_parts, more_parts, Rows, no_rows, more_rows, Head, upper_head, tag_head, cons_head, empty_head, ref_head, head_kinds, owner_kinds, label_kinds, literal_kinds, plain_kinds, parts_kinds, rows_kinds, row_start}
 
--- those that stand behind integers in literals: no number goes on with them
+-- The symbols that follow integers in literals. None of them can continue a number.
 abbrev pub shuts : Symbol → Bool
 shuts symbols.CloseArray = true
 shuts symbols.CloseParen = true
@@ -18,13 +18,13 @@ shuts symbols.Semicolon = true
 shuts symbols.Equals = true
 shuts symbol = false
 
--- nothing, or such a symbol first
+-- The list is empty or begins with such a symbol.
 abbrev pub AreShut : Kinds → Type 0
 AreShut [] = Unit {0}
 AreShut (kinds.Symbol symbol ∷ ks) = shuts symbol ≡ true
 AreShut (kind ∷ ks) = ⊥
 
--- these kinds may stand behind it
+-- These kinds may follow the lexeme.
 abbrev pub IsBefore : LexemeKind → Kinds → Type 0
 IsBefore (kinds.Integer i) ks = AreShut ks
 IsBefore (kinds.Variable name) ks = ⊥
@@ -34,7 +34,7 @@ abbrev pub AreSpaced : Kinds → Type 0
 AreSpaced [] = Unit {0}
 AreSpaced (k ∷ ks) = IsBefore k ks × AreSpaced ks
 
--- first these, then those
+-- Splits a list into two parts.
 cut : (a b ks : Kinds) → AreSpaced (a ++ (b ++ ks)) → AreSpaced ((a ++ b) ++ ks)
 cut a b ks spaced = subst AreSpaced (sym (append_assoc a b ks)) spaced
 
@@ -53,7 +53,7 @@ label_spaced : (o : Option ℕ) (ks : Kinds) → AreSpaced ks → AreSpaced (lab
 label_spaced None ks spaced = spaced
 label_spaced (Some k) ks spaced = (tt, (refl, (tt, spaced)))
 
--- a literal before a symbol, behind others
+-- A literal before a symbol and after other lexemes.
 row : (a kv : Kinds) (s : Symbol) (ks : Kinds) → AreSpaced (a ++ (kv ++ (kinds.Symbol s ∷ ks))) → AreSpaced (((a ++ kv) ++ mark s) ++ ks)
 row a kv s ks spaced = cut (a ++ kv) (mark s) ks (cut a kv (kinds.Symbol s ∷ ks) spaced)
 

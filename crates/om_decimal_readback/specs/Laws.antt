@@ -1,4 +1,4 @@
--- The text of a value at a type, with its doubles as decimals, is read back as the value.
+-- The text of a value at a type with its doubles as decimals is read back as the value.
 use Rattle.std.specs.Prelude.{ℕ, ◌≡◌, List, map}
 use Rattle.om_lex.specs.declared.lexeme.Lexeme.{Lexeme}
 use Rattle.om_lex.specs.LexText.{Lexes}
@@ -13,14 +13,14 @@ use Rattle.om_decimal_texts.specs.Plain.{plain_text}
 use Rattle.om_decimal_texts.specs.Texts.{decimal_text}
 use Rattle.om_decimal_texts.specs.Laws.{AreApart}
 
--- where the lexemes of a text are a literal, none of them has a decimal in it
+-- If the lexemes of a text are a literal, then none of them contains a decimal.
 abbrev pub LiteralsAreApart : Type 0
 LiteralsAreApart =
     (text : List ℕ) (lexemes : List Lexeme) (literal : Literal) → Lexes text lexemes
     → literal_kinds literal ≡ map (λ (l : Lexeme). l.kind) lexemes → AreApart text lexemes
 
--- A text that is read back is what its text with decimals stands for, and what it stands for
--- itself. So what is read from either one is the value.
+-- The plain text of the text itself is the text, and so is the plain text of its text with
+-- decimals. Therefore both are read as the same value.
 pub record StandsForIt (text : List ℕ) : Type 0 where
   pub decimals : plain_text (decimal_text text) ≡ text
   pub plain : plain_text text ≡ text

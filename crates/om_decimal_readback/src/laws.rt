@@ -1,13 +1,15 @@
-//! The laws, as contracts.
+//! The laws, stated as contracts.
 
 ghost use Rattle.om_decimal_readback.specs.Laws.{LiteralsAreApart, TextsWithDecimalsAreReadBack};
 
-/// In a text of a literal, however it is written, no lexeme has a decimal in it.
+/// If the lexemes of a text are a literal, then none of them contains a decimal, however the text
+/// is written.
 pub fn texts_of_literals_are_apart()
     ensures { LiteralsAreApart }
 {}
 
-/// The text of a value stands for itself, and so does the text with its doubles as decimals.
+/// The plain text of the text of a value is this text itself. The plain text of its text with
+/// decimals is this text too.
 pub fn texts_with_decimals_are_read_back()
     ensures { TextsWithDecimalsAreReadBack }
 {}

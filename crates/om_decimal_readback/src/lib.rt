@@ -1,6 +1,7 @@
-//! What is read from the text of a value with its doubles as decimals is the value again: that text
-//! stands for the plain one, since no lexeme of a literal goes on into a decimal. The functions do
-//! nothing: what they ensure is the law.
+//! Proves that the text of a value with its doubles printed as decimals is read back as the value.
+//! The plain text of that text is the text of the value, because no lexeme of a literal continues
+//! into a decimal. The lemma functions of this crate state the laws in their contracts and do
+//! nothing.
 #![tactic(auto)]
 
 mod laws;

@@ -1,4 +1,4 @@
--- The lexemes of a literal, one after the other, at their places in the line.
+-- The lexemes of a literal, one after another, with their offsets in the original line.
 use Rattle.std.proofs.Common.{ℕ, ◌+◌, ◌≡◌, ◌<◌, ◌∙◌, List, [], ◌∷◌, ◌++◌, length, map, take, get_or, Option, Some, option_map, slice_get, refl, sym, ap}
 use Rattle.std.proofs.lemmas.List.{map_more}
 use Rattle.std.proofs.lemmas.Option.{slice_get_read}

@@ -1,4 +1,4 @@
--- What is read of the plain script answers to the text that was given.
+-- The result for the plain script, with original offsets, is the answer of the original text.
 use Rattle.std.proofs.Common.{ℕ, ◌≡◌, ◌∙◌, List, map, Ok, Err, sym, ap, subst}
 use Rattle.om_path.specs.ScriptAnswer.{Edits, AreEdits, UnlessMemory}
 use Rattle.om_path.specs.declared.edits.ScriptLine.{ScriptLine}

@@ -1,4 +1,5 @@
--- Lines copy parts of values that come before their own, wherever their literals stand.
+-- Lines copy from values that come before the edited ones, whatever the offsets of their literals
+-- are.
 use Rattle.std.proofs.Common.{ℕ, List, [], ◌∷◌, map}
 use Rattle.om_path.specs.ScriptAnswer.{IsInTime, AreInTime}
 use Rattle.om_path.specs.declared.edits.Action.{Action}

@@ -1,4 +1,4 @@
--- What is made of a script's text in code.
+-- Definitions for the contracts of the code.
 use Rattle.std.specs.Prelude.{ℕ, ◌^◌, ◌≡◌, List, [], ◌∷◌, ◌++◌}
 use Rattle.std.specs.List.{All}
 use Rattle.om_decimal_texts.specs.declared.decimals.Decimal.{Decimal}
@@ -6,17 +6,17 @@ use Rattle.om_decimal_texts.specs.Plain.{AreWithin, decimals_in, plain_text}
 use Rattle.om_decimal_scripts.specs.declared.plain.PlainScript.{PlainScript}
 use Rattle.om_decimal_scripts.specs.Scripts.{plain_script, decimals_of}
 
--- they stand one after the other in a text that memory can hold
+-- The decimals are in order within a text of less than 2^63 bytes.
 abbrev pub Fit : List Decimal → Type 0
 Fit decimals = AreWithin 0 decimals (2 ^ 63)
 
--- a line's plain text is put behind the others, and its decimals behind theirs
+-- The plain text of a line and its decimals are appended.
 pub record IsLinePut (line : List ℕ) (old new : PlainScript) : Type 0 where
   pub text : new.text.items ≡ old.text.items ++ plain_text line
   pub decimals : new.decimals.items ≡ old.decimals.items ++ decimals_in line ∷ []
   pub fit : Fit (decimals_in line)
 
--- it is that of the text
+-- This is the plain script of the text.
 pub record IsPlainScript (text : List ℕ) (plain : PlainScript) : Type 0 where
   pub text_is : plain.text.items ≡ plain_script text
   pub decimals_are : plain.decimals.items ≡ decimals_of text

@@ -1,5 +1,5 @@
--- A script in which decimals may stand for doubles. Each line is read as its plain text, and each
--- place in what is read is the one in the line that was given.
+-- A script in which decimals may denote doubles. Each line is parsed as its plain text, and each
+-- offset in the result refers to the original line.
 use Rattle.std.specs.Prelude.{ℕ, ◌-◌, ◌^◌, ◌≡◌, nat_lt, if◌then◌else◌, List, [], map}
 use Rattle.std.specs.Prelude.{slice_index_or, Ok, Err, Result}
 use Rattle.std.specs.List.{join_with_byte}
@@ -18,26 +18,26 @@ use Rattle.om_path.specs.ScriptAnswer.{lines_of, Edits, AreEdits, edits_in}
 use Rattle.om_decimal_texts.specs.declared.decimals.Decimal.{Decimal}
 use Rattle.om_decimal_texts.specs.Plain.{decimals_in, plain_text, given_place}
 
--- the lines, each as its plain text
+-- The lines, each as its plain text.
 abbrev pub plain_script : List ℕ → List ℕ
 plain_script text = join_with_byte 10 (map plain_text (lines_of text))
 
--- the decimals of each line
+-- The decimals of each line.
 abbrev pub decimals_of : List ℕ → List (List Decimal)
 decimals_of text = map decimals_in (lines_of text)
 
--- those of the line of this number, counted from 1
+-- The decimals of the line with this number, counted from 1.
 abbrev pub decimals_on : List (List Decimal) → ℕ → List Decimal
 decimals_on all number = slice_index_or all (number - 1) []
 
--- ---- places
+-- ---- offsets
 
--- where a place in the plain text of a line with these decimals is in the line; no line is so long
--- that it has the places that stay
+-- The offset in a line for an offset in its plain text. Offsets from 2^63 on are unchanged; no line
+-- is that long.
 abbrev pub line_place : List Decimal → ℕ → ℕ
 line_place decimals place = if nat_lt place (2 ^ 63) then given_place decimals place else place
 
--- a lexeme there; its length is the one in the plain text
+-- A lexeme with its offset in the original line. Its length is that in the plain text.
 abbrev pub given_lexeme : List Decimal → Lexeme → Lexeme
 given_lexeme decimals lexeme = record {
   kind = lexeme.kind;
@@ -63,7 +63,7 @@ given_lex decimals lexer.Memory = lexer.Memory
 
 -- ---- answers
 
--- a line that was read of the plain script
+-- A line of the plain script, with original offsets.
 abbrev pub given_line : List (List Decimal) → ScriptLine → ScriptLine
 given_line all line = record {
   number = line.number;
@@ -71,7 +71,7 @@ given_line all line = record {
   action = given_action (decimals_on all line.number) line.action;
 }
 
--- its fault
+-- The error, with its original offset.
 abbrev pub given_fault : List (List Decimal) → ScriptFault → ScriptFault
 given_fault all (faults.Lex number fault) =
     faults.Lex number (given_lex (decimals_on all number) fault)
@@ -84,12 +84,12 @@ abbrev pub given_edits : List (List Decimal) → Edits → Edits
 given_edits all (Ok lines) = Ok (map (given_line all) lines)
 given_edits all (Err fault) = Err (given_fault all fault)
 
--- the edits, or the fault, of a text with decimals
+-- The edits, or the error, of a text with decimals.
 abbrev pub AreGivenEdits : List ℕ → Edits → Type 0
 AreGivenEdits text all =
     (plain : Edits) × AreEdits 1 (plain_script text) plain
     × (all ≡ given_edits (decimals_of text) plain)
 
--- the answer to such a text
+-- The answer of a text with decimals.
 abbrev pub IsGivenAnswer : List ℕ → Result Script ScriptFault → Type 0
 IsGivenAnswer text answer = AreGivenEdits text (edits_in answer)

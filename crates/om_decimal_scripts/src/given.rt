@@ -1,4 +1,4 @@
-//! What was read of plain lines, with the places in the lines that were given.
+//! Maps offsets in the plain lines of a script to offsets in the original lines.
 
 ghost use Rattle.std.specs.Prelude.{◌≡◌, map, IfOk};
 ghost use Rattle.std.specs.List.{All};
@@ -16,7 +16,7 @@ use om_model::path::Path;
 use om_path::{Action, Edit, ScriptFault, ScriptLine};
 use std::alloc::Global;
 
-/// Where a place in the plain text of a line with these decimals is in the line.
+/// Returns the offset in a line for an offset in its plain text, given the decimals of the line.
 fn line_place(decimals: &[Decimal], place: usize) -> usize
     requires { Fit decimals.now }
     ensures { result ≡ line_place decimals.now place }
@@ -28,7 +28,7 @@ fn line_place(decimals: &[Decimal], place: usize) -> usize
     }
 }
 
-/// The decimals of the line of this number, counted from 1.
+/// Returns the decimals of the line with this number, counted from 1.
 fn decimals_on(all: &[List<Decimal>], number: usize) -> &[Decimal]
     requires { All Fit all.now }
     ensures are { result.now ≡ decimals_on all.now number }
@@ -40,7 +40,7 @@ fn decimals_on(all: &[List<Decimal>], number: usize) -> &[Decimal]
     }
 }
 
-/// A path once more.
+/// Returns a copy of a path.
 fn copy_path(alloc: Global, path: &Path) -> Result<Path, Memory>
     ensures { IfOk result (λ copy. copy ≡ path.now) }
 {
@@ -51,7 +51,7 @@ fn copy_path(alloc: Global, path: &Path) -> Result<Path, Memory>
     Ok(copy)
 }
 
-/// The lexemes of a literal, at their places in the line.
+/// Returns the lexemes of a literal with their offsets in the original line.
 fn given_literal(
     alloc: Global,
     decimals: &[Decimal],
@@ -77,7 +77,7 @@ fn given_literal(
     Ok(given)
 }
 
-/// An edit, with its literal's places in the line.
+/// Returns an edit with the offsets of its literal in the original line.
 fn given_edit(alloc: Global, decimals: &[Decimal], edit: &Edit) -> Result<Edit, Memory>
     requires { Fit decimals.now }
     ensures { IfOk result (λ given. given ≡ given_edit decimals.now edit.now) }
@@ -96,7 +96,7 @@ fn given_edit(alloc: Global, decimals: &[Decimal], edit: &Edit) -> Result<Edit, 
     }
 }
 
-/// What a line asks for, with its literal's places in the line.
+/// Returns the request of a line with the offsets of its literal in the original line.
 fn given_action(alloc: Global, decimals: &[Decimal], action: &Action) -> Result<Action, Memory>
     requires { Fit decimals.now }
     ensures { IfOk result (λ given. given ≡ given_action decimals.now action.now) }
@@ -110,7 +110,7 @@ fn given_action(alloc: Global, decimals: &[Decimal], action: &Action) -> Result<
     }
 }
 
-/// The lines that were read, with the places in the lines that were given.
+/// Returns the lines with offsets in the original lines.
 pub fn given_lines(
     alloc: Global,
     all: &[List<Decimal>],
@@ -132,7 +132,7 @@ pub fn given_lines(
     Ok(given)
 }
 
-/// The lexer's fault, at its place in the line.
+/// Returns a lexical error with its offset in the original line.
 fn given_lex(decimals: &[Decimal], fault: LexFault) -> LexFault
     requires { Fit decimals.now }
     ensures { result ≡ given_lex decimals.now fault }
@@ -146,7 +146,7 @@ fn given_lex(decimals: &[Decimal], fault: LexFault) -> LexFault
     }
 }
 
-/// The fault, at its place in the line that was given.
+/// Returns the error with its offset in the original line.
 pub fn given_fault(all: &[List<Decimal>], fault: ScriptFault) -> ScriptFault
     requires { All Fit all.now }
     ensures { result ≡ given_fault all.now fault }

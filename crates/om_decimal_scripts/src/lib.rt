@@ -1,5 +1,7 @@
-//! Scripts of edits in which decimals may stand for doubles: each line is read as its plain text,
-//! and the places in what is read are those in the line that was given.
+//! Parses edit scripts in which decimals may denote doubles. Each line is parsed as its plain text,
+//! and all reported offsets refer to the original line. The contract of `read_given_script` is
+//! `IsGivenAnswer`. The script's grammar is in `om_path`, the conversion of decimals in
+//! `om_decimal_texts`.
 #![tactic(auto)]
 
 mod given;

@@ -16,14 +16,14 @@ pub struct PlainScript {
     pub decimals: Vec<List<Decimal>>,
 }
 
-/// How many bytes stand before the first line feed, or before the end.
+/// Returns the number of bytes before the first line feed, or the length if there is none.
 fn line_len(text: &[u8]) -> usize
     ensures { result ≡ position_or_len (λ b. b == 10) text.now }
 {
     text.iter().take_while(|b| **b != b'\n').count()
 }
 
-/// Puts a line's plain text, and the line's decimals.
+/// Appends the plain text of a line, and the list of its decimals.
 fn put_line(alloc: Global, plain: &mut PlainScript, line: &[u8]) -> Result<(), Memory>
     ensures { OnOk result (IsLinePut line.now plain.old plain.new) }
 {
@@ -32,7 +32,7 @@ fn put_line(alloc: Global, plain: &mut PlainScript, line: &[u8]) -> Result<(), M
     Ok(())
 }
 
-/// The plain text of a script, and its decimals.
+/// Returns the plain text of a script, and its decimals.
 pub fn plain_script(alloc: Global, text: &[u8]) -> Result<PlainScript, Memory>
     ensures { IfOk result (IsPlainScript text.now) }
 {

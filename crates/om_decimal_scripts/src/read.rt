@@ -1,4 +1,4 @@
-//! A script with decimals, read.
+//! The parser for scripts with decimals.
 
 ghost use Rattle.std.specs.Prelude.{Ok, Err, IfOk, IfErr};
 ghost use Rattle.om_path.specs.ScriptAnswer.{UnlessMemory};
@@ -9,7 +9,8 @@ use crate::plain::plain_script;
 use om_path::{Script, ScriptFault, read_script};
 use std::alloc::Global;
 
-/// The script that a text with decimals is.
+/// Parses a script in which decimals may denote doubles. Errors carry offsets in the original
+/// lines.
 pub fn read_given_script(alloc: Global, text: &[u8]) -> Result<Script, ScriptFault>
     ensures script { IfOk result (λ script. IsGivenAnswer text.now (Ok script)) }
     ensures fault { IfErr result (UnlessMemory (λ fault. IsGivenAnswer text.now (Err fault))) }

@@ -1,4 +1,4 @@
--- A text with its doubles as decimals stands for the text itself.
+-- The text with its doubles as decimals denotes the text itself.
 use Rattle.std.proofs.Common.{◌≡◌, ◌⊎◌, ◌∙◌, ℕ, zero, suc, ◌^◌, ◌<◌, ◌≤◌, Bool, true, false, eqb, List, [], ◌∷◌, ◌++◌, length, Some, None, refl, sym, ap, subst, arith, inl, inr, append-nil, length-append, eqb-true}
 use Rattle.std.specs.List.{flat_map}
 use Rattle.std.specs.Char.{is_ascii_digit}
@@ -22,7 +22,7 @@ use Rattle.om_decimal_texts.proofs.SpelledLemmas.{first_of, ends_open, IsStart, 
 use Rattle.om_decimal_texts.proofs.NoneLemmas.{next_may, front_kept, open_may, stops_apart}
 use Rattle.om_decimal_texts.proofs.PartsLemmas.{follows, IsDecimalPut, IsPutPart, ArePut, AreKept, are_put, are_kept}
 
--- ---- what is put for a double
+-- ---- the text written for a double
 
 double_few : (ds : List ℕ) → IsForm (Double ds) → number_in 16 ds < 2 ^ 64
 double_few ds is = let below = number_in-below ds is.1 in omega (arith, (rw is.0 at below))
@@ -39,7 +39,7 @@ starts b bs bits len e = elim (cases_Bool (is_ascii_digit b)) [
   ]
 ]
 
--- a decimal begins with a digit or a minus
+-- A decimal begins with a digit or a minus.
 start_of : (put rest : List ℕ) (bits : ℕ) → IsRead put bits → IsStart (first_of (put ++ rest))
 start_of [] rest bits read = absurd (omega (arith, decimal_long [] bits 0 (read_whole [] bits read)))
 start_of (b ∷ bs) rest bits read = starts b bs bits (length (b ∷ bs)) (read_whole (b ∷ bs) bits read)
@@ -47,7 +47,7 @@ start_of (b ∷ bs) rest bits read = starts b bs bits (length (b ∷ bs)) (read_
 same_first : (p : Part) (after x y : List ℕ) → IsPart p after → first_of (part_bytes p ++ x) ≡ first_of (part_bytes p ++ y)
 same_first p after x y is = let some = part_some p after is in rw some.2 refl
 
--- by its bits, or as a decimal
+-- By its bits, or as a decimal.
 module _ (opened : Bool) (p : Part) (r put after : List ℕ) (is : IsPart p after) (d : IsDecimalPut opened p r put) where
   double_form : IsForm (Double d.digits)
   double_form = (subst (λ q. IsPart q after) d.is is).0.written
@@ -67,7 +67,7 @@ like_double opened p r put rest after x is d = elim (either opened p r put after
   | inr read ↦ inr (d.before, start_of put rest (number_in 16 d.digits) read)
 ]
 
--- what is put begins as the parts do, or with a number behind what opens
+-- The written text begins as the parts do, or with a number after an opening byte.
 alike : (ps : List Part) (opened : Bool) (new : List ℕ) → AreParts ps [] → ArePut opened ps new → Alike opened (flat_map part_bytes ps) new
 alike [] opened new parts is = inl (ap first_of is)
 alike (p ∷ ps) opened new parts (put, rest, inl same, more, is) =
@@ -75,7 +75,7 @@ alike (p ∷ ps) opened new parts (put, rest, inl same, more, is) =
 alike (p ∷ ps) opened new parts (put, rest, inr d, more, is) =
     subst (Alike opened (flat_map part_bytes (p ∷ ps))) (sym is) (like_double opened p (flat_map part_bytes ps) put rest (flat_map part_bytes ps ++ []) (flat_map part_bytes ps) parts.0 d)
 
--- ---- what follows a decimal stops it
+-- ---- the bytes after a decimal end it
 
 follow_stops : (s : List ℕ) → follows (first_of s) ≡ true → Stops s
 follow_stops s h = elim (or_cases _ (eqb (first_of s) 125) h) [
@@ -128,7 +128,7 @@ module _ (p : Part) (ps : List Part) (opened : Bool) (rest : List ℕ) (parts : 
       let next = alike_closed (ends_open (part_bytes p)) (flat_map part_bytes ps) rest (shut opened p (flat_map part_bytes ps) put (flat_map part_bytes ps) here d) like in
       ap (λ o. front_of o (step_at (put ++ rest))) (read rest (follow_stops rest (ap follows next ∙ d.behind)))
 
--- one part, before others of which it is so
+-- One part, before others for which the lemma holds.
 plain_part : (p : Part) (ps : List Part) (n : ℕ) (opened may : Bool) (put rest : List ℕ) → AreParts (p ∷ ps) [] → AreKept (p ∷ ps) → IsPutPart opened p (flat_map part_bytes ps) put → ArePut (ends_open (part_bytes p)) ps rest → (opened ≡ true → may ≡ true)
     → ((next : Bool) → (ends_open (part_bytes p) ≡ true → next ≡ true) → plain_from n next rest ≡ flat_map part_bytes ps)
     → plain_from (suc n) may (put ++ rest) ≡ part_bytes p ++ flat_map part_bytes ps
@@ -160,7 +160,7 @@ plain_parts (p ∷ ps) (suc n) opened may new short parts kept (put, rest, how, 
     ap (plain_from (suc n) may) is
     ∙ plain_part p ps n opened may put rest parts kept how more opens (λ next may_next. plain_parts ps n (ends_open (part_bytes p)) next rest less parts.1 kept.1 more may_next)
 
--- of parts that are put as they are
+-- Parts that are written unchanged.
 same_put : (ps : List Part) (opened : Bool) → ArePut opened ps (flat_map part_bytes ps)
 same_put [] opened = refl
 same_put (p ∷ ps) opened = (part_bytes p, flat_map part_bytes ps, inl refl, same_put ps (ends_open (part_bytes p)), refl)

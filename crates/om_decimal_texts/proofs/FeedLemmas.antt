@@ -1,4 +1,4 @@
--- A text on one line has its decimals on one line.
+-- A text on one line stays on one line.
 use Rattle.std.proofs.Common.{◌≡◌, ℕ, zero, suc, ◌+◌, ◌-◌, Bool, true, false, cond, List, [], ◌∷◌, ◌++◌, length, take, drop, slice_range, Option, Some, None, refl, subst}
 use Rattle.std.specs.Prelude.{◌&&◌}
 use Rattle.std.specs.Str.{bytes_eq}
@@ -27,7 +27,7 @@ module _ (text : List ℕ) (h : NoFeed text) where
   sliced : (first end : ℕ) → NoFeed (slice_range text first end)
   sliced first end = taken (end - first) (drop first text) (dropped first text h)
 
-  -- a double that stands alone has no line feed, and so its decimal has none
+  -- A double that stands alone contains no line feed, and neither does its decimal.
   double_put : (bits first end : ℕ) (alone : Bool) → stands_alone text first end (float_text bits) ≡ alone
       → NoFeed (cond alone (double_text bits) (slice_range text first end))
   double_put bits first end false test = sliced first end

@@ -1,4 +1,4 @@
--- The decimals of a text, found one after the other.
+-- The decimals of a text, found one after another.
 use Rattle.std.proofs.Common.{◌≡◌, ◌∙◌, ℕ, zero, suc, ◌+◌, ◌<◌, ◌≤◌, Bool, true, List, [], ◌∷◌, ◌++◌, length, drop, refl, sym, ap, arith, append-nil, append_assoc, drop-drop}
 use Rattle.std.proofs.lemmas.List.{drop_all}
 use Rattle.om_decimal_texts.specs.declared.decimals.Decimal.{Decimal}
@@ -14,7 +14,7 @@ within_push : (from : ℕ) (ds : List Decimal) (at : ℕ) (d : Decimal) → AreW
 within_push from [] at d is le some = (omega arith, some, omega arith)
 within_push from (e ∷ ds) at d is le some = (is.0, is.1, within_push (e.first + e.len) ds at d is.2 le some)
 
--- these are the decimals up to a place; n is at least what is left
+-- These are the decimals before an offset; `n` is at least the number of bytes left.
 pub record IsFound (text : List ℕ) (at : ℕ) (may : Bool) (found : List Decimal) : Type 0 where
   pub inside : at ≤ length text
   pub n : ℕ
@@ -25,7 +25,7 @@ pub record IsFound (text : List ℕ) (at : ℕ) (may : Bool) (found : List Decim
 pub found_none : (text : List ℕ) → IsFound text 0 true []
 found_none text = record { inside = omega arith; n = length text; enough = omega arith; is = refl; within = omega arith }
 
--- one more step, while something is left
+-- One more step, while bytes are left.
 left_by : (text : List ℕ) (at n : ℕ) (may : Bool) → at < length text → length text ≤ at + n
     → (m : ℕ) × (length text ≤ at + 1 + m) × (decimals_from n at may (drop at text) ≡ decimals_by at (λ len next. decimals_from m (at + len) next (drop len (drop at text))) (front_at may (drop at text)))
 unfolding decimals_from

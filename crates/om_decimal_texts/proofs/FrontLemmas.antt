@@ -1,4 +1,4 @@
--- What stands at the front of a text lies within it.
+-- The first token of a text lies within it.
 use Rattle.std.proofs.Common.{◌≡◌, ℕ, ◌<◌, ◌≤◌, List, length, Ok, arith}
 use Rattle.om_lex.specs.declared.found.Step.{Step}
 use Rattle.om_lex.specs.Scan.{step_at}

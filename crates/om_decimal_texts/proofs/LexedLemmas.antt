@@ -1,4 +1,4 @@
--- The lexemes of a text that are found step by step are the text's, and so are its decimals.
+-- The lexemes that are found step by step are those of the text, and so are its decimals.
 use Rattle.std.proofs.Common.{ℕ, zero, suc, ◌≡◌, ◌∙◌, ◌+◌, ◌<◌, ◌≤◌, ◌++◌, Bool, true, false, cond, eqb, List, [], ◌∷◌, length, drop, Option, Some, None, Result, Ok, Err, refl, sym, ap, subst, arith, append-nil, append_assoc, eqb-true}
 use Rattle.std.proofs.lemmas.Bool.{eqb-false}
 use Rattle.std.proofs.lemmas.List.{drop-drop, length-drop}
@@ -14,7 +14,7 @@ use Rattle.om_lex.proofs.FaultLaws.{IsPartAt, IsStepAt, step_at-is}
 use Rattle.om_lex.proofs.PartLaws.{step_len, step_lexemes, reached_further, reached_more, reached_fault, reached_end, one_list, list_or_fault}
 use Rattle.om_decimal_texts.specs.Texts.{lexed_by, lexed_from, replaced, replaced_or, decimal_text}
 
--- the lexemes behind the first ones, or the text has a fault
+-- The lexemes after the first ones, or the text has a lexical error.
 abbrev IsLexed : List ℕ → List Lexeme → Option (List Lexeme) → Type 0
 IsLexed text front None = (fault : LexFault) × Faults text fault
 IsLexed text front (Some more) = Lexes text (front ++ more)
@@ -26,7 +26,7 @@ step_here (b ∷ bs) some = step_at-is b bs
 lexed_end : (text : List ℕ) (at : ℕ) (front : List Lexeme) → Reached text at front → length text ≤ at → Lexes text (front ++ [])
 lexed_end text at front r end = subst (Lexes text) (sym (append-nil front)) (reached_end text at front r end)
 
--- with one lexeme more before the others
+-- With one more lexeme before the others.
 lexed_word : (text : List ℕ) (front : List Lexeme) (l : Lexeme) (more : Option (List Lexeme)) → IsLexed text (front ++ l ∷ []) more
     → IsLexed text front (option_map (λ (ls : List Lexeme). l ∷ ls) more)
 lexed_word text front l None fault = fault
@@ -76,7 +76,7 @@ decimal_text_faults text fault is = by_lexed (lexed_from (length text) 0 text) (
     by_lexed None other = refl
     by_lexed (Some found) lexes = absurd (list_or_fault text found fault lexes is)
 
--- ---- what is put
+-- ---- the appended text
 
 pub put_lexed : {X E : Type 0} (text old new : List ℕ) (lexemes : List Lexeme) (r : Result X E) → OnOk r (new ≡ old ++ replaced text 0 lexemes) → Lexes text lexemes → OnOk r (new ≡ old ++ decimal_text text)
 put_lexed text old new lexemes (Ok x) h is = h ∙ ap (λ t. old ++ t) (sym (decimal_text_lexed text lexemes is))

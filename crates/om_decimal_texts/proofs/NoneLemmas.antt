@@ -1,4 +1,4 @@
--- No decimal begins where a part of a text without decimals does; so the part is what stands there.
+-- No decimal begins at a part of a text without decimals, so the part is the first token there.
 use Rattle.std.proofs.Common.{◌≡◌, ◌≢◌, ◌∙◌, ℕ, ◌<◌, Bool, true, false, true≢false, ◌&&◌, leb, List, [], ◌∷◌, ◌++◌, length, None, Option, Ok, refl, sym, ap, arith, inl, inr, append_assoc, if◌then◌else◌}
 use Rattle.std.specs.List.{list_all}
 use Rattle.std.specs.Char.{is_ascii_digit}
@@ -21,7 +21,7 @@ use Rattle.om_decimal_texts.proofs.SpelledLemmas.{first_of, ends_open, IsKept}
 
 -- ---- first bytes
 
--- a byte that passes a test is no digit, where no digit passes it
+-- If a byte passes a test that no digit passes, then it is not a digit.
 not_digit : (p : ℕ → Bool) (b : ℕ) → ((c : ℕ) → c < 58 → (is_ascii_digit c && p c) ≡ false) → p b ≡ true → is_ascii_digit b ≡ false
 not_digit p b none passes = elim (cases_Bool (is_ascii_digit b)) [
   | inr fails ↦ fails
@@ -69,7 +69,7 @@ mark_none symbols.Hash s = byte_none 35 _ refl (λ e. omega arith)
 
 -- ---- integers
 
--- what is neither a point nor a byte of a name stops a number
+-- A byte that is neither a point nor a byte of a name ends a number.
 pub stops_apart : (s : List ℕ) → first_of s ≢ 46 → is_name_byte (first_of s) ≡ false → Stops s
 stops_apart [] point name = tt
 stops_apart (b ∷ bs) point name = (
@@ -120,9 +120,9 @@ part_none (Separator b) s is kept = separator_none b s is
 part_none (Comment inside) s is kept = byte_none 40 _ refl (λ e. omega arith)
 part_none (Word form) s is kept = form_none form s is kept
 
--- ---- what stands there
+-- ---- the first token
 
--- whether a decimal may begin behind the part
+-- True if a decimal may begin after the part.
 abbrev pub next_may : Part → Bool
 next_may (Separator b) = true
 next_may (Comment inside) = true
@@ -162,7 +162,7 @@ mark_may symbols.Equals e = refl
 mark_may symbols.Star e = refl
 mark_may symbols.Hash e = refl
 
--- behind what opens a decimal may begin
+-- A decimal may begin after an opening byte.
 pub open_may : (p : Part) → ends_open (part_bytes p) ≡ true → next_may p ≡ true
 open_may (Separator b) e = refl
 open_may (Comment inside) e = refl

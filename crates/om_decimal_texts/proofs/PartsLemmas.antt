@@ -1,4 +1,4 @@
--- A text with its doubles as decimals, part after part.
+-- A text with its doubles as decimals, part by part.
 use Rattle.std.proofs.Common.{◌≡◌, ◌⊎◌, ◌∙◌, ℕ, ◌+◌, ◌-◌, ◌&&◌, ◌||◌, ◌==◌, Bool, true, false, cond, List, [], ◌∷◌, ◌++◌, length, get_or, slice_range, slice_index_or, refl, sym, ap, subst, arith, inl, inr, append-nil, append_assoc, length-append, take_at, drop_at, add-zero, get_or-append-add}
 use Rattle.std.specs.List.{flat_map, AllByRecursion}
 use Rattle.std.specs.Str.{bytes_eq}
@@ -15,11 +15,11 @@ use Rattle.om_decimal_texts.specs.Texts.{may_precede, may_follow, stands_alone, 
 use Rattle.om_decimal_texts.specs.Laws.{IsApart}
 use Rattle.om_decimal_texts.proofs.SpelledLemmas.{first_of, opens, ends_open, ends_append, IsKept, part_some}
 
--- this byte may stand behind a decimal
+-- This byte may follow a decimal.
 abbrev pub follows : ℕ → Bool
 follows b = b == 32 || b == 41 || b == 44 || b == 59 || b == 124 || b == 125
 
--- a double of which the decimal is put
+-- A double that is written as a decimal.
 pub record IsDecimalPut (opened : Bool) (p : Part) (r put : List ℕ) : Type 0 where
   pub digits : List ℕ
   pub is : p ≡ Word (Double digits)
@@ -31,7 +31,7 @@ pub record IsDecimalPut (opened : Bool) (p : Part) (r put : List ℕ) : Type 0 w
 abbrev pub IsPutPart : Bool → Part → List ℕ → List ℕ → Type 0
 IsPutPart opened p r put = (put ≡ part_bytes p) ⊎ IsDecimalPut opened p r put
 
--- behind what opens or does not
+-- Parts after an opening byte, or after another byte.
 abbrev pub ArePut : Bool → List Part → List ℕ → Type 0
 ArePut opened [] new = new ≡ []
 ArePut opened (p ∷ ps) new =
@@ -42,7 +42,7 @@ abbrev pub AreKept : List Part → Type 0
 AreKept [] = Unit {0}
 AreKept (p ∷ ps) = IsKept p (flat_map part_bytes ps) × AreKept ps
 
--- ---- what stands at a place
+-- ---- the byte at an offset
 
 at_end : (x y : List ℕ) → slice_index_or (x ++ y) (length x) 32 ≡ first_of y
 at_end x y = rw add-zero at (get_or-append-add x y 0 32) ∙ first y
@@ -107,7 +107,7 @@ form_put text before place at (Number minus digits suffix) r is put for = same_p
 form_put text before place at (Quoted cs) r is put for = same_put text before place at (Quoted cs) r is put for
 form_put text before place at (Mark m) r is put for = same_put text before place at (Mark m) r is put for
 
--- ---- all parts: up to a lexeme there is a gap, which is put as it is
+-- ---- all parts: the gap before a lexeme is written unchanged
 
 ends_last : (x y : List ℕ) (c : ℕ) (cs : List ℕ) → y ≡ c ∷ cs → ends_open (x ++ y) ≡ ends_open y
 ends_last x y c cs is = rw is (ends_append x c cs)

@@ -1,4 +1,4 @@
--- The decimals of a text, one after the other.
+-- The decimals of a text, one after another.
 use Rattle.std.proofs.Common.{◌≡◌, ◌∙◌, ℕ, ◌+◌, ◌-◌, ◌<◌, ◌≤◌, List, [], ◌∷◌, ◌++◌, length, drop, slice_range, slice_index_or, sym, ap, subst, arith, append_assoc, le-ltb}
 use Rattle.std.proofs.lemmas.List.{drop_more}
 use Rattle.om_leaves.specs.Leaves.{float_text}

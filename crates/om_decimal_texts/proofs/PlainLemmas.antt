@@ -1,4 +1,4 @@
--- The plain text, step after step.
+-- The plain text, step by step.
 use Rattle.std.proofs.Common.{◌≡◌, ◌∙◌, ℕ, zero, suc, ◌+◌, ◌-◌, ◌≤◌, Bool, true, false, List, [], ◌++◌, length, take, drop, slice_range, refl, sym, ap, arith, append_assoc, take-append-drop, drop-drop, take-add, take_at, drop_at}
 use Rattle.std.specs.Float.Numeral.{scan_numeral}
 use Rattle.om_lex.specs.Scan.{step_at}
@@ -7,7 +7,7 @@ use Rattle.om_decimal_texts.specs.declared.front.Front.{Front}
 use Rattle.om_decimal_texts.specs.declared.front.Front.TheVariants as fronts
 use Rattle.om_decimal_texts.specs.Plain.{front_at, decimals_by, decimals_from, plain_with, plain_text}
 
--- what stands at the front, plain, before what is behind it
+-- The first token in plain form, before the rest.
 abbrev pub plain_by : List ℕ → (ℕ → Bool → List ℕ) → Front → List ℕ
 plain_by text behind (fronts.Double bits len) = float_text bits ++ behind len true
 plain_by text behind (fronts.Kept len may) = take len text ++ behind len may
@@ -17,7 +17,7 @@ unfoldable pub plain_from : ℕ → Bool → List ℕ → List ℕ
 plain_from zero may text = text
 plain_from (suc n) may text = plain_by text (λ len next. plain_from n next (drop len text)) (front_at may text)
 
--- ---- what lies between two places
+-- ---- the text between two offsets
 
 slice_none : (text : List ℕ) (at : ℕ) → slice_range text at at ≡ []
 slice_none text at = let z : at - at ≡ 0 = omega arith in rw z
@@ -34,7 +34,7 @@ module _ (text : List ℕ) (from at : ℕ) (le : from ≤ at) where
 
 -- ---- the steps give the plain text
 
--- for a text of at most n bytes behind a place
+-- For a text of at most `n` bytes after an offset.
 abbrev IsPlainAt : ℕ → List ℕ → Type 0
 IsPlainAt n text =
     (from at : ℕ) (may : Bool) → from ≤ at

@@ -1,4 +1,4 @@
--- A text with its doubles as decimals, put lexeme after lexeme.
+-- A text with its doubles as decimals, lexeme by lexeme.
 use Rattle.std.proofs.Common.{ℕ, ◌≡◌, ◌∙◌, ◌+◌, ◌<◌, ◌≤◌, ◌++◌, List, [], ◌∷◌, length, drop, get_or, append_assoc, subst, sym, ap, arith}
 use Rattle.std.proofs.lemmas.List.{drop_more}
 use Rattle.std.specs.Prelude.{slice_range}
@@ -6,7 +6,8 @@ use Rattle.om_lex.specs.LexText.{SpansWithin}
 use Rattle.om_lex.specs.declared.lexeme.Lexeme.{Lexeme}
 use Rattle.om_decimal_texts.specs.Texts.{put_for, replaced}
 
--- what was put, and what is put for the lexemes that are left, is what is put for all of them
+-- The text written so far, followed by the text for the remaining lexemes, is the text for all
+-- lexemes.
 abbrev pub IsSoFar : (text : List ℕ) (all : List Lexeme) (at : ℕ) (left : List Lexeme) (old new : List ℕ) → Type 0
 IsSoFar text all at left old new =
     (put : List ℕ) × (new ≡ old ++ put) × (replaced text 0 all ≡ put ++ replaced text at left)
@@ -29,7 +30,7 @@ so_far_more text all at l left old new between behind (done, is, all_is) first l
       all_is ∙ sym (append_assoc done (gap ++ put) rest ∙ (λ i. done ++ append_assoc gap put rest i)),
     )
 
--- ---- what the lexemes' places are
+-- ---- the offsets of the lexemes
 
 left_is :
     (all : List Lexeme) (i : ℕ) (l : Lexeme) → i < length all → l ≡ get_or all i l

@@ -1,5 +1,5 @@
--- A part of a text stays one where what follows it begins with the same byte, or with a number
--- behind a blank, `(`, `=` or `|`.
+-- A part of a text stays a part if the text after it begins with the same byte, or with a number
+-- after a blank, `(`, `=` or `|`.
 use Rattle.std.proofs.Common.{◌≡◌, ◌≢◌, ◌⊎◌, ◌∙◌, ℕ, Bool, true, false, true≢false, ◌||◌, eqb, List, [], ◌∷◌, ◌++◌, Some, None, refl, sym, ap, subst, arith, inl, inr, append-nil, ne_eqb}
 use Rattle.std.specs.List.{list_all, take_while, flat_map}
 use Rattle.std.specs.Char.{is_ascii_digit, is_ascii_hexdigit}
@@ -24,16 +24,16 @@ use Rattle.om_decimal_texts.specs.Laws.{IsApart}
 
 -- ---- first and last bytes
 
--- the first byte, or a blank
+-- The first byte, or a blank.
 abbrev pub first_of : List ℕ → ℕ
 first_of [] = 32
 first_of (b ∷ bs) = b
 
--- a blank, `(`, `=` or `|`
+-- A blank, `(`, `=` or `|`.
 abbrev pub opens : ℕ → Bool
 opens b = eqb b 32 || eqb b 40 || eqb b 61 || eqb b 124
 
--- the last byte is one of them, or there is none
+-- The last byte is an opening one, or there is none.
 abbrev pub ends_open : List ℕ → Bool
 ends_open [] = true
 ends_open (b ∷ []) = opens b
@@ -44,7 +44,7 @@ ends_append [] b bs = refl
 ends_append (a ∷ []) b bs = refl
 ends_append (a ∷ c ∷ x) b bs = ends_append (c ∷ x) b bs
 
--- bytes that pass a test which none of these passes
+-- No opening byte passes this test.
 abbrev Closes4 : (ℕ → Bool) → Type 0
 Closes4 p = (p 32 ≡ false) × (p 40 ≡ false) × (p 61 ≡ false) × (p 124 ≡ false)
 
@@ -57,7 +57,7 @@ closed p none b (c ∷ bs) all = closed p none c bs (and_parts (p b) (list_all p
 abbrev pub IsStart : ℕ → Type 0
 IsStart b = (is_ascii_digit b ≡ true) ⊎ (b ≡ 45)
 
--- the same first byte, or a number behind what opens
+-- The same first byte, or a number after an opening byte.
 abbrev pub Alike : Bool → List ℕ → List ℕ → Type 0
 Alike opened r s = (first_of s ≡ first_of r) ⊎ ((opened ≡ true) × IsStart (first_of s))
 
@@ -109,7 +109,7 @@ run_is b bs r name ends = take_while-more is_name_byte (b ∷ bs) r name ∙ ap 
 closed_name : (b : ℕ) (bs : List ℕ) → list_all is_name_byte (b ∷ bs) ≡ true → ends_open (b ∷ bs) ≡ false
 closed_name b bs name = closed is_name_byte (refl, refl, refl, refl) b bs name
 
--- a word is found before the one where it is found before the other
+-- If a word is found before one text, then it is found before the other.
 word_found : (form : Form) (b : ℕ) (bs r s : List ℕ) → form_bytes form ≡ b ∷ bs → starts_name b ≡ true → list_all is_name_byte (b ∷ bs) ≡ true
     → form_at (b ∷ bs ++ r) ≡ Some form → Alike (ends_open (b ∷ bs)) r s → form_at (b ∷ bs ++ s) ≡ Some form
 word_found form b bs r s bytes first name found like =
@@ -145,7 +145,7 @@ closed_number minus d ds suffixes.Native digits = ends_append (minus_text minus)
 
 -- ---- symbols
 
--- a symbol by its byte and the next one
+-- A symbol, determined by its byte and the next one.
 next_91 : (s : List ℕ) → form_at (91 ∷ s) ≡ or_symbol (pair_symbol 91 (first_of s)) (Some symbols.OpenBracket)
 unfolding form_at symbol_form pair_at pair_symbol single_symbol
 next_91 [] = refl
@@ -177,7 +177,7 @@ pair_start b start = rw (ne_eqb b 93 (start_not 93 b refl (λ e. omega arith) st
 alone : (m : Symbol) → ((s : List ℕ) → form_at (symbol_text m ++ s) ≡ Some (Mark m)) → (Mark m ≢ Mark symbols.OpenParen) → (s : List ℕ) → IsPart (Word (Mark m)) s
 alone m found other s = found_part (Mark m) s (found s) other tt
 
--- a symbol of which it depends on the next byte whether it is one
+-- A symbol whose recognition depends on the next byte.
 before_next : (m : Symbol) (a : ℕ) → symbol_text m ≡ a ∷ [] → ((s : List ℕ) → form_at (a ∷ s) ≡ or_symbol (pair_symbol a (first_of s)) (Some m)) → (Mark m ≢ Mark symbols.OpenParen)
     → (r s : List ℕ) → IsPart (Word (Mark m)) r → first_of s ≡ first_of r → IsPart (Word (Mark m)) s
 before_next m a text by other r s is same =
@@ -229,7 +229,8 @@ mark_part symbols.Hash r s is like = alone symbols.Hash (by_next _ refl (λ b bs
 
 -- ---- all parts
 
--- behind an integer stands neither a point nor a byte of a name, and the part is no variable
+-- An integer is followed neither by a point nor by a byte of a name, and the part is not a
+-- variable.
 abbrev pub IsKept : Part → List ℕ → Type 0
 IsKept (Separator b) r = Unit {0}
 IsKept (Comment inside) r = Unit {0}
@@ -285,7 +286,7 @@ kept_alike (Separator b) r s is kept like = tt
 kept_alike (Comment inside) r s is kept like = tt
 kept_alike (Word form) r s is kept like = form_alike form r s is kept like
 
--- a double does not end with what opens
+-- A double does not end with an opening byte.
 pub closed_double : (ds : List ℕ) → IsForm (Double ds) → ends_open (form_bytes (Double ds)) ≡ false
 closed_double [] is = absurd (omega (arith, is.0))
 closed_double (d ∷ ds) is = closed is_ascii_hexdigit (refl, refl, refl, refl) d ds is.1

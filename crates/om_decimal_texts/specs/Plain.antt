@@ -1,4 +1,4 @@
--- A text in which decimals may stand for doubles, and the plain text that it stands for.
+-- A text in which decimals may denote doubles, and the plain text that it denotes.
 use Rattle.std.specs.Prelude.{ℕ, zero, suc, ◌+◌, ◌-◌, ◌<◌, ◌≤◌, Bool, true, false, nat_lt}
 use Rattle.std.specs.Prelude.{if◌then◌else◌, List, [], ◌∷◌, ◌++◌, length, drop, slice_range, Option}
 use Rattle.std.specs.Prelude.{Some, None, Result, Ok, Err}
@@ -21,26 +21,27 @@ abbrev pub is_point : LexemeKind → Bool
 is_point (kinds.Symbol symbols.Dot) = true
 is_point kind = false
 
--- What stands at the front, by the decimal there and by what stands there in a text without
--- decimals. Directly behind a point no decimal begins.
+-- The first token, given the decimal at the beginning of the text and the first token of a text
+-- without decimals. No decimal begins directly after a point.
 abbrev pub front_of : Option (ℕ × ℕ) → Result Step LexFault → Front
 front_of (Some decimal) step = fronts.Double decimal.0 decimal.1
 front_of None (Ok (Gap len)) = fronts.Kept len true
 front_of None (Ok (Word word)) = fronts.Kept word.len (if is_point word.kind then false else true)
 front_of None (Err fault) = fronts.Fault
 
--- with the decimal there, where one may begin
+-- The first token. It may be a decimal if `may` is true.
 abbrev pub front_at : Bool → List ℕ → Front
 front_at may text = front_of (if may then decimal_at text else None) (step_at text)
 
--- the decimals from a place on, by those behind what stands there
+-- The decimals from an offset on, given those after the first token.
 abbrev pub decimals_by : ℕ → (ℕ → Bool → List Decimal) → Front → List Decimal
 decimals_by place behind (fronts.Double bits len) =
     record { first = place; len = len; bits = bits } ∷ behind len true
 decimals_by place behind (fronts.Kept len may) = behind len may
 decimals_by place behind fronts.Fault = []
 
--- those of a text of at most n bytes that begins at a place, up to the first fault
+-- The decimals of a text of at most `n` bytes that begins at an offset, up to the first lexical
+-- error.
 unfoldable pub decimals_from : ℕ → ℕ → Bool → List ℕ → List Decimal
 decimals_from zero place may text = []
 decimals_from (suc n) place may text =
@@ -50,27 +51,27 @@ decimals_from (suc n) place may text =
 abbrev pub decimals_in : List ℕ → List Decimal
 decimals_in text = decimals_from (length text) 0 true text
 
--- they are not empty, and stand one after the other, from a place on and up to another
+-- The decimals are not empty, do not overlap, are in order, and lie between two offsets.
 abbrev pub AreWithin : ℕ → List Decimal → ℕ → Type 0
 AreWithin from [] end = from ≤ end
 AreWithin from (d ∷ ds) end = (from ≤ d.first) × (0 < d.len) × AreWithin (d.first + d.len) ds end
 
 -- ---- the plain text
 
--- from a place on the text with the doubles by their bits, in place of these decimals
+-- The text from an offset on, with these decimals replaced by the bits of their doubles.
 abbrev pub plain_with : List ℕ → ℕ → List Decimal → List ℕ
 plain_with text at [] = drop at text
 plain_with text at (d ∷ ds) =
     slice_range text at d.first ++ (float_text d.bits ++ plain_with text (d.first + d.len) ds)
 
--- what the text stands for
+-- The plain text that the text denotes.
 abbrev pub plain_text : List ℕ → List ℕ
 plain_text text = plain_with text 0 (decimals_in text)
 
--- ---- places
+-- ---- offsets
 
--- Where a byte of the plain text stands in the text, from two places on at which both are alike. A
--- double has 17 bytes, and each stands where its decimal begins.
+-- The offset in the text of a byte of the plain text, from two corresponding offsets on. A double
+-- has 17 bytes in the plain text. All of them are mapped to the beginning of its decimal.
 abbrev pub given_from : ℕ → ℕ → List Decimal → ℕ → ℕ
 given_from at plain [] byte = at + (byte - plain)
 given_from at plain (d ∷ ds) byte =
@@ -80,13 +81,13 @@ given_from at plain (d ∷ ds) byte =
     (if nat_lt byte (begins + 17) then d.first
     else given_from (d.first + d.len) (begins + 17) ds byte)
 
--- where a byte of the plain text, or its end, stands in the text with these decimals
+-- The offset, in the text with these decimals, of a byte of the plain text or of its end.
 abbrev pub given_place : List Decimal → ℕ → ℕ
 given_place decimals byte = given_from 0 0 decimals byte
 
--- ---- what a call gives
+-- ---- the result of a call
 
--- what stands at the front has a length, which the text has too
+-- The first token is not empty, and lies within the text.
 abbrev pub IsFrontWithin : ℕ → Front → Type 0
 IsFrontWithin n (fronts.Double bits len) = (0 < len) × (len ≤ n)
 IsFrontWithin n (fronts.Kept len may) = (0 < len) × (len ≤ n)

@@ -1,4 +1,4 @@
--- A text in which doubles are decimals, where in the text itself they are their bits.
+-- The text in which the doubles of a given text are written as decimals instead of their bits.
 use Rattle.std.specs.Prelude.{ℕ, zero, suc, ◌+◌, Bool, true, ◌&&◌, ◌||◌, ◌==◌, if◌then◌else◌, List}
 use Rattle.std.specs.Prelude.{[], ◌∷◌, ◌++◌, length, drop, slice_range, slice_index_or, Option}
 use Rattle.std.specs.Prelude.{Some, None, option_map, Result, Ok, Err}
@@ -15,33 +15,34 @@ use Rattle.om_decimal.specs.Shortest.{double_text}
 
 -- ---- where a double may be a decimal
 
--- nothing, a blank (32), `(`, `=` or `|`
+-- Nothing, a blank (32), `(`, `=` or `|`.
 abbrev pub may_precede : List ℕ → ℕ → Bool
 may_precede text zero = true
 may_precede text (suc at) =
     let b = slice_index_or text at 32 in b == 32 || b == 40 || b == 61 || b == 124
 
--- nothing, a blank, `)`, `,`, `;`, `|` or `}`
+-- Nothing, a blank, `)`, `,`, `;`, `|` or `}`.
 abbrev pub may_follow : List ℕ → ℕ → Bool
 may_follow text end =
     let b = slice_index_or text end 32 in
     b == 32 || b == 41 || b == 44 || b == 59 || b == 124 || b == 125
 
--- a double that stands alone, in lower case
+-- A double that stands alone, with digits in lower case.
 abbrev pub stands_alone : List ℕ → ℕ → ℕ → List ℕ → Bool
 stands_alone text first end written =
     may_precede text first && may_follow text end && bytes_eq (slice_range text first end) written
 
--- ---- the text with its doubles as decimals
+-- ---- the text with doubles as decimals
 
--- this is put for a lexeme from one place to another: for a double that stands alone its decimal
+-- The text written for a lexeme between two offsets: the decimal of a double that stands alone,
+-- otherwise the lexeme itself.
 abbrev pub put_for : List ℕ → LexemeKind → ℕ → ℕ → List ℕ
 put_for text (kinds.Double bits) first end =
     if stands_alone text first end (float_text bits) then double_text bits
     else slice_range text first end
 put_for text kind first end = slice_range text first end
 
--- from a place on, from which on these are the text's lexemes
+-- The text from an offset on, given the lexemes from there on.
 abbrev pub replaced : List ℕ → ℕ → List Lexeme → List ℕ
 replaced text at [] = drop at text
 replaced text at (lexeme ∷ lexemes) =
@@ -49,7 +50,7 @@ replaced text at (lexeme ∷ lexemes) =
     slice_range text at lexeme.span.first
     ++ (put_for text lexeme.kind lexeme.span.first end ++ replaced text end lexemes)
 
--- the lexemes from a place on, by those behind what stands there
+-- The lexemes from an offset on, given those after the first token.
 abbrev pub lexed_by : ℕ → (ℕ → Option (List Lexeme)) → Result Step LexFault → Option (List Lexeme)
 lexed_by place behind (Ok (Gap len)) = behind len
 lexed_by place behind (Ok (Word word)) =
@@ -59,7 +60,7 @@ lexed_by place behind (Ok (Word word)) =
     (behind word.len)
 lexed_by place behind (Err fault) = None
 
--- those of a text of at most n bytes that begins at a place, if it has no fault
+-- The lexemes of a text of at most `n` bytes that begins at an offset, if it has no lexical error.
 unfoldable pub lexed_from : ℕ → ℕ → List ℕ → Option (List Lexeme)
 lexed_from zero place text = Some []
 lexed_from (suc n) place text =
@@ -70,6 +71,6 @@ abbrev pub replaced_or : List ℕ → Option (List Lexeme) → List ℕ
 replaced_or text None = text
 replaced_or text (Some lexemes) = replaced text 0 lexemes
 
--- the text with its doubles as decimals; one that has no lexemes stays
+-- The text with its doubles as decimals. A text with a lexical error is unchanged.
 unfoldable pub decimal_text : List ℕ → List ℕ
 decimal_text text = replaced_or text (lexed_from (length text) 0 text)

@@ -1,10 +1,10 @@
-//! Decimals in a text, and where the bytes of its plain text stand in it.
+//! The decimals in a text, and the mapping of offsets in its plain text to offsets in the text.
 
 ghost use Rattle.std.specs.Prelude.{◌≡◌, ◌<◌, ◌^◌};
 ghost use Rattle.om_decimal_texts.specs.Plain.{AreWithin, given_place};
 
-/// A decimal that stands for a double: the place of its first byte, how many bytes it has, and the
-/// double's bits.
+/// A decimal that denotes a double: the offset of its first byte, its length in bytes, and the bits
+/// of the double.
 #[derive(Clone, Copy)]
 pub struct Decimal {
     pub first: usize,
@@ -12,7 +12,7 @@ pub struct Decimal {
     pub bits: u64,
 }
 
-/// Where a byte of the plain text, or its end, stands in the text with these decimals.
+/// Returns the offset, in the text with these decimals, of a byte of the plain text or of its end.
 pub fn given_place(decimals: &[Decimal], byte: usize) -> usize
     requires within { AreWithin 0 decimals.now (2 ^ 63) }
     requires small { byte < 2 ^ 63 }

@@ -1,4 +1,4 @@
-//! The decimals of a text, found from the left.
+//! Finds the decimals of a text from left to right.
 
 ghost use Rattle.std.specs.Prelude.{◌≡◌, ◌++◌, ◌^◌, OnOk, IfOk, length};
 ghost use Rattle.om_decimal_texts.specs.Plain.{decimals_in, plain_text, AreWithin};
@@ -9,7 +9,7 @@ use crate::plain::put_plain;
 use om_model::Memory;
 use std::alloc::Global;
 
-/// The decimals of a text, in their order, up to its first fault.
+/// Returns the decimals of a text in order, up to its first lexical error.
 pub fn find_decimals(alloc: Global, text: &[u8]) -> Result<Vec<Decimal>, Memory>
     ensures are { IfOk result (λ v. v.items ≡ decimals_in text.now) }
     ensures within { IfOk result (λ v. AreWithin 0 v.items (length text.now)) }
@@ -39,7 +39,7 @@ pub fn find_decimals(alloc: Global, text: &[u8]) -> Result<Vec<Decimal>, Memory>
     Ok(decimals)
 }
 
-/// Puts the plain text that a text stands for, and answers the decimals of the text.
+/// Appends the plain text that a text denotes, and returns the decimals of the text.
 pub fn put_plain_text(alloc: Global, new: &mut Vec<u8>, text: &[u8]) -> Result<Vec<Decimal>, Memory>
     ensures text { OnOk result (new.new.items ≡ new.old.items ++ plain_text text.now) }
     ensures decimals { IfOk result (λ v. v.items ≡ decimals_in text.now) }

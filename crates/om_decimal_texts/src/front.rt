@@ -1,4 +1,4 @@
-//! What stands at the front of a text in which decimals may stand for doubles.
+//! The first token of a text in which decimals may denote doubles.
 
 ghost use Rattle.std.specs.Prelude.{◌≡◌, ◌<◌, IfOk, None, length};
 ghost use Rattle.om_lex.specs.Scan.{step_at};
@@ -10,8 +10,8 @@ use om_lex::{Step, step_at};
 use om_model::Memory;
 use std::alloc::Global;
 
-/// A decimal, by the bits of its double and how many bytes it has; something else, by how many
-/// bytes it has and whether a decimal may begin behind it; or a fault.
+/// A decimal, with the bits of its double and its length in bytes. Or another token, with its
+/// length and whether a decimal may follow directly. Or a lexical error.
 #[derive(Clone, Copy)]
 pub enum Front {
     Double(u64, usize),
@@ -19,14 +19,14 @@ pub enum Front {
     Fault,
 }
 
-/// Whether a lexeme is a point.
+/// Returns true if the lexeme is a dot.
 fn is_point(kind: &LexemeKind) -> bool
     ensures { result ≡ is_point kind.now }
 {
     matches!(kind, LexemeKind::Symbol(Symbol::Dot))
 }
 
-/// What stands at the front where no decimal does.
+/// Returns the first token, if it is not a decimal.
 fn kept(alloc: Global, text: &[u8]) -> Result<Front, Memory>
     requires { 0 < length text.now }
     ensures is { IfOk result (λ f. f ≡ front_of None (step_at text.now)) }
@@ -40,7 +40,7 @@ fn kept(alloc: Global, text: &[u8]) -> Result<Front, Memory>
     }
 }
 
-/// What stands at the front: a decimal, where one may begin and does.
+/// Returns the first token. It is a decimal if `may` is true and the text begins with one.
 pub fn read_front(alloc: Global, may: bool, text: &[u8]) -> Result<Front, Memory>
     requires { 0 < length text.now }
     ensures is { IfOk result (λ f. f ≡ front_at may text.now) }

@@ -1,4 +1,7 @@
-//! Texts of values with their doubles as decimals, and the plain texts that they stand for.
+//! Converts texts of values between two notations of doubles: decimals, and the digits of their
+//! bits (the plain text). `put_decimal_text` writes decimals and `put_plain_text` removes them. The
+//! law `TextsAreReadBack` proves that the second undoes the first. Single decimals are in
+//! `om_decimal`.
 #![tactic(auto)]
 
 mod decimals;

@@ -1,4 +1,4 @@
-//! The plain text that a text with decimals stands for.
+//! The plain text that a text with decimals denotes.
 
 ghost use Rattle.std.specs.Prelude.{◌≡◌, ◌++◌, OnOk, length};
 ghost use Rattle.om_decimal_texts.specs.Plain.{plain_with, AreWithin};
@@ -7,7 +7,7 @@ use crate::decimals::Decimal;
 use om_leaves::{put, put_float};
 use om_model::Memory;
 
-/// Puts a text with the doubles by their bits, in place of these decimals of it.
+/// Appends a text in which each of these decimals is replaced by the bits of its double.
 pub fn put_plain(new: &mut Vec<u8>, text: &[u8], decimals: &[Decimal]) -> Result<(), Memory>
     requires { AreWithin 0 decimals.now (length text.now) }
     ensures { OnOk result (new.new.items

@@ -1,4 +1,4 @@
-//! A text with its doubles as decimals.
+//! Texts with doubles as decimals.
 
 ghost use Rattle.std.specs.Prelude.{◌≡◌, ◌≤◌, ◌+◌, ◌++◌, length, OnOk};
 ghost use Rattle.std.specs.Str.{bytes_eq};
@@ -15,7 +15,8 @@ use om_lex::tokens;
 use om_model::Memory;
 use std::alloc::Global;
 
-/// Whether a double may be a decimal behind what stands before this place.
+/// Returns true if a double after this offset may be written as a decimal, judging by the byte
+/// before it.
 fn may_precede(text: &[u8], at: usize) -> bool
     requires { at ≤ length text.now }
     ensures { result ≡ may_precede text.now at }
@@ -23,7 +24,8 @@ fn may_precede(text: &[u8], at: usize) -> bool
     at == 0 || matches!(text[at - 1], b' ' | b'(' | b'=' | b'|')
 }
 
-/// Whether it may be one before what stands at this place.
+/// Returns true if a double before this offset may be written as a decimal, judging by the byte
+/// after it.
 fn may_follow(text: &[u8], end: usize) -> bool
     requires { end ≤ length text.now }
     ensures { result ≡ may_follow text.now end }
@@ -31,7 +33,7 @@ fn may_follow(text: &[u8], end: usize) -> bool
     end == text.len() || matches!(text[end], b' ' | b')' | b',' | b';' | b'|' | b'}')
 }
 
-/// Whether these bytes are the text of a double by its bits.
+/// Returns true if these bytes are the text of a double by its bits.
 fn is_float_text(bytes: &[u8], bits: u64) -> bool
     ensures { result ≡ bytes_eq bytes.now (float_text bits) }
 {
@@ -43,7 +45,8 @@ fn is_float_text(bytes: &[u8], bits: u64) -> bool
     }
 }
 
-/// Puts a double that stands in the text as its bits: as a decimal, where it stands alone.
+/// Appends a double that the text gives by its bits: as a decimal if it stands alone, otherwise
+/// unchanged.
 fn put_bits(
     new: &mut Vec<u8>,
     text: &[u8],
@@ -63,7 +66,7 @@ fn put_bits(
     }
 }
 
-/// Puts a lexeme.
+/// Appends a lexeme.
 fn put_lexeme(new: &mut Vec<u8>, text: &[u8], lexeme: &Lexeme) -> Result<(), Memory>
     requires { lexeme.now.span.first + lexeme.now.span.len ≤ length text.now }
     ensures { OnOk result (new.new.items
@@ -78,7 +81,7 @@ fn put_lexeme(new: &mut Vec<u8>, text: &[u8], lexeme: &Lexeme) -> Result<(), Mem
     }
 }
 
-/// Puts a text of which these are the lexemes.
+/// Appends a text with these lexemes.
 fn put_replaced(new: &mut Vec<u8>, text: &[u8], lexemes: &[Lexeme]) -> Result<(), Memory>
     requires { SpansWithin 0 lexemes.now (length text.now) }
     ensures { OnOk result (new.new.items ≡ new.old.items ++ replaced text.now 0 lexemes.now) }
@@ -92,7 +95,7 @@ fn put_replaced(new: &mut Vec<u8>, text: &[u8], lexemes: &[Lexeme]) -> Result<()
     put(new, &text[at..])
 }
 
-/// Puts a text with its doubles as decimals. What has no lexemes is put as it is.
+/// Appends a text with its doubles as decimals. A text with a lexical error is appended unchanged.
 pub fn put_decimal_text(alloc: Global, new: &mut Vec<u8>, text: &[u8]) -> Result<(), Memory>
     ensures { OnOk result (new.new.items ≡ new.old.items ++ decimal_text text.now) }
 {

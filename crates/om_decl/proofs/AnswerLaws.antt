@@ -1,5 +1,5 @@
--- A text has one answer at most: it has one outcome of the lexer, its lexemes one reading, and of
--- the rules that are broken one comes first, at one place.
+-- A text has at most one answer: the result of the lexer is unique, the result of the grammar is
+-- unique, and one violation comes first, at one position.
 use Rattle.std.proofs.Common.{ℕ, ◌≡◌, ◌∙◌, ⊎_elim, List, length, sym, ap, subst}
 use Rattle.std.specs.Prelude.{Result, Ok, Err}
 use Rattle.std.proofs.lemmas.Bool.{cases_order}
@@ -16,7 +16,7 @@ use Rattle.om_parse.specs.Parsed.{byte_of}
 use Rattle.om_decl.specs.Answer.{Answer, accepted, no_lexemes, no_text, too_deep, broken}
 use Rattle.om_decl.specs.Answer.{IsJudged, IsRead, IsLexed, IsAnswer, HasOneAnswer}
 
--- ---- one rule comes first
+-- ---- one violation comes first
 
 module _ (Breaks : Rule → ℕ → Type 0) where
   one_first_rule : (one other : Rule) (j k : ℕ) → IsFirst Breaks one j → IsFirst Breaks other k → one ≡ other

@@ -1,4 +1,5 @@
--- How deep a type of a tree is, is told where it ends; so each type of a text that was read is at most 200 deep.
+-- The depth of a type in a tree is recorded where the type ends, so each type of a parsed text is
+-- at most 200 deep.
 use Rattle.std.proofs.Common.{ℕ, suc, ◌≡◌, ◌<◌, ◌≤◌, ◌∙◌, ⊎_elim, inl, List, [], ◌∷◌, ◌++◌, length, drop, sym, ap, arith, length-append, take-append-drop}
 use Rattle.std.specs.Prelude.{Contains, max, replicate, slice_index}
 use Rattle.std.proofs.lemmas.Bool.{cases_lt}
@@ -10,7 +11,7 @@ use Rattle.om_grammar.specs.Grammar as trees
 use Rattle.om_grammar.specs.Depths.{texpr_depth, app_depth, simple_depth, items_depth, at_last, no_end, texpr_ends, app_ends, simple_ends, texprs_ends, items_ends}
 use Rattle.om_grammar.specs.Refusals.{IsText}
 
--- one of these depths is at least n
+-- One of these depths is at least `n`.
 abbrev pub Reaches : List ℕ → ℕ → Type 0
 Reaches ends n = (m : ℕ) × Contains ends m × (n ≤ m)
 
@@ -46,7 +47,7 @@ types_end (trees.starred t a) =
     let both = length-append (texpr_ends t ++ no_end) (app_ends a) in
     at_last_reaches (texpr_depth (trees.starred t a)) (texpr_ends t ++ no_end ++ app_ends a) (omega (arith, first, both))
 
--- no type that ends in the text is deeper than 200
+-- No type that ends in the text is deeper than 200.
 pub text_is_shallow :
     {Text : Type 0} (spelled : Text → Kinds) (ends : Text → List ℕ) (lexemes : Kinds) (text : Text) → length (ends text) ≡ length (spelled text)
     → IsText spelled ends lexemes text → (n : ℕ) → Contains (ends text) n → n ≤ 200

@@ -1,4 +1,5 @@
--- What stands in the declarations of a text is told by its tree; so where no rule of scope is broken they are well-formed.
+-- The tree of a text determines the occurrences in its declarations. If no scope rule is broken,
+-- then the declarations are well-formed.
 use Rattle.std.proofs.Common.{ℕ, ◌≡◌, ◌≤◌, ◌+◌, ◌∙◌, ⊎_elim, false, List, [], ◌∷◌, ◌++◌, length, Some, refl, sym, ap, subst, arith}
 use Rattle.std.specs.Prelude.{Contains, map}
 use Rattle.std.proofs.lemmas.Option.{none-some, same_Some}
@@ -31,10 +32,10 @@ use Rattle.om_decl.proofs.TypeLemmas.{types_told, types_proper}
 use Rattle.om_decl.proofs.OutsideLemmas.{types_used, types_are_types, types_shallow}
 use Rattle.om_decl.proofs.DepthLemmas.{types_end, text_is_shallow}
 
--- ---- where a type stands
+-- ---- the spot of a type
 
--- The type is that of a tree. What stands in it is among these occurrences, and the depths of types that end in it are among
--- these.
+-- The type is that of a tree. Its occurrences are among these occurrences, and the depths of the
+-- types that end in it are among these depths.
 record Spot (occurrences : List Occurrence) (ends : List ℕ) (t : Ty) : Type 0 where
   tree : Texpr
   place : ℕ
@@ -98,7 +99,8 @@ each_among : {X : Type 0} (between : Kinds) (ends : X → List ℕ) (xs : List X
 each_among between ends xs x among n here =
     Contains-flat_map (λ y. silent between ++ ends y) xs x n among (Contains-append_right (silent between) (ends x) n here)
 
--- a type that stands in one of a row, wherever that one begins, stands in the row
+-- If a type has a spot in one element of a row, wherever that element begins, then it has a spot in
+-- the row.
 row_spot :
     {X : Type 0} (size : X → ℕ) (of : ℕ → X → List Occurrence) (between : Kinds) (ends : X → List ℕ) (first : X) (more : List X) (j k : ℕ)
     (t : Ty) (x : X) → Contains (first ∷ more) x → ((i : ℕ) → Spot (of i x) (ends x) t)
@@ -266,7 +268,7 @@ files_spot before k (g ∷ groups) d among =
     (last_part (group_ends g) (file_ends groups)))
     (Contains-append_cases (group_places before k g) places d among)
 
--- each type of each declaration has a spot
+-- Each type of each declaration has a spot.
 type_spot :
     {ends : List ℕ} (d : DeclPlaces) (t : Ty) → DeclSpot ends d → Contains (types_of_body d.decl.body) t → Spot d.occurrences ends t
 type_spot {ends} d t spot among =
@@ -280,7 +282,7 @@ type_spot {ends} d t spot among =
     (λ n there. spot.ended n (last_part front (body_ends x.body) n there)) in
     subst (λ (e : DeclPlaces). Spot e.occurrences ends t) spot.same one
 
--- ---- told
+-- ---- results
 
 spot_tells : (occurrences : List Occurrence) (ends : List ℕ) (t : Ty) → Spot occurrences ends t → TellsAll occurrences t
 spot_tells occurrences ends t spot =
@@ -329,14 +331,14 @@ files_told lexemes tree is =
       written = λ d t among has. spot_written d.occurrences (file_ends tree) t (type_spot d t (spots d among) has) shallow;
     }
 
--- declarations of a text that breaks no rule of scope are well-formed
+-- If a text breaks no scope rule, then its declarations are well-formed.
 pub files_well_formed :
     (lexemes : Kinds) (tree : FileTree) → IsText file_kinds file_ends lexemes tree → KeepsAll (BreaksInFile (file_places tree))
     → AreWellFormed (declarations_of tree)
 files_well_formed lexemes tree is keeps =
     subst AreWellFormed (files_are_counted.declared tree) (well_formed (file_places tree) (files_told lexemes tree is) keeps)
 
--- declarations of a text that breaks none of the rules on names are sound
+-- If a text breaks no rule on names, then its declarations are sound.
 pub names_sound :
     (lexemes : Kinds) (tree : FileTree) → IsText file_kinds file_ends lexemes tree → KeepsBefore (BreaksInFile (file_places tree)) 7
     → AreSound (declarations_of tree)

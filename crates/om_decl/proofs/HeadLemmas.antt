@@ -1,4 +1,4 @@
--- The rules that ask for heads, behind those on names.
+-- The rules that depend on heads, which come after those on names.
 use Rattle.std.proofs.Common.{ℕ, ⊎_elim, List, length, Some, None, refl}
 use Rattle.std.specs.Prelude.{Ok}
 use Rattle.std.proofs.lemmas.Bool.{cases_lt}
@@ -26,7 +26,7 @@ module _ (Breaks : Rule → ℕ → Type 0) (Hashes : ℕ → List ℕ → List 
   pub all_kept : IsFirstOfHeads Breaks Hashes None → KeepsAll Breaks
   all_kept is rule k = ⊎_elim (λ before. keeps rule k before) (λ behind. is rule k behind) (cases_lt (turn rule) 7)
 
--- what the rules say of the tree of a text
+-- The results of the rules for the tree of a text.
 module _ {Tree : Type 0} (spelled : Tree → Kinds) (ends : Tree → List ℕ) (Breaks : Tree → Rule → ℕ → Type 0)
     (Hashes : Tree → ℕ → List ℕ → List ℕ → Type 0) (text : List ℕ) (lexemes : List Lexeme) (lexes : Lexes text lexemes)
     (tree : Tree) (reads : IsText spelled ends (kinds_of lexemes) tree) (keeps : KeepsBefore (Breaks tree) 7) where

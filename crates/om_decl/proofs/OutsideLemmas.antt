@@ -1,4 +1,5 @@
--- The names that a type uses outside tag arguments are told, and types of the grammar are written as it has them and no deeper.
+-- The names that a type uses outside tag arguments are among its occurrences. Types of the grammar
+-- have a valid form and no greater depth than their trees.
 use Rattle.std.proofs.Common.{ℕ, suc, ◌≡◌, ◌≤◌, ◌+◌, ◌⊎◌, ⊎_elim, inl, inr, true, false, List, [], ◌∷◌, ◌++◌, length, subst, arith}
 use Rattle.std.specs.Prelude.{Contains, max}
 use Rattle.std.proofs.lemmas.List.Elements.{Contains-append_left, Contains-append_right, Contains-append_cases}
@@ -124,7 +125,7 @@ mutual
 pub types_used : (k : ℕ) (t : Texpr) → AreUsed (in_texpr k false t) (names_outside (type_of_texpr t))
 types_used k t = texpr_used k t
 
--- ---- written as the grammar has it
+-- ---- the form required by the grammar
 
 mutual
   texpr_type : (t : Texpr) → IsType (type_of_texpr t)

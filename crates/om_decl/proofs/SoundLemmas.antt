@@ -1,4 +1,4 @@
--- A type of a text that breaks no rule of scope over well-formed declarations is sound.
+-- If the text of a type breaks no scope rule over well-formed declarations, then the type is sound.
 use Rattle.std.proofs.Common.{List, false}
 use Rattle.om_grammar.specs.Grammar.{Texpr}
 use Rattle.om_types.specs.declared.decl.Decl.{Decl}

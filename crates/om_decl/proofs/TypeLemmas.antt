@@ -1,4 +1,4 @@
--- What stands in a type is told by its tree, production by production.
+-- The tree of a type determines its occurrences, production by production.
 use Rattle.std.proofs.Common.{ℕ, ◌≡◌, ◌+◌, ◌∙◌, ⊎_elim, Bool, true, List, [], ◌∷◌, ◌++◌, length, refl, sym, ap, subst}
 use Rattle.std.specs.Prelude.{map, Contains}
 use Rattle.std.proofs.lemmas.List.Elements.{Contains-append_left, Contains-append_right, Contains-append_cases}
@@ -13,7 +13,7 @@ use Rattle.om_parse.specs.TypeShown.{types_of_texprs}
 use Rattle.om_sites.specs.InText.{placed_items, in_texpr, in_app, in_simple, in_texprs, in_items, in_item}
 use Rattle.om_accepted.specs.Told.{Thing, use_thing, variable_thing, bracket_thing, HasParts, HasItems, IsProper, items_of, begins_as, things_inside, things_in, thing_of, IsTold, TellsAll}
 
--- ---- proper types
+-- ---- types of the grammar
 
 tuple_has : (t : Texpr) → HasParts (tuple_of t)
 tuple_has (trees.single a) = tt
@@ -67,7 +67,7 @@ mutual
 pub types_proper : (t : Texpr) → IsProper (type_of_texpr t)
 types_proper t = texpr_proper t
 
--- ---- told
+-- ---- reported facts
 
 abbrev pub Tells : List Occurrence → List Thing → Type 0
 Tells occurrences things = (thing : Thing) → Contains things thing → IsTold occurrences thing
@@ -81,14 +81,14 @@ told_right first rest thing told = (told.0, Contains-append_right first rest tol
 told_later : (one : Occurrence) (rest : List Occurrence) (thing : Thing) → IsTold rest thing → IsTold (one ∷ rest) thing
 told_later one rest thing told = (told.0, Contains-later one rest told.0 told.1, told.2)
 
--- of two lists of things each is told in its own list
+-- If two lists of facts are each reported, then their concatenation is reported.
 both_told : (first rest : List Occurrence) (things more : List Thing) → Tells first things → Tells rest more → Tells (first ++ rest) (things ++ more)
 both_told first rest things more one other thing among = ⊎_elim
     (λ before. told_left first rest thing (one thing before))
     (λ after. told_right first rest thing (other thing after))
     (Contains-append_cases things more thing among)
 
--- one thing by one occurrence, and the others
+-- If one occurrence reports one fact and the rest report the others, then all are reported.
 first_told :
     (one : Occurrence) (rest : List Occurrence) (own : Thing) (things : List Thing) → thing_of one ≡ own → Tells rest things → Tells (one ∷ rest) (own ∷ things)
 first_told one rest own things same later thing among = ⊎_elim

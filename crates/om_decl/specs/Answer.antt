@@ -1,5 +1,5 @@
--- What a text of declarations, or of a type, is: a tree of its grammar that breaks no rule of
--- scope, or a fault. Lexer, grammar and rules are asked one after the other.
+-- The answer to a text of declarations or of a type: a tree of its grammar that breaks no scope
+-- rule, or a fault. The stages lexer, grammar and scope rules run in this order.
 use Rattle.std.specs.Prelude.{ℕ, ◌≡◌, List, length, Result, Ok, Err, false}
 use Rattle.om_lex.specs.declared.lexeme.Lexeme.{Lexeme}
 use Rattle.om_lex.specs.declared.lexeme.LexFault.{LexFault}
@@ -14,7 +14,7 @@ use Rattle.om_parse.specs.Parsed.{byte_of}
 use Rattle.om_sites.specs.InFile.{file_places}
 use Rattle.om_sites.specs.InText.{in_texpr}
 
--- a tree that is accepted, or a fault with its place, a number of bytes
+-- An accepted tree, or a fault with its position as an offset in bytes.
 pub data Answer (Tree : Type 0) : Type 0 where
   accepted : Tree → Answer Tree
   no_lexemes : LexFault → Answer Tree
@@ -24,7 +24,7 @@ pub data Answer (Tree : Type 0) : Type 0 where
 
 module _ {Tree : Type 0} (spelled : Tree → Kinds) (ends : Tree → List ℕ)
     (Breaks : Tree → Rule → ℕ → Type 0) where
-  -- what the rules of scope say of a tree of these lexemes, in a text of so many bytes
+  -- The answer of the scope rules to a tree of these lexemes, in a text of `end` bytes.
   abbrev pub IsJudged : List Lexeme → ℕ → Tree → Answer Tree → Type 0
   IsJudged lexemes end tree (accepted other) = (tree ≡ other) × KeepsAll (Breaks tree)
   IsJudged lexemes end tree (no_lexemes fault) = ⊥
@@ -33,34 +33,34 @@ module _ {Tree : Type 0} (spelled : Tree → Kinds) (ends : Tree → List ℕ)
   IsJudged lexemes end tree (broken rule place) =
       (k : ℕ) × IsFirst (Breaks tree) rule k × (byte_of lexemes end k ≡ place)
 
-  -- what follows of the grammar's reading
+  -- The answer that follows from the result of the grammar.
   abbrev pub IsRead : List Lexeme → ℕ → Reading Tree → Answer Tree → Type 0
   IsRead lexemes end (text_read tree) answer = IsJudged lexemes end tree answer
   IsRead lexemes end (syntax_at k) answer = no_text (byte_of lexemes end k) ≡ answer
   IsRead lexemes end (too_deep_at k) answer = too_deep (byte_of lexemes end k) ≡ answer
 
-  -- what follows of the lexer's outcome
+  -- The answer that follows from the result of the lexer.
   abbrev pub IsLexed : ℕ → Result (List Lexeme) LexFault → Answer Tree → Type 0
   IsLexed end (Ok lexemes) answer =
       (reading : Reading Tree) × IsReading spelled ends (kinds_of lexemes) reading
       × IsRead lexemes end reading answer
   IsLexed end (Err fault) answer = no_lexemes fault ≡ answer
 
-  -- the answer to a text
+  -- The answer to a text.
   abbrev pub IsAnswer : List ℕ → Answer Tree → Type 0
   IsAnswer text answer =
       (outcome : Result (List Lexeme) LexFault) × Outcome text outcome
       × IsLexed (length text) outcome answer
 
--- the answer to a text of declarations
+-- The answer to a text of declarations.
 abbrev pub IsFileAnswer : List ℕ → Answer FileTree → Type 0
 IsFileAnswer = IsAnswer file_kinds file_ends (λ tree. BreaksInFile (file_places tree))
 
--- the answer to the text of a type over declarations
+-- The answer to the text of a type over declarations.
 abbrev pub IsTypeAnswer : List Decl → List ℕ → Answer Texpr → Type 0
 IsTypeAnswer decls = IsAnswer texpr texpr_ends (λ tree. BreaksInType decls (in_texpr 0 false tree))
 
--- a text has one answer at most
+-- Each text has at most one answer.
 abbrev pub HasOneAnswer : {Tree : Type 0} → (List ℕ → Answer Tree → Type 0) → Type 0
 HasOneAnswer {Tree} Is =
     (text : List ℕ) (one other : Answer Tree) → Is text one → Is text other → one ≡ other

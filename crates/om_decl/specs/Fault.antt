@@ -1,4 +1,4 @@
--- The faults that code answers, and what they tell.
+-- The faults that the code returns, and the answers that they report.
 use Rattle.std.specs.Prelude.{ℕ, ◌≡◌, List, length, false, Option, Some, None, MatchOption}
 use Rattle.om_lex.specs.declared.lexeme.Lexeme.{Lexeme}
 use Rattle.om_lex.specs.declared.lexeme.LexFault.{LexFault}
@@ -51,7 +51,7 @@ head_at lexemes end (heads.HashClash k one other) =
     faults.HashClash (byte_of lexemes end k) one other
 head_at lexemes end (heads.FloatInGroup k) = faults.FloatInGroup (byte_of lexemes end k)
 
--- ---- what a fault tells
+-- ---- the answer that a fault reports
 
 abbrev pub told : {Tree : Type 0} → DeclFault → Option (Answer Tree)
 told (faults.Lex fault) = Some (no_lexemes fault)
@@ -70,16 +70,16 @@ told (faults.HashClash place one other) = Some (broken scope.hash_clash place)
 told (faults.FloatInGroup place) = Some (broken scope.float_in_group place)
 told faults.Memory = None
 
--- the fault is the answer, unless memory ran out
+-- The answer that the fault reports is the answer to the text, unless the fault is a memory fault.
 abbrev pub IsRefused : {Tree : Type 0} → (Answer Tree → Type 0) → DeclFault → Type 0
 IsRefused Is fault = MatchOption (told fault) (Unit {0}) Is
 
--- ---- the names that a fault gives
+-- ---- the names in a fault
 
 module _ {Tree : Type 0} (spelled : Tree → Kinds) (ends : Tree → List ℕ)
     (Hashes : Tree → ℕ → List ℕ → List ℕ → Type 0) (text : List ℕ) where
-  -- a tree of the text has two tags of these names in one bracket, with one hash, the later at this
-  -- byte
+  -- A tree of the text has two tags with these names and the same hash in one bracket. The later
+  -- one is at this byte.
   pub record NameTags (place : ℕ) (one other : List ℕ) : Type 0 where
     pub lexemes : List Lexeme
     pub tree : Tree
@@ -96,6 +96,6 @@ module _ {Tree : Type 0} (spelled : Tree → Kinds) (ends : Tree → List ℕ)
 abbrev pub HasFileNames : List ℕ → DeclFault → Type 0
 HasFileNames = HasNames file_kinds file_ends (λ tree. FileHashes (file_places tree))
 
--- of the text of a type over declarations
+-- The names in a fault of the text of a type over declarations.
 abbrev pub HasTypeNames : List Decl → List ℕ → DeclFault → Type 0
 HasTypeNames decls = HasNames texpr texpr_ends (λ tree. TypeHashes decls (in_texpr 0 false tree))

@@ -1,4 +1,4 @@
--- Declarations and types whose names keep the rules of scope.
+-- Declarations and types that break no scope rule on names.
 use Rattle.std.specs.Prelude.{ℕ, ◌≡◌, List, false}
 use Rattle.om_lex.specs.LexText.{Lexes}
 use Rattle.om_types.specs.Scope.{BreaksInFile, BreaksInType}
@@ -15,8 +15,7 @@ use Rattle.om_scope.specs.First.{KeepsBefore}
 use Rattle.om_decl.specs.declared.read.Named.{Named}
 use Rattle.om_decl.specs.declared.read.NamedType.{NamedType}
 
--- the text is a file that keeps the rules on names, and these are its lexemes, marks and
--- declarations
+-- The text is a file that breaks no rule on names, with these lexemes, marks and declarations.
 pub record IsNamed (text : List ℕ) (named : Named) : Type 0 where
   pub tree : FileTree
   pub lexed : Lexes text named.lexemes.items
@@ -25,8 +24,8 @@ pub record IsNamed (text : List ℕ) (named : Named) : Type 0 where
   pub declared : named.decls ≡ declarations_of tree
   pub keeps : KeepsBefore (BreaksInFile (file_places tree)) 7
 
--- the text is a type that keeps the rules on names over these declarations, and these are its
--- lexemes, its marks and itself
+-- The text is a type that breaks no rule on names over these declarations, with these lexemes and
+-- marks.
 pub record IsNamedType (decls : List Decl) (text : List ℕ) (named : NamedType) : Type 0 where
   pub tree : Texpr
   pub lexed : Lexes text named.lexemes.items

@@ -1,4 +1,4 @@
--- Declarations and types that their texts stand for.
+-- The declarations and types that texts denote.
 use Rattle.std.specs.Prelude.{ℕ, ◌≡◌, List}
 use Rattle.om_types.specs.Ty.{Ty}
 use Rattle.om_types.specs.declared.decl.Decl.{Decl}
@@ -6,13 +6,13 @@ use Rattle.om_grammar.specs.Grammar.{FileTree, Texpr}
 use Rattle.om_parse.specs.Written.{declarations_of, type_of_texpr}
 use Rattle.om_decl.specs.Answer.{accepted, IsFileAnswer, IsTypeAnswer}
 
--- the text is accepted as a tree of these declarations
+-- The text is accepted as a tree of these declarations.
 pub record IsDeclared (text : List ℕ) (decls : List Decl) : Type 0 where
   pub tree : FileTree
   pub answer : IsFileAnswer text (accepted tree)
   pub stand : decls ≡ declarations_of tree
 
--- the text is accepted, over declarations, as a tree of this type
+-- The text is accepted, over declarations, as a tree of this type.
 pub record IsTypeOf (decls : List Decl) (text : List ℕ) (t : Ty) : Type 0 where
   pub tree : Texpr
   pub answer : IsTypeAnswer decls text (accepted tree)

@@ -1,15 +1,15 @@
--- The texts of faults: a name, and the place, as places are told.
+-- The texts of faults: a name, and a position in the chosen form.
 use Rattle.std.specs.Prelude.{ℕ, ◌≡◌, List, [], ◌++◌, Option, Some, None, codes}
 use Rattle.om_lex.specs.declared.lexeme.LexFault.{LexFault}
 use Rattle.om_lex.specs.declared.lexeme.LexFault.TheVariants as lexer
 use Rattle.om_types.specs.Scope as scope
 use Rattle.om_decl.specs.Answer.{Answer, accepted, no_lexemes, no_text, too_deep, broken}
 
--- a name, and a place as it is told
+-- A name, and a position in its printed form.
 abbrev pub placed_text : (name place : List ℕ) → List ℕ
 placed_text name place = name ++ codes " at " ++ place
 
--- a fault of the lexer has a name of its own; want of memory is no answer
+-- A fault of the lexer has its own name. A memory fault is not an answer.
 abbrev pub lexer_text : (told : ℕ → List ℕ) → LexFault → List ℕ
 lexer_text told (lexer.BadByte place) = placed_text (codes "BadByte") (told place)
 lexer_text told (lexer.OpenString place) = placed_text (codes "OpenString") (told place)
@@ -30,7 +30,7 @@ rule_name scope.tag_clash = codes "TagClash"
 rule_name scope.hash_clash = codes "HashClash"
 rule_name scope.float_in_group = codes "FloatInGroup"
 
--- the text of an answer that is a fault, where places are told so
+-- The text of an answer that is a fault. `told` prints a position.
 abbrev pub answer_text : {Tree : Type 0} → (told : ℕ → List ℕ) → Answer Tree → List ℕ
 answer_text told (accepted tree) = []
 answer_text told (no_lexemes fault) = lexer_text told fault
@@ -38,7 +38,7 @@ answer_text told (no_text place) = placed_text (codes "Syntax") (told place)
 answer_text told (too_deep place) = placed_text (codes "TooDeep") (told place)
 answer_text told (broken rule place) = placed_text (rule_name rule) (told place)
 
--- the text is that of an answer; where there is none, no text is
+-- The text is that of the answer. If there is no answer, then no text is.
 abbrev pub IsTextOf : {Tree : Type 0} → (told : ℕ → List ℕ) → Option (Answer Tree) → List ℕ
     → Type 0
 IsTextOf told None text = ⊥

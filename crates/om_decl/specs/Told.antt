@@ -1,4 +1,4 @@
--- Text that breaks no rule of scope stands for well-formed declarations and types.
+-- A text that breaks no scope rule denotes well-formed declarations and types.
 use Rattle.std.specs.Prelude.{List, false}
 use Rattle.om_grammar.specs.Depths.{file_ends}
 use Rattle.om_grammar.specs.Grammar.{Kinds, Texpr, FileTree, file_kinds}
@@ -17,14 +17,15 @@ FilesAreWellFormed =
     → KeepsAll (BreaksInFile (file_places tree))
     → AreWellFormed (declarations_of tree)
 
--- the rules on names, which are the first seven, make declarations sound
+-- If a text breaks none of the first seven rules, which are the rules on names, then its
+-- declarations are sound.
 abbrev pub NamesMakeSound : Type 0
 NamesMakeSound =
     (lexemes : Kinds) (tree : FileTree) → IsText file_kinds file_ends lexemes tree
     → KeepsBefore (BreaksInFile (file_places tree)) 7
     → AreSound (declarations_of tree)
 
--- of a type over such declarations
+-- If the text of a type breaks no scope rule over well-formed declarations, then the type is sound.
 abbrev pub TypesAreSound : Type 0
 TypesAreSound =
     (decls : List Decl) (tree : Texpr) → AreWellFormed decls

@@ -1,4 +1,4 @@
-//! Declarations and types that break no rule, from their texts.
+//! Parses texts of declarations and of types, and checks all scope rules.
 
 ghost use Rattle.std.specs.Prelude.{IfOk, IfErr};
 ghost use Rattle.om_types.specs.Accepted.{AreWellFormed, IsSoundType};
@@ -14,7 +14,9 @@ use om_types::decl::Decl;
 use om_types::ty::Ty;
 use std::alloc::Global;
 
-/// Reads declarations.
+/// Parses declarations and checks the scope rules. If it succeeds, the declarations are
+/// well-formed. Otherwise it returns the first fault in the order of the stages: lexer, grammar,
+/// scope rules.
 pub fn read_decls(alloc: Global, text: &[u8]) -> Result<List<Decl>, DeclFault>
     ensures declared { IfOk result (IsDeclared text.now) }
     ensures well { IfOk result AreWellFormed }
@@ -28,7 +30,9 @@ pub fn read_decls(alloc: Global, text: &[u8]) -> Result<List<Decl>, DeclFault>
     }
 }
 
-/// Reads a type over declarations.
+/// Parses a type over declarations and checks the scope rules. If it succeeds, the type is valid
+/// over the declarations. Otherwise it returns the first fault in the order of the stages: lexer,
+/// grammar, scope rules.
 pub fn read_type(alloc: Global, decls: &[Decl], text: &[u8]) -> Result<Ty, DeclFault>
     requires well { AreWellFormed decls.now }
     ensures written { IfOk result (IsTypeOf decls.now text.now) }

@@ -1,4 +1,4 @@
-//! Why a text of declarations, or of a type, is refused.
+//! The reasons why a text of declarations, or of a type, is refused.
 
 ghost use Rattle.std.specs.Prelude.{◌≡◌};
 ghost use Rattle.om_parse.specs.Parsed.{byte_of};
@@ -12,40 +12,43 @@ use om_model::list::List;
 use om_parse::{Fault, byte_of};
 use om_scope::{Broken, NameRule};
 
-/// Why a text is refused, with the number of the byte at which the refused lexeme begins.
+/// The reason why a text is refused. A number is the offset in bytes at which the refused lexeme
+/// begins.
 #[derive(Drop)]
 pub enum DeclFault {
-    /// It has no lexemes.
+    /// The lexer refuses the text.
     Lex(LexFault),
-    /// The first lexeme, or the end, at which no text of the grammar goes on.
+    /// A syntax error: no text of the grammar has this lexeme, or the end of the text, at this
+    /// position.
     Syntax(usize),
-    /// The 201st open bracket, or the end of a type of depth above 200.
+    /// The 201st open bracket, or the end of a type with a depth above 200.
     TooDeep(usize),
-    /// A type name, constructor, field, parameter or tag that stands earlier too; or a predeclared
-    /// type's name.
+    /// A type name, constructor, field, parameter or tag that was declared before, or the name of a
+    /// predeclared type.
     Twice(usize),
-    /// A name that is neither predeclared nor declared in this group or an earlier one.
+    /// A type name that is neither predeclared nor declared in this group or an earlier one.
     UnknownName(usize),
-    /// A name with another number of arguments than it takes.
+    /// A type name with a wrong number of arguments.
     Arity(usize),
-    /// A variable of a file that is no parameter.
+    /// A variable in a file that is not a parameter.
     UnboundVar(usize),
-    /// The declared name of an abbreviation that comes back to itself outside tag arguments.
+    /// The declared name of an abbreviation that expands to itself outside tag arguments.
     Cyclic(usize),
-    /// A name used in its own group with an argument that holds a variable and is none.
+    /// A type name that is used in its own group with an argument that contains a variable without
+    /// being one.
     Irregular(usize),
     /// The 245th constructor with arguments of a declaration.
     TooManyConstructors(usize),
-    /// A type that a bracket includes, which is no polymorphic variant.
+    /// A type in a bracket that is not a polymorphic variant.
     NotVariant(usize),
-    /// An item whose tag an earlier item brings with another argument.
+    /// An item with a tag that an earlier item has with another argument.
     TagClash(usize),
-    /// An item whose tag has the hash of another tag of the bracket. The two names.
+    /// An item with a tag that has the same hash as another tag of the bracket, and the two names.
     HashClash(usize, List<u8>, List<u8>),
-    /// The declared name of a record all of whose fields are `float`, one through an abbreviation
-    /// of its group.
+    /// The declared name of a record whose fields all expand to `float`, at least one through an
+    /// abbreviation of the record's group.
     FloatInGroup(usize),
-    /// Out of memory.
+    /// An allocation failed.
     Memory,
 }
 
@@ -57,7 +60,7 @@ impl From<Memory> for DeclFault {
     }
 }
 
-/// The fault of a text that has no lexemes.
+/// Returns the fault for an error of the lexer.
 pub fn lex_fault(fault: LexFault) -> DeclFault
     ensures { result ≡ lexed fault }
 {
@@ -67,7 +70,7 @@ pub fn lex_fault(fault: LexFault) -> DeclFault
     }
 }
 
-/// The fault of lexemes that the grammar refuses, in a text of so many bytes.
+/// Returns the fault for lexemes that the grammar refuses, in a text of `end` bytes.
 pub fn parse_fault(fault: Fault, lexemes: &[Lexeme], end: usize) -> DeclFault
     ensures { result ≡ parsed lexemes.now end fault }
 {
@@ -78,7 +81,7 @@ pub fn parse_fault(fault: Fault, lexemes: &[Lexeme], end: usize) -> DeclFault
     }
 }
 
-/// The fault of a rule that is broken, in a text of so many bytes with these lexemes.
+/// Returns the fault for a broken rule on names, in a text of `end` bytes with these lexemes.
 pub fn scope_fault(broken: Broken, lexemes: &[Lexeme], end: usize) -> DeclFault
     ensures { result ≡ broken_at broken.rule (byte_of lexemes.now end broken.place) }
 {
@@ -94,7 +97,8 @@ pub fn scope_fault(broken: Broken, lexemes: &[Lexeme], end: usize) -> DeclFault
     }
 }
 
-/// The fault of a rule on heads that is broken, in a text of so many bytes with these lexemes.
+/// Returns the fault for a broken rule that depends on heads, in a text of `end` bytes with these
+/// lexemes.
 pub fn head_fault(broken: HeadBreak, lexemes: &[Lexeme], end: usize) -> DeclFault
     ensures { result ≡ head_at lexemes.now end broken }
 {

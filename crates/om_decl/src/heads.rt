@@ -1,4 +1,5 @@
-//! The rules of scope that ask for heads, over declarations or a type and the marks of their text.
+//! The scope rules that depend on the heads of types, for declarations or a type with the marks of
+//! their text.
 
 ghost use Rattle.std.specs.Prelude.{◌≡◌, IfOk, List as Seq, false};
 ghost use Rattle.om_types.specs.Accepted.{AreSound};
@@ -18,7 +19,7 @@ use om_types::decl::Decl;
 use om_types::ty::Ty;
 use std::alloc::Global;
 
-/// The first of these rules that is broken, over what stands where.
+/// Returns the first of these rules that is broken, given the occurrences.
 fn first_of_file(
     alloc: Global,
     _marks: &[usize],
@@ -37,8 +38,8 @@ fn first_of_file(
     first_head_break(alloc, decls, names, brackets)
 }
 
-/// The first of these rules that declarations with these marks break, with the least lexeme at
-/// which they do.
+/// Returns the first of these rules that declarations with these marks break, with the least lexeme
+/// at which they break it.
 pub fn first_file_head(
     alloc: Global,
     marks: &[usize],
@@ -57,7 +58,7 @@ pub fn first_file_head(
     first_of_file(alloc, marks, decls, names.as_slice(), brackets.as_slice())
 }
 
-/// The first of these rules that is broken, over what stands where.
+/// Returns the first of these rules that is broken, given the occurrences.
 fn first_of_type(
     alloc: Global,
     _marks: &[usize],
@@ -75,8 +76,8 @@ fn first_of_type(
     first_head_break_in_type(alloc, decls, brackets)
 }
 
-/// The first of these rules that a type with these marks breaks, with the least lexeme at which it
-/// does.
+/// Returns the first of these rules that a type with these marks breaks, with the least lexeme at
+/// which it breaks it.
 pub fn first_type_head(
     alloc: Global,
     marks: &[usize],

@@ -1,10 +1,12 @@
-//! A law over the definitions. The function does nothing: what it ensures is the law.
+//! A law of the definitions. The function is a lemma function: it has no effect and exists only for
+//! its contract.
 
 ghost use Rattle.std.specs.Prelude.{List};
 ghost use Rattle.om_types.specs.declared.decl.Decl.{Decl};
 ghost use Rattle.om_decl.specs.Answer.{HasOneAnswer, IsFileAnswer, IsTypeAnswer};
 
-/// A text of declarations has one answer at most, and so has that of a type over declarations.
+/// A text of declarations has at most one answer. The text of a type over declarations has at most
+/// one answer.
 pub fn one_answer()
     ensures files { HasOneAnswer IsFileAnswer }
     ensures types { (decls : List Decl) → HasOneAnswer (IsTypeAnswer decls) }

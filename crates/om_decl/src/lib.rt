@@ -1,4 +1,7 @@
-//! Declarations and types from their texts.
+//! Parses OCaml type declarations and type expressions, and checks the scope rules. `read_decls`
+//! returns well-formed declarations or the first fault, and `read_type` does this for a type over
+//! declarations. The law `one_answer` says that the result for a text is unique. `fault_text`
+//! prints faults.
 #![tactic(auto)]
 
 mod accept;

@@ -1,4 +1,4 @@
-//! The rules of scope on names, over declarations or a type and the marks of their text.
+//! The scope rules on names, for declarations or a type with the marks of their text.
 
 ghost use Rattle.std.specs.Prelude.{◌≡◌, IfOk, List, false};
 ghost use Rattle.om_types.specs.Occurrence.{DeclPlaces, Occurrence};
@@ -15,7 +15,7 @@ use om_types::decl::Decl;
 use om_types::ty::Ty;
 use std::alloc::Global;
 
-/// The first rule that is broken, over what stands where.
+/// Returns the first rule that is broken, given the occurrences.
 fn first_of_sites(
     alloc: Global,
     _marks: &[usize],
@@ -31,8 +31,8 @@ fn first_of_sites(
     first_break(alloc, decls, names, sites)
 }
 
-/// The first rule on names that declarations with these marks break, with the least lexeme at which
-/// they do.
+/// Returns the first rule on names that declarations with these marks break, with the least lexeme
+/// at which they break it.
 pub fn first_name_break(
     alloc: Global,
     marks: &[usize],
@@ -44,7 +44,7 @@ pub fn first_name_break(
     first_of_sites(alloc, marks, decls, names.as_slice(), sites.as_slice())
 }
 
-/// The first rule that is broken, over what stands where.
+/// Returns the first rule that is broken, given the occurrences.
 fn first_of_type_site(
     alloc: Global,
     _marks: &[usize],
@@ -60,8 +60,8 @@ fn first_of_type_site(
     first_break_in_type(alloc, decls, site)
 }
 
-/// The first rule on names that a type with these marks breaks, with the least lexeme at which it
-/// does.
+/// Returns the first rule on names that a type with these marks breaks, with the least lexeme at
+/// which it breaks it.
 pub fn first_type_break(
     alloc: Global,
     marks: &[usize],

@@ -1,4 +1,4 @@
-//! Declarations and types from their texts.
+//! Parses texts of declarations and of types, and checks the scope rules on names.
 
 ghost use Rattle.std.specs.Prelude.{IfOk, IfErr};
 ghost use Rattle.om_decl.specs.Answer.{IsFileAnswer, IsTypeAnswer};
@@ -16,7 +16,7 @@ use om_types::decl::Decl;
 use om_types::ty::Ty;
 use std::alloc::Global;
 
-/// Declarations whose names keep the rules, with the lexemes and the marks of their text.
+/// Declarations that break no rule on names, with the lexemes and the marks of their text.
 #[derive(Drop)]
 pub struct Named {
     pub lexemes: Vec<Lexeme>,
@@ -24,7 +24,7 @@ pub struct Named {
     pub decls: List<Decl>,
 }
 
-/// Reads declarations, and judges the rules on names.
+/// Parses declarations, and checks the rules on names.
 pub fn read_names(alloc: Global, text: &[u8]) -> Result<Named, DeclFault>
     ensures named { IfOk result (IsNamed text.now) }
     ensures fault { IfErr result (IsRefused (IsFileAnswer text.now)) }
@@ -49,7 +49,7 @@ pub fn read_names(alloc: Global, text: &[u8]) -> Result<Named, DeclFault>
     })
 }
 
-/// A type whose names keep the rules, with the lexemes and the marks of its text.
+/// A type that breaks no rule on names, with the lexemes and the marks of its text.
 #[derive(Drop)]
 pub struct NamedType {
     pub lexemes: Vec<Lexeme>,
@@ -57,7 +57,7 @@ pub struct NamedType {
     pub ty: Ty,
 }
 
-/// Reads a type over declarations, and judges the rules on names.
+/// Parses a type over declarations, and checks the rules on names.
 pub fn read_type_names(alloc: Global, decls: &[Decl], text: &[u8]) -> Result<NamedType, DeclFault>
     ensures named { IfOk result (IsNamedType decls.now text.now) }
     ensures fault { IfErr result (IsRefused (IsTypeAnswer decls.now text.now)) }

@@ -13,7 +13,7 @@ use om_model::Memory;
 use om_model::list::List;
 use std::alloc::Global;
 
-/// A name and a place.
+/// Returns the text of a name and a position.
 fn placed_text(
     alloc: Global,
     places: &Places<'_>,
@@ -29,14 +29,14 @@ fn placed_text(
     Ok(List::of(text))
 }
 
-/// The text of lexemes that no text of a grammar begins with.
+/// Returns the text of a syntax error at `place`.
 pub fn syntax_text(alloc: Global, places: &Places<'_>, place: usize) -> Result<List<u8>, Memory>
     ensures { IfOk result (λ text. text ≡ text_at (codes "Syntax") (told_by places.now place)) }
 {
     placed_text(alloc, places, "Syntax", place)
 }
 
-/// The text of a fault of the lexer.
+/// Returns the text of a fault of the lexer.
 pub fn lexer_text(alloc: Global, places: &Places<'_>, fault: LexFault) -> Result<List<u8>, Memory>
     ensures { IfOk result (λ text. text ≡ text_of_lexer (told_by places.now) fault) }
 {
@@ -49,7 +49,8 @@ pub fn lexer_text(alloc: Global, places: &Places<'_>, fault: LexFault) -> Result
     }
 }
 
-/// The text of a fault: its name, and ` at ` with the place. Want of memory has none.
+/// Returns the text of a fault: its name, and ` at ` with the position. A memory fault has no
+/// specified text.
 pub fn fault_text(alloc: Global, places: &Places<'_>, fault: &DeclFault) -> Result<List<u8>, Memory>
     ensures files { IfOk result
         (IsTextOf (told_by places.now) (told {Tree = FileTree} fault.now)) }

@@ -1,19 +1,20 @@
-//! What stands in a text is told by its tree, so a text that breaks no rule of scope is
-//! well-formed. The functions do nothing: what each ensures is the law.
+//! Laws: if a text breaks no scope rule, then its declarations or its type are well-formed. Each
+//! function is a lemma function: it has no effect and exists only for its contract.
 
 ghost use Rattle.om_decl.specs.Told.{FilesAreWellFormed, NamesMakeSound, TypesAreSound};
 
-/// Declarations whose text breaks no rule of scope are well-formed.
+/// If the text of declarations breaks no scope rule, then the declarations are well-formed.
 pub fn files_are_well_formed()
     ensures { FilesAreWellFormed }
 {}
 
-/// Those whose text breaks no rule on names are sound.
+/// If the text of declarations breaks no rule on names, then the declarations are sound.
 pub fn names_make_sound()
     ensures { NamesMakeSound }
 {}
 
-/// Types whose text breaks no rule over well-formed declarations are sound.
+/// If the text of a type breaks no scope rule over well-formed declarations, then the type is
+/// sound.
 pub fn types_are_sound()
     ensures { TypesAreSound }
 {}

@@ -1,4 +1,4 @@
--- The bytes of a value, put.
+-- Writing the bytes of a value.
 use Rattle.std.proofs.Common.{◌≡◌, ◌∙◌, ℕ, Bool, true, List, [], Option, None, Some, Err, inl, inr, refl, sym, ap, subst}
 use Rattle.std.specs.Prelude.{IsSomeAnd}
 use Rattle.om_model.specs.declared.value.Val.{Val}
@@ -25,7 +25,7 @@ use Rattle.om_stops.specs.Stops.{text_of_compat, IsOrMemory}
 use Rattle.om_promises.proofs.PutLemmas.{puts_nothing}
 use Rattle.om_declared.specs.Bytes.{PutsBytes}
 
--- the text of what is too large
+-- The text of what is too large.
 compat_told : (large : TooLargeFor32) (compat : Compat) → Tells large compat → compat_text large ≡ text_of_compat compat
 compat_told (token (integer z)) compat is = sym (ap text_of_compat is)
 compat_told (token (block tag size)) compat is = sym (ap text_of_compat is)

@@ -1,4 +1,4 @@
--- The earlier values, as their lines made them: one value more, and those that no line edits.
+-- The earlier values after their edits: one more value, and values that no line edits.
 use Rattle.std.proofs.Common.{◌≡◌, ◌+◌, List, [], ◌∷◌, ◌++◌, length, map, Ok, refl, ap, subst, append_assoc, append-nil, length-append, arith}
 use Rattle.om_types.specs.Equal.{Equal}
 use Rattle.om_types.specs.Names.{names_of}
@@ -10,12 +10,12 @@ use Rattle.om_edit.specs.Grafts.{Other}
 use Rattle.om_declared.specs.Language.{TypeOver, lines_of_value, AreDone}
 
 module _ (t : TypeOver) (script : List ScriptLine) where
-  -- what the lines of the value that comes after these make of a tree
+  -- The result of the lines for the next value on a tree.
   abbrev pub MakeOf : List Other → Tree → Other → Type 0
   MakeOf others tree made =
       AreEdited (shape t.decls) (names_of t.decls) (Equal t.decls) t.type others (lines_of_value (length others) script) (objects_of tree 0) (root tree 0) (Ok made)
 
-  -- as many are made as there are
+  -- There are as many results as values.
   pub done_length : (done : List Other) (trees : List Tree) (others : List Other) → AreDone t script done trees others
       → length others ≡ length done + length trees
   done_length done [] others is = let same = ap (λ (os : List Other). length os) is in omega (arith, same)
@@ -23,7 +23,7 @@ module _ (t : TypeOver) (script : List ScriptLine) where
       let size = length-append done (made ∷ []) in
       let rest = done_length (done ++ made ∷ []) trees others more in omega (arith, size, rest)
 
-  -- one value more
+  -- One more value.
   pub done_more : (done : List Other) (trees : List Tree) (others : List Other) (tree : Tree) (made : Other)
       → AreDone t script done trees others → MakeOf others tree made → AreDone t script done (trees ++ tree ∷ []) (others ++ made ∷ [])
   done_more done [] others tree made is edited =
@@ -31,7 +31,7 @@ module _ (t : TypeOver) (script : List ScriptLine) where
   done_more done (first ∷ trees) others tree made (v, is, more) edited =
       (v, is, done_more (done ++ v ∷ []) trees others tree made more edited)
 
--- without a line each value is as it came
+-- If no line edits a value, then it stays as it was read.
 abbrev pub as_it_came : Tree → Other
 as_it_came tree = (objects_of tree 0, root tree 0)
 

@@ -1,4 +1,5 @@
--- A type that was read is sound over well-formed declarations, so a value that has it has each closed instance of it.
+-- A parsed type is sound over well-formed declarations, so a value that has it has each closed
+-- instance of it.
 use Rattle.std.proofs.Common.{ℕ, Bool, false, List, Ok, Err, refl, sym, subst}
 use Rattle.om_model.specs.declared.value.Val.{Val}
 use Rattle.om_model.specs.declared.value.Obj.{Obj}
@@ -30,9 +31,9 @@ use Rattle.om_declared.specs.Language.{TypeOver, declared_types, ReachesFew, IsA
 use Rattle.om_declared.specs.Types.{IsReady}
 use Rattle.om_promises.specs.LawfulLanguage.{IsGiven}
 
--- ---- what is accepted
+-- ---- accepted texts
 
--- a tree that is accepted is that of some lexemes, and breaks no rule
+-- An accepted tree is the tree of some lexemes, and it breaks no rule.
 module _ {Tree : Type 0} (spelled : Tree → Kinds) (ends : Tree → List ℕ) (Breaks : Tree → Rule → ℕ → Type 0) (text : List ℕ) (tree : Tree) where
   record IsKept : Type 0 where
     lexemes : Kinds
@@ -49,10 +50,10 @@ module _ {Tree : Type 0} (spelled : Tree → Kinds) (ends : Tree → List ℕ) (
     keeps = subst (λ t. KeepsAll (Breaks t)) same keeps;
   }
 
--- ---- what was read
+-- ---- parsed types
 
 module _ (files_well : FilesAreWellFormed) (types_sound : TypesAreSound) where
-  -- declarations that are read are well-formed, and types over them sound
+  -- Parsed declarations are well-formed, and parsed types over them are sound.
   decls_well : (text : List ℕ) (decls : List Decl) → IsDeclared text decls → AreWellFormed decls
   decls_well text decls d =
       let k = kept file_kinds file_ends (λ tree. BreaksInFile (file_places tree)) text d.tree d.answer in
@@ -63,7 +64,7 @@ module _ (files_well : FilesAreWellFormed) (types_sound : TypesAreSound) where
       let k = kept texpr texpr_ends (λ tree. BreaksInType decls (in_texpr 0 false tree)) text is.tree is.answer in
       subst (IsSoundType decls) (sym is.stands) (types_sound decls is.tree well k.keeps)
 
-  -- a type that was read is sound over well-formed declarations, and reaches few types
+  -- A parsed type is sound over well-formed declarations, and reaches few types.
   pub record IsSoundOver (t : TypeOver) : Type 0 where
     pub well : AreWellFormed t.decls
     pub sound : IsSoundType t.decls t.type
@@ -77,7 +78,7 @@ module _ (files_well : FilesAreWellFormed) (types_sound : TypesAreSound) where
 
 -- ---- instances
 
--- so a value that has it has each closed instance of it
+-- If a value has a parsed type, then it has each closed instance of the type.
 pub given_each : (t : TypeOver) → IsGiven declared_types t → (graph : List Obj) (v : Val) → HasType (declared_shapes t.decls) graph v t.type → HasEachInstance t.decls graph v t.type
 given_each t given graph v has =
     let s = given_sound files_well_formed sounds.types_sound t given in
@@ -87,13 +88,13 @@ module _ (r : Prepared) (ready : IsReady r) (graph : List Obj) (v : Val) where
   pub ready_each : HasType (declared_shapes r.decls) graph v r.ty → HasEachInstance r.decls graph v r.ty
   ready_each has = (stands_for_all r.decls r.ty (types_of r.table) ready.well ready.sound ready.made.reached graph v).0 has
 
-  -- and one with a fault has not each
+  -- If a value has a fault, then it does not have every closed instance of the type.
   pub ready_some_not : (fault : Fault) → IsFault (declared_shapes r.decls) graph v r.ty fault → HasEachInstance r.decls graph v r.ty → ⊥
   ready_some_not fault is each = faults_are_of_instances r.decls r.ty (types_of r.table) ready.well ready.sound ready.made.reached graph v fault is each
 
--- ---- places
+-- ---- positions
 
--- the same type, at which places are told so, and decimals read or not
+-- The same type with other settings for positions and decimals.
 abbrev pub asked_at : TypeOver → (lines decimal : Bool) → TypeOver
 asked_at t lines decimal = record { decls = t.decls; type = t.type; lines = lines; decimal = decimal }
 
@@ -101,7 +102,7 @@ pub accepted_at : (decls : List Decl) (asked : AskedType) (t : TypeOver) (lines 
     → IsAccepted decls (asked_with asked.text lines decimal) (asked_at t lines decimal)
 accepted_at decls asked t lines decimal a = record { over = a.over; written = a.written; few = a.few; lined = refl; decimaled = refl }
 
--- without decimals
+-- The same type without decimals.
 abbrev pub lined : TypeOver → Bool → TypeOver
 lined t lines = asked_at t lines false
 

@@ -1,4 +1,4 @@
--- What is read of a text is one thing, and a value has one line at a type that is read.
+-- Each text parses in one way, and a value has one line at a parsed type.
 use Rattle.std.proofs.Common.{◌≡◌, ℕ, Bool, true, false, List, [], ◌∷◌, ◌++◌, length, Option, Some, None, Result, Ok, Err, inl, inr, sym, ap, ◌∙◌, subst}
 use Rattle.om_model.specs.declared.value.Val.{Val}
 use Rattle.om_model.specs.declared.value.Obj.{Obj}
@@ -35,7 +35,7 @@ use Rattle.om_declared.proofs.GivenLemmas.{given_sound}
 use Rattle.om_declared.specs.Language.{TypeOver, declared_types, ReadsPath, IsRefusal, ReachesFew, IsTooMuch, IsAccepted, IsToldOf, judged, IsTypeLine, IsBytesLine, lines_of_value, AreDone, AreBytesIn, AreBytesOf, AreBytesAfter, bytes_for, ReadsType, AreEditsOf, ReadsScript, script_refusal}
 use Rattle.om_promises.specs.LawfulLanguage.{IsGiven, IsLawful}
 
--- ---- answers
+-- ---- parse results
 
 tree_or : {Tree : Type 0} → Tree → Answer Tree → Tree
 tree_or other (accepted tree) = tree
@@ -93,7 +93,7 @@ module _ (once : (text : List ℕ) → scripts.HasOneScriptAnswer text) (text : 
     back (Err fault) (Err other) e = let same : fault ≡ other = cc e in ap (λ f. Err f) same
 
 module _ (once : (text : List ℕ) → scripts.HasOneScriptAnswer text) (text : List ℕ) where
-  -- those of a text with decimals too
+  -- A text with decimals also parses in one way.
   edits_answers : (decimal : Bool) (answer other : Result (List ScriptLine) ScriptFault) → AreEditsOf decimal text answer → AreEditsOf decimal text other → answer ≡ other
   edits_answers false answer other is its = script_answers once text answer other is its
   edits_answers true answer other (plain, is, given) (second, its, given') =
@@ -115,7 +115,7 @@ module _ (once : (text : List ℕ) → scripts.HasOneScriptAnswer text) (text : 
 
 -- ---- bytes
 
--- a value has one tree
+-- A value has one tree, so it has one result.
 one_bytes : (compat : Bool) (graph : List Obj) (v : Val) (answer other : Result (List ℕ) Unedited) → AreBytesOf compat graph v answer → AreBytesOf compat graph v other → answer ≡ other
 one_bytes compat graph v answer other (tree, is, told) (tree', is', told') =
     told ∙ (ap (λ t. bytes_for compat t (too_large_for_32 t)) (one_tree_only graph v tree tree' is is') ∙ sym told')
@@ -153,9 +153,9 @@ module _ (files_once : HasOneAnswer IsFileAnswer) (types_once : (decls : List De
       absurd (never_refused (IsTypeAnswer decls) (types_once decls) asked.text (place_in asked.lines asked.text) r.written.tree other r.written.answer s)
   type_refusals decls asked refusal other (inr r) (inr s) = r.spelled ∙ sym s.spelled
 
-  -- a value has the type or a fault, and not both
+  -- A value has the type or a fault, and not both.
   module _ (t : TypeOver) (well : AreWellFormed t.decls) (sound : IsSoundType t.decls t.type) (few : ReachesFew t.decls t.type) (graph : List Obj) (v : Val) where
-    -- one thing is told of a value that has the type
+    -- A value that has the type has one output.
     told_once : TreeVerdictsAreOne → (saying : Saying) (one other : Said) → IsToldOf saying t graph v one → IsToldOf saying t graph v other → one ≡ other
     told_once verdicts_once the_verdict one other is its = is ∙ sym its
     told_once verdicts_once (the_text style) one other is its = is ∙ sym its
@@ -185,7 +185,7 @@ module _ (files_once : HasOneAnswer IsFileAnswer) (types_once : (decls : List De
   given_once verdicts_once saying t given tree =
       let s = given_sound files_well types_sound t given in lines_once t s.well s.sound s.few (objects_of tree 0) (root tree 0) verdicts_once saying
 
-  -- what the lines make of the earlier values is one
+  -- The edits of the earlier values have one result.
   done_once : (t : TypeOver) → AreWellFormed t.decls → IsSoundType t.decls t.type → (few : ReachesFew t.decls t.type)
       → (script : List ScriptLine) (done : List Other) (earlier : List Tree) (others second : List Other)
       → AreDone t script done earlier others → AreDone t script done earlier second → others ≡ second

@@ -1,4 +1,4 @@
--- What is read of a SCRIPT copies parts of values that come before, with decimals too.
+-- A parsed SCRIPT copies parts of earlier values only, with decimals too.
 use Rattle.std.proofs.Common.{◌≡◌, ℕ, Bool, true, false, List, Ok, Err, map, sym, subst}
 use Rattle.om_path.specs.ScriptAnswer.{AreEdits, AreInTime}
 use Rattle.om_path.specs.declared.edits.ScriptLine.{ScriptLine}

@@ -1,4 +1,4 @@
--- What a FILE and a TYPE are read as.
+-- The types that FILE and TYPE denote.
 use Rattle.std.proofs.Common.{◌≡◌, ◌⊎◌, ◌≤◌, ℕ, Bool, List, length, Some, None, Option, Result, Ok, Err, inl, inr, refl, ap, ◌∙◌, arith}
 use Rattle.std.specs.Prelude.{◌≢◌, MatchOption, codes}
 use Rattle.std.proofs.lemmas.List.{length-map}
@@ -33,7 +33,7 @@ use Rattle.om_declared.specs.Types.{StopsBy, IsDeclarationsStop, IsTypeStop, IsS
 
 -- ---- faults
 
--- what a fault tells accepts nothing
+-- If a fault is reported, then the text is not accepted.
 told_refuses : {Tree : Type 0} (fault : DeclFault) (tree : Tree) → told fault ≡ Some (accepted tree) → ⊥
 told_refuses (faults.Lex fault) tree e = cc e
 told_refuses (faults.Syntax place) tree e = cc e
@@ -51,7 +51,7 @@ told_refuses (faults.HashClash place one two) tree e = cc e
 told_refuses (faults.FloatInGroup place) tree e = cc e
 told_refuses faults.Memory tree e = cc e
 
--- the stop tells the text of what a fault tells
+-- The exit reason reports the text of the fault.
 module _ {Tree : Type 0} (lines : Bool) (text : List ℕ) (places : ℕ → List ℕ) (same : places ≡ place_in lines text) (refusal : List ℕ) (stop : Stop) (refused : List ℕ → Stop)
     (is : stop ≡ refused refusal) where
   pub refusal_told : (found : Option (Answer Tree)) → IsTextOf places found refusal
@@ -59,14 +59,14 @@ module _ {Tree : Type 0} (lines : Bool) (text : List ℕ) (places : ℕ → List
   refusal_told None none = absurd none
   refusal_told (Some answer) spelled = inl (is ∙ ap refused (spelled ∙ ap (λ told. answer_text told answer) same))
 
--- or that memory ran out
+-- Or it reports that memory ran out.
 pub memory_told : {X : Type 0} (found : Option X) (told : X → Stop) → MatchOption found (out_of_memory ≡ out_of_memory) (λ x. IsOrMemory (told x) out_of_memory)
 memory_told None told = refl
 memory_told (Some x) told = inr refl
 
--- ---- stops
+-- ---- exit reasons
 
--- what the fault tells is refused, or memory ran out
+-- The text is refused as the fault says, or memory ran out.
 stops_by : {Tree : Type 0} (places : ℕ → List ℕ) (fault : DeclFault) (Is : Answer Tree → Type 0) (tells : List ℕ → Stop) (stop : Stop) → IsRefused Is fault
     → MatchOption (told {Tree = Tree} fault) (stop ≡ out_of_memory) (λ answer. IsOrMemory (tells (answer_text places answer)) stop) → StopsBy (IsRefusal places Is) tells stop
 stops_by {Tree} places fault Is tells stop refused is = at (told fault) refl refused is where
@@ -94,7 +94,7 @@ type_too_many decls asked t written many stop (inl is) =
     inl (codes "TooManyTypes", inr (record { type = t; written = written; many = many; spelled = refl }), is)
 type_too_many decls asked t written many stop (inr memory) = inr memory
 
--- a table is made
+-- A table is created.
 pub type_given : (decls : List Decl) (asked : AskedType) (t : Ty) (table : Tabled) → AreWellFormed decls → IsTypeOf decls asked.text t → IsSoundType decls t → IsTypeTable decls t table
     → GivesRequested decls asked (Ok (record { decls = decls; ty = t; table = table; lines = asked.lines; decimal = asked.decimal }))
 type_given decls asked t table well written sound made = (
@@ -142,13 +142,13 @@ module _ (file : List ℕ) (type : AskedType) where
     reads_type e decls declared (Err stop) (inl (refusal, refuses, is)) = inl (Ok taken.bytes, same e, (Ok decls, declared.0, (refusal, refuses, is)))
     reads_type e decls declared (Err stop) (inr memory) = inr memory
 
--- a type that is given keeps how its places are told
+-- The result keeps the setting for positions.
 pub given_lines : (file : List ℕ) (type : AskedType) (found : Found) (r : Prepared) → GivesType file type found (Ok r) → r.lines ≡ type.lines
 given_lines file type found r ((Err stop, fault, e), ready) = absurd (cc e)
 given_lines file type found r ((Ok text, read, (Err stop, refusal, e)), ready) = absurd (cc e)
 given_lines file type found r ((Ok text, read, (Ok decls, declared, is)), ready) = is.lined
 
--- and whether decimals are read at it
+-- The result keeps the setting for decimals.
 pub given_decimal : (file : List ℕ) (type : AskedType) (found : Found) (r : Prepared) → GivesType file type found (Ok r) → r.decimal ≡ type.decimal
 given_decimal file type found r ((Err stop, fault, e), ready) = absurd (cc e)
 given_decimal file type found r ((Ok text, read, (Err stop, refusal, e)), ready) = absurd (cc e)
@@ -156,7 +156,7 @@ given_decimal file type found r ((Ok text, read, (Ok decls, declared, is)), read
 
 -- ---- PATH
 
--- a fault but for out of memory is that of a text that is no path
+-- If there is a fault other than exhausted memory, then the text is no path.
 pub path_refused : (text : List ℕ) (fault : PathFault) → fault ≢ path_faults.Memory → UnlessMemory (λ f. IsAnswer text (Err f)) fault → ReadsPath text None
 path_refused text path_faults.Lex some is = (path_faults.Lex, some, is)
 path_refused text (path_faults.Syntax place) some is = (path_faults.Syntax place, some, is)
@@ -164,11 +164,11 @@ path_refused text path_faults.Memory some is = absurd (some refl)
 
 -- ---- SCRIPT
 
--- the stop tells the line of the text that is at fault
+-- The exit reason reports the faulty line of the text.
 abbrev StopsByLine : (lines decimal : Bool) → List ℕ → Stop → Type 0
 StopsByLine lines decimal text stop = (refusal : ℕ × List ℕ) × ReadsScript lines decimal text (Err refusal) × (stop ≡ script_line refusal.0 refusal.1)
 
--- a fault but for out of memory is that of a text that is no script
+-- If there is a fault other than exhausted memory, then the text is no script.
 lines_refused : (lines decimal : Bool) (text : List ℕ) (fault : ScriptFault) → UnlessMemoryInScript (λ f. IsAnswerOf decimal text (Err f)) fault → (stop : Stop) → IsScriptStop lines fault stop
     → StopsByLine lines decimal text stop ⊎ (stop ≡ out_of_memory)
 lines_refused lines decimal text fault refused stop is = at fault refused is where

@@ -1,4 +1,4 @@
--- What the table of a type says of a value is said at the type.
+-- What the table of a type decides about a value holds at the type.
 use Rattle.std.proofs.Common.{ℕ, ◌≡◌, ◌∙◌, List, ◌++◌, Some, refl, ap, subst}
 use Rattle.std.specs.Prelude.{codes, slice_get}
 use Rattle.om_model.specs.declared.value.Val.{Val}
@@ -30,7 +30,7 @@ module _ (r : Prepared) (ready : IsReady r) where
     pub made : IsMadeFor r.decls r.ty (types_of r.table) (table_of r.table)
     made = record { well = ready.well; sound = ready.sound; reached = ready.made.reached; made = ready.made.made }
 
-    -- `no` and the least fault are put
+    -- Case: `no` and the first fault are appended.
     pub puts_no : TablesHaveTheLeastFault → TextsAreOfTypes → (fault : Fault) → IsVerdictOf r graph root (No fault) → (text : List ℕ)
         → IsFaultText (table_shapes (table_of r.table)) (text_at r.table) graph root 0 fault text → (old new : List ℕ) → new ≡ old ++ (codes "no " ++ text)
         → PutsNo (type_over r) graph root old new
@@ -48,18 +48,18 @@ module _ (r : Prepared) (ready : IsReady r) where
           put,
         )
 
-    -- a line by the numbers is put
+    -- Case: a line by type numbers is appended.
     pub puts_line : TablesHaveTheLeastFault → TextsAreOfTypes → (line : List ℕ) → IsNoLine (table_shapes (table_of r.table)) (text_at r.table) graph root 0 line → (old new : List ℕ) → new ≡ old ++ line
         → PutsNo (type_over r) graph root old new
     puts_line same_faults same_texts line why old new put =
         puts_no same_faults same_texts why.fault why.least why.text why.is_text old new (put ∙ ap (λ l. old ++ l) why.spelled)
 
--- a verdict is `yes` where the value has the type
+-- If the verdict is `Yes`, then the value has the type.
 pub yes_typed : (r : Prepared) (graph : List Obj) (root : Val) (verdict : Verdict) → IsVerdictOf r graph root verdict → (typing : Typing) → verdict ≡ Yes typing
     → HasType (table_shapes (table_of r.table)) graph root 0
 yes_typed r graph root verdict is typing same = let has : IsVerdictOf r graph root (Yes typing) = subst (IsVerdictOf r graph root) same is in has.0
 
--- so it has the declared type, and each closed instance of it
+-- The value then has the declared type and each closed instance of it.
 pub yes_declared : (r : Prepared) (ready : IsReady r) → TheRootIsFirst → TablesDecide → (graph : List Obj) (root : Val) (verdict : Verdict) → IsVerdictOf r graph root verdict → (typing : Typing) → verdict ≡ Yes typing
     → HasType (declared_shapes r.decls) graph root r.ty × HasEachInstance r.decls graph root r.ty
 yes_declared r ready root_first decide graph root verdict is typing same = (has, ready_each r ready graph root has) where

@@ -1,4 +1,4 @@
--- The bytes of a value, put.
+-- Writing the bytes of a value.
 use Rattle.std.specs.Prelude.{ℕ, ◌≡◌, Bool, List, [], Result, Ok, Err}
 use Rattle.om_model.specs.declared.value.Val.{Val}
 use Rattle.om_model.specs.declared.value.Obj.{Obj}
@@ -11,12 +11,13 @@ use Rattle.om_stops.specs.declared.stop.Halt.TheVariants as halts
 use Rattle.om_declared.specs.Checked.{OrMemory}
 use Rattle.om_declared.specs.Language.{AreBytesOf}
 
--- there are no bytes of value k, where this is what is answered
+-- Value `k` has no bytes, for the reason that `Answers` gives.
 abbrev pub IsUnedited : ℕ → (Result (List ℕ) Unedited → Type 0) → Stop → Type 0
 IsUnedited k Answers stop =
     (why : Unedited) × Answers (Err why) × (stop ≡ unedited_stop k why)
 
--- the bytes of value k are put; or the run stops, and nothing is; or out failed
+-- The bytes of value `k` are written; or the run ends, and nothing is written; or writing to out
+-- failed.
 abbrev pub PutsAnswer : {U : Type 0} → ℕ → (Result (List ℕ) Unedited → Type 0) → Change ByteState
     → Result U Halt → Type 0
 PutsAnswer k Answers out (Ok unit) = (bytes : List ℕ) × Answers (Ok bytes) × Puts out bytes

@@ -1,4 +1,4 @@
--- The test that a value has the type.
+-- The check that a value has the type.
 use Rattle.std.specs.Prelude.{ℕ, ◌≡◌, ◌⊎◌, List, Result, Ok, Err}
 use Rattle.om_outcome.specs.declared.stop.Stop.{Stop}
 use Rattle.om_outcome.specs.declared.stop.Stop.TheVariants.{Untyped as untyped_value}
@@ -14,7 +14,7 @@ use Rattle.om_stops.specs.declared.stop.Halt.{Halt}
 use Rattle.om_stops.specs.declared.stop.Halt.TheVariants as halts
 use Rattle.om_declared.specs.declared.requested.Prepared.{Prepared}
 
--- the run stops, as this says, or memory ran out
+-- The run ends for this reason, or because memory ran out.
 abbrev pub OrMemory : (Stop → Type 0) → Stop → Type 0
 OrMemory Stops stop = (stop ≡ out_of_memory) ⊎ Stops stop
 
@@ -23,7 +23,8 @@ IsUntypedStop r k graph v stop =
     (text : List ℕ) × IsNoLine (declared_shapes r.decls) type_text graph v r.ty text
     × (¬ HasEachInstance r.decls graph v r.ty) × (stop ≡ untyped_value k text)
 
--- value k has the type, and each closed instance of it; or the run stops, since it has not
+-- If the result is `Ok`, then value `k` has the type and each closed instance of it. If it is an
+-- exit reason, then the value does not have the type.
 abbrev pub ChecksType : {U : Type 0} → Prepared → ℕ → List Obj → Val → Result U Halt → Type 0
 ChecksType r k graph v (Ok unit) =
     HasType (declared_shapes r.decls) graph v r.ty × HasEachInstance r.decls graph v r.ty

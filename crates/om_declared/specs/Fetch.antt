@@ -1,4 +1,4 @@
--- What came of fetching a file.
+-- The result of fetching a file.
 use Rattle.std.specs.Prelude.{ℕ, List}
 use Rattle.om_outcome.specs.Outcome as outcome
 use Rattle.om_edge.specs.State.{FilesState, Change}
@@ -12,6 +12,6 @@ fetch_found (Opened gathered) = outcome.opened (taken_of gathered)
 fetch_found Missing = outcome.missing
 fetch_found Failed = outcome.failed
 
--- something came of it before memory ran out
+-- The file was fetched, with some result, before memory ran out.
 abbrev pub FetchedSome : Change FilesState → List ℕ → Type 0
 FetchedSome files name = (found : outcome.Found) × Fetched files name found

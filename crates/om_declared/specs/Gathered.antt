@@ -1,4 +1,4 @@
--- What was gathered, as bytes taken.
+-- The bytes of a file as consumed bytes of a source.
 use Rattle.std.specs.Prelude.{◌≡◌}
 use Rattle.om_outcome.specs.Outcome.{Taken, at_end, at_fault, at_length, unasked}
 use Rattle.om_outcome.specs.Outcome as outcome
@@ -16,6 +16,6 @@ until_of Length = at_length
 abbrev pub taken_of : Gathered → Taken
 taken_of g = record { bytes = g.bytes.items; until = until_of g.until }
 
--- some bytes were taken, and no more were asked for
+-- Some bytes were read, and no more were requested.
 abbrev pub GathersSome : Change ByteState → Type 0
 GathersSome source = (taken : Taken) × Gathers source taken × (taken.until ≡ unasked)

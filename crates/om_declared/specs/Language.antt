@@ -1,5 +1,5 @@
--- The language of declared types: FILE has declarations, TYPE is a type over them, and SCRIPT is a
--- list of edits.
+-- The language of declared types: FILE contains declarations, TYPE is a type over them, and SCRIPT
+-- is a list of edits.
 use Rattle.std.specs.Prelude.{ℕ, ◌≤◌, ◌≡◌, ◌==◌, ◌≢◌, ◌⊎◌, Bool, true, false, if◌then◌else◌, List}
 use Rattle.std.specs.Prelude.{[], ◌∷◌, ◌++◌, length, filter, Option, Some, None, option_map, Result}
 use Rattle.std.specs.Prelude.{Ok, Err, codes}
@@ -48,33 +48,34 @@ use Rattle.om_outcome.specs.Outcome.{AskedType, Language, Said, Saying, the_verd
 use Rattle.om_outcome.specs.Outcome.{the_part, the_trees, Unedited, untyped, refused_line}
 use Rattle.om_outcome.specs.Outcome.{too_large, line}
 
--- a type over declarations; whether the places of what is refused at it are told by line and
--- column; and whether decimals stand for doubles in the texts that are read at it
+-- A type over declarations. `lines` says whether positions in refused texts are reported as line
+-- and column. `decimal` says whether the texts that are parsed at this type may contain doubles as
+-- decimals.
 pub record TypeOver : Type 0 where
   pub decls : List Decl
   pub type : Ty
   pub lines : Bool
   pub decimal : Bool
 
--- ---- lines
+-- ---- output lines
 
--- a text in this style: with its doubles as decimals, and over lines, where that is asked for
+-- A text in this style: with doubles as decimals and over several lines, if the style requests it.
 abbrev pub styled : Style → List ℕ → List ℕ
 styled style text =
     let put = if style.decimal then decimal_text text else text in
     if style.pretty then pretty put else put
 
--- the text of a part, if there is one
+-- The text of a part, or `none`, which is an error.
 abbrev pub part_or_none : Option (List ℕ) → Said
 part_or_none None = record { text = codes "none"; well = false }
 part_or_none (Some text) = record { text = text; well = true }
 
--- the text of the verdict on its sets and maps; nothing is wrong where they are sound
+-- The text of the verdict on sets and maps. It is without errors if they are sound.
 abbrev pub judged : TreeVerdict → Said
 judged verdict = record { text = verdict_text verdict; well = is_sound verdict }
 
--- what is told of a value that has the type: `yes`, its text, the text of the part at the path, or
--- the verdict on its sets and maps
+-- The output for a value that has the type: `yes`, its text, the text of the part at the path, or
+-- the verdict on its sets and maps.
 abbrev pub IsToldOf : Saying → TypeOver → List Obj → Val → Said → Type 0
 IsToldOf the_verdict t graph v said = said ≡ record { text = codes "yes"; well = true }
 IsToldOf (the_text style) t graph v said = said ≡ record {
@@ -88,53 +89,54 @@ IsToldOf (the_part path style) t graph v said =
 IsToldOf the_trees t graph v said =
     (verdict : TreeVerdict) × IsVerdictOf t.decls graph v t.type verdict × (said ≡ judged verdict)
 
--- the value has the type, and each closed instance of it, and this is what is told of it
+-- The value has the type and each closed instance of it, and this is the output for it.
 pub record IsTold (saying : Saying) (t : TypeOver) (graph : List Obj) (v : Val) (text : List ℕ)
     (well : Bool) : Type 0 where
   pub has : HasType (declared_shapes t.decls) graph v t.type
   pub each : HasEachInstance t.decls graph v t.type
   pub told : IsToldOf saying t graph v (record { text = text; well = well })
 
--- the value has not the type, nor each closed instance of it, and this is the line of the least
--- fault, whatever was asked for
+-- The value does not have the type, nor every closed instance of it. The output is the line of the
+-- first fault, whatever was requested.
 pub record IsRefuted (t : TypeOver) (graph : List Obj) (v : Val) (text : List ℕ) (well : Bool)
     : Type 0 where
   pub why : IsNoLine (declared_shapes t.decls) type_text graph v t.type text
   pub some_not : ¬ HasEachInstance t.decls graph v t.type
   pub is_well : well ≡ false
 
--- the line of a value at a type, and whether nothing is wrong with it
+-- The output line of a value at a type, and whether it is without errors.
 abbrev pub IsTypeLine : Saying → TypeOver → List Obj → Val → List ℕ → Bool → Type 0
 IsTypeLine saying t graph v text well =
     IsTold saying t graph v text well ⊎ IsRefuted t graph v text well
 
--- the same with its line feed
+-- The output line with its line feed.
 abbrev pub SaysLine : Saying → TypeOver → List Obj → Val → List ℕ → Bool → Type 0
 SaysLine saying t graph v text well =
     (said : List ℕ) × IsTypeLine saying t graph v said well × (text ≡ line said)
 
 -- ---- edits
 
--- the bytes of a tree; or, where a reader on 32 bits is to hold it, what is too large for one
+-- The canonical bytes of a tree. If a 32-bit reader must be able to read them, and the tree is too
+-- large for it, then the result is what is too large.
 abbrev pub bytes_for : Bool → Tree → Option TooLargeFor32 → Result (List ℕ) Unedited
 bytes_for compat tree None = Ok (canon tree)
 bytes_for false tree (Some large) = Ok (canon tree)
 bytes_for true tree (Some large) = Err (too_large (compat_text large))
 
--- the bytes of a value
+-- The bytes of a value.
 abbrev pub AreBytesOf : Bool → List Obj → Val → Result (List ℕ) Unedited → Type 0
 AreBytesOf compat graph v answer =
     (tree : Tree) × IsTreeOf graph v tree × (answer ≡ bytes_for compat tree (too_large_for_32 tree))
 
--- those of what the lines made, or the line that is refused
+-- The bytes of the edited value, or the script line that is refused.
 abbrev pub AreBytesAfter : (lines compat : Bool) → Edited Ty → Result (List ℕ) Unedited → Type 0
 AreBytesAfter lines compat (Ok edited) answer = AreBytesOf compat edited.0 edited.1 answer
 AreBytesAfter lines compat (Err refused) answer =
     answer
     ≡ Err (refused_line refused.0 (reason_text type_text (place_on lines refused.0) refused.1))
 
--- the value has the type, and each closed instance of it, and these are the bytes of what the
--- lines make of it, after these values
+-- The value has the type and each closed instance of it. The result is the bytes of the value after
+-- the script lines, which may refer to the earlier values `others`.
 pub record IsEdited (t : TypeOver) (others : List Other) (lines : List ScriptLine) (compat : Bool)
     (graph : List Obj) (v : Val) (answer : Result (List ℕ) Unedited) : Type 0 where
   pub has : HasType (declared_shapes t.decls) graph v t.type
@@ -144,7 +146,7 @@ pub record IsEdited (t : TypeOver) (others : List Other) (lines : List ScriptLin
       v edited
   pub bytes : AreBytesAfter t.lines compat edited answer
 
--- it has not the type, nor each closed instance of it
+-- The value does not have the type, nor every closed instance of it.
 pub record IsUntyped (t : TypeOver) (graph : List Obj) (v : Val) (answer : Result (List ℕ) Unedited)
     : Type 0 where
   pub text : List ℕ
@@ -152,17 +154,18 @@ pub record IsUntyped (t : TypeOver) (graph : List Obj) (v : Val) (answer : Resul
   pub some_not : ¬ HasEachInstance t.decls graph v t.type
   pub is : answer ≡ Err (untyped text)
 
--- what lines of a script make of a value at a type, after these values
+-- The result of script lines on a value at a type, after the earlier values `others`.
 abbrev pub IsBytesLine : TypeOver → List Other → List ScriptLine → Bool → List Obj → Val
     → Result (List ℕ) Unedited → Type 0
 IsBytesLine t others lines compat graph v answer =
     IsEdited t others lines compat graph v answer ⊎ IsUntyped t graph v answer
 
--- the lines that edit value k, in their order
+-- The lines that edit value `k`, in their order.
 abbrev pub lines_of_value : ℕ → List ScriptLine → List ScriptLine
 lines_of_value k script = filter (λ line. line.value == k) script
 
--- after the first values, which are done so, the next ones are edited by their own lines, in turn
+-- The values after the ones in `done` are edited one after another, each by its own lines, with the
+-- result `others`.
 abbrev pub AreDone : TypeOver → List ScriptLine → List Other → List Tree → List Other → Type 0
 AreDone t script done [] others = others ≡ done
 AreDone t script done (tree ∷ trees) others =
@@ -171,7 +174,7 @@ AreDone t script done (tree ∷ trees) others =
     (lines_of_value (length done) script) (objects_of tree 0) (root tree 0) (Ok made)
     × AreDone t script (done ++ made ∷ []) trees others
 
--- what a script makes of a value at a type that comes after these
+-- The result of a script on a value at a type that follows the values `earlier`.
 abbrev pub AreBytesIn : TypeOver → List ScriptLine → Bool → (earlier : List Tree) → Tree
     → Result (List ℕ) Unedited → Type 0
 AreBytesIn t script compat earlier tree answer =
@@ -179,9 +182,9 @@ AreBytesIn t script compat earlier tree answer =
     × IsBytesLine t others (lines_of_value (length earlier) script) compat (objects_of tree 0)
     (root tree 0) answer
 
--- ---- what is read
+-- ---- parsing
 
--- the text is that of an answer, where places are told so, and the answer accepts nothing
+-- The text is that of a parse result which accepts nothing. `told` renders its positions.
 pub record IsRefusal {T : Type 0} (told : ℕ → List ℕ) (Is : Answer T → Type 0) (refusal : List ℕ)
     : Type 0 where
   pub answer : Answer T
@@ -194,20 +197,20 @@ ReadsDeclarations lines text (Ok decls) = IsDeclared text decls
 ReadsDeclarations lines text (Err refusal) =
     IsRefusal (place_in lines text) (IsFileAnswer text) refusal
 
--- the type reaches these types, at most 65,536
+-- The type reaches these types, at most 65,536.
 pub record ReachesFew (decls : List Decl) (t : Ty) : Type 0 where
   pub types : List Ty
   pub reached : IsReached decls t types
   pub few : length types ≤ 65536
 
--- the text is a type, and reaches too many types
+-- The text is a type that reaches too many types.
 pub record IsTooMuch (decls : List Decl) (text refusal : List ℕ) : Type 0 where
   pub type : Ty
   pub written : IsTypeOf decls text type
   pub many : ReachesTooMany decls type
   pub spelled : refusal ≡ codes "TooManyTypes"
 
--- the text that is asked for is this type over these declarations, and reaches few types
+-- The requested text is this type over these declarations, and the type reaches few types.
 pub record IsAccepted (decls : List Decl) (asked : AskedType) (t : TypeOver) : Type 0 where
   pub over : t.decls ≡ decls
   pub written : IsTypeOf decls asked.text t.type
@@ -221,12 +224,12 @@ ReadsType decls asked (Err refusal) =
     IsRefusal (place_in asked.lines asked.text) (IsTypeAnswer decls asked.text) refusal
     ⊎ IsTooMuch decls asked.text refusal
 
--- the text is this path, or no path
+-- The text is this path, or no path.
 abbrev pub ReadsPath : List ℕ → Option (List ℕ) → Type 0
 ReadsPath text (Some path) = IsAnswer text (Ok path)
 ReadsPath text None = (fault : PathFault) × (fault ≢ path_faults.Memory) × IsAnswer text (Err fault)
 
--- the line of a script that is at fault, and its text; out of memory is no fault
+-- The faulty line of a script with its text. Running out of memory is no fault.
 abbrev pub script_refusal : (lines : Bool) → ScriptFault → Option (ℕ × List ℕ)
 script_refusal lines (script_faults.Lex number fault) =
     Some (number, lexer_text (place_on lines number) fault)
@@ -235,13 +238,13 @@ script_refusal lines (script_faults.Syntax number place) =
 script_refusal lines (script_faults.Later number) = Some (number, codes "Later")
 script_refusal lines script_faults.Memory = None
 
--- the edits of a text, or its fault; with decimals those of its plain text, at the places of the
--- lines that were given
+-- The edits of a text, or its fault. With decimals, these are the edits of its plain text, with
+-- positions in the given lines.
 abbrev pub AreEditsOf : (decimal : Bool) → List ℕ → Edits → Type 0
 AreEditsOf false text all = AreEdits 1 text all
 AreEditsOf true text all = AreGivenEdits text all
 
--- the text is a script of these lines, or has this fault
+-- The text is a script of these lines, or it has this fault.
 abbrev pub ReadsScript : (lines decimal : Bool) → List ℕ → Result (List ScriptLine) (ℕ × List ℕ)
     → Type 0
 ReadsScript lines decimal text (Ok edits) = AreEditsOf decimal text (Ok edits)

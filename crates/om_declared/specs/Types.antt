@@ -1,4 +1,4 @@
--- The type that a FILE and a TYPE give.
+-- The type that a FILE and a TYPE denote.
 use Rattle.std.specs.Prelude.{ℕ, ◌≡◌, ◌≢◌, ◌⊎◌, Bool, List, Result, Ok, Err, MatchOption}
 use Rattle.om_types.specs.declared.decl.Decl.{Decl}
 use Rattle.om_types.specs.Accepted.{AreWellFormed, IsSoundType}
@@ -27,25 +27,25 @@ use Rattle.om_promises.specs.Given.{Fetched}
 use Rattle.om_declared.specs.Language.{TypeOver, declared_types, ReadsDeclarations, ReadsType}
 use Rattle.om_declared.specs.Language.{AreEditsOf, script_refusal}
 
--- the type, over its declarations
+-- The type over its declarations.
 abbrev pub type_over : Prepared → TypeOver
 type_over r = record { decls = r.decls; type = r.ty; lines = r.lines; decimal = r.decimal }
 
--- The type is sound over well-formed declarations, and the table is the type's.
+-- The type is sound over well-formed declarations, and the table is the type's own.
 pub record IsReady (r : Prepared) : Type 0 where
   pub well : AreWellFormed r.decls
   pub sound : IsSoundType r.decls r.ty
   pub made : IsTypeTable r.decls r.ty r.table
 
--- ---- stops
+-- ---- exit reasons
 
--- memory ran out, or the stop tells a refusal
+-- Memory ran out, or the exit reason reports a refusal.
 abbrev pub StopsBy : (List ℕ → Type 0) → (List ℕ → Stop) → Stop → Type 0
 StopsBy Refuses told stop =
     ((refusal : List ℕ) × Refuses refusal × (stop ≡ told refusal))
     ⊎ (stop ≡ out_of_memory)
 
--- memory ran out, or the stop tells the text of what the fault tells of a text
+-- Memory ran out, or the exit reason reports the text of the fault in the declarations.
 abbrev pub IsDeclarationsStop : (lines : Bool) → List ℕ → DeclFault → Stop → Type 0
 IsDeclarationsStop lines text fault stop =
     MatchOption (told {Tree = FileTree} fault) (stop ≡ out_of_memory)
@@ -56,19 +56,19 @@ IsTypeStop lines text fault stop =
     MatchOption (told {Tree = Texpr} fault) (stop ≡ out_of_memory)
     (λ answer. IsOrMemory (requested_type (answer_text (place_in lines text) answer)) stop)
 
--- memory ran out, or the text is no path
+-- Memory ran out, or the text is no path.
 abbrev pub IsPathStop : PathFault → Stop → Type 0
 IsPathStop fault stop =
     ((fault ≡ path_faults.Memory) × (stop ≡ out_of_memory))
     ⊎ ((fault ≢ path_faults.Memory) × (stop ≡ bad_path))
 
--- memory ran out, or the stop tells the line at fault
+-- Memory ran out, or the exit reason reports the faulty line.
 abbrev pub IsScriptStop : (lines : Bool) → ScriptFault → Stop → Type 0
 IsScriptStop lines fault stop =
     MatchOption (script_refusal lines fault) (stop ≡ out_of_memory)
     (λ refusal. IsOrMemory (script_line refusal.0 refusal.1) stop)
 
--- ---- what is given
+-- ---- results
 
 abbrev pub GivesDeclarations : (lines : Bool) → List ℕ → Result (List Decl) Stop → Type 0
 GivesDeclarations lines text (Ok decls) =
@@ -81,7 +81,7 @@ GivesRequested decls asked (Ok r) = ReadsType decls asked (Ok (type_over r)) × 
 GivesRequested decls asked (Err stop) =
     StopsBy (λ refusal. ReadsType decls asked (Err refusal)) requested_type stop
 
--- the type, or why there is none, but for out of memory
+-- The type, or the exit reason why there is none, or that memory ran out.
 abbrev pub GivesType : List ℕ → AskedType → Found → Result Prepared Stop → Type 0
 GivesType file type found (Ok r) =
     ReadsTypeOf declared_types (λ name. found) (file, type) (Ok (type_over r)) × IsReady r
@@ -93,11 +93,11 @@ abbrev pub FindsTypeIn : Change FilesState → List ℕ → AskedType → Result
 FindsTypeIn files file type result =
     (found : Found) × Fetched files file found × GivesType file type found result
 
--- the answer to the text of a script
+-- The parse result of the text of a script.
 abbrev pub IsAnswerOf : (decimal : Bool) → List ℕ → Result Script ScriptFault → Type 0
 IsAnswerOf decimal text answer = AreEditsOf decimal text (edits_in answer)
 
--- the lines of the script, or why there are none, but for out of memory
+-- The lines of the script, or the exit reason why there are none, or that memory ran out.
 abbrev pub GivesScript : (lines decimal : Bool) → List ℕ → Found → Result Script Stop → Type 0
 GivesScript lines decimal name found (Ok script) =
     ReadsScriptOf declared_types lines decimal (λ name. found) name (Ok script.lines)

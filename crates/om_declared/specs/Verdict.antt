@@ -12,12 +12,12 @@ use Rattle.om_check.specs.declared.verdict.Verdict.{Verdict}
 use Rattle.om_declared.specs.declared.requested.Prepared.{Prepared}
 use Rattle.om_declared.specs.Language.{TypeOver}
 
--- the verdict is on the value at the first type of the table
+-- The verdict is on the value at the first type of the table.
 abbrev pub IsVerdictOf : Prepared → List Obj → Val → Verdict → Type 0
 IsVerdictOf r graph root verdict = IsVerdict (table_of r.table) graph root verdict
 
--- the value has not each closed instance of the type, and the line of the least fault is put after
--- another text
+-- The value does not have every closed instance of the type, and the line of its first fault is
+-- appended to a text.
 abbrev pub PutsNo : TypeOver → List Obj → Val → List ℕ → List ℕ → Type 0
 PutsNo t graph root old new =
     (line : List ℕ) × IsNoLine (declared_shapes t.decls) type_text graph root t.type line

@@ -1,4 +1,4 @@
-//! The bytes of a value, put.
+//! Writes the bytes of a value.
 
 ghost use Rattle.std.specs.Prelude.{◌≡◌, Bool, true, false};
 ghost use Rattle.om_edge.specs.State.{change};
@@ -12,7 +12,9 @@ use om_stops::stop::Halt;
 use om_write::{Write32Error, write, write32};
 use std::alloc::Global;
 
-/// Puts the bytes of the value of this number.
+/// Writes the canonical bytes of value `number`. If `compat` is true, then a value that is too
+/// large for 32-bit readers is an error, and nothing is written. Fails if memory runs out or if
+/// writing fails.
 pub fn put_bytes<K: Sink>(
     alloc: Global,
     value: &Rooted<'_>,
@@ -31,7 +33,7 @@ pub fn put_bytes<K: Sink>(
     }
 }
 
-// Those that a reader on 32 bits can hold.
+// Writes the bytes if a 32-bit reader can read them.
 fn put_compat<K: Sink>(
     alloc: Global,
     value: &Rooted<'_>,
@@ -53,7 +55,8 @@ fn put_compat<K: Sink>(
     }
 }
 
-/// Puts them whatever reader is to hold them.
+/// Writes the canonical bytes of value `number`, whether or not a 32-bit reader can read them.
+/// Fails if memory runs out or if writing fails.
 pub fn put_plain<K: Sink>(
     alloc: Global,
     value: &Rooted<'_>,

@@ -1,4 +1,4 @@
-//! The test that a value has the type, where the run stops at one that has not.
+//! Checks that a value has the type, and ends the run if it does not.
 
 ghost use Rattle.om_declared.specs.Checked.{ChecksType};
 ghost use Rattle.om_declared.specs.Verdict.{IsVerdictOf};
@@ -15,7 +15,8 @@ use om_table::tables_decide;
 use om_types::fault::Fault;
 use std::alloc::Global;
 
-/// Tests that the value has the type.
+/// Checks that value `number` has the type. Fails with the exit reason of its first fault if it
+/// does not, or if memory runs out.
 pub fn check_type(
     alloc: Global,
     value: &Rooted<'_>,
@@ -28,7 +29,7 @@ pub fn check_type(
     check_verdict(alloc, value, number, requested, &verdict)
 }
 
-/// Tests that the verdict on the value is that it has the type.
+/// Checks that the verdict on the value is `Yes`.
 fn check_verdict(
     alloc: Global,
     value: &Rooted<'_>,
@@ -47,7 +48,7 @@ fn check_verdict(
     }
 }
 
-/// Stops the run at a value that has not the type, by its least fault.
+/// Returns the exit reason for a value that does not have the type, with its first fault.
 fn refuse_value(
     alloc: Global,
     value: &Rooted<'_>,

@@ -1,4 +1,4 @@
-//! A file, fetched and taken whole.
+//! Fetches a file and reads it completely.
 
 ghost use Rattle.std.specs.Prelude.{◌≡◌, MatchResult};
 ghost use Rattle.om_edge.specs.State.{as_source, change};
@@ -11,7 +11,7 @@ use om_edge::{OpenError, Opener};
 use om_model::Memory;
 use std::alloc::Global;
 
-/// What came of fetching a file.
+/// The result of fetching a file.
 #[derive(Drop)]
 pub enum Fetch {
     Opened(Gathered),
@@ -19,7 +19,7 @@ pub enum Fetch {
     Failed,
 }
 
-// Takes the bytes of the file fetched last, up to their end, a fault or 2^48 bytes.
+// Reads the bytes of the file fetched last, up to its end, a read error or 2^48 bytes.
 fn gather_file<O: Opener>(alloc: Global, files: &mut O) -> Result<Gathered, Memory>
     ensures taken { MatchResult result
         (λ g. Gathers (change (as_source (O.state files.old)) (as_source (O.state files.new)))
@@ -54,7 +54,7 @@ fn gather_file<O: Opener>(alloc: Global, files: &mut O) -> Result<Gathered, Memo
     })
 }
 
-/// Fetches a file and takes its bytes.
+/// Fetches a file and reads its bytes. Fails with `Memory` if memory runs out.
 pub fn fetch_file<O: Opener>(alloc: Global, files: &mut O, name: &str) -> Result<Fetch, Memory>
     ensures { MatchResult result
         (λ f. Fetched (change (O.state files.old) (O.state files.new)) name.now (fetch_found f))

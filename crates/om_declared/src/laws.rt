@@ -1,4 +1,4 @@
-//! Declarations and types in OCaml's own words, as a language of types in general.
+//! Declarations and types in OCaml's syntax, as an instance of the general language of types.
 
 ghost use Rattle.std.specs.Prelude.{List};
 ghost use Rattle.om_types.specs.declared.decl.Decl.{Decl};
@@ -14,7 +14,7 @@ use om_path::{one_answer as one_path, one_script_answer};
 use om_table::type_or_fault;
 use om_trees::tree_verdicts_are_one;
 
-/// Files and types in OCaml's own words, and scripts of edits.
+/// The language of OCaml type declarations, type expressions and edit scripts.
 pub struct DeclaredTypes;
 
 impl Speaks for DeclaredTypes {
@@ -27,7 +27,8 @@ impl Speaks for DeclaredTypes {
     ghost language = { declared_types };
 }
 
-/// They are read in one way, and one thing is said of a value at a type.
+/// Proves that the language is lawful: each text parses in one way, and each value has one output
+/// at a type. This is a lemma function.
 pub fn declared_types_are_lawful()
     ensures { IsLawful declared_types }
 {

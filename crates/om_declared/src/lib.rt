@@ -1,4 +1,7 @@
-//! What FILE, TYPE and SCRIPT are read as, and what is found of a value at the type that they give.
+//! The language of declared types: parses FILE, TYPE and SCRIPT, and computes the verdict, the
+//! output lines and the bytes for a value at the type. `declared_types_are_lawful` proves that
+//! parsing and outputs are unique. The other contracts state that a run's exit reasons are refusals
+//! of these texts.
 #![tactic(auto)]
 
 mod bytes;

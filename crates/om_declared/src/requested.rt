@@ -1,4 +1,4 @@
-//! The type that a run asks for, and the table that values are checked by.
+//! The type that a run requests, and the table that checks values against it.
 
 ghost use Rattle.std.specs.Prelude.{◌≡◌};
 ghost use Rattle.om_declared.specs.Types.{IsReady};
@@ -9,9 +9,9 @@ use om_types::decl::Decl;
 use om_types::ty::Ty;
 use std::marker::Model;
 
-/// A type over declarations, and the table that values are checked by; whether the places of what
-/// is refused at it are told by line and column; and whether decimals stand for doubles in the
-/// texts that are read at it.
+/// A type over declarations with its table. `lines` says whether positions in refused texts are
+/// reported as line and column. `decimal` says whether the texts that are parsed at this type may
+/// contain doubles as decimals.
 #[derive(Drop)]
 pub struct Prepared {
     pub decls: List<Decl>,
@@ -21,8 +21,8 @@ pub struct Prepared {
     pub decimal: bool,
 }
 
-/// What is prepared of a type that is sound over well-formed declarations, where the table is the
-/// type's. Contracts see what is prepared.
+/// A type that is sound over well-formed declarations, with its own table (`IsReady`). Its model is
+/// the `Prepared` record.
 #[derive(Drop)]
 pub struct Requested {
     of: Prepared,
@@ -45,7 +45,7 @@ impl Model for Requested {
 }
 
 impl Requested {
-    /// What is prepared is ready.
+    /// Creates the requested type from a record that is ready.
     pub fn new(of: Prepared) -> Requested
         requires { IsReady of }
         ensures { result ≡ of }
@@ -53,7 +53,8 @@ impl Requested {
         Requested { of }
     }
 
-    /// What always holds of it. It does nothing.
+    /// Proves the invariant of the requested type. This is a lemma method: it does nothing at run
+    /// time.
     #[inline(always)]
     pub fn holds(&self)
         ensures { IsReady self.now }
@@ -61,7 +62,7 @@ impl Requested {
         let _ = &self.of;
     }
 
-    /// The table that values are checked by.
+    /// Returns the table that checks values.
     #[inline(always)]
     pub fn table(&self) -> &TypeTable
         ensures same { result.now ≡ self.now.table }
@@ -69,7 +70,7 @@ impl Requested {
         &self.of.table
     }
 
-    /// Whether places are told by line and column.
+    /// Returns true if positions are reported as line and column.
     #[inline(always)]
     pub fn lines(&self) -> bool
         ensures { result ≡ self.now.lines }
@@ -77,7 +78,7 @@ impl Requested {
         self.of.lines
     }
 
-    /// Whether decimals stand for doubles in the texts that are read at it.
+    /// Returns true if texts that are parsed at this type may contain doubles as decimals.
     #[inline(always)]
     pub fn decimal(&self) -> bool
         ensures { result ≡ self.now.decimal }

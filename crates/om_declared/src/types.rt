@@ -1,4 +1,4 @@
-//! The type that a run asks for: its FILE, and its TYPE; its SCRIPT; and the stops of texts that
+//! Parses the FILE, the TYPE and the SCRIPT of a run, and returns the exit reasons for texts that
 //! are refused.
 
 ghost use Rattle.std.specs.Prelude.{ℕ, List as Seq, Ok, Err, IfOk, IfErr, codes};
@@ -31,7 +31,7 @@ use om_typeintern::{TypeFault, build};
 use om_types::decl::Decl;
 use std::alloc::Global;
 
-/// The stop of declarations that are refused.
+/// Returns the exit reason for declarations that are refused.
 fn declarations_stop(alloc: Global, lines: bool, text: &[u8], fault: &DeclFault) -> Stop
     ensures { IsDeclarationsStop lines text.now fault.now result }
 {
@@ -41,7 +41,7 @@ fn declarations_stop(alloc: Global, lines: bool, text: &[u8], fault: &DeclFault)
     }
 }
 
-/// The stop of a type that is refused.
+/// Returns the exit reason for a type that is refused.
 fn type_stop(alloc: Global, lines: bool, text: &[u8], fault: &DeclFault) -> Stop
     ensures { IsTypeStop lines text.now fault.now result }
 {
@@ -51,7 +51,7 @@ fn type_stop(alloc: Global, lines: bool, text: &[u8], fault: &DeclFault) -> Stop
     }
 }
 
-/// The stop of a PATH that is no path.
+/// Returns the exit reason for a PATH that is no valid path, or `Memory`.
 pub fn path_stop(fault: PathFault) -> Stop
     ensures { IsPathStop fault result }
 {
@@ -61,7 +61,7 @@ pub fn path_stop(fault: PathFault) -> Stop
     }
 }
 
-/// The stop of a line of a SCRIPT that has no lexemes.
+/// Returns the exit reason for a line of a SCRIPT with a lexical error.
 fn lexer_stop(alloc: Global, lines: bool, number: usize, fault: LexFault) -> Stop
     ensures { IsOrMemory (script_line number (text_of_lexer (place_on lines number) fault))
         result }
@@ -72,7 +72,7 @@ fn lexer_stop(alloc: Global, lines: bool, number: usize, fault: LexFault) -> Sto
     }
 }
 
-/// The stop of a line of a SCRIPT that no line of one goes on as.
+/// Returns the exit reason for a line of a SCRIPT with a syntax error.
 fn syntax_stop(alloc: Global, lines: bool, number: usize, place: usize) -> Stop
     ensures { IsOrMemory
         (script_line number (placed_text (codes "Syntax") (place_on lines number place))) result }
@@ -83,7 +83,7 @@ fn syntax_stop(alloc: Global, lines: bool, number: usize, place: usize) -> Stop
     }
 }
 
-/// The stop of a SCRIPT that is refused.
+/// Returns the exit reason for a SCRIPT that is refused.
 fn script_stop(alloc: Global, lines: bool, fault: ScriptFault) -> Stop
     ensures { IsScriptStop lines fault result }
 {
@@ -95,7 +95,7 @@ fn script_stop(alloc: Global, lines: bool, fault: ScriptFault) -> Stop
     }
 }
 
-// Reads the declarations.
+// Parses the declarations.
 fn read_declarations(alloc: Global, text: &[u8], lines: bool) -> Result<List<Decl>, Stop>
     ensures { GivesDeclarations lines text.now result }
 {
@@ -105,7 +105,7 @@ fn read_declarations(alloc: Global, text: &[u8], lines: bool) -> Result<List<Dec
     }
 }
 
-// Makes the table of a type over the declarations.
+// Parses the type over the declarations and creates its table.
 fn read_requested(
     alloc: Global,
     decls: List<Decl>,
@@ -133,7 +133,8 @@ fn read_requested(
     }
 }
 
-/// Reads the declarations that were gathered, and the type over them.
+/// Parses declarations that were read from a file, and the type over them. Fails with the exit
+/// reason if a text is refused, if the file was not read to its end, or if memory runs out.
 pub fn read_gathered(
     alloc: Global,
     gathered: &Gathered,
@@ -156,7 +157,8 @@ pub fn read_gathered(
     }
 }
 
-/// Reads FILE and TYPE.
+/// Fetches FILE, and parses it and TYPE. Fails with the exit reason if the file cannot be read, if
+/// a text is refused, or if memory runs out.
 pub fn find_type<O: Opener>(
     alloc: Global,
     files: &mut O,
@@ -176,7 +178,7 @@ pub fn find_type<O: Opener>(
     }
 }
 
-// Reads the text of a script, in which decimals may stand for doubles.
+// Parses the text of a script. If `decimal` is true, then it may contain doubles as decimals.
 fn read_edits(alloc: Global, text: &[u8], decimal: bool) -> Result<Script, ScriptFault>
     ensures script { IfOk result (λ script. IsAnswerOf decimal text.now (Ok script)) }
     ensures fault { IfErr result
@@ -189,7 +191,7 @@ fn read_edits(alloc: Global, text: &[u8], decimal: bool) -> Result<Script, Scrip
     }
 }
 
-// Reads the lines of a script that were gathered.
+// Parses the lines of a script that was read from a file.
 fn read_lines(
     alloc: Global,
     gathered: &Gathered,
@@ -210,7 +212,8 @@ fn read_lines(
     }
 }
 
-/// Reads SCRIPT.
+/// Fetches SCRIPT and parses it. Fails with the exit reason if the file cannot be read, if the text
+/// is refused, or if memory runs out.
 pub fn find_script<O: Opener>(
     alloc: Global,
     files: &mut O,

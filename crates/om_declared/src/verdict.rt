@@ -21,7 +21,8 @@ use om_table::tables_decide;
 use om_types::fault::Fault;
 use std::alloc::Global;
 
-/// Whether the value has the type, and if not the least fault.
+/// Checks whether the value has the type. Returns the first fault if it does not. Fails with
+/// `Memory` if memory runs out.
 pub fn find_verdict(
     alloc: Global,
     value: &Rooted<'_>,
@@ -33,7 +34,7 @@ pub fn find_verdict(
     check(alloc, value.heap, value.root, requested.table(), &mut steps)
 }
 
-/// Puts `no` and the least fault at the end.
+/// Appends `no` and the first fault. Fails with `Memory` if memory runs out.
 pub fn put_no(
     text: &mut Vec<u8>,
     alloc: Global,
@@ -55,8 +56,9 @@ pub fn put_no(
     Ok(())
 }
 
-/// Puts `no` and the least fault at the end, where a small value has it near its root. The answer
-/// is whether it has; where it has not nothing is put.
+/// Fast path for faults near the root of small values. Appends `no` and the first fault and returns
+/// true if there is such a fault; otherwise appends nothing and returns false. Fails with `Memory`
+/// if memory runs out.
 pub fn put_near_no(
     text: &mut Vec<u8>,
     alloc: Global,
@@ -82,7 +84,8 @@ pub fn put_near_no(
     Ok(true)
 }
 
-/// Puts `no` and the one misfit that was found of a value, which is its least fault, at the end.
+/// Appends `no` and the mismatch that was found, which is the first fault of its value. Fails with
+/// `Memory` if memory runs out.
 pub fn put_missed_no(
     text: &mut Vec<u8>,
     alloc: Global,

@@ -1,4 +1,5 @@
--- What a clause reads of the adapters: what they are over, and how often a call failed.
+-- The parts of the adapters that contracts refer to: the reader or writer inside, and the number of
+-- failed calls.
 use Rattle.std.specs.Prelude.{ℕ, None}
 use Rattle.om_edge.specs.State.{ByteState}
 use Rattle.om_edge.specs.declared.real.StdSource.{StdSource}
@@ -16,6 +17,6 @@ writer_of sink = sink.writer
 abbrev pub write_faults_of : {W : Type 0} → StdSink W → ℕ
 write_faults_of sink = sink.faults
 
--- the count alone: the bytes are not told
+-- Only the count: the bytes are not known.
 abbrev pub untold : ℕ → ByteState
 untold faults = record { bytes = None; faults = faults }

@@ -1,5 +1,5 @@
--- What is known of the file system: whether a file is held open, the bytes that it has left where
--- it tells them, the counts of faults, and the name at the last fetch that failed.
+-- The known state of the file system: whether a file is open, its remaining bytes if they are
+-- known, the counts of faults, and the name of the last failed fetch.
 use Rattle.std.specs.Prelude.{ℕ, Bool, List, Option}
 
 pub record DiskValue : Type 0 where

@@ -1,4 +1,4 @@
--- What the fakes in memory are: the bytes, and the numbers of the calls that fail.
+-- Models of the fakes in memory: the bytes, and the numbers of the calls that fail.
 use Rattle.std.specs.Prelude.{ℕ, ◌+◌, ◌<◌, ◌≤◌, min, Bool, List, [], map, drop, length}
 use Rattle.std.specs.Prelude.{slice_index_or, Contains, Option, Some, None, IfSome, String}
 use Rattle.std.specs.Prelude.{string_bytes, Vec}
@@ -7,18 +7,18 @@ use Rattle.om_edge.specs.Faults.{last_count, count_after}
 use Rattle.om_edge.specs.Files.{File}
 use Rattle.om_edge.specs.State.{ByteState, FilesState}
 
--- the calls of one kind: the numbers of those that fail, the number of the next, and how many
--- failed
+-- The calls of one kind: the numbers of the calls that fail, the number of the next call, and the
+-- number of failed calls.
 pub record Plan : Type 0 where
   pub failing : List ℕ
   pub calls : ℕ
   pub faults : ℕ
 
--- the next call is one of those that fail
+-- The next call fails.
 abbrev pub FailsNext : Plan → Type 0
 FailsNext plan = Contains plan.failing plan.calls
 
--- the plan after one more call, by whether it failed
+-- The plan after one more call, which failed or not.
 abbrev pub after_call : Plan → Bool → Plan
 after_call plan failed = record {
   failing = plan.failing;
@@ -26,24 +26,24 @@ after_call plan failed = record {
   faults = count_after plan.faults failed;
 }
 
--- no call yet
+-- A plan before the first call.
 abbrev pub plan_of : List ℕ → Plan
 plan_of failing = record { failing = failing; calls = 0; faults = 0 }
 
--- a source in memory: the bytes left, and how many it gives at most in a call
+-- A source in memory: the remaining bytes, and the maximum number of bytes that a call returns.
 pub record SourceValue : Type 0 where
   pub left : List ℕ
   pub piece : ℕ
   pub takes : Plan
 
--- a sink in memory: the bytes written, and how many it can hold
+-- A sink in memory: the bytes written, and its capacity in bytes.
 pub record SinkValue : Type 0 where
   pub written : List ℕ
   pub room : ℕ
   pub puts : Plan
 
--- files in memory: the map, the bytes left of the file fetched last, and the name at the last fetch
--- that failed
+-- Files in memory: the map, the remaining bytes of the file fetched last, and the name of the last
+-- failed fetch.
 pub record FilesValue : Type 0 where
   pub files : List File
   pub left : List ℕ
@@ -70,16 +70,17 @@ files_state files = record {
 
 -- ---- the files of the pairs
 
--- the names and bytes of the pairs
+-- The names and bytes of the pairs.
 abbrev pub files_of : List (String Global × Vec ℕ Global) → List File
 files_of pairs = map (λ pair. (string_bytes pair.0, pair.1.items)) pairs
 
--- what is left of the file at a place, from an offset on; nothing where there is no file
+-- The bytes of the file at an index, from `offset` to the end. The result is empty if there is no
+-- file.
 abbrev pub left_at : List File → Option ℕ → ℕ → List ℕ
 left_at files None offset = []
 left_at files (Some place) offset = drop offset (slice_index_or files place ([], [])).1
 
--- the place is one of the files', and the offset is within its bytes
+-- The index is that of a file, and the offset is within its bytes.
 abbrev pub IsWithin : List File → Option ℕ → ℕ → Type 0
 IsWithin files place offset =
     IfSome place (λ k. (k < length files) × (offset ≤ length (slice_index_or files k ([], [])).1))

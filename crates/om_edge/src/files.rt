@@ -1,4 +1,4 @@
-//! Files by their names.
+//! Access to files by name.
 
 ghost use Rattle.std.specs.Prelude.{◌≡◌, [], None, is_some, IsSome, IsSomeAnd, IfSome, OnOk, OnErr};
 ghost use Rattle.std.specs.Prelude.{IsErrOf};
@@ -12,7 +12,8 @@ use om_model::Memory;
 use std::alloc::AllocError;
 use thiserror::Error;
 
-/// Why a file was not opened.
+/// The reason why a file was not opened. `Missing` means that there is no such file, `Failed` that
+/// it cannot be opened.
 #[derive(Clone, Copy, Debug, PartialEq, Eq, Error)]
 pub enum OpenError {
     #[error("the file cannot be opened")]
@@ -45,15 +46,16 @@ impl From<AllocError> for OpenError {
     }
 }
 
-/// Files by their names. One at a time is fetched, and then its bytes are taken.
+/// Access to files by name. `fetch` opens one file at a time; then `take` reads its bytes.
 pub trait Opener {
     ghost use Rattle.om_edge.specs.Files.{contents_of, Opens, has_failed};
 
-    /// The map from names to bytes and the bytes left of the file fetched last, where they are
-    /// told; how often a fetch failed, the name at the last of these, and how often a take failed.
+    /// The map from names to bytes and the remaining bytes of the file fetched last, if they are
+    /// known; the number of failed fetches, the name of the last failed fetch, and the number of
+    /// failed takes.
     ghost state: { Self → FilesState };
 
-    /// Takes the next bytes of the file fetched last, as a source does.
+    /// Reads the next bytes of the file fetched last, as `Source::take` does.
     fn take(&mut self, buf: &mut [u8]) -> Result<usize, Failed>
         ensures takes { TakesFront (as_source (state self.old)) (as_source (state self.new))
             result buf.new }
@@ -62,7 +64,8 @@ pub trait Opener {
           read_faults = (state self.new).read_faults;
         } };
 
-    /// Leaves the bytes of the named file to be taken. After a refusal none are left.
+    /// Opens the file with this name, so that `take` reads its bytes. If `fetch` returns an error,
+    /// then no bytes remain.
     fn fetch(&mut self, name: &str) -> Result<(), OpenError>
         ensures opened { OnOk result
             (IfSome (state self.old).map (λ all. Opens all name.now (state self.new).left)) }

@@ -1,4 +1,7 @@
-//! The outside as traits: a source of bytes, a sink and the files, each with a count of its faults.
+//! The environment as traits: a source of bytes, a sink of bytes, and files by name. Each counts
+//! its failed calls. The crate also implements them for readers, writers and the file system
+//! (`StdSource`, `StdSink`, `DiskFiles`), and in memory for tests (`MemSource`, `MemSink`,
+//! `MemFiles`). A contract makes statements about bytes only if the bytes are known.
 #![tactic(auto)]
 
 mod files;

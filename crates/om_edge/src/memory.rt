@@ -1,4 +1,5 @@
-//! Fakes in memory. They tell their bytes, and fail at the calls that they are made to fail at.
+//! Fakes in memory. Their bytes are known, and they fail at the calls that were chosen when they
+//! were created.
 
 ghost use Rattle.std.specs.Prelude.{◌≡◌, ◌⊎◌, ◌↔◌, ◌<◌, ◌≤◌, min, [], length, take, None, Some};
 ghost use Rattle.std.specs.Prelude.{is_err, IsErr, IsErrOf, IsTrue, OnOk, OnErr, IfOk};
@@ -19,7 +20,8 @@ use om_model::Memory;
 use std::alloc::Global;
 use std::marker::Model;
 
-// Copies bytes to the front of a buffer, as many as there are and have room.
+// Copies bytes to the start of a buffer, as many as both can hold, and returns the number of copied
+// bytes.
 fn copy_front(from: &[u8], to: &mut [u8]) -> usize
     ensures amount { result ≡ min (length from.now) (length to.new) }
     ensures front { take result to.new ≡ take result from.now }
@@ -29,14 +31,14 @@ fn copy_front(from: &[u8], to: &mut [u8]) -> usize
     n
 }
 
-// What is in a slice of bytes are bytes. The function does nothing: what it ensures is a law.
+// Lemma function: the elements of a slice of bytes are bytes.
 fn are_bytes(bytes: &[u8])
     ensures { AreBytes bytes.now }
 {
     let _all = bytes;
 }
 
-/// A source of given bytes.
+/// A source in memory.
 #[derive(Drop)]
 pub struct MemSource {
     bytes: Vec<u8>,
@@ -57,7 +59,8 @@ impl Model for MemSource {
 }
 
 impl MemSource {
-    /// Gives at most `piece` bytes in a call. The calls of these numbers fail, counted from 0.
+    /// Creates a source that returns at most `piece` bytes in a call. The calls with the numbers in
+    /// `failing`, counted from 0, fail.
     pub fn new(bytes: Vec<u8>, piece: usize, failing: Vec<u64>) -> MemSource
         requires { 1 ≤ piece }
         ensures { result
@@ -71,7 +74,7 @@ impl MemSource {
         }
     }
 
-    /// How many calls failed.
+    /// Returns the number of failed calls.
     pub fn faults(&self) -> u64
         ensures { result ≡ self.now.takes.faults }
     {
@@ -87,7 +90,7 @@ impl Source for MemSource {
     fn take(&mut self, buf: &mut [u8]) -> Result<usize, Failed>
         ensures takes { TakesFront (source_state self.old) (source_state self.new) result buf.new }
 
-        // Which calls fail, and how many bytes the others give.
+        // Which calls fail, and how many bytes the other calls return.
         ensures fails { IsErr result ↔ FailsNext self.old.takes }
         ensures amount { IfOk result
             (λ n. n ≡ min (min self.old.piece (length self.old.left)) (length buf.new)) }
@@ -112,7 +115,7 @@ impl Source for MemSource {
     }
 }
 
-/// A sink that keeps the bytes written.
+/// A sink in memory that keeps the written bytes.
 #[derive(Drop)]
 pub struct MemSink {
     bytes: Vec<u8>,
@@ -132,8 +135,8 @@ impl Model for MemSink {
 }
 
 impl MemSink {
-    /// Holds at most `room` bytes, for which it takes the memory at once. A call that finds it full
-    /// fails, and so do the calls of these numbers, counted from 0.
+    /// Creates a sink for at most `room` bytes, and allocates that memory at once. A call on a full
+    /// sink fails. The calls with the numbers in `failing`, counted from 0, fail too.
     pub fn new(alloc: Global, room: usize, failing: Vec<u64>) -> Result<MemSink, Memory>
         ensures { IfOk result
             (λ sink. sink ≡ record { written = []; room = room; puts = plan_of failing.items }) }
@@ -145,14 +148,14 @@ impl MemSink {
         })
     }
 
-    /// The bytes written.
+    /// Returns the bytes that were written.
     pub fn written(&self) -> &[u8]
         ensures { result.now ≡ self.now.written }
     {
         self.bytes.as_slice()
     }
 
-    /// How many calls failed.
+    /// Returns the number of failed calls.
     pub fn faults(&self) -> u64
         ensures { result ≡ self.now.puts.faults }
     {
@@ -170,7 +173,7 @@ impl Sink for MemSink {
         ensures appends { AppendsFront (sink_state self.old) (sink_state self.new) result
             piece.now }
 
-        // Which calls fail, and how many bytes the others take.
+        // Which calls fail, and how many bytes the other calls accept.
         ensures fails { IsErr result
             ↔ (FailsNext self.old.puts ⊎ (length self.old.written ≡ self.old.room)) }
         ensures amount { IfOk result
@@ -190,7 +193,7 @@ impl Sink for MemSink {
     }
 }
 
-/// Files of given names and bytes.
+/// Files in memory with given names and bytes.
 #[derive(Drop)]
 pub struct MemFiles {
     alloc: Global,
@@ -219,14 +222,14 @@ impl Model for MemFiles {
     ghost invariant = { λ f. IsWithin (files_of f.pairs.items) f.fetched f.at };
 }
 
-// The place of the first pair of this name.
+// Returns the index of the first pair with this name.
 fn place_of(pairs: &[(String, Vec<u8>)], name: &str) -> Option<usize>
     ensures { result ≡ position (λ pair. bytes_eq (string_bytes pair.0) name.now) pairs.now }
 {
     pairs.iter().position(|pair| pair.0.as_str() == name)
 }
 
-// The bytes of the file at a place.
+// Returns the bytes of the file at index `place`.
 fn bytes_at(pairs: &[(String, Vec<u8>)], place: usize) -> &[u8]
     requires { place < length pairs.now }
     ensures { result.now ≡ (slice_index_or (files_of pairs.now) place ([], [])).1 }
@@ -235,8 +238,8 @@ fn bytes_at(pairs: &[(String, Vec<u8>)], place: usize) -> &[u8]
 }
 
 impl MemFiles {
-    /// No name comes twice. The fetches of the numbers `failing` fail, and the takes of the numbers
-    /// `reads`, each counted from 0.
+    /// Creates files with distinct names. The fetches with the numbers in `failing` and the takes
+    /// with the numbers in `reads`, each counted from 0, fail.
     pub fn new(
         alloc: Global,
         pairs: Vec<(String, Vec<u8>)>,
@@ -263,7 +266,7 @@ impl MemFiles {
         }
     }
 
-    /// Whether no name comes twice, as `new` asks.
+    /// Returns true if no name occurs twice, as `new` requires.
     pub fn have_no_name_twice(pairs: &[(String, Vec<u8>)]) -> bool
         ensures { IsTrue result ↔ HasNoNameTwice (files_of pairs.now) }
     {
@@ -275,14 +278,14 @@ impl MemFiles {
         true
     }
 
-    /// How many fetches failed.
+    /// Returns the number of failed fetches.
     pub fn open_faults(&self) -> u64
         ensures { result ≡ self.now.fetches.faults }
     {
         self.fetches.faults()
     }
 
-    /// The name at the last fetch that failed.
+    /// Returns the name of the last failed fetch.
     pub fn last_open_fault(&self) -> Option<&str>
         ensures { option_copied result ≡ self.now.last_open_fault }
     {
@@ -292,7 +295,7 @@ impl MemFiles {
         }
     }
 
-    /// How many takes failed.
+    /// Returns the number of failed takes.
     pub fn read_faults(&self) -> u64
         ensures { result ≡ self.now.reads.faults }
     {
@@ -312,7 +315,7 @@ impl Opener for MemFiles {
         ensures frame { self.new
             ≡ record self.old { left = self.new.left; reads = self.new.reads } }
 
-        // Which calls fail, and how many bytes the others give.
+        // Which calls fail, and how many bytes the other calls return.
         ensures fails { IsErr result ↔ FailsNext self.old.reads }
         ensures amount { IfOk result (λ n. n ≡ min (length self.old.left) (length buf.new)) }
         ensures counted { self.new.reads ≡ after_call self.old.reads (is_err result) }

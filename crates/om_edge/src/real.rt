@@ -1,5 +1,5 @@
-//! Readers, writers and the file system. Each tells its faults, and as a source or a sink nothing
-//! of its bytes.
+//! Readers, writers and the file system. Each counts its faults. As a source or a sink its bytes
+//! are not known.
 
 ghost use Rattle.std.specs.Prelude.{◌≡◌, None, Some, option_copied, is_ok, is_err, IsErrOf, false};
 ghost use Rattle.std.specs.Bool.{OnTrue, OnFalse};
@@ -16,7 +16,7 @@ use std::io::{Read, Write};
 use std::marker::Model;
 use std::rt::Files;
 
-/// A source over a reader.
+/// A source that reads from a reader.
 #[derive(Drop)]
 pub struct StdSource<R> {
     reader: R,
@@ -26,7 +26,7 @@ pub struct StdSource<R> {
 impl<R> StdSource<R> {
     ghost use Rattle.om_edge.specs.Adapters.{reader_of, read_faults_of};
 
-    /// No call has failed.
+    /// Creates a source with no failed calls.
     pub fn new(reader: R) -> StdSource<R>
         ensures over { reader_of result ≡ reader }
         ensures faults { read_faults_of result ≡ 0 }
@@ -34,7 +34,7 @@ impl<R> StdSource<R> {
         StdSource { reader, faults: 0 }
     }
 
-    /// How many calls failed.
+    /// Returns the number of failed calls.
     pub fn faults(&self) -> u64
         ensures { result ≡ read_faults_of self.now }
     {
@@ -52,7 +52,7 @@ impl<R: Read> Source for StdSource<R> {
             (untold (read_faults_of self.new)) result buf.new }
         ensures counted { read_faults_of self.new
             ≡ count_after (read_faults_of self.old) (is_err result) }
-        // It gives what the reader gives, where the reader tells it.
+        // If the bytes of the reader are known, the call returns the reader's bytes.
         ensures bytes { ReadConsumes (R.remaining (reader_of self.old))
             (R.remaining (reader_of self.new)) result buf.new }
     {
@@ -68,7 +68,7 @@ impl<R: Read> Source for StdSource<R> {
     fn tells_bytes(&self) {}
 }
 
-/// A sink over a writer.
+/// A sink that writes to a writer.
 #[derive(Drop)]
 pub struct StdSink<W> {
     writer: W,
@@ -78,7 +78,7 @@ pub struct StdSink<W> {
 impl<W> StdSink<W> {
     ghost use Rattle.om_edge.specs.Adapters.{writer_of, write_faults_of};
 
-    /// No call has failed.
+    /// Creates a sink with no failed calls.
     pub fn new(writer: W) -> StdSink<W>
         ensures over { writer_of result ≡ writer }
         ensures faults { write_faults_of result ≡ 0 }
@@ -86,7 +86,7 @@ impl<W> StdSink<W> {
         StdSink { writer, faults: 0 }
     }
 
-    /// How many calls failed.
+    /// Returns the number of failed calls.
     pub fn faults(&self) -> u64
         ensures { result ≡ write_faults_of self.now }
     {
@@ -104,13 +104,14 @@ impl<W: Write> Sink for StdSink<W> {
             (untold (write_faults_of self.new)) result piece.now }
         ensures counted { write_faults_of self.new
             ≡ count_after (write_faults_of self.old) (is_err result) }
-        // The writer takes what the answer says, where it tells what it holds.
+        // If the contents of the writer are known, the writer appends the number of bytes that the
+        // call returns.
         ensures bytes { WriteAppends (W.contents (writer_of self.old))
             (W.contents (writer_of self.new)) result piece.now }
     {
         match self.writer.write(piece) {
             Ok(n) if n > 0 || piece.is_empty() => Ok(n),
-            // An error, or a writer that takes nothing.
+            // The writer returned an error or accepted no bytes.
             _ => {
                 self.faults = self.faults.saturating_add(1);
                 Err(Failed)
@@ -146,7 +147,7 @@ impl<R: Files> Model for DiskFiles<R> {
 }
 
 impl<R: Files> DiskFiles<R> {
-    /// No call has failed.
+    /// Creates the file system access with no failed calls.
     pub fn new(alloc: Global, rt: R) -> DiskFiles<R>
         ensures { result
             ≡ record {
@@ -167,14 +168,14 @@ impl<R: Files> DiskFiles<R> {
         }
     }
 
-    /// How many fetches failed.
+    /// Returns the number of failed fetches.
     pub fn open_faults(&self) -> u64
         ensures { result ≡ self.now.open_faults }
     {
         self.open_faults
     }
 
-    /// The name at the last fetch that failed.
+    /// Returns the name of the last failed fetch.
     pub fn last_open_fault(&self) -> Option<&str>
         ensures { option_copied result ≡ self.now.last_open_fault }
     {
@@ -184,7 +185,7 @@ impl<R: Files> DiskFiles<R> {
         }
     }
 
-    /// How many takes failed.
+    /// Returns the number of failed takes.
     pub fn read_faults(&self) -> u64
         ensures { result ≡ self.now.read_faults }
     {
@@ -214,9 +215,9 @@ impl<R: Files> Opener for DiskFiles<R> {
           read_faults = count_after self.old.read_faults (is_err result);
         } }
 
-        // It gives what the open file gives, where that tells it.
+        // If the bytes of the open file are known, the call returns the file's bytes.
         ensures bytes { ReadConsumes self.old.left self.new.left result buf.new }
-        // With no file there is no byte.
+        // If no file is open, the call returns no bytes.
         ensures closed { self.old.is_open ≡ false → result ≡ Ok 0 }
     {
         let Some(file) = &mut self.file else {

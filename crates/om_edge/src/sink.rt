@@ -1,4 +1,4 @@
-//! Where bytes go to.
+//! Sinks: where bytes are written.
 
 ghost use Rattle.std.specs.Prelude.{◌≡◌, [], IsOk, MatchResult};
 ghost use Rattle.om_edge.specs.Sink.{AppendsFront, Puts, PutsPart};
@@ -10,7 +10,7 @@ use om_model::Memory;
 use std::alloc::AllocError;
 use thiserror::Error;
 
-/// Why a value was not written.
+/// The reason why a value was not written: a call on the sink failed, or memory ran out.
 #[derive(Clone, Copy, Debug, PartialEq, Eq, Error)]
 pub enum WriteError {
     #[error("write fault")]
@@ -45,15 +45,15 @@ impl From<AllocError> for WriteError {
 
 /// A sink of bytes.
 pub trait Sink {
-    /// The bytes written, where the sink tells them, and how often a call failed.
+    /// The bytes written, if they are known, and the number of failed calls.
     ghost state: { Self → ByteState };
 
-    /// Appends the piece's first bytes, and answers how many.
+    /// Appends the first bytes of `piece` and returns their number.
     fn put(&mut self, piece: &[u8]) -> Result<usize, Failed>
         ensures { AppendsFront (state self.old) (state self.new) result piece.now };
 }
 
-/// Puts all the bytes, in as many calls as the sink asks for. For no bytes there is no call.
+/// Writes all bytes, with as many calls as necessary. If there are no bytes, makes no call.
 #[inline(always)]
 pub fn put_all<K: Sink>(sink: &mut K, bytes: &[u8]) -> Result<(), Failed>
     ensures puts { MatchResult result

@@ -1,25 +1,25 @@
-//! Where bytes come from.
+//! Sources: where bytes are read from.
 
 ghost use Rattle.std.specs.Prelude.{IfSome};
 ghost use Rattle.om_model.specs.Bytes.{AreBytes};
 ghost use Rattle.om_edge.specs.Source.{TakesFront};
 ghost use Rattle.om_edge.specs.State.{ByteState};
 
-/// A call to the outside failed. The count of its faults tells so too.
+/// A call to the environment failed. The count of its faults shows that too.
 #[derive(Clone, Copy, Debug, PartialEq, Eq)]
 pub struct Failed;
 
 /// A source of bytes.
 pub trait Source {
-    /// The bytes that are left, where the source tells them, and how often a call failed.
+    /// The remaining bytes, if they are known, and the number of failed calls.
     ghost state: { Self → ByteState };
 
-    /// Moves the next bytes into the buffer's front, and answers how many. What comes after them
-    /// in the buffer is left open.
+    /// Moves the next bytes to the start of the buffer and returns their number. The rest of the
+    /// buffer is unspecified.
     fn take(&mut self, buf: &mut [u8]) -> Result<usize, Failed>
         ensures { TakesFront (state self.old) (state self.new) result buf.new };
 
-    /// What is told is bytes. The method does nothing: what it ensures is a law.
+    /// Lemma method: the bytes that are known are bytes.
     fn tells_bytes(&self)
         ensures { IfSome (state self.now).bytes AreBytes };
 }

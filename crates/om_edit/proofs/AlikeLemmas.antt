@@ -1,4 +1,4 @@
--- What a table of types says of edits is what its types say.
+-- Answers to edits by the numbers of a table correspond to answers by the types.
 use Rattle.std.proofs.Common.{ℕ, suc, ◌≡◌, ◌∙◌, List, [], ◌∷◌, ◌++◌, length, Option, Some, None, Result, Ok, Err, refl, ap, sym, subst}
 use Rattle.std.specs.Prelude.{slice_get, option_map, option_and_then, codes}
 use Rattle.om_model.specs.declared.value.Val.{Val}
@@ -45,7 +45,8 @@ module _ (decls : List Decl) (t : Ty) (table : Tabled) (is : IsTypeTable decls t
       → ReadAgree Is (literal_read (shape_in table) (names_in table) 0 v count [] i) (literal_read (shape decls) (names_of decls) 0 v count [] u)
   alike v count i u at = tables_read_alike decls t table is 0 v count [] i u at
 
-  -- a value at the one is one at the other, and so is a refusal
+  -- If a literal has a value by one reading, then it has the value by the other, and so for a
+  -- refusal.
   value_too : (a : Result Reading (Refusal ℕ)) (b : Result Reading (Refusal Ty)) (r : Reading) → ReadAgree Is a b → a ≡ Ok r → b ≡ Ok r
   value_too (Ok s) (Ok s') r same is = ap Ok (sym same ∙ same_reading s r is) where
     same_reading : (s r : Reading) → ◌≡◌ {A = Result Reading (Refusal ℕ)} (Ok s) (Ok r) → s ≡ r
@@ -133,7 +134,7 @@ module _ (decls : List Decl) (t : Ty) (table : Tabled) (is : IsTypeTable decls t
   say_the_same (Ok made) (Err s) same = absurd same
   say_the_same (Err r) (Ok other) same = absurd same
 
-  -- ---- places
+  -- ---- locations
 
   module _ (graph : List Obj) where
     abbrev Same : Option (Val × ℕ) → Option (Val × Ty) → Type 0
@@ -191,7 +192,7 @@ module _ (decls : List Decl) (t : Ty) (table : Tabled) (is : IsTypeTable decls t
         → PlacesAgree (place_at (table_shapes (table_of table)) graph root 0 path) (place_at (declared_shapes decls) graph root t path)
     places root path = place_agree path 0 _ _ (refl, refl, root_is)
 
-    -- ---- what is made
+    -- ---- results
 
     link_agree : (root : Val) (p q : Result (Place ℕ) ℕ) (p' q' : Result (Place Ty) ℕ) → PlacesAgree p p' → PlacesAgree q q'
         → AnswersAgree (linked graph root p q) (linked graph root p' q')
@@ -273,7 +274,7 @@ module _ (decls : List Decl) (t : Ty) (table : Tabled) (is : IsTypeTable decls t
           (unshare_agree root (place_at (table_shapes (table_of table)) graph root 0 path) (place_at (declared_shapes decls) graph root t path) (places root path)),
     )
 
-  -- ---- what follows of it
+  -- ---- answers from results
 
   abbrev FollowsIn : Answer ℕ → Answer ℕ → Type 0
   FollowsIn made answer = Follows (shape_in table) (names_in table) (SameClass table) 0 made answer

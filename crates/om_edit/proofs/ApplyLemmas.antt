@@ -1,4 +1,4 @@
--- What each step of an edit gives, as the answer to the edit.
+-- The result of each step of an edit, as the answer to the edit.
 use Rattle.std.proofs.Common.{ℕ, ◌<◌, ◌≡◌, ◌∙◌, take, List, [], ◌∷◌, ◌++◌, length, Option, Some, None, Result, Ok, Err, refl, ap, sym, subst, arith}
 use Rattle.std.specs.Prelude.{pos, IsErrAnd}
 use Rattle.std.proofs.lemmas.List.{take_all, take-append-le}
@@ -37,7 +37,7 @@ first_of old more new count many is =
     ap (λ g. take count g) is ∙ ap (λ n. take n (old ++ more)) many
     ∙ take-append-le (length old) old more (omega arith) ∙ take_all (length old) old (omega arith)
 
--- ---- places
+-- ---- locations
 
 abbrev pub Found : Type 0
 Found = Result (Place ℕ) ℕ
@@ -57,7 +57,7 @@ module _ (table : Tabled) where
   abbrev pub IsMadeIn : Edit → List Obj → Val → Answer ℕ → Type 0
   IsMadeIn edit graph root made = IsMade (shape_in table) (names_in table) (SameClass table) 0 edit graph root made
 
-  -- the value is as it was, for a reason that the edit has
+  -- The value is unchanged, for a reason that the edit has.
   refused : (edit : Edit) (graph : List Obj) (root : Val) (refusal : EditRefusal) (reason : Reason ℕ)
       → reason_of refusal ≡ Some reason → IsAnswerIn table edit graph root (Err reason) → IsApplied table edit graph root graph root (Err refusal)
   refused edit graph root refusal reason same is = (refl, refl, subst (IsRefusedFor table edit graph root) (sym same) is)
@@ -66,7 +66,7 @@ module _ (table : Tabled) where
       → IsMadeIn edit graph root (Err (no_field side n)) → IsApplied table edit graph root graph root (Err refusal)
   no_step edit graph root refusal side n same is = refused edit graph root refusal (no_field side n) (ap reason_of same) is
 
-  -- ---- what is put
+  -- ---- new parts
 
   pub kept_applied : (edit : Edit) (graph : List Obj) (root : Val) (made : List Obj × Val) (new : List Obj) (new_root : Val) (result : Result (Unit {0}) EditRefusal)
       → IsMadeIn edit graph root (Ok made) → IsKept table made graph root new new_root result → IsApplied table edit graph root new new_root result
@@ -179,7 +179,7 @@ module _ (table : Tabled) where
     misread_result new fault (Ok unit) is same = absurd same
     misread_result new fault (Err refusal) is same = misread_applied new fault refusal is same
 
-    -- so the literal's value is put
+    -- The literal's value is written.
     pub set_applied : (count : ℕ) (new : List Obj) (value : Val) → count ≡ length old → IsAnswered table p.ty lexemes end old new (Ok value)
         → (left : List Obj) (left_root : Val) (result : Result (Unit {0}) EditRefusal)
         → IsKept table (put_at p.spot value new root) (take count new) root left left_root result
@@ -214,7 +214,7 @@ module _ (table : Tabled) where
       (subst (λ before. IsKept table (put_at p.spot (vals.Ref copy) new root) before root left left_root result)
       (first_of graph (object_at graph o ∷ []) new count many grown) kept))
 
-  -- ---- the one answer is given
+  -- ---- the result is the only answer
 
   module _ (lawful : IsLawful (table_of table)) where
     pub once : (edit : Edit) (graph : List Obj) (root : Val) (answer other : Answer ℕ) → IsAnswerIn table edit graph root answer

@@ -1,4 +1,4 @@
--- A graft has one answer, and what each step of the call gives is that answer.
+-- A graft has one answer, and the result of each step of the call is this answer.
 use Rattle.std.proofs.Common.{ℕ, ◌≡◌, ◌∙◌, take, List, ◌++◌, length, Option, Some, None, Result, Ok, Err, refl, ap, sym, subst}
 use Rattle.std.specs.Prelude.{OnOk}
 use Rattle.om_model.specs.declared.value.Val.{Val}
@@ -115,7 +115,7 @@ module _ {T : Type 0} (shape : T → ShapeOf T) (names : T → Names) (Equal : T
       (place_at (shaped shape Equal) other.0 other.1 t source) one.0 two.0 one.1 two.1 in
       follows_once shape names Equal t never_both two.0 answer answer' (subst (λ m. FollowsFrom m answer) same one.2) two.2
 
--- ---- what a table says of it is what its types say
+-- ---- answers by a table correspond to answers by its types
 
 module _ (decls : List Decl) (t : Ty) (table : Tabled) (is : IsTypeTable decls t table) where
   module _ (graph : List Obj) (root : Val) (h : List Obj) where
@@ -155,7 +155,7 @@ module _ (decls : List Decl) (t : Ty) (table : Tabled) (is : IsTypeTable decls t
         say_the_same decls t table is answer after.0 after.2,
       )
 
--- ---- what the steps of a call give
+-- ---- the results of the steps of a call
 
 module _ (table : Tabled) (path : List ℕ) (other : Other) (source : List ℕ) (graph : List Obj) (root : Val) where
   abbrev left : Found
@@ -193,7 +193,7 @@ module _ (table : Tabled) (path : List ℕ) (other : Other) (source : List ℕ) 
           kept_grafted last last_root result
           (subst (λ before. IsKept table (put_at p.spot value new root) before root last last_root result) (first_of graph copy.copied new count many copy.behind) kept)
 
-  -- ---- the one answer is given
+  -- ---- the result is the only answer
 
   module _ (lawful : IsLawful (table_of table)) where
     pub graft_told_once : (answer answer' : Answer ℕ) → IsGraftAnswerIn table path other source graph root answer
@@ -212,7 +212,7 @@ module _ (table : Tabled) (path : List ℕ) (other : Other) (source : List ℕ) 
     graft_given new new_root (Ok unit) is answer told = graft_told_once answer (Ok (new, new_root)) told is
     graft_given new new_root (Err refusal) is answer told = for_reason answer told (reason_of refusal) is.2
 
-  -- what is put is the same value as the part
+  -- The new part is isomorphic to the copied part.
   pub graft_copied : (new : List Obj) (new_root : Val) (result : Result (Unit {0}) EditRefusal) → AppliedTo new new_root result → (p part : Place ℕ)
       → left ≡ Ok p → right ≡ Ok part → OnOk result (HasGraft (table_shapes (table_of table)) 0 p part other graph (new, new_root))
   graft_copied new new_root (Ok unit) is p part first second =

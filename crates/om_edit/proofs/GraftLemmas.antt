@@ -1,4 +1,4 @@
--- A graft puts the same value at its place, made of new objects.
+-- A graft writes an isomorphic value of new objects at its location.
 use Rattle.std.proofs.Common.{ℕ, zero, suc, ◌+◌, ◌-◌, ◌<◌, ◌≤◌, ◌≡◌, ◌∙◌, List, [], ◌∷◌, ◌++◌, length, length-append, set, Option, Some, None, Result, Ok, Err, refl, ap, sym, subst, arith}
 use Rattle.std.specs.Prelude.{slice_get, option_map, option_and_then, pos, All}
 use Rattle.std.proofs.lemmas.Option.{option_and_then_some, slice_get_within, get_or_from_slice_get, none-some}
@@ -26,10 +26,10 @@ use Rattle.om_graft.proofs.CopyLemmas.{copy_same, copies_are_closed}
 use Rattle.om_edit.specs.Grafts.{Other, IsGraftAt, IsGraft, IsGraftAnswer}
 use Rattle.om_edit.specs.GraftLaws.{HasGraft}
 
--- ---- the value of a place stands there
+-- ---- a location has its value
 
 module _ {T : Type 0} (shapes : Shapes T) (graph : List Obj) (root : Val) where
-  -- the object of a field that is there
+  -- The object of an existing field.
   field_stands : (v : Val) (i : ℕ) (w : Val) → field_of graph v i ≡ Some w → StandsAt graph root (spot_after v i) w
   field_stands (vals.Int z) i w is = absurd (none-some w is)
   field_stands (vals.Atom tag) i w is = absurd (none-some w is)
@@ -46,7 +46,7 @@ module _ {T : Type 0} (shapes : Shapes T) (graph : List Obj) (root : Val) where
         inside : (a b : Val × T) → Some a ≡ Some b → a ≡ b
         inside a b is = cc
 
-  -- a step leads on, or nowhere
+  -- A step leads to the next location, or nowhere.
   on_stands : (v : Val) (i n : ℕ) (q : Place T) (go : Place T → Result (Place T) ℕ)
       → ((p : Place T) → StandsAt graph root p.spot p.value → go p ≡ Ok q → StandsAt graph root q.spot q.value)
       → (o : Option (Val × T)) → ((next : Val × T) → o ≡ Some next → StandsAt graph root (spot_after v i) next.0)
@@ -69,7 +69,7 @@ module _ {T : Type 0} (shapes : Shapes T) (graph : List Obj) (root : Val) where
   pub place_stands : (t : T) (path : List ℕ) (p : Place T) → place_at shapes graph root t path ≡ Ok p → StandsAt graph root p.spot p.value
   place_stands t path p is = from_stands path 0 _ p refl is
 
--- ---- objects behind a place that is changed
+-- ---- objects beyond a changed location
 
 set_other : (graph : List Obj) (o k : ℕ) (new : Obj) → o < k → slice_get (set graph o new) k ≡ slice_get graph k
 set_other [] o k new less = refl
@@ -78,7 +78,7 @@ set_other (x ∷ graph) zero (suc k) new less = refl
 set_other (x ∷ graph) (suc o) zero new less = absurd (omega (arith, less))
 set_other (x ∷ graph) (suc o) (suc k) new less = set_other graph o k new (omega (arith, less))
 
--- the object of a field is one of the graph's
+-- The object of a field is one of the graph.
 owner_inside : (graph : List Obj) (o i : ℕ) (w : Val) → field_at graph o i ≡ Some w → o < length graph
 owner_inside graph o i w at =
     option_and_then_some (λ object. slice_get (values_of object) i) (slice_get graph o) w at
@@ -96,13 +96,13 @@ put_stand : (graph copied : List Obj) (root : Val) (spot : Spot) (v w : Val) →
 put_stand graph copied root spot v w at i o is =
     put_later graph copied root spot v w (length graph + i) at (omega arith) ∙ slice_get_right graph copied i ∙ is
 
--- an object behind those of the graph is one of the copy
+-- An object beyond those of the graph is one of the copy.
 behind_is : (graph copied : List Obj) (k : ℕ) → length graph ≤ k → slice_get (graph ++ copied) k ≡ slice_get copied (k - length graph)
 behind_is graph copied k later =
     let same : k ≡ length graph + (k - length graph) = omega (arith, later) in
     ap (slice_get (graph ++ copied)) same ∙ slice_get_right graph copied (k - length graph)
 
--- ---- what is put stands there
+-- ---- the location has the new value
 
 set_here : (values : List Val) (i : ℕ) (v w : Val) → slice_get values i ≡ Some w → slice_get (set values i v) i ≡ Some v
 set_here [] zero v w is = absurd (none-some w is)
@@ -145,7 +145,7 @@ put_here : (graph : List Obj) (root : Val) (spot : Spot) (v w : Val) → StandsA
 put_here graph root spots.Root v w at = refl
 put_here graph root (spots.Field o i) v w at = field_set graph o i v w at
 
--- ---- a graft puts the same value
+-- ---- a graft writes an isomorphic value
 
 module _ {T : Type 0} (graph : List Obj) (root : Val) (p : Place T) (h : List Obj) (part : Place T) (made : List Obj × Val) where
   pub at_places : (left right : Result (Place T) ℕ) → left ≡ Ok p → right ≡ Ok part → IsGraft graph root left h right (Ok made)

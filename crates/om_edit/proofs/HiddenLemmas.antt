@@ -1,5 +1,5 @@
--- An edit or a graft changes a field of an object to which a path leads, and no other object that
--- was there.
+-- An edit or a graft changes a field of an object to which a path leads, and no other earlier
+-- object.
 use Rattle.std.proofs.Common.{ℕ, zero, suc, ◌≡◌, ◌≢◌, ◌∙◌, List, [], ◌∷◌, ◌++◌, length, set, Option, Some, None, Result, Ok, Err, refl, ap, sym, subst}
 use Rattle.std.specs.Prelude.{slice_get, option_map, option_and_then, ⊤}
 use Rattle.om_model.specs.declared.value.Val.{Val}
@@ -44,10 +44,10 @@ set_elsewhere (x ∷ xs) zero (suc k) new other = refl
 set_elsewhere (x ∷ xs) (suc p) zero new other = refl
 set_elsewhere (x ∷ xs) (suc p) (suc k) new other = set_elsewhere xs p k new (λ same. other (ap suc same))
 
--- ---- places
+-- ---- locations
 
 module _ {T : Type 0} (shapes : Shapes T) (graph : List Obj) (o : ℕ) where
-  -- it is no field of the object
+  -- The location is not a field of the object.
   abbrev IsElsewhere : Spot → Type 0
   IsElsewhere spots.Root = ⊤
   IsElsewhere (spots.Field p i) = p ≢ o
@@ -57,7 +57,7 @@ module _ {T : Type 0} (shapes : Shapes T) (graph : List Obj) (o : ℕ) where
   spot_elsewhere (vals.Atom tag) t i unreached = tt
   spot_elsewhere (vals.Ref p) t i unreached = λ same. unreached [] t (ap (λ q. Some (vals.Ref q, t)) same)
 
-  -- nor does a path lead there from where a step leads
+  -- If no path leads to an object, then none does from the next value of a step.
   step_unreached : (v : Val) (t : T) (i : ℕ) (next : Val × T) → step shapes graph v t i ≡ Some next → IsUnreached shapes graph o v t
       → IsUnreached shapes graph o next.0 next.1
   step_unreached v t i next is unreached path u leads =
@@ -87,7 +87,7 @@ module _ {T : Type 0} (shapes : Shapes T) (graph : List Obj) (o : ℕ) where
       → place_at shapes graph root t path ≡ Ok q → IsElsewhere q.spot
   place_elsewhere root t path q unreached is = from_elsewhere path 0 _ q tt unreached is
 
-  -- ---- what is put there
+  -- ---- new parts
 
   put_elsewhere : (spot : Spot) (new : Val) (all : List Obj) (root : Val) (object : Obj) → IsElsewhere spot → slice_get all o ≡ Some object
       → slice_get (put_at spot new all root).0 o ≡ Some object

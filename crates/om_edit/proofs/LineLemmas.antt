@@ -1,5 +1,5 @@
--- The lines of a script have one answer at most, after the same earlier values; and what a table of
--- types says of a line is what its types say.
+-- The lines of a script have at most one answer for the same earlier values. Answers to a line by
+-- the numbers of a table correspond to answers by the types.
 use Rattle.std.proofs.Common.{ℕ, ◌≡◌, ◌∙◌, List, [], ◌∷◌, Option, Some, Ok, Err, sym, subst}
 use Rattle.std.specs.Prelude.{slice_get}
 use Rattle.om_model.specs.declared.value.Val.{Val}
@@ -54,7 +54,7 @@ module _ {T : Type 0} (shape : T → ShapeOf T) (names : T → Names) (Equal : T
       (subst (λ a. IsContinued shape names Equal t others line.number (AreEdited shape names Equal t others lines) a other)
       (line_once line.action graph root second first its is) after)
 
--- ---- what a table says of it is what its types say
+-- ---- answers by a table correspond to answers by its types
 
 pub line_answer_alike : (decls : List Decl) (t : Ty) (table : Tabled) → IsTypeTable decls t table → (others : List Other) (action : Action) (graph : List Obj) (root : Val) (answer : Answer ℕ)
     → IsLineAnswerIn table others action graph root answer

@@ -1,4 +1,4 @@
--- An edit makes one value, or has one reason, and so it has one answer at most.
+-- An edit has one result or one reason, so it has at most one answer.
 use Rattle.std.proofs.Common.{ℕ, ◌≡◌, ◌∙◌, ⊎_elim, List, [], ◌∷◌, ◌++◌, length, Option, Some, None, Result, Ok, Err, refl, ap, sym, subst}
 use Rattle.om_model.specs.declared.value.Val.{Val}
 use Rattle.om_model.specs.declared.value.Obj.{Obj}
@@ -25,7 +25,7 @@ use Rattle.om_edit.specs.declared.spots.Place.{Place}
 use Rattle.om_edit.specs.Reasons.{Reason, no_field, not_block, no_literal, misread, ill_typed}
 use Rattle.om_edit.specs.EditedValues.{Answer, put_at, linked, copied, object_of, unshared, IsSetAt, IsSet, IsMade, IsAnswer, place_in}
 
--- ---- set
+-- ---- `set`
 
 module _ {T : Type 0} (shape : T → ShapeOf T) (names : T → Names) (graph : List Obj) (root : Val) (p : Place T) (lexemes : List Lexeme) (end : ℕ) where
   abbrev reading_of : Literal → Result Reading (Refusal T)
@@ -73,7 +73,7 @@ module _ {T : Type 0} (shape : T → ShapeOf T) (names : T → Names) where
   set_once_at graph root (Err step) lexemes end made other one two = one ∙ sym two
   set_once_at graph root (Ok p) lexemes end made other one two = set_once shape names graph root p lexemes end made other one two
 
--- ---- what is made has its type, or a least fault
+-- ---- a result has its type, or a first fault
 
 module _ {T : Type 0} (shape : T → ShapeOf T) (names : T → Names) (Equal : T → T → Type 0) (t : T) where
   pub made_once : (edit : Edit) (graph : List Obj) (root : Val) (made other : Answer T)
@@ -83,7 +83,7 @@ module _ {T : Type 0} (shape : T → ShapeOf T) (names : T → Names) (Equal : T
   made_once (edits.Link path source) graph root made other one two = one ∙ sym two
   made_once (edits.Unshare path) graph root made other one two = one ∙ sym two
 
-  -- what follows of it
+  -- The answer that follows from a result.
   abbrev pub Follows : Answer T → Answer T → Type 0
   Follows (Ok made) (Ok edited) = (made ≡ edited) × HasType (shaped shape Equal) made.0 made.1 t
   Follows (Ok made) (Err reason) = (fault : Fault) × (reason ≡ ill_typed fault) × IsLeastFault (shaped shape Equal) made.0 made.1 t fault
@@ -98,7 +98,7 @@ module _ {T : Type 0} (shape : T → ShapeOf T) (names : T → Names) (Equal : T
   parted edit graph root (Err (no_literal place)) is = (Err (no_literal place), is, refl)
   parted edit graph root (Err (misread refusal)) is = (Err (misread refusal), is, refl)
 
-  -- no edit makes a reason of the whole
+  -- The result of an edit is never a fault of the whole value.
   abbrev IsOfPart : Answer T → Type 0
   IsOfPart (Err (ill_typed fault)) = ⊥
   IsOfPart made = Unit {0}
@@ -149,7 +149,7 @@ module _ {T : Type 0} (shape : T → ShapeOf T) (names : T → Names) (Equal : T
   joined edit graph root (Err reason) answer is same =
       subst (λ a. IsAnswer shape names Equal t edit graph root a) (sym same) (refused edit graph root reason (of_part edit graph root (Err reason) is) is)
 
-  -- where nothing has both the type and a fault, there is one answer at most
+  -- If no value has both the type and a fault, then there is at most one answer.
   module _ (never_both : (graph : List Obj) (v : Val) (fault : Fault) → IsFault (shaped shape Equal) graph v t fault → HasType (shaped shape Equal) graph v t → ⊥) where
     pub follows_once : (made answer other : Answer T) → Follows made answer → Follows made other → answer ≡ other
     follows_once (Ok made) (Ok edited) (Ok other) one two = ap Ok (sym one.0 ∙ two.0)

@@ -1,4 +1,4 @@
--- A value that is put at a place, and the one before that is put back.
+-- Writing a value at a location, and restoring the earlier one.
 use Rattle.std.proofs.Common.{ℕ, ◌<◌, ◌≡◌, ◌∙◌, List, ◌++◌, length, set, take, drop, take-append-drop, Some, refl, ap, sym, subst, length-set}
 use Rattle.std.specs.Prelude.{slice_get, option_and_then, pos}
 use Rattle.std.proofs.lemmas.List.{get_or-set_same, set-set, set-get_or}
@@ -29,7 +29,7 @@ with_back (objects.Block tag values) i v w at =
     (set-set values i v w ∙ ap (set values i) (sym (get_or_from_slice_get values i w w at)) ∙ set-get_or values i w)
 with_back object i v w at = refl
 
--- the object of a field
+-- The object of a field.
 held_in : (graph : List Obj) (o i : ℕ) (w : Val) → field_at graph o i ≡ Some w
     → (object : Obj) × (slice_get graph o ≡ Some object) × (slice_get (values_of object) i ≡ Some w)
 held_in graph o i w at =
@@ -63,7 +63,7 @@ fields_as_many : (object : Obj) (i : ℕ) (v : Val) → length (fields_of (with_
 fields_as_many (objects.Block tag values) i v = length-set values i v
 fields_as_many object i v = refl
 
--- the place is there after a value was put at it
+-- The location exists after a value was written at it.
 pub there_after : (spot : Spot) (v w : Val) (graph : List Obj) (root : Val) (one : List Obj) (one_root : Val)
     → StandsAt graph root spot w → ◌≡◌ {A = List Obj × Val} (one, one_root) (put_at spot v graph root) → IsThere one spot
 there_after spots.Root v w graph root one one_root at is = tt
@@ -75,13 +75,13 @@ there_after (spots.Field o i) v w graph root one one_root at is =
     (subst (λ object. i < length (fields_of object)) (sym (get_or-set_same graph o new none_there inside))
     (subst (λ n. i < n) (sym (fields_as_many (object_at graph o) i v)) (field_there graph o i w at)))
 
--- what stood there is put back
+-- Writing the earlier value restores the graph.
 pub put_back : (spot : Spot) (v w : Val) (graph : List Obj) (root : Val) → StandsAt graph root spot w
     → put_at spot w (put_at spot v graph root).0 (put_at spot v graph root).1 ≡ (graph, root)
 put_back spots.Root v w graph root at = ap (λ r. (graph, r)) at
 put_back (spots.Field o i) v w graph root at = ap (λ g. (g, root)) (set_back graph o i v w at)
 
--- and all is as it was
+-- Everything is as before.
 pub restored : (spot : Spot) (v w : Val) (graph : List Obj) (root : Val) (one : List Obj) (one_root : Val) (two : List Obj) (two_root : Val)
     → StandsAt graph root spot w → ◌≡◌ {A = List Obj × Val} (one, one_root) (put_at spot v graph root)
     → ◌≡◌ {A = List Obj × Val} (two, two_root) (put_at spot w one one_root) → ◌≡◌ {A = List Obj × Val} (two, two_root) (graph, root)
@@ -92,13 +92,13 @@ pub as_many : (spot : Spot) (v : Val) (graph : List Obj) (root : Val) → length
 as_many spots.Root v graph root = refl
 as_many (spots.Field o i) v graph root = length-set graph o (with_field (object_at graph o) i v)
 
--- the root is a value after it
+-- The root is a valid value afterwards.
 pub root_valid : (spot : Spot) (v : Val) (graph : List Obj) (root : Val) → IsValue (length graph) v → IsValue (length graph) root
     → IsValue (length (put_at spot v graph root).0) (put_at spot v graph root).1
 root_valid spots.Root v graph root new old = new
 root_valid (spots.Field o i) v graph root new old = subst (λ n. IsValue n root) (sym (as_many (spots.Field o i) v graph root)) old
 
--- ---- with objects behind
+-- ---- graphs with further objects
 
 pub stands_behind : (graph more : List Obj) (root : Val) (spot : Spot) (w : Val) → StandsAt graph root spot w → StandsAt (graph ++ more) root spot w
 stands_behind graph more root spots.Root w at = at

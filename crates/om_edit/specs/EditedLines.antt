@@ -1,5 +1,5 @@
--- What the lines of a script make of a value at its type, one after the other, over any shapes and
--- names. The earlier values, as their own lines made them, are what parts are copied from.
+-- The result of the lines of a script for a value at its type, generic in representations and
+-- names. Parts are copied from the earlier values, as those values' own lines left them.
 use Rattle.std.specs.Prelude.{ℕ, ◌≡◌, Some, Ok, Err, List, [], ◌∷◌, slice_get}
 use Rattle.om_model.specs.declared.value.Val.{Val}
 use Rattle.om_model.specs.declared.value.Obj.{Obj}
@@ -13,7 +13,7 @@ use Rattle.om_edit.specs.Grafts.{Other, IsGraftAnswer}
 
 module _ {T : Type 0} (shape : T → ShapeOf T) (names : T → Names) (Equal : T → T → Type 0) (t : T)
     (others : List Other) where
-  -- what is answered to what a line asks for; a part is copied from the earlier value of its number
+  -- The answer to the action of a line. A graft copies a part of the earlier value with its number.
   abbrev pub IsLineAnswer : Action → List Obj → Val → Answer T → Type 0
   IsLineAnswer (actions.Edit edit) graph root answer =
       IsAnswer shape names Equal t edit graph root answer
@@ -21,7 +21,7 @@ module _ {T : Type 0} (shape : T → ShapeOf T) (names : T → Names) (Equal : T
       (other : Other) × (slice_get others number ≡ Some other)
       × IsGraftAnswer shape Equal t path other source graph root answer
 
-  -- each line of what those before it made
+  -- Each line edits the result of the lines before it.
   abbrev pub IsContinued : ℕ → (List Obj → Val → Edited T → Type 0) → Answer T → Edited T → Type 0
   IsContinued number Rest (Ok edited) all = Rest edited.0 edited.1 all
   IsContinued number Rest (Err reason) all = all ≡ Err (number, reason)

@@ -1,5 +1,5 @@
--- What an edit makes of a value at its type, over any shapes and names: an edited value, or the
--- reason why it is refused. A value is a graph and a root.
+-- The result of an edit for a value at its type, generic in representations and names: an edited
+-- value, or the reason for a refusal. A value is a graph and a root.
 use Rattle.std.specs.Prelude.{ℕ, ◌≡◌, Option, Some, None, Result, Ok, Err, List, [], ◌∷◌, ◌++◌}
 use Rattle.std.specs.Prelude.{length, slice_get}
 use Rattle.om_model.specs.declared.value.Val.{Val}
@@ -27,33 +27,33 @@ use Rattle.om_edit.specs.declared.refusal.Side.TheVariants.{Left, Right}
 use Rattle.om_edit.specs.Places.{place_at}
 use Rattle.om_edit.specs.Reasons.{Reason, no_field, not_block, no_literal, misread, ill_typed}
 
--- an edited value, or the reason
+-- An edited value, or the reason for a refusal.
 abbrev pub Answer : Type 0 → Type 0
 Answer T = Result (List Obj × Val) (Reason T)
 
--- the value after all lines; or the number of the first line that is refused, and why
+-- The value after all lines; or the index of the first line that is refused, and the reason.
 abbrev pub Edited : Type 0 → Type 0
 Edited T = Result (List Obj × Val) (ℕ × Reason T)
 
--- the value with another one at a spot; what other paths reach there changes with it
+-- The value with a new part at a location. The change is visible along every path that leads there.
 abbrev pub put_at : Spot → Val → List Obj → Val → List Obj × Val
 put_at spots.Root new graph root = (graph, new)
 put_at (spots.Field o i) new graph root = (set_field graph o i new, root)
 
--- the object that is referred to
+-- The object to which a value refers.
 abbrev pub object_of : List Obj → Val → Option Obj
 object_of graph (vals.Ref o) = slice_get graph o
 object_of graph v = None
 
 module _ {T : Type 0} where
-  -- ---- link: what stands at the second path
+  -- ---- `link`: the value at the second path
 
   abbrev pub linked : List Obj → Val → Result (Place T) ℕ → Result (Place T) ℕ → Answer T
   linked graph root (Err step) source = Err (no_field Left step)
   linked graph root (Ok p) (Err step) = Err (no_field Right step)
   linked graph root (Ok p) (Ok source) = Ok (put_at p.spot source.value graph root)
 
-  -- ---- unshare: a copy of the object, at the end
+  -- ---- `unshare`: a copy of the object, at the end of the graph
 
   abbrev pub copied : List Obj → Val → Spot → Option Obj → Answer T
   copied graph root spot None = Err not_block
@@ -65,27 +65,28 @@ module _ {T : Type 0} where
   unshared graph root (Ok p) = copied graph root p.spot (object_of graph p.value)
 
 module _ {T : Type 0} (shape : T → ShapeOf T) (names : T → Names) where
-  -- ---- set: the value of a literal, whose objects are at the end
+  -- ---- `set`: the value of a literal, whose objects are at the end of the graph
 
-  -- the lexemes are a literal of this value at the type, and these are its objects, behind so many
+  -- The lexemes are a literal of this value at the type. These are its objects, which follow
+  -- `count` earlier ones.
   abbrev pub IsLiteral : T → List Lexeme → ℕ → List Obj → Val → Type 0
   IsLiteral t lexemes count objects value =
       (literal : Literal) × (literal_kinds literal ≡ kinds_of lexemes)
       × IsRead shape names literal t count value objects
 
-  -- the lexemes are a literal that is none of the type
+  -- The lexemes are a literal that does not have the type.
   abbrev pub IsMisread : T → List Lexeme → ℕ → ℕ → Refusal T → Type 0
   IsMisread t lexemes end count refusal =
       (literal : Literal) × (at : Refusal T) × (literal_kinds literal ≡ kinds_of lexemes)
       × IsRefused shape names literal t count at
       × (refusal ≡ in_bytes lexemes end at)
 
-  -- the lexemes are no literal, first at this byte
+  -- The lexemes are not a literal, because of the lexeme at this byte.
   abbrev pub IsNoLiteral : List Lexeme → ℕ → ℕ → Type 0
   IsNoLiteral lexemes end place =
       (k : ℕ) × IsSyntax literal_kinds (kinds_of lexemes) k × (place ≡ byte_of lexemes end k)
 
-  -- at a place
+  -- The result of `set` at a location.
   abbrev pub IsSetAt : List Obj → Val → Place T → List Lexeme → ℕ → Answer T → Type 0
   IsSetAt graph root p lexemes end (Ok made) =
       (objects : List Obj) × (value : Val) × IsLiteral p.ty lexemes (length graph) objects value
@@ -103,7 +104,7 @@ module _ {T : Type 0} (shape : T → ShapeOf T) (names : T → Names) where
     abbrev pub place_in : List Obj → Val → List ℕ → Result (Place T) ℕ
     place_in graph root path = place_at (shaped shape Equal) graph root t path
 
-    -- what an edit makes, whether it has the type or not
+    -- The result of an edit, without regard to its type.
     abbrev pub IsMade : Edit → List Obj → Val → Answer T → Type 0
     IsMade (edits.Set path lexemes end) graph root made =
         IsSet graph root (place_in graph root path) lexemes end made
@@ -112,20 +113,20 @@ module _ {T : Type 0} (shape : T → ShapeOf T) (names : T → Names) where
     IsMade (edits.Unshare path) graph root made =
         made ≡ unshared graph root (place_in graph root path)
 
-    -- what an edit makes has the type
+    -- The result of the edit has the type.
     pub record IsEdited (edit : Edit) (graph : List Obj) (root : Val) (edited : List Obj × Val)
         : Type 0 where
       pub made : IsMade edit graph root (Ok edited)
       pub typed : HasType (shaped shape Equal) edited.0 edited.1 t
 
-    -- it has not, and this is its least fault
+    -- The result of the edit does not have the type, and this is its first fault.
     pub record IsIllTyped (edit : Edit) (graph : List Obj) (root : Val) (fault : Fault)
         : Type 0 where
       pub edited : List Obj × Val
       pub made : IsMade edit graph root (Ok edited)
       pub least : IsLeastFault (shaped shape Equal) edited.0 edited.1 t fault
 
-    -- what is answered to an edit of a value at its type
+    -- The answer to an edit of a value at its type.
     abbrev pub IsAnswer : Edit → List Obj → Val → Answer T → Type 0
     IsAnswer edit graph root (Ok edited) = IsEdited edit graph root edited
     IsAnswer edit graph root (Err (ill_typed fault)) = IsIllTyped edit graph root fault

@@ -1,5 +1,5 @@
--- What a graft is good for; that it has one answer; and that what a table of types says of it is
--- what its types say.
+-- Laws on grafts: the new part is isomorphic to the copied one, the answer is unique, and answers
+-- by the numbers of a table correspond to answers by the types.
 use Rattle.std.specs.Prelude.{ℕ, ◌≤◌, ◌≡◌, Ok, Some, List, length, slice_get}
 use Rattle.om_model.specs.declared.value.Val.{Val}
 use Rattle.om_model.specs.declared.value.Obj.{Obj}
@@ -21,14 +21,14 @@ use Rattle.om_edit.specs.Grafts.{Other, IsGraftAnswer, IsGraftAnswerIn}
 use Rattle.om_edit.specs.Laws.{IsAtMostOne, SayTheSame}
 use Rattle.om_edit.specs.Places.{place_at, StandsAt}
 
--- what is answered to a graft at a declared type
+-- The answer to a graft at a declared type.
 abbrev pub IsDeclaredGraft : List Decl → Ty → List ℕ → Other → List ℕ → List Obj → Val → Answer Ty
     → Type 0
 IsDeclaredGraft decls t path other source graph root answer =
     IsGraftAnswer (shape decls) (Equal decls) t path other source graph root answer
 
--- What stands at the place is the same value as the part is, with its sharing and its cycles. It
--- refers to new objects alone, and so do all new objects. The whole has the type.
+-- The value at the location is isomorphic to the copied part, including sharing and cycles. The
+-- value and all new objects refer to new objects only. The whole value has its type.
 pub record HasGraft {T : Type 0} (shapes : Shapes T) (t : T) (p part : Place T) (other : Other)
     (graph : List Obj) (made : List Obj × Val) : Type 0 where
   pub value : Val
@@ -39,7 +39,7 @@ pub record HasGraft {T : Type 0} (shapes : Shapes T) (t : T) (p part : Place T) 
       → AreWithin (length graph) (length made.0) object
   pub typed : HasType shapes made.0 made.1 t
 
--- so it is wherever the two paths lead
+-- The result of a graft has these properties wherever the two paths lead.
 abbrev pub GraftsAreTheSame : Type 0
 GraftsAreTheSame =
     (decls : List Decl) (t : Ty) (path : List ℕ) (other : Other) (source : List ℕ)
@@ -49,7 +49,7 @@ GraftsAreTheSame =
     → place_at (declared_shapes decls) other.0 other.1 t source ≡ Ok part
     → HasGraft (declared_shapes decls) t p part other graph made
 
--- a graft has one answer at most, by the numbers of a table and by types
+-- A graft has at most one answer, by the numbers of a table and by types.
 pub record GraftsHaveOneAnswer : Type 0 where
   pub by_numbers : (table : Tabled) → IsLawful (table_of table)
       → (path : List ℕ) (other : Other) (source : List ℕ) (graph : List Obj) (root : Val)
@@ -59,7 +59,7 @@ pub record GraftsHaveOneAnswer : Type 0 where
       → (path : List ℕ) (other : Other) (source : List ℕ) (graph : List Obj) (root : Val)
       → IsAtMostOne (IsDeclaredGraft decls t path other source graph root)
 
--- an answer by the numbers of a table is one by their types
+-- An answer by the numbers of a table corresponds to an answer by the types.
 abbrev pub TablesGraftAlike : Type 0
 TablesGraftAlike =
     (decls : List Decl) (t : Ty) (table : Tabled) → IsTypeTable decls t table

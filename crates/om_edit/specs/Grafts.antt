@@ -1,5 +1,5 @@
--- A copy of a part of another value, put at a place of a value, over any shapes. Both values have
--- one type, and a value is a graph and a root.
+-- Grafts: a copy of a part of another value is written at a location, generic in representations.
+-- Both values have the same type, and a value is a graph and a root.
 use Rattle.std.specs.Prelude.{ℕ, ◌≡◌, Option, Some, None, Result, Ok, Err, List, ◌++◌, length, ⊤}
 use Rattle.om_model.specs.declared.value.Val.{Val}
 use Rattle.om_model.specs.declared.value.Obj.{Obj}
@@ -19,12 +19,13 @@ use Rattle.om_edit.specs.Places.{place_at}
 use Rattle.om_edit.specs.Reasons.{Reason, no_field, ill_typed, reason_of}
 use Rattle.om_edit.specs.Tables.{SameClass}
 
--- the value that a part is copied from
+-- The value from which a part is copied.
 abbrev pub Other : Type 0
 Other = List Obj × Val
 
 module _ {T : Type 0} where
-  -- a copy of what stands at the place of the other value is put at the place of this one
+  -- A copy of the value at the location of the other value is written at the location of this
+  -- value.
   abbrev pub IsGraftAt : List Obj → Val → Place T → List Obj → Place T → Answer T → Type 0
   IsGraftAt graph root p from part (Ok made) =
       (copied : List Obj) × (value : Val)
@@ -32,7 +33,7 @@ module _ {T : Type 0} where
       × (made ≡ put_at p.spot value (graph ++ copied) root)
   IsGraftAt graph root p from part (Err reason) = ⊥
 
-  -- the left path is looked at first
+  -- The left path is checked first.
   abbrev pub IsGraft : List Obj → Val → Result (Place T) ℕ → List Obj → Result (Place T) ℕ
       → Answer T → Type 0
   IsGraft graph root (Err step) from part made = made ≡ Err (no_field Left step)
@@ -40,19 +41,19 @@ module _ {T : Type 0} where
   IsGraft graph root (Ok p) from (Ok part) made = IsGraftAt graph root p from part made
 
   module _ (shape : T → ShapeOf T) (Equal : T → T → Type 0) (t : T) where
-    -- what a graft makes, whether it has the type or not
+    -- The result of a graft, without regard to its type.
     abbrev pub IsGrafted : List ℕ → Other → List ℕ → List Obj → Val → Answer T → Type 0
     IsGrafted path other source graph root made =
         IsGraft graph root (place_at (shaped shape Equal) graph root t path) other.0
         (place_at (shaped shape Equal) other.0 other.1 t source) made
 
-    -- it has not, and this is its least fault
+    -- The result of the graft does not have the type, and this is its first fault.
     abbrev pub IsIllGrafted : List ℕ → Other → List ℕ → List Obj → Val → Fault → Type 0
     IsIllGrafted path other source graph root fault =
         (made : List Obj × Val) × IsGrafted path other source graph root (Ok made)
         × IsLeastFault (shaped shape Equal) made.0 made.1 t fault
 
-    -- what is answered to a graft
+    -- The answer to a graft.
     abbrev pub IsGraftAnswer : List ℕ → Other → List ℕ → List Obj → Val → Answer T → Type 0
     IsGraftAnswer path other source graph root (Ok made) =
         IsGrafted path other source graph root (Ok made)
@@ -62,9 +63,9 @@ module _ {T : Type 0} where
     IsGraftAnswer path other source graph root (Err reason) =
         IsGrafted path other source graph root (Err reason)
 
--- ---- by the numbers of a table: what a call gives
+-- ---- the result of a call, by the numbers of a table
 
--- what is answered to a graft at the type of number 0
+-- The answer to a graft at the type with number 0.
 abbrev pub IsGraftAnswerIn : Tabled → List ℕ → Other → List ℕ → List Obj → Val → Answer ℕ
     → Type 0
 IsGraftAnswerIn table path other source graph root answer =
@@ -76,7 +77,7 @@ IsNotGraftedFor table path other source graph root None = ⊤
 IsNotGraftedFor table path other source graph root (Some reason) =
     IsGraftAnswerIn table path other source graph root (Err reason)
 
--- the value is grafted; else it is as it was, and there is a reason, or memory ran out
+-- The value is grafted. Otherwise it is unchanged, and there is a reason, or memory ran out.
 abbrev pub IsGraftApplied : Tabled → List ℕ → Other → List ℕ → List Obj → Val → List Obj → Val
     → Result (Unit {0}) EditRefusal → Type 0
 IsGraftApplied table path other source old old_root new new_root (Ok unit) =

@@ -1,4 +1,4 @@
--- The lines of a script leave what is hidden as it was: each object to which no path leads.
+-- The lines of a script do not change hidden objects, to which no path leads.
 use Rattle.std.specs.Prelude.{ℕ, ◌≡◌, Some, Ok, List, [], ◌∷◌, slice_get, ⊤}
 use Rattle.om_model.specs.declared.value.Val.{Val}
 use Rattle.om_model.specs.declared.value.Val.TheVariants as vals
@@ -17,19 +17,19 @@ use Rattle.om_edit.specs.EditedValues.{Answer}
 use Rattle.om_edit.specs.Grafts.{Other}
 use Rattle.om_edit.specs.Laws.{AreDeclaredEdits}
 
--- no path leads to the object
+-- No path leads to the object.
 abbrev pub IsUnreached : {T : Type 0} → Shapes T → List Obj → ℕ → Val → T → Type 0
 IsUnreached {T} shapes graph o v t =
     (path : List ℕ) (u : T) → ¬ (value_at shapes graph v t path ≡ Some (vals.Ref o, u))
 
--- what is answered to what a line asks for, of a value of a declared type, after these values
+-- The answer to the action of a line, for a value of a declared type and these earlier values.
 abbrev pub IsDeclaredLine : List Decl → Ty → List Other → Action → List Obj → Val → Answer Ty
     → Type 0
 IsDeclaredLine decls t others action graph root answer =
     IsLineAnswer (shape decls) (names_of decls) (Equal decls) t others action graph root answer
 
--- no path leads to the object in any of the values that the lines begin with; one line may show
--- another one what was hidden, where it puts a part at a type that asks for more of it
+-- No path leads to the object in any of the values on which a line starts. A line may make an
+-- object reachable for the next line, by writing a part at a type that requires more of its fields.
 abbrev pub IsNeverReached : List Decl → Ty → List Other → ℕ → List ScriptLine → List Obj → Val
     → Type 0
 IsNeverReached decls t others o [] graph root = ⊤
@@ -39,8 +39,8 @@ IsNeverReached decls t others o (line ∷ lines) graph root =
     → IsDeclaredLine decls t others line.action graph root (Ok edited)
     → IsNeverReached decls t others o lines edited.0 edited.1)
 
--- an edit or a graft leaves each object to which no path leads as it was, and so do lines where
--- that is so before each of them
+-- An edit or a graft does not change an object to which no path leads. Lines do not change an
+-- object to which no path leads before each of them.
 pub record EditsLeaveWhatIsHidden : Type 0 where
   pub by_line : (decls : List Decl) (t : Ty) (others : List Other) (action : Action)
       (graph : List Obj) (root : Val) (edited : List Obj × Val)

@@ -1,4 +1,5 @@
--- An edit has one answer, and what a table of types says of edits is what its types say.
+-- Laws on edits: the answer is unique, and answers by the numbers of a table correspond to answers
+-- by the types.
 use Rattle.std.specs.Prelude.{ℕ, ◌≡◌, Ok, Err, List}
 use Rattle.om_model.specs.declared.value.Val.{Val}
 use Rattle.om_model.specs.declared.value.Obj.{Obj}
@@ -21,22 +22,22 @@ use Rattle.om_edit.specs.Grafts.{Other}
 use Rattle.om_edit.specs.Reasons.{reason_text}
 use Rattle.om_edit.specs.Tables.{IsAnswerIn}
 
--- what is answered to an edit of a value at a declared type
+-- The answer to an edit of a value at a declared type.
 abbrev pub IsDeclaredAnswer : List Decl → Ty → Edit → List Obj → Val → Answer Ty → Type 0
 IsDeclaredAnswer decls t edit graph root answer =
     IsAnswer (shape decls) (names_of decls) (Equal decls) t edit graph root answer
 
--- what lines, one after the other, make of a value of a declared type, after these values
+-- The result of consecutive lines for a value of a declared type and these earlier values.
 abbrev pub AreDeclaredEdits : List Decl → Ty → List Other → List ScriptLine → List Obj → Val
     → Edited Ty → Type 0
 AreDeclaredEdits decls t others lines graph root all =
     AreEdited (shape decls) (names_of decls) (Equal decls) t others lines graph root all
 
--- there are no two
+-- At most one answer satisfies the predicate.
 abbrev pub IsAtMostOne : {A : Type 0} → (A → Type 0) → Type 0
 IsAtMostOne {A} Is = (answer other : A) → Is answer → Is other → answer ≡ other
 
--- an edit has one answer at most, by the numbers of a table and by types, and so have lines
+-- An edit has at most one answer, by the numbers of a table and by types, and so do lines.
 pub record EditsHaveOneAnswer : Type 0 where
   pub by_numbers : (table : Tabled) → IsLawful (table_of table)
       → (edit : Edit) (graph : List Obj) (root : Val)
@@ -50,7 +51,8 @@ pub record EditsHaveOneAnswer : Type 0 where
       → (others : List Other) (lines : List ScriptLine) (graph : List Obj) (root : Val)
       → IsAtMostOne (AreDeclaredEdits decls t others lines graph root)
 
--- the same value, or reasons of one text, however places are told
+-- The answers are the same value, or reasons with the same text, for every form of printing
+-- positions.
 abbrev pub SayTheSame : Tabled → Answer ℕ → Answer Ty → Type 0
 SayTheSame table (Ok edited) (Ok other) = edited ≡ other
 SayTheSame table (Err reason) (Err other) =
@@ -59,7 +61,7 @@ SayTheSame table (Err reason) (Err other) =
 SayTheSame table (Ok edited) (Err other) = ⊥
 SayTheSame table (Err reason) (Ok other) = ⊥
 
--- an answer by the numbers of a table is one by their types
+-- An answer by the numbers of a table corresponds to an answer by the types.
 abbrev pub TablesEditAlike : Type 0
 TablesEditAlike =
     (decls : List Decl) (t : Ty) (table : Tabled) → IsTypeTable decls t table

@@ -1,4 +1,5 @@
--- What a call gives for a line; and what a table of types says of lines is what its types say.
+-- The result of a call for a line. Answers to lines by the numbers of a table correspond to answers
+-- by the types.
 use Rattle.std.specs.Prelude.{ℕ, ◌≡◌, Option, Some, None, Result, Ok, Err, List, ⊤}
 use Rattle.om_model.specs.declared.value.Val.{Val}
 use Rattle.om_model.specs.declared.value.Obj.{Obj}
@@ -19,13 +20,13 @@ use Rattle.om_edit.specs.Laws.{SayTheSame}
 use Rattle.om_edit.specs.Reasons.{Reason, reason_of}
 use Rattle.om_edit.specs.Tables.{SameClass}
 
--- what is answered to a line of a value at a declared type, after these values
+-- The answer to a line for a value at a declared type and these earlier values.
 abbrev pub IsDeclaredLine : List Decl → Ty → List Other → Action → List Obj → Val → Answer Ty
     → Type 0
 IsDeclaredLine decls t others action graph root answer =
     IsLineAnswer (shape decls) (names_of decls) (Equal decls) t others action graph root answer
 
--- the same at the type of number 0 of a table
+-- The answer to a line at the type with number 0 of a table.
 abbrev pub IsLineAnswerIn : Tabled → List Other → Action → List Obj → Val → Answer ℕ → Type 0
 IsLineAnswerIn table others action graph root answer =
     IsLineAnswer (shape_in table) (names_in table) (SameClass table) 0 others action graph root
@@ -37,7 +38,7 @@ IsLineRefusedFor table others action graph root None = ⊤
 IsLineRefusedFor table others action graph root (Some reason) =
     IsLineAnswerIn table others action graph root (Err reason)
 
--- the line is done; else the value is as it was, and there is a reason, or memory ran out
+-- The line is executed. Otherwise the value is unchanged, and there is a reason, or memory ran out.
 abbrev pub IsLineApplied : Tabled → List Other → Action → List Obj → Val → List Obj → Val
     → Result (Unit {0}) EditRefusal → Type 0
 IsLineApplied table others action old old_root new new_root (Ok unit) =
@@ -46,7 +47,7 @@ IsLineApplied table others action old old_root new new_root (Err refusal) =
     (new ≡ old) × (new_root ≡ old_root)
     × IsLineRefusedFor table others action old old_root (reason_of refusal)
 
--- an answer by the numbers of a table is one by their types
+-- An answer by the numbers of a table corresponds to an answer by the types.
 abbrev pub TablesAnswerLinesAlike : Type 0
 TablesAnswerLinesAlike =
     (decls : List Decl) (t : Ty) (table : Tabled) → IsTypeTable decls t table

@@ -1,4 +1,4 @@
--- Where a path leads in a value: to the root, or to a field of an object.
+-- The location to which a path leads in a value: the root, or a field of an object.
 use Rattle.std.specs.Prelude.{ℕ, suc, ◌<◌, ◌≡◌, Option, Some, None, option_map, Result, Ok, Err}
 use Rattle.std.specs.Prelude.{List, [], ◌∷◌, length, ⊤}
 use Rattle.om_model.specs.declared.value.Val.{Val}
@@ -15,12 +15,12 @@ use Rattle.om_edit.specs.declared.spots.Spot.{Spot}
 use Rattle.om_edit.specs.declared.spots.Spot.TheVariants as spots
 use Rattle.om_edit.specs.declared.spots.Place.{Place}
 
--- where step i leads from a value; only objects have fields
+-- The location to which step `i` leads from a value. Only objects have fields.
 abbrev pub spot_after : Val → ℕ → Spot
 spot_after (vals.Ref o) i = spots.Field o i
 spot_after v i = spots.Root
 
--- the next place, if the step is prescribed
+-- The next location, if the type requires the field of the step.
 abbrev pub next_place : {T : Type 0} → Shapes T → List Obj → Place T → ℕ → Option (Place T)
 next_place shapes graph p i =
     option_map (λ next. record { spot = spot_after p.value i; value = next.0; ty = next.1 })
@@ -30,32 +30,32 @@ abbrev pub or_step : {A B : Type 0} → ℕ → (A → Result B ℕ) → Option 
 or_step n go None = Err n
 or_step n go (Some next) = go next
 
--- the place at the end of a path, or the number of the first step that is not prescribed, counted
--- from n
+-- The location at the end of a path, or the index of the first step whose field is not required,
+-- counted from `n`.
 abbrev pub place_from : {T : Type 0} → Shapes T → List Obj → ℕ → Place T → List ℕ
     → Result (Place T) ℕ
 place_from shapes graph n p [] = Ok p
 place_from shapes graph n p (i ∷ path) =
     or_step n (λ next. place_from shapes graph (suc n) next path) (next_place shapes graph p i)
 
--- the same from the root on
+-- The location at the end of a path from the root.
 abbrev pub place_at : {T : Type 0} → Shapes T → List Obj → Val → T → List ℕ → Result (Place T) ℕ
 place_at shapes graph v t path =
     place_from shapes graph 0 (record { spot = spots.Root; value = v; ty = t }) path
 
--- ---- what the code says of a place
+-- ---- the results of the code for a location
 
--- a step that is not prescribed is one of the path of a side
+-- A step whose field is not required is reported with the side of its path.
 abbrev pub on_side : {T : Type 0} → Side → Result (Place T) ℕ → Result (Place T) EditRefusal
 on_side side (Ok p) = Ok p
 on_side side (Err step) = Err (refusals.NoField side step)
 
--- there is such a field
+-- The field exists.
 abbrev pub IsThere : List Obj → Spot → Type 0
 IsThere graph spots.Root = ⊤
 IsThere graph (spots.Field o i) = i < length (fields_of (object_at graph o))
 
--- the value stands there
+-- The value is at the location.
 abbrev pub StandsAt : List Obj → Val → Spot → Val → Type 0
 StandsAt graph root spots.Root v = v ≡ root
 StandsAt graph root (spots.Field o i) v = field_at graph o i ≡ Some v

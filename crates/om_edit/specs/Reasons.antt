@@ -1,4 +1,5 @@
--- Why an edit is refused, over any types, and the text of it, as places are told.
+-- The reasons why an edit is refused, generic in the types, and their texts for a given form of
+-- positions.
 use Rattle.std.specs.Prelude.{ℕ, Option, Some, None, List, [], ◌++◌, codes, decimal}
 use Rattle.om_model.specs.PathText.{path_text}
 use Rattle.om_types.specs.declared.fault.Fault.{Fault}
@@ -12,15 +13,15 @@ use Rattle.om_edit.specs.declared.refusal.EditRefusal.{EditRefusal}
 use Rattle.om_edit.specs.declared.refusal.EditRefusal.TheVariants as refusals
 
 pub data Reason (T : Type 0) : Type 0 where
-  -- the path of this side has a step, counted from 0, that is not prescribed at its place
+  -- The path of this side has a step, with this index from 0, whose field is not required.
   no_field : Side → ℕ → Reason T
-  -- what is to be copied is no object
+  -- The value to be copied is not an object.
   not_block : Reason T
-  -- no literal goes on at this byte
+  -- The lexemes are not a literal, because of the lexeme at this byte.
   no_literal : ℕ → Reason T
-  -- the literal is none of its type, for this reason at a byte
+  -- The literal does not have its type, for this reason at a byte.
   misread : Refusal T → Reason T
-  -- the edited value has not its type, by this least fault
+  -- The edited value does not have its type. This is its first fault.
   ill_typed : Fault → Reason T
 
 -- ---- texts
@@ -33,12 +34,12 @@ abbrev pub fault_places : Fault → List ℕ
 fault_places (Misfit path) = path_text path
 fault_places (Clash first second) = path_text first ++ codes " and " ++ path_text second
 
--- of a literal in a script
+-- The text for a literal in a script.
 abbrev pub in_script : List ℕ → List ℕ
 in_script text = codes "Literal " ++ text
 
 module _ {T : Type 0} (type_text : T → List ℕ) (told : ℕ → List ℕ) where
-  -- why there is no value of a literal; of another reason this says nothing
+  -- The reason why a literal has no value. Other reasons have an empty text here.
   abbrev pub literal_text : Reason T → List ℕ
   literal_text (no_literal place) = codes "Syntax at " ++ told place
   literal_text (misread (misfit_at place t)) =
@@ -55,7 +56,7 @@ module _ {T : Type 0} (type_text : T → List ℕ) (told : ℕ → List ℕ) whe
   reason_text (misread refusal) = in_script (literal_text (misread refusal))
   reason_text (ill_typed fault) = codes "IllTyped at " ++ fault_places fault
 
-  -- without a reason there is no text
+  -- If there is no reason, the text is empty.
   abbrev pub reason_or_none : Option (Reason T) → List ℕ
   reason_or_none None = []
   reason_or_none (Some reason) = reason_text reason
@@ -73,7 +74,7 @@ literal_reason (literals.IntRange place) = Some (misread (int_range_at place))
 literal_reason (literals.Label place) = Some (misread (label_at place))
 literal_reason literals.Memory = None
 
--- why a call refuses; out of memory is no reason
+-- The reason of a call's refusal. A memory fault is not a reason.
 abbrev pub reason_of : EditRefusal → Option (Reason ℕ)
 reason_of (refusals.NoField side step) = Some (no_field side step)
 reason_of refusals.NotBlock = Some not_block

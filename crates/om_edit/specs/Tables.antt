@@ -14,22 +14,22 @@ use Rattle.om_edit.specs.declared.refusal.EditRefusal.TheVariants as refusals
 use Rattle.om_edit.specs.EditedValues.{Answer, IsAnswer}
 use Rattle.om_edit.specs.Reasons.{Reason, reason_of}
 
--- numbers of one class are equal
+-- Numbers in one class are equal.
 abbrev pub SameClass : Tabled → ℕ → ℕ → Type 0
 SameClass table i j = slice_get table.classes i ≡ slice_get table.classes j
 
--- what is answered to an edit of a value at the type of number 0
+-- The answer to an edit of a value at the type with number 0.
 abbrev pub IsAnswerIn : Tabled → Edit → List Obj → Val → Answer ℕ → Type 0
 IsAnswerIn table edit graph root answer =
     IsAnswer (shape_in table) (names_in table) (SameClass table) 0 edit graph root answer
 
--- ---- what a call gives
+-- ---- the result of a call
 
 abbrev pub IsRefusedFor : Tabled → Edit → List Obj → Val → Option (Reason ℕ) → Type 0
 IsRefusedFor table edit graph root None = ⊤
 IsRefusedFor table edit graph root (Some reason) = IsAnswerIn table edit graph root (Err reason)
 
--- the value is edited; else it is as it was, and there is a reason, or memory ran out
+-- The value is edited. Otherwise it is unchanged, and there is a reason, or memory ran out.
 abbrev pub IsApplied : Tabled → Edit → List Obj → Val → List Obj → Val
     → Result (Unit {0}) EditRefusal → Type 0
 IsApplied table edit old old_root new new_root (Ok unit) =
@@ -37,14 +37,14 @@ IsApplied table edit old old_root new new_root (Ok unit) =
 IsApplied table edit old old_root new new_root (Err refusal) =
     (new ≡ old) × (new_root ≡ old_root) × IsRefusedFor table edit old old_root (reason_of refusal)
 
--- what was made has this least fault, or memory ran out
+-- The new value has this first fault, or memory ran out.
 abbrev pub IsNoneFor : Tabled → List Obj × Val → EditRefusal → Type 0
 IsNoneFor table made (refusals.IllTyped fault) =
     IsLeastFault (table_shapes (table_of table)) made.0 made.1 0 fault
 IsNoneFor table made refusals.Memory = ⊤
 IsNoneFor table made refusal = ⊥
 
--- what was made has the type, and is left; else the value before is left
+-- The new value has the type and remains. Otherwise the value before the edit remains.
 abbrev pub IsKept : Tabled → List Obj × Val → List Obj → Val → List Obj → Val
     → Result (Unit {0}) EditRefusal → Type 0
 IsKept table made old old_root new new_root (Ok unit) =
@@ -56,7 +56,7 @@ abbrev pub IsReason : Answer ℕ → Option (Reason ℕ) → Type 0
 IsReason answer None = ⊤
 IsReason answer (Some reason) = answer ≡ Err reason
 
--- the answer is what the call gives, unless memory runs out
+-- If memory does not run out, the answer is the result of the call.
 abbrev pub Gives : Answer ℕ → List Obj → Val → Result (Unit {0}) EditRefusal → Type 0
 Gives answer new new_root (Ok unit) = answer ≡ Ok (new, new_root)
 Gives answer new new_root (Err refusal) = IsReason answer (reason_of refusal)

@@ -1,4 +1,4 @@
-//! One edit of a value.
+//! Applies one edit to a value.
 
 ghost use Rattle.std.specs.Prelude.{ℕ, ◌<◌, ◌≤◌, ◌≡◌, length, take, Result, List};
 ghost use Rattle.om_model.specs.declared.value.Val.{Val};
@@ -22,7 +22,8 @@ use om_path::Edit;
 use om_type_table::TypeTable;
 use std::alloc::Global;
 
-/// Edits a value at the type that is number 0 of the table. After a refusal the value is as it was.
+/// Applies an edit to a value at the type with number 0 of the table. If the edit is refused, the
+/// value is unchanged.
 #[tactic(auto, using(crate::proofs::ApplyLemmas::only_given))]
 pub fn apply(
     alloc: Global,
@@ -32,9 +33,9 @@ pub fn apply(
     edit: &Edit,
 ) -> Result<(), EditRefusal>
     requires value { IsValue (length heap.old) root.old }
-    // the edited value, or the refusal and the value as it was
+    // The value is edited, or it is unchanged and there is a refusal.
     ensures answer { IsApplied table.now edit.now heap.old root.old heap.new root.new result }
-    // the one answer is given, unless memory runs out
+    // If memory does not run out, the result is the only answer that the specification allows.
     ensures only { (answer : Result (List Obj × Val) (Reason ℕ))
         → IsAnswerIn table.now edit.now heap.old root.old answer
         → Gives answer heap.new root.new result }
@@ -50,7 +51,7 @@ pub fn apply(
     }
 }
 
-/// Puts the value of a literal.
+/// Replaces the value at the path by the value of a literal.
 fn set(
     alloc: Global,
     heap: &mut Heap,
@@ -71,7 +72,7 @@ fn set(
     put_if_typed(alloc, heap, root, table, place, value, count)
 }
 
-/// Puts what stands at another place.
+/// Replaces the value at the path by the value at another path.
 fn link(
     alloc: Global,
     heap: &mut Heap,
@@ -91,7 +92,7 @@ fn link(
     put_if_typed(alloc, heap, root, table, place, from.value, count)
 }
 
-/// Puts a copy of the object.
+/// Replaces the object at the path by a copy of it.
 fn unshare(
     alloc: Global,
     heap: &mut Heap,
@@ -113,8 +114,8 @@ fn unshare(
     put_if_typed(alloc, heap, root, table, place, Val::Ref(copy), count)
 }
 
-/// Puts a value at a place, where the whole then has its type. Else the heap keeps its first
-/// `count` objects, as they were.
+/// Writes a value at a location if the whole value then has its type. Otherwise the heap keeps its
+/// first `count` objects unchanged.
 pub(crate) fn put_if_typed(
     alloc: Global,
     heap: &mut Heap,
@@ -145,7 +146,7 @@ pub(crate) fn put_if_typed(
     Err(refusal)
 }
 
-/// Puts a value at a place.
+/// Writes a value at a location.
 fn put(heap: &mut Heap, root: &mut Val, spot: Spot, value: Val)
     requires valid { IsValue (length heap.old) value }
     requires there { IsThere heap.old spot }

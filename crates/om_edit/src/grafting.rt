@@ -1,4 +1,4 @@
-//! A copy of a part of another value, put at a place.
+//! Copies a part of another value to a location.
 
 ghost use Rattle.std.specs.Prelude.{ℕ, ◌≡◌, length, Result, Ok, List, OnOk};
 ghost use Rattle.om_model.specs.declared.value.Val.{Val};
@@ -23,8 +23,9 @@ use om_model::value::Val;
 use om_type_table::TypeTable;
 use std::alloc::Global;
 
-/// Puts at a place of a value a copy of what stands at the second path in another value. Both have
-/// the type that is number 0 of the table. After a refusal the value is as it was.
+/// Replaces the value at `path` by a copy of the value at the path `source` of another value. Both
+/// values have the type with number 0 of the table. If the graft is refused, the value is
+/// unchanged.
 pub fn graft(
     alloc: Global,
     heap: &mut Heap,
@@ -37,14 +38,14 @@ pub fn graft(
 ) -> Result<(), EditRefusal>
     requires value { IsValue (length heap.old) root.old }
     requires other { IsValue (length from.now) other }
-    // the edited value, or the refusal and the value as it was
+    // The value is edited, or it is unchanged and there is a refusal.
     ensures answer { IsGraftApplied table.now path.now (from.now, other) source.now heap.old
         root.old heap.new root.new result }
-    // the one answer is given, unless memory runs out
+    // If memory does not run out, the result is the only answer that the specification allows.
     ensures only { (answer : Result (List Obj × Val) (Reason ℕ))
         → IsGraftAnswerIn table.now path.now (from.now, other) source.now heap.old root.old answer
         → Gives answer heap.new root.new result }
-    // what is put is the same value as the part, and is new
+    // The new part is isomorphic to the copied part and consists of new objects.
     ensures copy { (p part : Place ℕ)
         → place_at (table_shapes (table_of table.now)) heap.old root.old 0 path.now ≡ Ok p
         → place_at (table_shapes (table_of table.now)) from.now other 0 source.now ≡ Ok part

@@ -1,4 +1,5 @@
-//! Laws over the definitions. The functions do nothing: what each ensures is the law.
+//! Laws of the definitions. Each function is a lemma function: it has no effect and exists only for
+//! its contract.
 
 ghost use Rattle.om_edit.specs.GraftLaws.{GraftsAreTheSame, GraftsHaveOneAnswer, TablesGraftAlike};
 ghost use Rattle.om_edit.specs.HiddenLaws.{EditsLeaveWhatIsHidden};
@@ -6,45 +7,45 @@ ghost use Rattle.om_edit.specs.Laws.{EditsHaveOneAnswer, TablesEditAlike};
 ghost use Rattle.om_edit.specs.LineLaws.{TablesAnswerLinesAlike};
 ghost use Rattle.om_edit.specs.WorkedEdits.{Rows};
 
-/// An edit of a value has one answer at most.
+/// Each edit of a value has at most one answer.
 pub fn edits_have_one_answer()
     ensures { EditsHaveOneAnswer }
 {}
 
-/// What a table of types says of edits is what its types say.
+/// The answer to an edit by the numbers of a table corresponds to the answer by the types.
 pub fn tables_edit_alike()
     ensures { TablesEditAlike }
 {}
 
-/// Worked edits make the values that they should, or are refused for the reasons that they should
-/// be.
+/// Worked edits have the expected results, or the expected reasons for a refusal.
 pub fn worked_edits_are_made()
     ensures { Rows }
 {}
 
-/// What a graft puts at its place is the same value as the part, made of new objects alone, and the
-/// whole has its type.
+/// A graft writes a value that is isomorphic to the copied part and consists of new objects, and
+/// the whole value has its type.
 pub fn grafts_are_the_same()
     ensures { GraftsAreTheSame }
 {}
 
-/// A graft has one answer at most.
+/// Each graft has at most one answer.
 pub fn grafts_have_one_answer()
     ensures { GraftsHaveOneAnswer }
 {}
 
-/// What a table of types says of grafts is what its types say.
+/// The answer to a graft by the numbers of a table corresponds to the answer by the types.
 pub fn tables_graft_alike()
     ensures { TablesGraftAlike }
 {}
 
-/// What a table of types says of the lines of a script is what its types say.
+/// The answer to a line of a script by the numbers of a table corresponds to the answer by the
+/// types.
 pub fn tables_answer_lines_alike()
     ensures { TablesAnswerLinesAlike }
 {}
 
-/// Lines, grafts among them, leave each object to which no path leads as it was, so also what is
-/// hidden alone.
+/// Script lines, including grafts, do not change an object to which no path leads. In particular
+/// they do not change objects under wildcards only.
 pub fn edits_leave_what_is_hidden()
     ensures { EditsLeaveWhatIsHidden }
 {}

@@ -1,4 +1,8 @@
-//! Edits of a value at its type.
+//! Edits a value at its type: `apply` runs a `set`, `link` or `unshare` edit, and `graft` copies a
+//! part of another value. The edited value has its type, and a refused edit leaves the value
+//! unchanged. The laws say that the answer is unique (`EditsHaveOneAnswer`), and that objects to
+//! which no path leads do not change (`EditsLeaveWhatIsHidden`). Parsing scripts is left to other
+//! crates.
 #![tactic(auto)]
 
 mod edit;

@@ -1,4 +1,4 @@
-//! Why an edit is refused.
+//! The reasons why an edit is refused.
 
 ghost use Rattle.std.specs.Prelude.{◌≡◌};
 ghost use Rattle.om_edit.specs.declared.refusal.EditRefusal.TheVariants as refusals;
@@ -8,25 +8,25 @@ use om_literal::LiteralFault;
 use om_model::Memory;
 use om_types::fault::Fault;
 
-/// Which path of an edit: the one before `=`, or the one after it.
+/// The side of an edit on which a path is: before `=` or after it.
 #[derive(Clone, Copy, Debug, PartialEq, Eq)]
 pub enum Side {
     Left,
     Right,
 }
 
-/// Why an edit is refused. The value is then as it was.
+/// The reason why an edit is refused. The value is unchanged.
 #[derive(Drop)]
 pub enum EditRefusal {
-    /// The step of this number, from 0, is not prescribed at its place.
+    /// The step with this index, counted from 0, leads to no required field of its value.
     NoField(Side, usize),
     /// There is no object to copy.
     NotBlock,
-    /// The literal is none of the type of the place.
+    /// The lexemes are not a literal of the type at the location.
     Literal(LiteralFault),
-    /// The edited value would not have its type, by this least fault.
+    /// The edited value would not have its type. This is its first fault.
     IllTyped(Fault),
-    /// Out of memory.
+    /// An allocation failed.
     Memory,
 }
 

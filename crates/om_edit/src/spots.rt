@@ -1,4 +1,4 @@
-//! Places of a value, and where a path leads.
+//! Locations in a value, and the location to which a path leads.
 
 ghost use Rattle.std.specs.Prelude.{◌≡◌, ◌<◌, length, IfOk};
 ghost use Rattle.om_model.specs.Graph.{IsValue};
@@ -13,15 +13,15 @@ use om_model::path::Path;
 use om_model::value::Val;
 use om_type_table::TypeTable;
 
-/// What can be changed: the root, or a field of an object.
+/// A location that can be changed: the root, or a field of an object.
 #[derive(Clone, Copy, Debug, PartialEq, Eq)]
 pub enum Spot {
     Root,
-    /// The object's number, and the field's.
+    /// The object's number and the index of the field.
     Field(u64, u64),
 }
 
-/// A place, what stands there, and the type that it has there.
+/// A location, the value there, and the value's type.
 #[derive(Clone, Copy, Debug, PartialEq, Eq)]
 pub struct Place<T> {
     pub spot: Spot,
@@ -29,7 +29,7 @@ pub struct Place<T> {
     pub ty: T,
 }
 
-/// The place that the path of a side leads to.
+/// Returns the location to which the path of a side leads.
 pub(crate) fn find_place(
     heap: &Heap,
     root: Val,
@@ -67,7 +67,7 @@ pub(crate) fn find_place(
     Ok(place)
 }
 
-/// Where a step leads from a value.
+/// Returns the location to which a step leads from a value.
 fn spot_after(value: Val, step: u64) -> Spot
     ensures { result ≡ spot_after value step }
 {

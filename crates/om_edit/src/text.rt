@@ -20,7 +20,7 @@ use om_type_table::TypeTable;
 use om_types::fault::Fault;
 use std::alloc::Global;
 
-/// The text of a refusal. Out of memory is none, and has no text.
+/// Returns the text of a refusal. A memory fault has no specified text.
 pub fn refusal_text(
     alloc: Global,
     table: &TypeTable,
@@ -45,7 +45,7 @@ pub fn refusal_text(
     Ok(List::of(text))
 }
 
-/// Puts which step is not prescribed.
+/// Appends which step leads to no required field.
 fn put_no_field(text: &mut Vec<u8>, side: Side, step: usize) -> Result<(), Memory>
     ensures { OnOk result
         (text.new.items
@@ -62,7 +62,8 @@ fn put_no_field(text: &mut Vec<u8>, side: Side, step: usize) -> Result<(), Memor
     put(text, b")")
 }
 
-/// The text of why lexemes are no value of a type. Out of memory is none, and has no text.
+/// Returns the text of the reason why lexemes are not a value of a type. A memory fault has no
+/// specified text.
 pub fn literal_text(
     alloc: Global,
     table: &TypeTable,
@@ -78,7 +79,7 @@ pub fn literal_text(
     Ok(List::of(text))
 }
 
-/// Puts why a literal of a script is refused.
+/// Appends the reason why a literal of a script is refused.
 fn put_literal(
     text: &mut Vec<u8>,
     alloc: Global,
@@ -100,7 +101,7 @@ fn put_literal(
     }
 }
 
-/// Puts why lexemes are no value of a type.
+/// Appends the reason why lexemes are not a value of a type.
 fn put_fault(
     text: &mut Vec<u8>,
     alloc: Global,
@@ -122,7 +123,7 @@ fn put_fault(
     }
 }
 
-/// Puts which part of a literal is none of its type.
+/// Appends which part of a literal does not have its type.
 fn put_misfit(
     text: &mut Vec<u8>,
     alloc: Global,
@@ -141,7 +142,7 @@ fn put_misfit(
     put_type(text, alloc, table, ty)
 }
 
-/// Puts what is at a byte.
+/// Appends a message with its position.
 fn put_at(text: &mut Vec<u8>, places: &Places<'_>, what: &[u8], place: u64) -> Result<(), Memory>
     ensures { OnOk result
         (text.new.items ≡ text.old.items ++ (what.now ++ told_by places.now place)) }
@@ -150,7 +151,7 @@ fn put_at(text: &mut Vec<u8>, places: &Places<'_>, what: &[u8], place: u64) -> R
     places.put(text, place)
 }
 
-/// Puts a type, if the table has one of this number.
+/// Appends a type, if the table has a type with this number.
 fn put_type(
     text: &mut Vec<u8>,
     alloc: Global,
@@ -166,7 +167,7 @@ fn put_type(
     Ok(())
 }
 
-/// Puts the paths of a fault.
+/// Appends the paths of a fault.
 fn put_places(text: &mut Vec<u8>, alloc: Global, fault: &Fault) -> Result<(), Memory>
     ensures { OnOk result (text.new.items ≡ text.old.items ++ fault_places fault.now) }
 {
@@ -180,7 +181,7 @@ fn put_places(text: &mut Vec<u8>, alloc: Global, fault: &Fault) -> Result<(), Me
     }
 }
 
-/// Puts a path.
+/// Appends a path.
 fn put_path(text: &mut Vec<u8>, alloc: Global, path: &Path) -> Result<(), Memory>
     ensures { OnOk result (text.new.items ≡ text.old.items ++ path_text path.now) }
 {
@@ -188,14 +189,14 @@ fn put_path(text: &mut Vec<u8>, alloc: Global, path: &Path) -> Result<(), Memory
     put(text, steps.as_slice())
 }
 
-/// Puts a number.
+/// Appends a number.
 fn put_number(text: &mut Vec<u8>, n: u64) -> Result<(), Memory>
     ensures { OnOk result (text.new.items ≡ text.old.items ++ decimal n) }
 {
     put(text, Buffer::new().format(n).as_bytes())
 }
 
-/// Puts bytes.
+/// Appends bytes.
 fn put(text: &mut Vec<u8>, bytes: &[u8]) -> Result<(), Memory>
     ensures { OnOk result (text.new.items ≡ text.old.items ++ bytes.now) }
 {

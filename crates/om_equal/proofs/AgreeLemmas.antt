@@ -1,4 +1,4 @@
--- Heads that agree.
+-- Lemmas about heads that agree.
 use Rattle.std.proofs.Common.{List, [], ◌∷◌, Option, Some, None}
 use Rattle.std.specs.Prelude.{Contains}
 use Rattle.om_types.specs.declared.head.HeadOf.TheVariants as heads
@@ -9,7 +9,7 @@ use Rattle.om_types.specs.Reached.{parts_of, listed_if}
 use Rattle.om_model.proofs.Options.{Contains-first, Contains-later, Contains-flat_map}
 
 module _ {T : Type 0} (P Q : T → T → Type 0) where
-  -- Q follows from P for types of these lists
+  -- `P` implies `Q` for the types of these lists.
   abbrev More : List T → List T → Type 0
   More ts us = (t u : T) → Contains ts t → Contains us u → P t u → Q t u
 

@@ -1,5 +1,5 @@
--- Types that are alike are equal, where the second is one of finitely many types that are closed
--- under the parts of their heads.
+-- If two types are equivalent (`Alike`), and the second is in a finite list that is closed under
+-- the parts of heads, then the two types are equal.
 use Rattle.std.proofs.Common.{◌≡◌, ◌∙◌, ◌⊎◌, ⊎_elim, inl, inr, List, [], ◌∷◌, ◌++◌, refl, sym, ap}
 use Rattle.std.proofs.Common.{subst}
 use Rattle.std.specs.Prelude.{Contains, map}
@@ -14,12 +14,12 @@ use Rattle.om_model.proofs.Options.{Contains-first, Contains-later, Contains-non
 use Rattle.om_equal.proofs.AgreeLemmas.{HeadsAgree-more}
 use Rattle.om_equal.proofs.AlikeLemmas.{Whole, Alike}
 
--- ---- what is in lists made of others
+-- ---- elements of constructed lists
 
 pair_is : (p : Ty × Ty) (t u : Ty) → p.0 ≡ t → p.1 ≡ u → p ≡ (t, u)
 pair_is p t u first second = ap (λ a. (a, p.1)) first ∙ ap (λ b. (t, b)) second
 
--- f of each of the one list with each of the other
+-- Applies `f` to each pair of an element of `ts` and an element of `us`.
 both : (Ty → Ty → Ty) → List Ty → List Ty → List Ty
 both f ts us = flat_map (λ t. map (λ u. f t u) us) ts
 
@@ -39,7 +39,7 @@ both_is f ts us v among =
     (one.0, other.0, one.1, other.1, other.2)
 
 module _ (same_or_not : (t u : Ty) → (t ≡ u) ⊎ (t ≡ u → ⊥)) (pairs : List (Ty × Ty)) where
-  -- the first ones of the pairs whose second one is this
+  -- The first components of the pairs whose second component is `u`.
   firsts_if : (p : Ty × Ty) (u : Ty) → (p.1 ≡ u) ⊎ (p.1 ≡ u → ⊥) → List Ty → List Ty
   firsts_if p u (inl same) ts = p.0 ∷ ts
   firsts_if p u (inr different) ts = ts
@@ -48,7 +48,7 @@ module _ (same_or_not : (t u : Ty) → (t ≡ u) ⊎ (t ≡ u → ⊥)) (pairs :
   firsts [] u = []
   firsts (p ∷ ps) u = firsts_if p u (same_or_not p.1 u) (firsts ps u)
 
-  -- all types that are this one but for parts that are pairs of the list
+  -- All types that are equal to this type up to parts that are pairs of the list.
   wholes : Ty → List Ty
   wholes (variable x) = variable x ∷ []
   wholes (named n) = named n ∷ []
@@ -95,7 +95,7 @@ module _ (same_or_not : (t u : Ty) → (t ≡ u) ⊎ (t ≡ u → ⊥)) (pairs :
       (λ later. Contains-later p ps (t, u) (firsts_is ps t u later))
       (if_is p t u (same_or_not p.1 u) (firsts ps u) among)
 
-  -- ---- they are just the types that are alike
+  -- ---- these are exactly the equivalent types
 
   part_has : (a b : Ty) → Holds pairs a b ⊎ Contains (wholes b) a
       → Contains (firsts pairs b ++ wholes b) a
@@ -185,7 +185,7 @@ module _ (same_or_not : (t u : Ty) → (t ≡ u) ⊎ (t ≡ u → ⊥)) (pairs :
   unfolding sources
   sources_is t u among = part_is t u (wholes_is u t) among
 
-  -- ---- a closed list of them
+  -- ---- a closed list of pairs
 
   module _ (head : Ty → HeadOf Ty) (agree : (t u : Ty) → Alike pairs t u
       → HeadsAgree (Alike pairs) (head t) (head u)) (types : List Ty) (reached : (u a : Ty)
@@ -214,7 +214,7 @@ module _ (same_or_not : (t u : Ty) → (t ≡ u) ⊎ (t ≡ u → ⊥)) (pairs :
               (subst (λ w. Alike pairs source.0 w) second (sources_is source.0 found.0 source.1)),
         )
 
-    -- types that are alike are equal
+    -- If two types are equivalent, then they are equal.
     pub alike_is_equal : (t u : Ty) → Contains types u → Alike pairs t u → EqualBy head t u
     alike_is_equal t u among alike = record {
       pairs = all;

@@ -1,6 +1,7 @@
--- Types that are alike but for parts that a closed list makes equal: what abbreviations at their
--- heads stand for is alike too. So no regularity of the declarations is needed to see that equal
--- types need equal types.
+-- Two types are equivalent (`Alike`) if they are equal up to parts that a closed list of pairs
+-- makes equal. If they are equivalent, then so are the expansions of abbreviations at their heads.
+-- Hence the proof that equal types require fields at equal types does not need regular
+-- declarations.
 use Rattle.std.proofs.Common.{ℕ, ◌≡◌, ◌⊎◌, ⊎_elim, inl, inr, List, [], ◌∷◌, ◌++◌, Bool, true, false}
 use Rattle.std.proofs.Common.{Option, Some, None, refl, ap, subst}
 use Rattle.std.specs.Prelude.{cond, option_map}
@@ -15,14 +16,14 @@ use Rattle.om_types.specs.Declarations.{unfolded, abbreviated_at, abbreviated_by
 use Rattle.om_types.specs.Declarations.{declaration_of}
 use Rattle.om_types.specs.Equal.{Pairwise, Holds}
 
--- what an abbreviation stands for is written as the grammar has it
+-- The expansion of an abbreviation is a type of the grammar.
 abbrev pub HasTypes : Body → Type 0
 HasTypes (bodies.Abbreviation t) = IsType t
 HasTypes (bodies.Record fields) = Unit {0}
 HasTypes (bodies.Variant constructors) = Unit {0}
 
 module _ (pairs : List (Ty × Ty)) where
-  -- one type is the other but for parts that are pairs of the list
+  -- One type equals the other up to parts that are pairs of the list.
   abbrev pub Whole : Ty → Ty → Type 0
   Whole (variable x) (variable y) = x ≡ y
   Whole (named m) (named n) = m ≡ n
@@ -121,7 +122,7 @@ module _ (pairs : List (Ty × Ty)) where
 
   -- ---- abbreviations
 
-  -- both are no abbreviation at the head, or stand for alike types
+  -- Either neither type has an abbreviation at its head, or the expansions are equivalent.
   abbrev pub BothUnfold : Option Ty → Option Ty → Type 0
   BothUnfold None None = Unit {0}
   BothUnfold (Some t) (Some u) = Alike t u

@@ -104,7 +104,7 @@ stable_is_equal n head class stable i j together = record {
 
 -- ---- refinement
 
--- what a closed list holds stays together
+-- Numbers that a closed list makes equal stay together.
 module _ (n : ℕ) (head : ℕ → HeadOf ℕ) (within : PartsBelow n head) (old new : ℕ → ℕ)
     (keeps_agreeing : (i j : ℕ) → AreTogether n old i j → HeadsAgree (AreTogether n old) (head i)
     (head j) → AreTogether n new i j) where
@@ -118,7 +118,7 @@ module _ (n : ℕ) (head : ℕ → HeadOf ℕ) (within : PartsBelow n head) (old
             keeps k l (within i k below among) (within j l below' among')
             (record { pairs = equal.pairs; holds = held; closed = equal.closed })
 
--- what is done stays stable
+-- Numbers that are done stay stable.
 module _ (n : ℕ) (head : ℕ → HeadOf ℕ) (old new : ℕ → ℕ) (Member Done : ℕ → Type 0)
     (split : IsSplit n head old new Member) where
   pub split_settles :
@@ -138,7 +138,7 @@ module _ (n : ℕ) (head : ℕ → HeadOf ℕ) (old new : ℕ → ℕ) (Member D
           absurd (other.0 (split.whole i j (split.finer i j together) member))
       by_other other (inr before) = stable i j (split.finer i j together) other.1 before.1
 
--- what has heads alike has one class
+-- If numbers whose heads agree up to parts have one class, then equal numbers have one class.
 pub start_keeps :
     (n : ℕ) (head : ℕ → HeadOf ℕ) (class : ℕ → ℕ)
     → ((i j : ℕ) → HeadsAgree (λ a b. Unit {0}) (head i) (head j) → class i ≡ class j)

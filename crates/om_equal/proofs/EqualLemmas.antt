@@ -1,4 +1,4 @@
--- Equal types: turned round, joined, and with themselves.
+-- Equality of types is symmetric, transitive and reflexive.
 use Rattle.std.proofs.Common.{◌≡◌, ◌∙◌, ◌⊎◌, ⊎_elim, inl, inr, List, [], ◌∷◌, Option, Some, None}
 use Rattle.std.proofs.Common.{refl, sym, ap, subst}
 use Rattle.std.specs.Prelude.{Contains, map}
@@ -11,7 +11,7 @@ use Rattle.om_types.specs.Equal.{IsClosed, EqualBy}
 use Rattle.om_types.specs.Reached.{parts_of, listed_if}
 use Rattle.om_model.proofs.Options.{Contains-first, Contains-later, Contains-none, Contains-cases, Contains-map, Contains-flat_map, map-Contains, flat_map-Contains}
 
--- ---- heads turned round, and joined
+-- ---- symmetry and transitivity of agreement of heads
 
 module _ {T : Type 0} (P Q R : T → T → Type 0) (join : (t u v : T) → P t u → Q u v → R t v) where
   Pairwise-join : (ts us vs : List T) → Pairwise P ts us → Pairwise Q us vs → Pairwise R ts vs
@@ -139,7 +139,8 @@ module _ {T : Type 0} (head : T → HeadOf T) where
   abbrev twice : T → T × T
   twice u = (u, u)
 
-  -- types are equal to themselves, where finitely many are closed under the parts of their heads
+  -- If finitely many types are closed under the parts of their heads, then each of them is equal to
+  -- itself.
   pub equal_itself :
       (types : List T) → ((u a : T) → Contains types u → Contains (parts_of (head u)) a
       → Contains types a) → (t : T) → Contains types t → EqualBy head t t

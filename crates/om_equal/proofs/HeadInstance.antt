@@ -1,4 +1,5 @@
--- The head of an instance is the instance of the head, where that is no variable.
+-- If the head of a type is not a variable, then the head of an instance is the instance of the
+-- head.
 use Rattle.std.proofs.Common.{ℕ, zero, suc, ◌<◌, ◌≤◌, ◌≡◌, ◌∙◌, ⊎_elim, inl, inr, List, []}
 use Rattle.std.proofs.Common.{◌∷◌, ◌++◌}
 use Rattle.std.proofs.Common.{Bool, true, false, Option, Some, None, refl, ap, subst, sym, arith}
@@ -32,7 +33,7 @@ use Rattle.om_equal.proofs.RankedLemmas.{are_ranked}
 use Rattle.om_equal.proofs.WeightLemmas.{heft, falls, body_falls, by_part, beside, by_including}
 use Rattle.om_equal.proofs.WeightLemmas.{inside, price, priced}
 
--- ---- heads with other parts, built up
+-- ---- mapping the parts of a head
 
 module _ (f : Ty → Ty) where
   abbrev mapped : HeadOf Ty → HeadOf Ty
@@ -124,7 +125,7 @@ free_head (heads.Variable x) differs = differs x refl
 free_head h differs = tt
 
 module _ (decls : List Decl) (well : AreWellFormed decls) where
-  -- what is included at the head, and in arguments of the name there, are variants
+  -- The types included at the head, and in arguments of the name there, are variants.
   abbrev pub HasIncludes : Ty → Type 0
   HasIncludes (variable x) = Unit {0}
   HasIncludes (named n) = Unit {0}
@@ -173,11 +174,11 @@ module _ (decls : List Decl) (well : AreWellFormed decls) where
   pub plain : (t : Ty) → unfolded decls t ≡ None → head decls t ≡ plain_head (head decls) t
   plain t is = head_plain decls well.sound.rank (are_ranked decls well.sound) t is
 
-  -- the head of an instance of t is the head's
+  -- The head of the instance of `t` is the instance of the head of `t`.
   abbrev pub Commutes : (List ℕ → Ty) → Ty → Type 0
   Commutes value t = head decls (instance value t) ≡ head_with_parts (instance value) (head decls t)
 
-  -- so it is of all types that weigh less
+  -- Induction hypothesis: the claim holds for all types with smaller weight.
   abbrev Known : ℕ → Type 0
   Known k = (value : List ℕ → Ty) (t : Ty) → weighs t < k → IsType t → TakeArguments decls 0 t
       → HasIncludes t → IsNoVariable (head decls t) → Commutes value t
@@ -216,7 +217,7 @@ module _ (decls : List Decl) (well : AreWellFormed decls) where
         (tags_in-map (instance value) (head decls a))
         ∙ with_tags-map (instance value) (plain_head (head decls) t) (tags_in (head decls a))
 
-    -- ---- what an instance includes
+    -- ---- types that an instance includes
 
     variable-includes :
         ((x : List ℕ) → HasIncludes (value x)) → (t : Ty) → IsVariable t
@@ -264,7 +265,8 @@ module _ (decls : List Decl) (well : AreWellFormed decls) where
   chosen P true t u one other = one
   chosen P false t u one other = other
 
-  -- what holds of variables and of all arguments holds of what stands for a variable
+  -- If a property holds for variables and for all arguments, then it holds for the type that
+  -- replaces a variable.
   pub of_argument :
       (P : Ty → Type 0) → ((x : List ℕ) → P (variable x)) → (ps : List (List ℕ)) (ts : List Ty)
       → ((t : Ty) → Contains ts t → P t) → (x : List ℕ) → P (argument_for ps ts x)
@@ -274,9 +276,9 @@ module _ (decls : List Decl) (well : AreWellFormed decls) where
       chosen P (bytes_eq p x) t (argument_for ps ts x) (all t (Contains-first t ts))
       (of_argument P variables ps ts (λ u among. all u (Contains-later t ts u among)) x)
 
-  -- ---- what an abbreviation stands for
+  -- ---- expansions of abbreviations
 
-  -- an abbreviation at the head of t, with the type in its declaration
+  -- An abbreviation at the head of `t`, with the type in its declaration.
   pub record IsAbbreviated (t u : Ty) : Type 0 where
     pub name : List ℕ
     pub decl : Decl
@@ -413,7 +415,8 @@ module _ (decls : List Decl) (well : AreWellFormed decls) where
       by_unfolding k (all_known k) value t (omega (arith, below)) whole given includes
       (unfolded decls t) refl free
 
-  -- the head of an instance is the head's, where that is no variable
+  -- If the head of a type is not a variable, then the head of an instance is the instance of the
+  -- head.
   pub head-instance :
       (value : List ℕ → Ty) (t : Ty) → IsType t → TakeArguments decls 0 t → HasIncludes t
       → IsNoVariable (head decls t) → Commutes value t

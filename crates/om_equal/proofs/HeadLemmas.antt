@@ -1,4 +1,4 @@
--- The heads of types that are alike agree.
+-- If types are equivalent, then their heads agree.
 use Rattle.std.proofs.Common.{ℕ, zero, suc, ◌<◌, ◌≤◌, ◌≡◌, ⊎_elim, inl, inr, List, [], ◌∷◌, ◌++◌}
 use Rattle.std.proofs.Common.{Option, Some, None, refl, sym, subst, arith}
 use Rattle.om_types.specs.declared.head.HeadOf.TheVariants as heads
@@ -134,7 +134,7 @@ module _ (P : Ty → Ty → Type 0) where
       subst (λ name. HeadsAgree P (name_head m) (name_head name)) same
       (meant_agree (predeclared m) m)
 
--- ---- heads: what holds of `head` over well-formed declarations is a premise here
+-- ---- heads: the laws of `head` over well-formed declarations are premises here
 
 module _ (decls : List Decl) (typed : (name : List ℕ) (d : Decl) → declaration_of decls name ≡ Some
     d → HasTypes d.body) (head : Ty → HeadOf Ty)
@@ -205,6 +205,6 @@ module _ (decls : List Decl) (typed : (name : List ℕ) (d : Decl) → declarati
       (unfolded decls t) (unfolded decls u) refl refl (unfolded_alike pairs decls typed t u
       whole)
 
-  -- the heads of types that are alike agree, with parts that are alike
+  -- If two types are equivalent, then their heads agree and their parts are equivalent.
   pub alike_agree : (t u : Ty) → Alike pairs t u → Agree t u
   alike_agree t u alike = agree_below (suc (weight t)) t u (omega arith) alike

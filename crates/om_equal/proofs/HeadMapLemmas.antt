@@ -1,4 +1,4 @@
--- Heads with other parts agree where the heads do.
+-- If two heads agree, then the heads with mapped parts agree.
 use Rattle.std.proofs.Common.{◌≡◌, ◌∙◌, List, [], ◌∷◌, ◌++◌, Option, Some, None, refl, ap, subst}
 use Rattle.std.proofs.Common.{sym}
 use Rattle.std.specs.Prelude.{map, option_map}
@@ -138,7 +138,7 @@ module _ {T U : Type 0} (f : T → U) where
       ∙ ap (λ first. first ++ map f (parts_of (heads.Variants tags))) (listed-map f tag.argument)
       ∙ sym (append-map (listed_if tag.argument) (parts_of (heads.Variants tags)))
 
-  -- the parts of the head with other parts
+  -- The parts of a head with mapped parts.
   pub parts_of-map : (h : HeadOf T) → parts_of (head_with_parts f h) ≡ map f (parts_of h)
   parts_of-map (heads.Variable x) = refl
   parts_of-map (heads.Predeclared b ts) = refl

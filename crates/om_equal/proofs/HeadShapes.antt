@@ -1,4 +1,4 @@
--- Types whose heads agree have shapes that agree.
+-- If the heads of two types agree, then their shapes agree.
 use Rattle.std.proofs.Common.{ℕ, ◌≡◌, ◌∙◌, ◌⊎◌, ⊎_elim, inl, inr, List, [], ◌∷◌}
 use Rattle.std.proofs.Common.{Bool, true}
 use Rattle.std.proofs.Common.{false, cond, Option, Some, None, refl, ap, subst, sym}
@@ -76,7 +76,7 @@ module _ {T : Type 0} where
   by_first false tag a tags z is known found =
       let later = known found in (Contains-later tag tags a later.0, later.1)
 
-  -- a tag that is found is there, and has the hash
+  -- If a tag is found, then it is in the list and has the hash.
   pub found_is : (tags : List (PolyTag T)) (z : ℤ) (a : PolyTag T) → tag_with tags z ≡ Some a
       → Contains tags a × (a.hash ≡ z)
   found_is [] z a found = absurd (none-some a found)
@@ -90,7 +90,7 @@ module _ {T : Type 0} where
   when_first false tag later (inl is) = absurd (false≢true is)
   when_first false tag later (inr known) = known
 
-  -- some tag is found where one of the hash is there
+  -- If a tag with the hash is in the list, then some tag is found.
   pub is_found : (tags : List (PolyTag T)) (a : PolyTag T) → Contains tags a → (b : PolyTag T)
       × (tag_with tags a.hash ≡ Some b)
   is_found [] a among = absurd (Contains-none a among)
@@ -109,7 +109,7 @@ module _ (Likes : Ty → Ty → Type 0) (tags others : List (TagOf Ty))
   abbrev seconds : List (PolyTag Ty)
   seconds = map tag_shape others
 
-  -- a tag has one of its hash on the other side, with an argument that is alike
+  -- For each tag there is a tag with the same hash on the other side, and their arguments agree.
   there : (a : PolyTag Ty) → Contains firsts a → (b : PolyTag Ty) × Contains seconds b
       × (b.hash ≡ a.hash) × ArgumentsAgree Likes a.arg b.arg
   there a among =
@@ -158,7 +158,7 @@ module _ (Likes : Ty → Ty → Type 0) (tags others : List (TagOf Ty))
 
 -- ---- heads
 
--- predeclared types without arguments have one shape
+-- The shape of a predeclared type without arguments agrees with itself.
 own_shape : (Likes : Ty → Ty → Type 0) (decls : List Decl) (b : Predeclared)
     → ShapesAgree Likes (predeclared_shape decls b []) (predeclared_shape decls b [])
 own_shape Likes decls bases.Int = same_any_int
@@ -175,7 +175,7 @@ own_shape Likes decls bases.Floatarray = same_float_array
 own_shape Likes decls bases.Any = same_anything
 own_shape Likes decls b = same_variable
 
--- with several they have no values
+-- Predeclared types with several arguments have no values.
 several : (Likes : Ty → Ty → Type 0) (decls : List Decl) (b : Predeclared) (t t' u u' : Ty)
     (ts us : List Ty) → ShapesAgree Likes (predeclared_shape decls b (t ∷ t' ∷ ts))
     (predeclared_shape decls b (u ∷ u' ∷ us))
@@ -352,7 +352,7 @@ module _ (decls : List Decl) (sound : AreSound decls) (pairs : List (Ty × Ty))
   heads_agree heads.Absent heads.Absent agree hashed = same_variable
   heads_agree h k agree hashed = absurd agree
 
-  -- the shapes of a pair agree, where the tags of the second are known by their hashes
+  -- If the tags of the second type are determined by their hashes, then the shapes of a pair agree.
   pub pair_shapes :
       (t u : Ty) → Held t u → ((tags : List (PolyTag Ty)) → shape decls u ≡ shapes.Poly tags
       → AreHashed tags) → ShapesAgree Likes (shape decls t) (shape decls u)

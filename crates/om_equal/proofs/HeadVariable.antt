@@ -1,4 +1,5 @@
--- Where a variable is at the head, an instance has the head of what stands for the variable.
+-- If the head of a type is a variable, then an instance has the head of the type that replaces the
+-- variable.
 use Rattle.std.proofs.Common.{ℕ, zero, suc, ◌<◌, ◌≡◌, ◌∙◌, inl, inr, List}
 use Rattle.std.proofs.Common.{Option, Some, None, refl, ap, subst, sym, arith}
 use Rattle.std.specs.Prelude.{option_map}
@@ -18,7 +19,7 @@ use Rattle.om_equal.proofs.InstanceLemmas.{unfolded-instance, abbreviation_is}
 use Rattle.om_equal.proofs.HeadInstance.{weighs, falls_to, again, plain, of_argument}
 use Rattle.om_equal.proofs.HeadInstance.{unfolded_is, parts_written, parts_take}
 
--- ---- what is written has no variable at its head, unless it is one
+-- ---- a written type has a variable as its head only if it is one
 
 no_variable_part : (h : HeadOf Ty) (a : Ty) (x : List ℕ) → with_part h a ≡ heads.Variable x → ⊥
 no_variable_part (heads.Variable y) a x is = cc
@@ -56,7 +57,7 @@ no_variable_written f (including t a) x whole is = no_variable_tags (plain_head 
 same_variable : (h : HeadOf Ty) (x y : List ℕ) → h ≡ heads.Variable x → h ≡ heads.Variable y → x ≡ y
 same_variable h x y is same = cc
 
--- ---- by weight
+-- ---- induction on the weight
 
 module _ (decls : List Decl) (well : AreWellFormed decls) (value : List ℕ → Ty) (x : List ℕ) where
   abbrev ComesThrough : Ty → Type 0

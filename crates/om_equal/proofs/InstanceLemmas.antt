@@ -1,4 +1,4 @@
--- A replacement at the head commutes with an instance.
+-- Expanding an abbreviation at the head commutes with instantiation.
 use Rattle.std.proofs.Common.{ℕ, suc, ◌+◌, ◌≡◌, ◌∙◌, ⊎_elim, inl, inr, List, [], ◌∷◌}
 use Rattle.std.proofs.Common.{◌++◌}
 use Rattle.std.proofs.Common.{length, Bool, true, false, Option, Some, None, refl, ap, subst, sym}
@@ -23,7 +23,7 @@ use Rattle.om_types.specs.Accepted.{AreWellFormed, types_of_body}
 use Rattle.om_model.proofs.Options.{Contains-first, Contains-none, Contains-cases}
 use Rattle.om_equal.proofs.HeadMapLemmas.{append-map}
 
--- ---- what instances keep
+-- ---- properties that instances preserve
 
 module _ (value : List ℕ → Ty) where
   pub name_of-instance : (t : Ty) → IsWhole t → name_of (instance value t) ≡ name_of t
@@ -159,7 +159,7 @@ module _ (value : List ℕ → Ty) where
 
 -- ---- abbreviations
 
--- the parts and those that follow are as many as the name takes
+-- The number of parts plus `k` is the arity of the name.
 counted : (decls : List Decl) (k : ℕ) (t : Ty) (name : List ℕ) → TakeArguments decls k t
     → name_of t ≡ Some name → arity_of decls name ≡ Some (length (parts t) + k)
 counted decls k (named n) name given is =
@@ -179,7 +179,7 @@ module _ (decls : List Decl) (well : AreWellFormed decls) where
   abbreviation_is (bodies.Record fields) t is = absurd (none-some t is)
   abbreviation_is (bodies.Variant all) t is = absurd (none-some t is)
 
-  -- a declared name takes as many arguments as it has parameters
+  -- The arity of a declared name is the number of its parameters.
   declared_arity :
       (name : List ℕ) (d : Decl) → declaration_of decls name ≡ Some d → arity_of decls name ≡ Some
       (length d.parameters)
@@ -219,7 +219,7 @@ module _ (decls : List Decl) (well : AreWellFormed decls) where
       by_name None is = refl
       by_name (Some name) is = by_decl name is (declaration_of decls name) refl
 
-      -- a replacement commutes with an instance
+      -- Expansion commutes with instantiation.
       pub unfolded-instance :
           unfolded decls (instance value t) ≡ option_map (instance value) (unfolded decls t)
       unfolded-instance =

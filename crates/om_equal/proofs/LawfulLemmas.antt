@@ -1,4 +1,5 @@
--- Equal types mean the same, where one of them is among the types that a type reaches.
+-- If one of two equal types is among the types that a type reaches, then both have the same
+-- meaning.
 use Rattle.std.proofs.Common.{ℕ, ◌≡◌, ◌⊎◌, inl, inr, List}
 use Rattle.std.proofs.Common.{subst, sym}
 use Rattle.std.specs.Prelude.{Contains, IsSome, IsTrue, slice_get}
@@ -35,7 +36,7 @@ module _ (decls : List Decl) (sound : AreSound decls) (types : List Ty)
   abbrev Same : Ty → Ty → Type 0
   Same = Equal decls
 
-  -- types that are alike are equal, where the second is reached
+  -- If two types are equivalent and the second is reached, then they are equal.
   alike_equal : (t u : Ty) (equal : Same t u) (a b : Ty) → Contains types b → Alike equal.pairs a b
       → Same a b
   alike_equal t u equal a b among alike =
@@ -77,7 +78,7 @@ module _ (decls : List Decl) (sound : AreSound decls) (types : List Ty)
       both_some_back (Alike back.pairs) (fields_of graph v (shape decls u))
       (fields_of graph v (shape decls t)) (agree_at u t back among graph v) fits
 
-  -- equal types are asked of alike
+  -- `is_asked` is the same for the shapes of equal types.
   asked_alike : (t u : Ty) → Contains types t ⊎ Contains types u → Same t u
       → is_asked (shape decls t) ≡ is_asked (shape decls u)
   asked_alike t u (inr among) equal =
@@ -135,7 +136,8 @@ module _ (decls : List Decl) (sound : AreSound decls) (types : List Ty)
         (mutable_same graph o t u among equal) mutable.1,
   )
 
-  -- the shapes of declared types are lawful at types that reach none but themselves
+  -- If the types of a list reach only types of the list, then the shapes of declared types are
+  -- lawful at them.
   pub listed_lawful : AreLawful (declared_shapes decls) (λ u. Contains types u)
   listed_lawful = record {
     reflexive = λ t among. equal_itself (head decls) types (parts_here decls types listed) t
@@ -151,7 +153,7 @@ module _ (decls : List Decl) (sound : AreSound decls) (types : List Ty)
     mutable = change;
   }
 
--- and so at the types that a type reaches
+-- Hence the shapes are lawful at the types that a type reaches.
 pub reached_lawful :
     (decls : List Decl) → AreSound decls → (root : Ty) (types : List Ty) → IsReached decls root types
     → AreKnownByHash decls types → AreLawful (declared_shapes decls) (λ u. Contains types u)

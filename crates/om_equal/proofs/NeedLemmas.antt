@@ -1,5 +1,5 @@
--- Equal types need equal types: what a datatype has at one list of arguments and at another, where
--- these are equal pairwise.
+-- Equal types require fields at equal types: the fields of a datatype at two argument lists that
+-- are equal element by element.
 use Rattle.std.proofs.Common.{ℕ, zero, suc, ◌<◌, ◌≡◌, ◌∙◌, List, [], ◌∷◌, Option, Some, None, refl}
 use Rattle.std.proofs.Common.{sym, ap, inl, arith}
 use Rattle.om_types.specs.declared.head.HeadOf.{HeadOf}
@@ -17,7 +17,7 @@ use Rattle.om_equal.proofs.WeightLemmas.{AreRanked, heft, falls, bound, by_part,
 use Rattle.om_equal.proofs.WeightLemmas.{inside, price, priced}
 
 module _ (decls : List Decl) (rank : List ℕ → ℕ) (ranked : AreRanked decls rank) where
-  -- one replacement leaves the head
+  -- One expansion does not change the head.
   pub head_again : (t u : Ty) → unfolded decls t ≡ Some u → head decls t ≡ head decls u
   head_again t u is = settled.again decls (heft decls rank ranked) (falls decls rank ranked)
       (λ t a. by_part (price decls rank ranked) (priced decls rank ranked) t a) (λ t x. omega arith)
@@ -26,7 +26,7 @@ module _ (decls : List Decl) (rank : List ℕ → ℕ) (ranked : AreRanked decls
       (λ t a. inside (price decls rank ranked) (priced decls rank ranked) t a)
       (bound decls rank ranked) t u is
 
-  -- without one the head is what is written
+  -- Without an abbreviation the head is the one that is written.
   pub head_plain : (t : Ty) → unfolded decls t ≡ None → head decls t ≡ plain_head (head decls) t
   head_plain t is = settled.plain decls (heft decls rank ranked) (falls decls rank ranked)
       (λ t a. by_part (price decls rank ranked) (priced decls rank ranked) t a) (λ t x. omega arith)
@@ -61,7 +61,7 @@ module _ (decls : List Decl) (rank : List ℕ → ℕ) (ranked : AreRanked decls
     held_alike [] (u ∷ us) held = absurd held
     held_alike (t ∷ ts) [] held = absurd held
 
--- ---- no other function is so
+-- ---- uniqueness of the head
 
 module _ (decls : List Decl) (rank : List ℕ → ℕ) (ranked : AreRanked decls rank)
     (other : Ty → HeadOf Ty) (again : (t u : Ty) → unfolded decls t ≡ Some u → other t ≡ other u)
@@ -91,6 +91,7 @@ module _ (decls : List Decl) (rank : List ℕ → ℕ) (ranked : AreRanked decls
   all_below zero t below = absurd (omega arith)
   all_below (suc k) t below = one_more k (all_below k) t below (unfolded decls t) refl
 
-  -- what leaves replacements and is as written is the head
+  -- If a function is invariant under expansion and agrees with the written head otherwise, then it
+  -- is `head`.
   pub only_head : (t : Ty) → other t ≡ head decls t
   only_head t = all_below (suc (weighs t)) t (omega arith)

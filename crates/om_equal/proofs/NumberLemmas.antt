@@ -1,4 +1,4 @@
--- Types are equal exactly where their numbers are, by heads whose parts are numbers.
+-- Types are equal if and only if their numbers are equal, for heads whose parts are numbers.
 use Rattle.std.proofs.Common.{ℕ, zero, suc, ◌+◌, ◌<◌, ◌≡◌, ◌∙◌, ◌⊎◌, ⊎_elim, inl, inr, List, []}
 use Rattle.std.proofs.Common.{◌∷◌, length}
 use Rattle.std.proofs.Common.{Option, Some, None, refl, ap, subst, sym, arith}
@@ -24,7 +24,7 @@ module _ (decls : List Decl) (types : List Ty) (all : List (HeadOf ℕ))
   abbrev Is : ℕ → Ty → Type 0
   Is i u = slice_get types i ≡ Some u
 
-  -- the head at a number is the type's, but for numbers in the place of parts
+  -- The head at a number is the head of its type, with numbers instead of types as parts.
   head_is : (i : ℕ) (u : Ty) → Is i u → head_with_parts (slice_get types)
       (head_at all i) ≡ head_with_parts Some (head decls u)
   head_is i u is =
@@ -36,7 +36,7 @@ module _ (decls : List Decl) (types : List Ty) (all : List (HeadOf ℕ))
       ∙ ap (option_map (λ t. head_with_parts Some (head decls t))) is) in
       ap (λ o. head_with_parts (slice_get types) (head_or_absent o)) found.1 ∙ found.2
 
-  -- a part of a head is the number of a part of the type's
+  -- A part of the head at a number is the number of a part of the type's head.
   part_known : (i : ℕ) (u : Ty) → Is i u → (a : ℕ) → Contains (parts_of (head_at all i)) a
       → (s : Ty) × Contains (parts_of (head decls u)) s × Is a s
   part_known i u is a among =
@@ -51,7 +51,7 @@ module _ (decls : List Decl) (types : List Ty) (all : List (HeadOf ℕ))
   -- ---- heads that agree
 
   module _ (Q : Ty → Ty → Type 0) where
-    -- both are types, and these are related
+    -- Both are types, and the types are related.
     abbrev Both : Option Ty → Option Ty → Type 0
     Both a b = (t u : Ty) × (a ≡ Some t) × (b ≡ Some u) × Q t u
 
@@ -84,7 +84,7 @@ module _ (decls : List Decl) (types : List Ty) (all : List (HeadOf ℕ))
         (subst (λ h. HeadsAgree Both (head_with_parts (slice_get types) (head_at all i)) h)
         (sym (head_is j u is')) first)
 
-  -- ---- equal numbers are those of equal types
+  -- ---- equal numbers have equal types
 
   abbrev pair_if : Option Ty → Option Ty → Option (Ty × Ty)
   pair_if (Some t) (Some u) = Some (t, u)
@@ -142,7 +142,7 @@ module _ (decls : List Decl) (types : List Ty) (all : List (HeadOf ℕ))
 
   -- ---- equal types have equal numbers
 
-  -- the numbers of a type, from one on
+  -- The numbers of a type, counted from `i`.
   abbrev put_number : {A : Type 0} → ℕ → A ⊎ (A → ⊥) → List ℕ → List ℕ
   put_number i (inl same) rest = i ∷ rest
   put_number i (inr different) rest = rest
@@ -252,7 +252,7 @@ module _ (decls : List Decl) (types : List Ty) (all : List (HeadOf ℕ))
         (equal.closed source.0 source.1 source.2));
   }
 
-  -- the parts of a type's head have numbers, where the types are closed under parts
+  -- If the types are closed under parts, then the parts of a type's head have numbers.
   pub parts_below :
       (i k : ℕ) → i < length types → Contains (parts_of (head_at all i)) k → k < length types
   parts_below i k below among =

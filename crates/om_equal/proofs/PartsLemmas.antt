@@ -1,4 +1,4 @@
--- Shapes with other parts ask for the same fields, at the other parts.
+-- Shapes with mapped parts require the same fields, at the mapped parts.
 use Rattle.std.proofs.Common.{ℕ, zero, suc, ◌≡◌, ◌∙◌, List, [], ◌∷◌, length, Bool, true, false}
 use Rattle.std.proofs.Common.{Option, Some, None, refl, ap}
 use Rattle.std.specs.Prelude.{map, slice_get, option_map, option_and_then, replicate, if◌then◌else◌}
@@ -119,7 +119,7 @@ module _ {T U : Type 0} (f : T → U) where
       (tag_fields_mapped tags values)
   block_mapped shape tag values = refl
 
-  -- ---- the other questions do not look at parts
+  -- ---- the other functions do not depend on parts
 
   double_same : (shape : ShapeOf T) → is_double (with_parts f shape) ≡ is_double shape
   double_same shapes.Double = refl

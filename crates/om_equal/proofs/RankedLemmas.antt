@@ -1,4 +1,4 @@
--- A ranking of abbreviations is what the weights need.
+-- A ranking of abbreviations gives the premises of the weight lemmas.
 use Rattle.std.proofs.Common.{ℕ, zero, suc, ◌<◌, ◌≤◌, ◌^◌, ◌≡◌, List, [], ◌∷◌, Some, refl, subst}
 use Rattle.std.proofs.Common.{arith}
 use Rattle.std.specs.Prelude.{Contains}

@@ -1,5 +1,5 @@
--- The list of the types that a type reaches has what each of them reaches, and what its values
--- need.
+-- The list of the types that a type reaches is closed: it contains the types that its members reach
+-- and the types that their values require.
 use Rattle.std.proofs.Common.{ℕ, zero, suc, ◌≡◌, ◌⊎◌, ⊎_elim, inl, inr, List, [], ◌∷◌, ◌++◌, Bool}
 use Rattle.std.proofs.Common.{true}
 use Rattle.std.proofs.Common.{false, Option, Some, None, refl, subst, sym}
@@ -32,7 +32,7 @@ use Rattle.om_equal.proofs.HeadShapes.{found_is}
 
 -- ---- the list
 
--- nothing is lost but what comes again
+-- Removing repeats loses no element.
 pub without_repeats_has :
     (all seen others : List Ty) (x : Ty) → IsWithoutRepeats seen all others → Contains all x
     → Contains seen x ⊎ Contains others x
@@ -58,7 +58,8 @@ not_seen : {X : Type 0} (x : X) (A : Type 0) → Contains [] x ⊎ A → A
 not_seen x A (inl never) = absurd (Contains-none x never)
 not_seen x A (inr a) = a
 
--- of types that reach none but themselves the parts are among them, and what they name
+-- If the types of a list reach only types of the list, then their parts and the types that they
+-- name are in the list.
 module _ (decls : List Decl) (types : List Ty)
     (listed : (u a : Ty) → Contains types u → Contains (reached_from decls u) a → Contains types a)
   where
@@ -78,11 +79,11 @@ module _ (decls : List Decl) (t : Ty) (types : List Ty) (reached : IsReached dec
       not_seen x (Contains types x) (without_repeats_has (t ∷ flat_map (reached_from decls) types)
       [] types x reached.in_order among)
 
-  -- the type itself
+  -- The list contains the type itself.
   pub root_listed : Contains types t
   root_listed = listed t (Contains-first t (flat_map (reached_from decls) types))
 
-  -- and what one of them reaches
+  -- The list contains the types that its members reach.
   pub reached_listed :
       (u a : Ty) → Contains types u → Contains (reached_from decls u) a → Contains types a
   reached_listed u a among has =
@@ -97,10 +98,10 @@ module _ (decls : List Decl) (t : Ty) (types : List Ty) (reached : IsReached dec
       (u a : Ty) → Contains types u → Contains (named_in (shape decls u)) a → Contains types a
   named_listed u a among has = named_here decls types reached_listed u a among has
 
--- ---- what is needed is named
+-- ---- required types are named
 
 module _ {T : Type 0} where
-  -- the types of these needs are among those
+  -- The types of these required fields are in the list.
   abbrev Names : List T → Option (List (ℕ × T)) → Type 0
   Names types needs = (i : ℕ) (a : T) → Contains (or_none needs) (i, a) → Contains types a
 
@@ -193,7 +194,7 @@ module _ {T : Type 0} where
   at_object s None i a among = absurd (Contains-none (i, a) among)
   at_object s (Some object) i a among = object_named s object i a among
 
-  -- the types of a value's needs are named by the shape
+  -- The shape names the types of a value's required fields.
   pub needs_named :
       (s : ShapeOf T) (graph : List Obj) (v : Val) → Names (named_in s) (fields_of graph v s)
   needs_named s graph (vals.Int z) i a among = none_named (fits_int s z) (named_in s) i a among

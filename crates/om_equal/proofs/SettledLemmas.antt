@@ -1,4 +1,4 @@
--- Enough replacements are enough: the head is that of what an abbreviation stands for.
+-- With enough expansions the head of a type is the head of its expansion.
 use Rattle.std.proofs.Common.{ℕ, zero, suc, ◌<◌, ◌≤◌, ◌≡◌, ◌∙◌, List, [], ◌∷◌, Option, Some, None}
 use Rattle.std.proofs.Common.{refl, ap, arith}
 use Rattle.om_types.specs.declared.decl.Decl.{Decl}
@@ -59,7 +59,7 @@ module _ (decls : List Decl) (weight : Ty → ℕ) (falls : (t u : Ty) → unfol
         → head_within decls (suc n) t ≡ plain_head (head_within decls n) t
     within_plain n t is = ap (head_by (head_within decls n) t) is
 
-    -- one replacement leaves the head
+    -- One expansion does not change the head.
     pub again : (t u : Ty) → unfolded decls t ≡ Some u → head decls t ≡ head decls u
     unfolding head
     again t u is =

@@ -1,5 +1,5 @@
--- Shapes that agree, part by part: the same values fit, the same fields are needed at parts that
--- are related, and the same objects are mutable.
+-- Shapes that agree, part by part: the same values match, the same fields are required at related
+-- parts, and the same objects are mutable.
 use Rattle.std.proofs.Common.{ℕ, zero, suc, ◌≡◌, List, [], ◌∷◌, length, Bool, true, false}
 use Rattle.std.proofs.Common.{Option, Some, None, refl, ap, subst}
 use Rattle.std.specs.Prelude.{slice_get, option_and_then, replicate, ◌==◌, ◌&&◌, ℤ, is_some, not}
@@ -32,7 +32,7 @@ module _ {T : Type 0} (Alike : T → T → Type 0) where
   FoundAgree (Some one) (Some other) = ArgumentsAgree Alike one.arg other.arg
   FoundAgree one other = ⊥
 
-  -- of each hash both have a tag, with arguments that are alike, or none has
+  -- For each hash, either both lists have a tag and the arguments agree, or neither has one.
   abbrev pub PolysAgree : List (PolyTag T) → List (PolyTag T) → Type 0
   PolysAgree tags others = (z : ℤ) → FoundAgree (tag_with tags z) (tag_with others z)
 
@@ -60,7 +60,7 @@ module _ {T : Type 0} (Alike : T → T → Type 0) where
     same_array_of_anything : (t u : T) → Alike t u
         → ShapesAgree (shapes.ArrayOfAnything t) (shapes.ArrayOfAnything u)
 
-  -- ---- needs
+  -- ---- required fields
 
   numbered_agree :
       (i : ℕ) (ts us : List T) → Pairwise Alike ts us → NeedsAgree Alike (numbered_from i ts)
@@ -89,7 +89,7 @@ module _ {T : Type 0} (Alike : T → T → Type 0) where
         own true = tt
         own false = tt
 
-  -- ---- the questions
+  -- ---- the functions on shapes
 
   argument_same : (t u : Option T) → ArgumentsAgree Alike t u → is_some t ≡ is_some u
   argument_same None None agree = refl
@@ -136,14 +136,14 @@ module _ {T : Type 0} (Alike : T → T → Type 0) where
   native_same same_native = refl
   native_same same = refl
 
-  -- the same values are asked of
+  -- `is_asked` is the same for both.
   pub asked_same : {s r : ShapeOf T} → ShapesAgree s r → is_asked s ≡ is_asked r
   asked_same same_anything = refl
   asked_same same = refl
 
   -- ---- blocks
 
-  -- both have a constructor there, which agree, or none has
+  -- Either both have a constructor there and the constructors agree, or neither has one.
   abbrev pub BothConstr : Option (Constr T) → Option (Constr T) → Type 0
   BothConstr None None = Unit {0}
   BothConstr (Some c) (Some d) = (c.mutable ≡ d.mutable) × Pairwise Alike c.fields d.fields
@@ -249,7 +249,7 @@ module _ {T : Type 0} (Alike : T → T → Type 0) where
   at_object same None = tt
   at_object same (Some object) = object_agree same object
 
-  -- the same values fit, and the needs agree
+  -- The same values match, and the required fields agree.
   pub fields_agree :
       {s r : ShapeOf T} → ShapesAgree s r → (graph : List Obj) (v : Val)
       → FieldsAgree Alike (fields_of graph v s) (fields_of graph v r)
@@ -266,7 +266,7 @@ module _ {T : Type 0} (Alike : T → T → Type 0) where
   block_mutable None (Some d) both = absurd both
   block_mutable (Some c) None both = absurd both
 
-  -- the same objects are mutable
+  -- The same objects are mutable.
   pub mutable_agrees :
       {s r : ShapeOf T} → ShapesAgree s r → (object : Option Obj) → is_mutable s object ≡ is_mutable
       r object

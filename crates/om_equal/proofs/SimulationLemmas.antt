@@ -1,5 +1,5 @@
--- Shapes of numbers and of types that say the same: the same paths lead to the same values, so
--- there are the same faults, and the same least ones.
+-- If the shapes of numbers and of types agree, then the same paths lead to the same values. Hence
+-- the faults and the least faults are the same.
 use Rattle.std.proofs.Common.{ℕ, ◌≡◌, ◌∙◌, ⊎_elim, inl, inr, List, [], ◌∷◌, Option, Some, None}
 use Rattle.std.proofs.Common.{refl, sym, ap, subst}
 use Rattle.std.specs.Prelude.{IsSomeAnd, option_map, option_and_then}
@@ -31,7 +31,7 @@ module _ {T U : Type 0} (one : Shapes T) (other : Shapes U) (Of : T → U → Ty
       pub equal : (i j : T) (t u : U) → Of i t → Of j u → one.equal i j → other.equal t u
       pub equal_back : (i j : T) (t u : U) → Of i t → Of j u → other.equal t u → one.equal i j
 
-    -- both lead nowhere, or to one value
+    -- Either neither path leads to a value, or both lead to the same value.
     abbrev pub SamePlace : Option (Val × T) → Option (Val × U) → Type 0
     SamePlace None None = Unit {0}
     SamePlace (Some p) (Some q) = (p.0 ≡ q.0) × Of p.1 q.1
@@ -78,7 +78,7 @@ module _ {T U : Type 0} (one : Shapes T) (other : Shapes U) (Of : T → U → Ty
           along path (step one graph v i k) (step other graph v t k) (step_same v i t k of)
           (λ w j u of'. place_same path w j u of')
 
-      -- where the one leads, the other does
+      -- If one path leads to a value, then so does the other.
       there : (p : Option (Val × T)) (q : Option (Val × U)) → SamePlace p q → (w : Val) (i : T)
           → p ≡ Some (w, i) → (t : U) × (q ≡ Some (w, t)) × Of i t
       there None q places w i is = absurd (none-some (w, i) is)

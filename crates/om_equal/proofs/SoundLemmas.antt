@@ -1,5 +1,5 @@
--- What a sound type reaches over well-formed declarations is sound, and its tags are known by
--- their hashes.
+-- Over well-formed declarations, every type that a sound type reaches is sound, and its tags are
+-- determined by their hashes.
 use Rattle.std.proofs.Common.{ℕ, zero, suc, ◌<◌, ◌≤◌, ◌≡◌, ◌∙◌, ◌⊎◌, ⊎_elim, inl, inr, List, []}
 use Rattle.std.proofs.Common.{◌∷◌, ◌++◌}
 use Rattle.std.proofs.Common.{Bool, true, false, Option, Some, None, refl, ap, subst, sym, arith}
@@ -54,7 +54,7 @@ use Rattle.om_equal.proofs.InstanceLemmas.{type-instance, type-takes, abbreviati
 use Rattle.om_types.proofs.ListLemmas.{filtered-Contains}
 use Rattle.om_equal.proofs.TagLemmas.{Contains-has_tag, not_true, is_new}
 
--- ---- tags of one name are one tag
+-- ---- tags with one name are one tag
 
 abbrev AreDistinct : List (TagOf Ty) → Type 0
 AreDistinct tags =
@@ -136,7 +136,7 @@ head_distinct : (decls : List Decl) (t : Ty) → AreDistinct (tags_in (head decl
 unfolding head
 head_distinct decls t = within_distinct decls (enough decls t) t
 
--- ---- the parts of heads that are built up
+-- ---- the parts of constructed heads
 
 abbrev arguments_in : List (TagOf Ty) → List Ty
 arguments_in tags = flat_map (λ (item : TagOf Ty). listed_if item.argument) tags
@@ -278,7 +278,7 @@ module _ (decls : List Decl) (well : AreWellFormed decls) where
     type-brackets t (inl is) given brackets = variable-brackets t is
     type-brackets t (inr is) given brackets = whole-brackets 0 t is given brackets
 
-    -- an instance of a sound type by sound types
+    -- An instance of a sound type by sound types is sound.
     pub sound-instance : (t : Ty) → Sound t → Sound (instance value t)
     sound-instance t s = record {
       written = type-instance value (λ x. (sound x).written) t s.written;
@@ -301,7 +301,7 @@ module _ (decls : List Decl) (well : AreWellFormed decls) where
     by_kind (inl is) = absurd (variable_parts t is among)
     by_kind (inr is) = parts_sound 0 t a is s.arguments s.brackets among
 
-  -- what an abbreviation at the head stands for is sound
+  -- The expansion of an abbreviation at the head is sound.
   pub sound_unfolded : (t u : Ty) → Sound t → unfolded decls t ≡ Some u → Sound u
   sound_unfolded t u s is =
       let by = unfolded_is decls well t u is in
@@ -387,12 +387,12 @@ module _ (decls : List Decl) (well : AreWellFormed decls) where
   all_sound (suc k) t a below s among =
       one_sound k (all_sound k) t a (omega (arith, below)) s (unfolded decls t) refl among
 
-  -- the parts of a sound type's head are sound
+  -- The parts of a sound type's head are sound.
   pub head_parts_sound : (t a : Ty) → Sound t → Contains (parts_of (head decls t)) a → Sound a
   unfolding AllSound
   head_parts_sound t a s among = all_sound (suc (weighs decls well t)) t a (omega arith) s among
 
-  -- ---- what shapes name
+  -- ---- types named by shapes
 
   list_sound : (t : Ty) → Sound t → Sound (list_of t)
   unfolding predeclared
@@ -520,7 +520,7 @@ module _ (decls : List Decl) (well : AreWellFormed decls) where
   head_named (heads.Variants tags) all a among = all a (tag_arguments tags a among)
   head_named heads.Absent all a among = none_of a among
 
-  -- what a sound type reaches is sound
+  -- If a type is sound, then the types that it reaches are sound.
   pub reached_sound : (t a : Ty) → Sound t → Contains (reached_from decls t) a → Sound a
   reached_sound t a s among = ⊎_elim
       (λ named'. head_named (head decls t) (λ b has. head_parts_sound t b s has) a named')
@@ -571,7 +571,7 @@ module _ (decls : List Decl) (well : AreWellFormed decls) where
   unfolding Hashed
   head_hashed t s = all_hashed (suc (weighs decls well t)) t (omega arith) s
 
-  -- ---- shapes whose tags are known by hashes
+  -- ---- shapes whose tags are determined by hashes
 
   abbrev pub HashedShape : ShapeOf Ty → Type 0
   HashedShape (shapes.Poly tags) = AreHashed tags
@@ -632,7 +632,8 @@ module _ (decls : List Decl) (well : AreWellFormed decls) where
   head_shape_hashed (heads.Variants tags) hashed distinct = tags_hashed tags hashed distinct
   head_shape_hashed heads.Absent hashed distinct = tt
 
-  -- where the shape of a sound type is a bracket's, its tags are known by their hashes
+  -- If the shape of a sound type is that of a variant type, then its tags are determined by their
+  -- hashes.
   pub shape_hashed : (t : Ty) → Sound t → HashedShape (shape decls t)
   shape_hashed t s = head_shape_hashed (head decls t) (head_hashed t s) (head_distinct decls t)
 
@@ -653,13 +654,13 @@ module _ (decls : List Decl) (well : AreWellFormed decls) where
         reached_sound from.1 u (sound_below n from.0 from.1 (omega (arith, below, from.2)) from.3)
         from.4
 
-    -- each reached type is sound
+    -- Every reached type is sound.
     pub all_reached_sound : (u : Ty) → Contains types u → Sound u
     all_reached_sound u among =
         let found = Contains-place types u among in sound_below (suc found.0) found.0 u (omega arith)
         found.1
 
-    -- and its tags are known by their hashes
+    -- The tags of every reached type are determined by their hashes.
     pub known_by_hash : AreKnownByHash decls types
     known_by_hash u tags among is =
         subst HashedShape is

@@ -1,4 +1,4 @@
--- A table says what its types say, and its shapes are lawful.
+-- A table agrees with its types, and its shapes are lawful.
 use Rattle.std.proofs.Common.{ℕ, zero, suc, ◌≡◌, ◌∙◌, inl, List, [], ◌∷◌, length, Option}
 use Rattle.std.proofs.Common.{Some}
 use Rattle.std.proofs.Common.{None, refl, ap, subst, sym, ◌==◌, cond, Bool, true, false, arith}
@@ -51,7 +51,7 @@ pub mapped_some :
 mapped_some f None y is = absurd (none-some y is)
 mapped_some f (Some x) y is = (x, refl, same_Some (f x) y is)
 
--- ---- needs at numbers and at types
+-- ---- required fields at numbers and at types
 
 module _ {T U V : Type 0} (f : T → V) (g : U → V) where
   abbrev At : T → U → Type 0
@@ -99,7 +99,7 @@ needs_some : {T : Type 0} (needs : Option (List (ℕ × T))) (need : ℕ × T)
 needs_some None need has = absurd (Contains-none need has)
 needs_some (Some needs) need has = refl
 
--- nothing fits a variable
+-- No value matches a variable.
 object_of_variable :
     (object : Option Obj) → option_and_then (object_fields {T = ℕ} shapes.Variable) object ≡ None
 object_of_variable None = refl
@@ -156,7 +156,7 @@ module _ {T U : Type 0} (one : Shapes T) (other : Shapes U) (Of : T → U → Ty
 
 module _ (decls : List Decl) (types : List Ty) (table : Table) (made : IsTableOf decls types table)
   where
-    -- the number is the type's
+    -- `i` is the number of the type `u`.
     abbrev pub Of : ℕ → Ty → Type 0
     Of i u = slice_get types i ≡ Some u
 
@@ -172,20 +172,20 @@ module _ (decls : List Decl) (types : List Ty) (table : Table) (made : IsTableOf
         ∙ slice_get-mapped (λ t. with_parts Some (shape decls t)) types i
         ∙ ap (option_map (λ t. with_parts Some (shape decls t))) of)
 
-    -- the shape at a number is the type's, but for numbers in the place of types
+    -- The shape at a number is the shape of its type, with numbers instead of types.
     shape_is : (i : ℕ) (u : Ty) → Of i u → with_parts (slice_get types) (node i) ≡ with_parts Some
         (shape decls u)
     shape_is i u of =
         let s = found i u of in
         ap (λ o. with_parts (slice_get types) (node_or_none o)) s.1 ∙ s.2
 
-    -- and asked of as the type
+    -- `is_asked` is the same for the number and for the type.
     pub asked_at : (i : ℕ) (u : Ty) → Of i u → is_asked (node i) ≡ is_asked (shape decls u)
     asked_at i u of =
         sym (asked_same (slice_get types) (node i)) ∙ ap is_asked (shape_is i u of)
         ∙ asked_same Some (shape decls u)
 
-    -- a number with a shape is some type's
+    -- If a number has a shape, then it is the number of a type.
     known : (i : ℕ) (s : ShapeOf ℕ) → slice_get table.nodes i ≡ Some s → (u : Ty) × Of i u
     known i s is =
         let at = mapped_some (λ t. with_parts Some (shape decls t)) (slice_get types i)
@@ -203,7 +203,7 @@ module _ (decls : List Decl) (types : List Ty) (table : Table) (made : IsTableOf
       abbrev pub types_at : Val → Ty → Option (List (ℕ × Ty))
       types_at v u = fields_of graph v (shape decls u)
 
-      -- the same is needed, by numbers and by types
+      -- The same fields are required by numbers and by types.
       pub fields_same :
           (v : Val) (i : ℕ) (u : Ty) → Of i u → FieldsAgree Of (numbers_at v i) (types_at v u)
       fields_same v i u of = fields_at (slice_get types) Some (numbers_at v i) (types_at v u)
@@ -219,7 +219,7 @@ module _ (decls : List Decl) (types : List Ty) (table : Table) (made : IsTableOf
           ∙ ap (λ s. is_mutable s (slice_get graph o)) (shape_is i u of)
           ∙ mutable_same Some (shape decls u) (slice_get graph o)
 
-      -- a number at which something fits is some type's
+      -- If a value matches at a number, then it is the number of a type.
       fit_found : (v : Val) (s : Option (ShapeOf ℕ)) (i : ℕ) → slice_get table.nodes i ≡ s
           → IsSome (fields_of graph v (node_or_none s)) → (u : Ty) × Of i u
       fit_found v (Some s) i is fits = known i s is
@@ -235,7 +235,7 @@ module _ (decls : List Decl) (types : List Ty) (table : Table) (made : IsTableOf
           fit_known v i (needs_some (numbers_at v i) (k, j)
           (asked_is node (or_none (numbers_at v i)) k j has).0)
 
-      -- what is needed by numbers is needed by types, and back
+      -- A field that is required at a number is required at its type, and conversely.
       pub need_forth : (v : Val) (i : ℕ) (u : Ty) (k j : ℕ) → Of i u
           → Contains ((table_shapes table).needs graph v i) (k, j)
           → (a : Ty) × Contains ((declared_shapes decls).needs graph v u) (k, a) × Of j a
@@ -259,7 +259,7 @@ module _ (decls : List Decl) (types : List Ty) (table : Table) (made : IsTableOf
           let asked = subst IsTrue (sym (asked_at found.0 a found.2)) is.1 in
           (found.0, is_needed node (or_none (numbers_at v i)) k found.0 found.1 asked, found.2)
 
-      -- ---- both say the same
+      -- ---- the shapes agree
 
       abbrev pub Types : Val → Ty → Type 0
       Types v u = IsSome (types_at v u)
@@ -364,7 +364,7 @@ module _ (decls : List Decl) (types : List Ty) (table : Table) (made : IsTableOf
 
 -- ---- lawful tables
 
--- what has a number below the length of one list has it in the other
+-- If two lists have the same length, then an index within one is within the other.
 same_length_known :
     {X Y : Type 0} (xs : List X) (ys : List Y) (i : ℕ) (x : X) → length ys ≡ length xs
     → slice_get xs i ≡ Some x → (y : Y) × (slice_get ys i ≡ Some y)
@@ -386,7 +386,7 @@ module _ (decls : List Decl) (sound : AreSound decls) (root : Ty) (types : List 
   abbrev Class : ℕ → ℕ → Type 0
   Class i j = slice_get table.classes i ≡ slice_get table.classes j
 
-  -- a number of a type's class is some type's
+  -- If a number has the class of a type's number, then it is the number of a type.
   class_known : (i j : ℕ) (u : Ty) → Is i u → Class i j → (w : Ty) × Is j w
   class_known i j u is same =
       let class = same_length_known types table.classes i u made.many is in

@@ -15,7 +15,7 @@ use Rattle.om_types.specs.Equal.{TagsAgree}
 use Rattle.om_model.proofs.Options.{Contains-first, Contains-later, Contains-none, Contains-cases}
 use Rattle.om_model.proofs.Lists.{Contains-filter}
 
--- ---- a tag of a name
+-- ---- tags by name
 
 or_is : (a b : Bool) → (a || b) ≡ true → (a ≡ true) ⊎ (b ≡ true)
 or_is true b is = inl refl
@@ -53,13 +53,13 @@ not_is false never = refl
 abbrev pub is_new : List (TagOf Ty) → TagOf Ty → Bool
 is_new tags tag = not (has_tag tags tag.name)
 
--- ---- tags one after another
+-- ---- joined tag lists
 
 module _ (Alike : Ty → Ty → Type 0) where
   abbrev Found : List (TagOf Ty) → TagOf Ty → Type 0
   Found others tag = (other : TagOf Ty) × Contains others other × TagsAgree Alike tag other
 
-  -- each tag that is joined has one that agrees, where the names of the first ones are the same
+  -- If the first lists have the same names, then each joined tag has one that agrees with it.
   pub there_joined :
       (tags others more more' : List (TagOf Ty)) → ((tag : TagOf Ty) → Contains tags tag
       → Found others tag) → ((other : TagOf Ty) → Contains others other → (tag : TagOf Ty)

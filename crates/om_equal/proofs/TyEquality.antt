@@ -1,4 +1,5 @@
--- Whether two types are the same tree can be decided: their words are lists of numbers.
+-- It is decidable whether two types are the same tree, because their encodings are lists of
+-- numbers.
 use Rattle.std.proofs.Common.{ℕ, ◌≡◌, ◌∙◌, ◌⊎◌, ⊎_elim, inl, inr, List, [], ◌∷◌, refl, sym, ap}
 use Rattle.std.specs.Str.{bytes_eq}
 use Rattle.std.proofs.lemmas.Slice.Eq.{bytes_eq-Decides}

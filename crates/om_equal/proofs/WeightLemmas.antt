@@ -1,4 +1,5 @@
--- Enough replacements: each lowers a weight, which is below the bound on replacements.
+-- Enough expansions: each expansion lowers a weight, and the weight is below the bound on
+-- expansions.
 use Rattle.std.proofs.Common.{ℕ, suc, ◌+◌, ◌-◌, ◌*◌, ◌<◌, ◌≤◌, ◌≡◌, ◌∙◌, ⊎_elim, inl, inr, List, []}
 use Rattle.std.proofs.Common.{◌∷◌, length, Bool, true, false, Option, Some, None, refl, sym, ap}
 use Rattle.std.proofs.Common.{subst, arith}
@@ -19,7 +20,7 @@ use Rattle.om_types.specs.Head.{enough}
 use Rattle.om_model.proofs.Options.{Contains-first, Contains-later, Contains-none, Contains-cases}
 
 module _ (cost : List ℕ → ℕ) (positive : (name : List ℕ) → 0 < cost name) where
-  -- the cost of the name that a whole begins with
+  -- The cost of the name at the start of a type.
   abbrev own : Ty → ℕ
   own (variable x) = 1
   own (named name) = cost name
@@ -30,7 +31,7 @@ module _ (cost : List ℕ → ℕ) (positive : (name : List ℕ) → 0 < cost na
   own (tag_of whole x argument) = own whole
   own (including whole included) = own whole
 
-  -- the largest sum of costs on a way down; tag arguments are not on any
+  -- The largest sum of costs along a path down the type. Tag arguments are not on any path.
   abbrev pub weight : Ty → ℕ
   weight (variable x) = 0
   weight (named name) = cost name
@@ -153,7 +154,7 @@ module _ (cost : List ℕ → ℕ) (positive : (name : List ℕ) → 0 < cost na
 
   -- ---- depth
 
-  -- the names outside tag arguments cost at most c
+  -- The names outside tag arguments cost at most `c`.
   abbrev pub CostsWithin : ℕ → Ty → Type 0
   CostsWithin c (variable x) = Unit {0}
   CostsWithin c (named name) = cost name ≤ c
@@ -217,11 +218,11 @@ module _ (cost : List ℕ → ℕ) (positive : (name : List ℕ) → 0 < cost na
         one_deeper whole included (own_within whole within.0) (depth_weight whole within.0)
         (depth_weight included within.1)
 
--- ---- abbreviations in an order
+-- ---- ranked abbreviations
 
--- What the rule against cycles gives: a rank for each name, so that an abbreviation's own is above
--- those of all names that it uses outside tag arguments; and what it stands for is written, at most
--- 200 deep.
+-- Consequences of the rule against cycles. Each name has a rank. The rank of an abbreviation is
+-- above the ranks of all names that it uses outside tag arguments. Its expansion is a written type
+-- of depth at most 200.
 pub record AreRanked (decls : List Decl) (rank : List ℕ → ℕ) : Type 0 where
   pub bounded : (name : List ℕ) → rank name ≤ length decls
   pub falls : (name : List ℕ) (d : Decl) (t : Ty) → declaration_of decls name ≡ Some d
@@ -240,7 +241,7 @@ module _ (decls : List Decl) (rank : List ℕ → ℕ) (ranked : AreRanked decls
   abbrev pub heft : Ty → ℕ
   heft t = weight price priced t
 
-  -- ---- each replacement lowers it
+  -- ---- each expansion lowers the weight
 
   with_body : (t u body : Ty) (name : List ℕ) (d : Decl) → name_of t ≡ Some name
       → declaration_of decls name ≡ Some d → abbreviated d.body ≡ Some body
@@ -263,7 +264,7 @@ module _ (decls : List Decl) (rank : List ℕ → ℕ) (ranked : AreRanked decls
         within : (a : Ty) → Contains (parts t) a → heft a ≤ heft t - price name
         within a among = omega (arith, argument_weight price priced t name a named' among)
 
-  -- what an abbreviation stands for weighs less than a type with the abbreviation at its head
+  -- The expansion of an abbreviation weighs less than a type with the abbreviation at its head.
   pub body_falls : (t body : Ty) (name : List ℕ) (d : Decl) → name_of t ≡ Some name
       → declaration_of decls name ≡ Some d → abbreviated d.body ≡ Some body → heft body < heft t
   body_falls t body name d named' found is =
@@ -300,7 +301,7 @@ module _ (decls : List Decl) (rank : List ℕ → ℕ) (ranked : AreRanked decls
   pub falls : (t u : Ty) → unfolded decls t ≡ Some u → heft u < heft t
   falls t u stands = by_name_of t u (name_of t) refl stands
 
-  -- ---- it is below the bound
+  -- ---- the weight is below the bound
 
   all_within : (t : Ty) → CostsWithin price priced (202 ^ length decls) t
   all_within (variable x) = tt

@@ -1,4 +1,5 @@
--- What sound types over well-formed declarations reach, and the heads of their instances.
+-- The types that a sound type reaches over well-formed declarations, and the heads of their
+-- instances.
 use Rattle.std.specs.Prelude.{ℕ, ◌≡◌, ◌≢◌, List, Contains, option_map}
 use Rattle.om_types.specs.declared.decl.Decl.{Decl}
 use Rattle.om_types.specs.declared.head.HeadOf.TheVariants as heads
@@ -10,33 +11,35 @@ use Rattle.om_types.specs.Accepted.{AreKnownByHash}
 use Rattle.om_types.specs.Reached.{IsReached}
 use Rattle.om_types.specs.Table.{head_with_parts}
 
--- each type that a sound type reaches is sound
+-- Every type that a sound type reaches is sound.
 abbrev pub ReachedAreSound : Type 0
 ReachedAreSound =
     (decls : List Decl) (t : Ty) (types : List Ty) → AreWellFormed decls → IsSoundType decls t
     → IsReached decls t types → (u : Ty) → Contains types u → IsSoundType decls u
 
--- and its tags are known by their hashes
+-- The tags of every type that a sound type reaches are determined by their hashes.
 abbrev pub ReachedAreKnownByHash : Type 0
 ReachedAreKnownByHash =
     (decls : List Decl) (t : Ty) (types : List Ty) → AreWellFormed decls → IsSoundType decls t
     → IsReached decls t types → AreKnownByHash decls types
 
--- a replacement at the head commutes with an instance
+-- Expanding an abbreviation at the head commutes with instantiation.
 abbrev pub ReplacementsCommute : Type 0
 ReplacementsCommute =
     (decls : List Decl) (value : List ℕ → Ty) (t : Ty) → AreWellFormed decls → IsWhole t
     → TakeArguments decls 0 t
     → unfolded decls (instance value t) ≡ option_map (instance value) (unfolded decls t)
 
--- the head of an instance is the instance of the head, where that is no variable
+-- If the head of a type is not a variable, then the head of an instance is the instance of the
+-- head.
 abbrev pub HeadsCommute : Type 0
 HeadsCommute =
     (decls : List Decl) (value : List ℕ → Ty) (t : Ty) → AreWellFormed decls → IsSoundType decls t
     → ((x : List ℕ) → head decls t ≢ heads.Variable x)
     → head decls (instance value t) ≡ head_with_parts (instance value) (head decls t)
 
--- where a variable is at the head, an instance has the head of what stands for the variable
+-- If the head of a type is a variable, then an instance has the head of the type that replaces the
+-- variable.
 abbrev pub VariablesComeThrough : Type 0
 VariablesComeThrough =
     (decls : List Decl) (value : List ℕ → Ty) (t : Ty) (x : List ℕ) → AreWellFormed decls

@@ -1,18 +1,20 @@
-//! Heads of declared types, and what equality of types is good for.
+//! Heads of declared types, and consequences of equality of types.
 
 ghost use Rattle.om_equal.specs.EqualLaws.{ReplacementsLeaveTheHead, HeadsAreAsWritten};
 ghost use Rattle.om_equal.specs.EqualLaws.{OnlyTheHead};
 ghost use Rattle.om_equal.specs.EqualLaws.{ReachedAreLawful};
 
-/// Over accepted declarations the head of a type is that of what it is replaced by; without an
-/// abbreviation at it, it is as written. No other function is so.
+/// States the two laws of heads over accepted declarations. Expanding an abbreviation at the head
+/// of a type does not change its head. Without an abbreviation the head is the one that is written.
+/// No other function has these two properties.
 pub fn heads_are_found()
     ensures replaced { ReplacementsLeaveTheHead }
     ensures written { HeadsAreAsWritten }
     ensures only { OnlyTheHead }
 {}
 
-/// Equality is an equivalence at the types that a type reaches, and equal ones mean the same.
+/// States that equality is an equivalence relation on the types that a type reaches, and that equal
+/// types have the same meaning.
 pub fn equal_types_mean_the_same()
     ensures { ReachedAreLawful }
 {}

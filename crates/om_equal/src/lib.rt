@@ -1,4 +1,6 @@
-//! Laws of equal types. The functions do nothing: what each ensures is the law.
+//! Laws of equality of declared types: heads (`equal`), sound types (`sound`), partition refinement
+//! (`classes`) and tables of types (`table`). The functions are lemma functions: they do nothing
+//! and exist only for their contracts.
 #![tactic(auto)]
 
 pub mod classes;

@@ -1,14 +1,16 @@
-//! A table of types stands for its types.
+//! A table of types represents its types.
 
 ghost use Rattle.om_equal.specs.TableLaws.{TablesAreLawful, TablesHaveTheFaults};
 ghost use Rattle.om_equal.specs.TableLaws.{TablesHaveTheLeastFault};
 
-/// Over accepted declarations a table of the types that a type reaches has lawful shapes.
+/// States that, over accepted declarations, a table of the types that a type reaches has lawful
+/// shapes.
 pub fn tables_are_lawful()
     ensures { TablesAreLawful }
 {}
 
-/// A value has the same faults, and the same least one, at a type and at its number.
+/// States that a value has the same faults, and the same least fault, at a type and at the type's
+/// number in the table.
 pub fn tables_have_the_faults()
     ensures all { TablesHaveTheFaults }
     ensures least { TablesHaveTheLeastFault }

@@ -1,4 +1,4 @@
--- What is put of a clash is its text.
+-- The appended text of an aliasing conflict is its text.
 use Rattle.std.proofs.Common.{ℕ, ◌≡◌, ◌∙◌, List, ◌++◌, Some, refl, ap, sym}
 use Rattle.std.proofs.lemmas.List.{append_assoc}
 use Rattle.std.proofs.lemmas.Option.{same_Some}
@@ -12,13 +12,13 @@ use Rattle.om_type_table.specs.declared.tabled.Tabled.{Tabled}
 use Rattle.om_type_table.specs.Made.{table_of}
 use Rattle.om_fault.specs.Text.{text_at, PutsFault}
 
--- a piece more
+-- One more chunk of text.
 pub more : (old front piece x y : List ℕ) → x ≡ old ++ front → y ≡ x ++ piece → y ≡ old ++ (front ++ piece)
 more old front piece x y one two = two ∙ ap (λ f. f ++ piece) one ∙ append_assoc old front piece
 
 module _ (table : Tabled) (graph : List Obj) (v : Val) (first second : List ℕ)
     (clash : IsClash (table_shapes (table_of table)) graph v 0 first second) where
-  -- both paths lead to the object
+  -- Both paths lead to the object.
   pub clash_put :
       (p q : Val × ℕ) (old new : List ℕ)
       → Some p ≡ value_at (table_shapes (table_of table)) graph v 0 first

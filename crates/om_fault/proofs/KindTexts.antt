@@ -1,4 +1,4 @@
--- What an object is, from its kind.
+-- The description of an object follows from its kind.
 use Rattle.std.proofs.Common.{ℕ, ◌<◌, ◌≡◌, ◌∙◌, List, length, Some, refl, ap}
 use Rattle.std.specs.Prelude.{slice_get, pos}
 use Rattle.std.proofs.lemmas.Option.{slice_get-get_or}

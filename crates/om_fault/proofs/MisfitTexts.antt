@@ -1,4 +1,4 @@
--- What is put of a misfit is its text.
+-- The appended text of a type mismatch is its text.
 use Rattle.std.proofs.Common.{ℕ, ◌≡◌, ◌∙◌, List, [], ◌∷◌, ◌++◌, Some, refl, ap, sym, append-nil}
 use Rattle.std.specs.Prelude.{codes}
 use Rattle.std.proofs.lemmas.List.{append_assoc}
@@ -14,7 +14,7 @@ use Rattle.om_type_table.specs.Made.{table_of}
 use Rattle.om_fault.specs.Text.{step_text, text_at, found_text, PutsFault}
 use Rattle.om_fault.proofs.ClashTexts.{more}
 
--- paths of one step and of two
+-- Paths of one step and of two.
 pub one_step_text : (i : ℕ) → step_text i ≡ path_text (i ∷ [])
 one_step_text i = sym (append-nil (step_text i))
 
@@ -22,7 +22,7 @@ pub two_steps_text : (i j : ℕ) → step_text i ++ step_text j ≡ path_text (i
 two_steps_text i j = ap (λ text. step_text i ++ text) (sym (append-nil (step_text j)))
 
 module _ (table : Tabled) (graph : List Obj) (v : Val) (number : ℕ) where
-  -- the path, and then what is expected and found
+  -- The path, then the expected type and what was found.
   misfit_is : (path : List ℕ) → path_text path ++ found_text table graph v number
       ≡ misfit_text (text_at table) graph path v number
   misfit_is path =

@@ -1,4 +1,4 @@
--- The least misfit of a length, field by field, and the least one near the root.
+-- The first mismatch of a given path length, field by field, and the first one near the root.
 use Rattle.std.proofs.Common.{ℕ, zero, suc, ◌+◌, ◌<◌, ◌≤◌, ◌≡◌, ◌∙◌, ⊎_elim, List, [], ◌∷◌, length, Option, Some, None, pos, refl, sym, ap, subst, arith}
 use Rattle.std.specs.Prelude.{IsSome, IfSome, IsSomeAnd, MatchOption, option_map, option_and_then, slice_get}
 use Rattle.std.proofs.lemmas.Bool.{false≢true}
@@ -40,7 +40,7 @@ module _ (Is : List ℕ → Type 0) where
       others)
       (less_same_more j i)
 
-  -- no path goes by a field from number `count` on
+  -- No path begins with a field whose index is at least `count`.
   pub none_at_all :
       (n count : ℕ) → NoneBelow n count → ((j : ℕ) (path : List ℕ) → count ≤ j → ¬ Is (j ∷ path))
       → NoneOf Is (n + 1)
@@ -62,7 +62,7 @@ module _ (Is : List ℕ → Type 0) where
         (subst (λ k. Is (k ∷ rest)) same.0 is))
         before
 
-  -- the empty path is the only one of its length
+  -- The empty path is the only one of its length.
   pub first_empty : Is [] → IsFirstOf Is []
   first_empty here = record { is = here; first = none } where
     none : (other : List ℕ) → length other ≡ 0 → IsLexicallyBefore other [] → Is other → ⊥
@@ -76,7 +76,7 @@ module _ (Is : List ℕ → Type 0) where
 module _ {T : Type 0} (shapes : Shapes T) (graph : List Obj) (v : Val) (t : T) where
   -- ---- one step
 
-  -- what a path leads to from where a step leads
+  -- The end of a path that continues after a step.
   abbrev end_from : List ℕ → Option (Val × T) → Option (Val × T)
   end_from path place =
       option_and_then (λ (next : Val × T). value_at shapes graph next.0 next.1 path) place
@@ -134,9 +134,9 @@ module _ {T : Type 0} (shapes : Shapes T) (graph : List Obj) (v : Val) (t : T) w
       none_at_all (IsMisfit shapes graph v t) n count below
       (λ i path more is. no_field i path (past i more) is)
 
-  -- ---- the least
+  -- ---- the first fault
 
-  -- no shorter path is a misfit
+  -- No shorter path is a mismatch.
   least_misfit : (path : List ℕ) → IsFirstOf (IsMisfit shapes graph v t) path
       → ((n : ℕ) → n < length path → NoneOf (IsMisfit shapes graph v t) n)
       → IsLeastFault shapes graph v t (Misfit path)
@@ -172,7 +172,7 @@ module _ {T : Type 0} (shapes : Shapes T) (graph : List Obj) (v : Val) (t : T) w
     shorter (suc zero) less = fields
     shorter (suc (suc n)) less = absurd (omega (arith, less))
 
--- ---- how many fields there are
+-- ---- numbers of fields
 
 past_fields : (object : Obj) (i : ℕ) → fields_of_kind (kind_of object) ≤ i
     → slice_get (values_of object) i ≡ None
@@ -210,7 +210,7 @@ module _ (table : Table) (graph : List Obj) (v : Val) (t : ℕ) where
   abbrev Is : List ℕ → Type 0
   Is path = IsMisfit (table_shapes table) graph v t path
 
-  -- the step leads there
+  -- The step leads there.
   pub field_there : (i : ℕ) (w : Val) (u : ℕ) → Some (w, u) ≡ step (table_shapes table) graph v t i
       → IsValue (length graph) w → u < length table.nodes → IsThere table graph v t (i ∷ []) w u
   field_there i w u there valid node = record {
@@ -219,7 +219,7 @@ module _ (table : Table) (graph : List Obj) (v : Val) (t : ℕ) where
     node = node;
   }
 
-  -- what is found of a field is found behind the step to it
+  -- A mismatch of a field is a mismatch of the value, behind the step to the field.
   pub found_behind :
       (i : ℕ) (w : Val) (u : ℕ) (found : Option Unfit) → Some (w, u) ≡ step (table_shapes table) graph v t i
       → MatchOption found (NoneOf (IsMisfit (table_shapes table) graph w u) 1)
@@ -243,7 +243,7 @@ module _ (table : Table) (graph : List Obj) (v : Val) (t : ℕ) where
     },
   )
 
-  -- a field that was found is the first, and has its number
+  -- If a field was found, then it is the first one and has this index.
   pub field_found :
       (i : ℕ) (unfit : Unfit) → NoneBelow Is 0 i
       → (unfit.field ≡ i) × Is (i ∷ []) × IsThere table graph v t (i ∷ []) unfit.value unfit.at
@@ -261,7 +261,7 @@ module _ (table : Table) (graph : List Obj) (v : Val) (t : ℕ) where
     fields_are : fields_of graph v (node_or_none (slice_get table.nodes t)) ≡ fields_of graph v shape
     fields_are = ap (λ n. fields_of graph v (node_or_none n)) is
 
-    -- a value that fits has these fields
+    -- If a value matches its type, then it has these fields.
     pub typed_are : (needs : List (ℕ × ℕ)) → Some needs ≡ fields_of graph v shape
         → needs ≡ typed_fields table graph v t
     typed_are needs fields = sym (ap or_none fields_are ∙ ap or_none (sym fields))
@@ -290,7 +290,7 @@ module _ (table : Table) (graph : List Obj) (v : Val) (t : ℕ) where
     no_type None type none = refl
     no_type (Some w) type none = ap (option_map (at_type w)) none
 
-    -- no path goes on from a value that does not fit
+    -- If a value does not match its type, then no path leads beyond it.
     pub nothing_below : (n : ℕ) → None ≡ fields_of graph v shape
         → NoneOf (IsMisfit (table_shapes table) graph v t) (n + 1)
     nothing_below n none [] long misfit = absurd (omega (arith, long))

@@ -1,10 +1,10 @@
--- Which of two paths of one length comes first.
+-- The order of two paths of the same length.
 use Rattle.std.proofs.Common.{ℕ, zero, suc, ◌<◌, ◌≡◌, ⊎_elim, inl, inr, List, [], ◌∷◌, length}
 use Rattle.std.proofs.Common.{get_or, arith}
 use Rattle.std.specs.Prelude.{◌↔◌}
 use Rattle.om_types.specs.Fault.{IsLexicallyBefore}
 
--- they first differ at this place
+-- The first difference is at this position.
 pub lexical_at :
     (xs ys : List ℕ) (i : ℕ) → length xs ≡ length ys
     → ((k : ℕ) → k < i → get_or xs k 0 ≡ get_or ys k 0) → i < length xs
@@ -22,7 +22,7 @@ lexical_at (x ∷ xs) (y ∷ ys) (suc i) same below within other =
       λ lex. ⊎_elim (λ less. absurd (omega (arith, first, less))) (λ eq. rest.1 eq.1) lex,
     )
 
--- they differ nowhere
+-- The paths do not differ.
 pub lexical_never :
     (xs ys : List ℕ) → length xs ≡ length ys
     → ((k : ℕ) → k < length xs → get_or xs k 0 ≡ get_or ys k 0) → IsLexicallyBefore xs ys → ⊥

@@ -1,4 +1,4 @@
--- The text of a fault by numbers is that by types.
+-- The text of a fault by type numbers equals the text by types.
 use Rattle.std.specs.Prelude.{ℕ, List}
 use Rattle.om_model.specs.declared.value.Val.{Val}
 use Rattle.om_model.specs.declared.value.Obj.{Obj}

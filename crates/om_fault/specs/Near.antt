@@ -1,4 +1,4 @@
--- A misfit near the root.
+-- Type mismatches near the root.
 use Rattle.std.specs.Prelude.{ℕ, ◌≡◌, ◌<◌, List, [], ◌∷◌, length, Some}
 use Rattle.om_model.specs.declared.value.Val.{Val}
 use Rattle.om_model.specs.declared.value.Obj.{Obj}
@@ -13,12 +13,13 @@ use Rattle.om_fault.specs.declared.near.Way.{Way}
 use Rattle.om_fault.specs.declared.near.Way.TheVariants as ways
 use Rattle.om_fault.specs.declared.near.Near.{Near}
 
--- how many fields an object of a kind has
+-- The number of fields of an object of this kind.
 abbrev pub fields_of_kind : Kind → ℕ
 fields_of_kind (kinds.Block tag size) = size
 fields_of_kind kind = 0
 
--- of the paths of one length none is such a one; or the path is one, and the least of its length
+-- `NoneOf`: no path of this length satisfies the predicate. `IsFirstOf`: the path satisfies it, and
+-- is the first of its length in lexicographic order.
 module _ (Is : List ℕ → Type 0) where
   abbrev pub NoneOf : ℕ → Type 0
   NoneOf n = (path : List ℕ) → length path ≡ n → ¬ Is path
@@ -29,7 +30,7 @@ module _ (Is : List ℕ → Type 0) where
         (other : List ℕ) → length other ≡ length path → IsLexicallyBefore other path
         → ¬ Is other
 
--- the path leads to this value, and to the type of this number
+-- The path leads to this value and to the type with this number.
 pub record IsThere
     (table : Table) (graph : List Obj) (v : Val) (t : ℕ) (path : List ℕ) (value : Val) (at : ℕ)
     : Type 0 where
@@ -37,13 +38,13 @@ pub record IsThere
   pub valid : IsValue (length graph) value
   pub node : at < length table.nodes
 
--- the path of a way
+-- The path of a `Way`.
 abbrev pub path_in : Way → List ℕ
 path_in ways.Root = []
 path_in (ways.Field i) = i ∷ []
 path_in (ways.Part i j) = i ∷ j ∷ []
 
--- the least fault is a misfit, and this is there
+-- The first fault is a type mismatch, and this value is there.
 pub record IsNear (table : Table) (graph : List Obj) (root : Val) (near : Near) : Type 0 where
   pub least : IsLeastFault (table_shapes table) graph root 0 (Misfit (path_in near.way))
   pub there : IsThere table graph root 0 (path_in near.way) near.value near.at

@@ -1,4 +1,4 @@
--- An object at unequal types, at one of which it is mutable.
+-- An object at unequal types that is mutable at one of them.
 use Rattle.std.specs.Prelude.{ℕ, ◌≡◌, ◌⊎◌, List}
 use Rattle.om_model.specs.declared.value.Val.{Val}
 use Rattle.om_model.specs.declared.value.Val.TheVariants as vals
@@ -10,7 +10,7 @@ module _ {T : Type 0} (shapes : Shapes T) (graph : List Obj) where
     pub unequal : ¬ shapes.equal one other
     pub mutable : shapes.mutable graph object one ⊎ shapes.mutable graph object other
 
-  -- the two values are one object
+  -- The two values are one object.
   abbrev pub IsShared : Val → T → Val → T → Type 0
   IsShared (vals.Int z) one again other = ⊥
   IsShared (vals.Atom tag) one again other = ⊥

@@ -1,4 +1,4 @@
--- The texts of types by numbers, of kinds, and of faults that are put.
+-- The texts of types by number, of kinds, and of faults.
 use Rattle.std.specs.Prelude.{ℕ, ◌≡◌, List, [], ◌++◌, Option, Some, None, codes, decimal, slice_get}
 use Rattle.om_model.specs.declared.code.Custom.TheVariants as customs
 use Rattle.om_model.specs.declared.value.Val.{Val}
@@ -13,20 +13,20 @@ use Rattle.om_types.specs.VerdictText.{IsFaultText, kind_text}
 use Rattle.om_type_table.specs.declared.tabled.Tabled.{Tabled}
 use Rattle.om_type_table.specs.Made.{types_of, table_of}
 
--- a number that is no type's has no text
+-- A number without a type has an empty text.
 abbrev pub text_or_none : Option Ty → List ℕ
 text_or_none None = []
 text_or_none (Some t) = type_text t
 
--- the text of the type of a number
+-- The text of the type with this number.
 abbrev pub text_at : Tabled → ℕ → List ℕ
 text_at table number = text_or_none (slice_get (types_of table) number)
 
--- a dot and the number
+-- A dot and the number.
 abbrev pub step_text : ℕ → List ℕ
 step_text step = codes "." ++ decimal step
 
--- what an object is, by its kind
+-- The description of an object, by its kind.
 abbrev pub text_of_kind : Kind → List ℕ
 text_of_kind (kinds.Block tag size) =
     codes "block " ++ decimal tag ++ codes " of " ++ decimal size
@@ -37,12 +37,12 @@ text_of_kind (kinds.Custom (customs.I32 z)) = codes "int32"
 text_of_kind (kinds.Custom (customs.I64 z)) = codes "int64"
 text_of_kind (kinds.Custom (customs.Native z)) = codes "nativeint"
 
--- which type was expected, by its number, and what was found
+-- The expected type, given by its number, and what was found.
 abbrev pub found_text : Tabled → List Obj → Val → ℕ → List ℕ
 found_text table graph v number =
     codes ": expected " ++ text_at table number ++ codes ", found " ++ kind_text graph v
 
--- a text is put after another: that of a fault
+-- The text of the fault is appended to the old text.
 abbrev pub PutsFault : Tabled → List Obj → Val → Fault → List ℕ → List ℕ → Type 0
 PutsFault table graph v fault old new =
     (text : List ℕ)

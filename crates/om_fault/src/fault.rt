@@ -1,4 +1,4 @@
-//! Whether something is a fault of a value.
+//! Decides whether a candidate is a fault of a value.
 
 ghost use Rattle.std.specs.Prelude.{◌<◌, ◌↔◌, length, IsTrue};
 ghost use Rattle.om_types.specs.Fault.{IsMisfit, IsClash, IsFault};
@@ -16,7 +16,7 @@ use om_model::value::Val;
 use om_type_table::TypeTable;
 use om_types::fault::Fault;
 
-/// Whether a value has a fault at the root's type. Takes no memory.
+/// Returns true if `fault` is a fault of the value at the root's type. Allocates no memory.
 pub fn is_fault(value: &Rooted<'_>, table: &TypeTable, fault: &Fault) -> bool
     ensures { IsTrue result
         ↔ IsFault (table_shapes (table_of table.now)) value.now.heap.now value.now.root 0
@@ -28,7 +28,7 @@ pub fn is_fault(value: &Rooted<'_>, table: &TypeTable, fault: &Fault) -> bool
     }
 }
 
-/// Whether a path leads to a value that does not fit its type.
+/// Returns true if the path leads to a value that does not match its type's representation.
 fn is_misfit(value: &Rooted<'_>, table: &TypeTable, path: &Path) -> bool
     ensures { IsTrue result
         ↔ IsMisfit (table_shapes (table_of table.now)) value.now.heap.now value.now.root 0
@@ -48,7 +48,8 @@ fn is_misfit(value: &Rooted<'_>, table: &TypeTable, path: &Path) -> bool
     }
 }
 
-/// Whether two paths lead to one object at unequal types, at one of which it is mutable.
+/// Returns true if the two paths are an aliasing conflict: they lead to one object at unequal
+/// types, and the object is mutable at one of them.
 fn is_clash(value: &Rooted<'_>, table: &TypeTable, first: &Path, second: &Path) -> bool
     ensures { IsTrue result
         ↔ IsClash (table_shapes (table_of table.now)) value.now.heap.now value.now.root 0
@@ -71,7 +72,8 @@ fn is_clash(value: &Rooted<'_>, table: &TypeTable, first: &Path, second: &Path) 
     }
 }
 
-/// Whether two values are one object at unequal types, at one of which it is mutable.
+/// Returns true if two values are one object at unequal types, and the object is mutable at one of
+/// them.
 fn is_shared(tried: &Tried<'_>, again: Val, other: usize) -> bool
     requires other { other < length tried.now.table.now.nodes }
     ensures { IsTrue result
@@ -86,7 +88,7 @@ fn is_shared(tried: &Tried<'_>, again: Val, other: usize) -> bool
     }
 }
 
-/// Whether two types of an object are unequal, and it is mutable at one of them.
+/// Returns true if two types of an object are unequal, and the object is mutable at one of them.
 fn are_at_odds(heap: &Heap, object: u64, table: &TypeTable, one: usize, other: usize) -> bool
     requires object { object < length heap.now }
     requires one { one < length table.now.nodes }
@@ -99,7 +101,7 @@ fn are_at_odds(heap: &Heap, object: u64, table: &TypeTable, one: usize, other: u
         && (may_change(heap, object, table, one) || may_change(heap, object, table, other))
 }
 
-/// Whether an object fits a type and may be changed there.
+/// Returns true if an object matches a type's representation and is mutable at this type.
 fn may_change(heap: &Heap, object: u64, table: &TypeTable, at: usize) -> bool
     requires object { object < length heap.now }
     requires number { at < length table.now.nodes }
@@ -114,7 +116,7 @@ fn may_change(heap: &Heap, object: u64, table: &TypeTable, at: usize) -> bool
     fits(&tried) && is_mutable(heap, object, table.shape(at))
 }
 
-/// Whether a value fits a type.
+/// Returns true if a value matches its type's representation. Parts of the value are not checked.
 pub fn fits(tried: &Tried<'_>) -> bool
     ensures { IsTrue result
         ↔ (table_shapes (table_of tried.now.table.now)).fits tried.now.heap.now tried.now.value

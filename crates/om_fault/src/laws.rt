@@ -1,8 +1,9 @@
-//! What texts of faults are of.
+//! Laws about the texts of faults. The functions do nothing and exist only for their contracts.
 
 ghost use Rattle.om_fault.specs.Laws.{TextsAreOfTypes};
 
-/// The text of a fault by the numbers of a table is that by their types.
+/// Proves that the text of a fault computed from type numbers of a table equals the text computed
+/// from the types.
 pub fn texts_are_of_types()
     ensures { TextsAreOfTypes }
 {}

@@ -1,5 +1,7 @@
-//! Faults of a value by a table of types: what a path leads to, whether something is a fault, and
-//! its text.
+//! Faults of a value, over a table of types: follows a path in a value (`walk`), decides whether a
+//! candidate is a fault (`is_fault`), finds the first type mismatch near the root (`find_near`),
+//! and prints a fault (`put_fault`). The search for the first fault of an arbitrary value is not
+//! part of this crate.
 #![tactic(auto)]
 
 mod fault;

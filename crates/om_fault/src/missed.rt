@@ -1,4 +1,4 @@
-//! The text of a misfit that was found without a heap.
+//! The text of a type mismatch that was found without building a heap.
 
 ghost use Rattle.std.specs.Prelude.{◌≡◌, ◌<◌, ◌++◌, length, map, OnOk};
 ghost use Rattle.om_model.specs.PathText.{path_text};
@@ -15,7 +15,7 @@ use om_model::code::CustomKind;
 use om_type_table::TypeTable;
 use std::alloc::Global;
 
-/// Puts where a value does not have what is asked for, what that is, and what was found.
+/// Appends the path of the mismatch, the expected type, and what was found.
 pub fn put_missed(
     text: &mut Vec<u8>,
     alloc: Global,
@@ -33,7 +33,7 @@ pub fn put_missed(
     put_said(text, found.said)
 }
 
-/// Puts the path of these links.
+/// Appends the path of these links.
 fn put_links(text: &mut Vec<u8>, links: &[Link]) -> Result<(), Memory>
     ensures { OnOk result
         (text.new.items ≡ text.old.items ++ path_text (map (λ link. link.field) links.now)) }
@@ -47,7 +47,7 @@ fn put_links(text: &mut Vec<u8>, links: &[Link]) -> Result<(), Memory>
     Ok(())
 }
 
-/// Puts what a token says.
+/// Appends the description of a token.
 fn put_said(text: &mut Vec<u8>, said: Said) -> Result<(), Memory>
     ensures { OnOk result (text.new.items ≡ text.old.items ++ said_text said) }
 {

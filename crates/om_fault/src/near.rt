@@ -1,5 +1,5 @@
-//! The least misfit of a small value, where it is near the root: few tests find it, and no memory
-//! is taken.
+//! Finds the first type mismatch of a small value if it is near the root. This takes few tests and
+//! allocates no memory.
 
 ghost use Rattle.std.specs.Prelude.{ℕ, ◌≡◌, ◌<◌, ◌≤◌, ◌∷◌, [], None, length, IfSome, MatchOption};
 ghost use Rattle.om_model.specs.Graph.{IsValue};
@@ -18,23 +18,24 @@ use om_heap::{Heap, Kind, Rooted};
 use om_model::value::Val;
 use om_type_table::TypeTable;
 
-/// A value of more words is not small.
+/// The greatest number of 64-bit words of a small value.
 const SMALL: u64 = 64;
 
-/// Of a value of more words no fields of fields are tested. So these are at most 49.
+/// The greatest number of 64-bit words of a value whose fields of fields are tested. At most 49
+/// such fields are tested.
 const TINY: u64 = 16;
 
-/// The way to a value near the root.
+/// The path to a value near the root.
 #[derive(Clone, Copy)]
 pub enum Way {
     Root,
     /// A field of the root.
     Field(u64),
-    /// A field of a field of it.
+    /// A field of a field of the root.
     Part(u64, u64),
 }
 
-/// A misfit near the root: the way to it, what is there, and the number of the type there.
+/// A type mismatch near the root: its path, the value there, and the number of the type there.
 #[derive(Clone, Copy)]
 pub struct Near {
     pub way: Way,
@@ -42,7 +43,7 @@ pub struct Near {
     pub at: usize,
 }
 
-/// A field that does not fit its own type: its number, what is there, and the number of the type.
+/// A field that does not match its type: its index, its value, and the number of its type.
 #[derive(Clone, Copy)]
 struct Unfit {
     field: u64,
@@ -50,8 +51,8 @@ struct Unfit {
     at: usize,
 }
 
-/// The least misfit of a small value, where its path has one step at most, or of a tiny one two.
-/// Where the answer is none nothing is told.
+/// Returns the first fault of a small value if it is a type mismatch with a path of at most one
+/// step, or of at most two steps in a tiny value. If the result is `None`, nothing is known.
 pub fn find_near(value: &Rooted<'_>, table: &TypeTable) -> Option<Near>
     ensures { IfSome result (IsNear (table_of table.now) value.now.heap.now value.now.root) }
 {
@@ -82,7 +83,7 @@ pub fn find_near(value: &Rooted<'_>, table: &TypeTable) -> Option<Near>
     }
 }
 
-/// The same where the root fits, and so do its fields.
+/// Does the same for paths of two steps, if the root and its fields match their types.
 fn near_part(value: &Rooted<'_>, table: &TypeTable, needs: Needs<'_>) -> Option<Near>
     requires needs { needs_in needs
         ≡ typed_fields (table_of table.now) value.now.heap.now value.now.root 0 }
@@ -111,7 +112,7 @@ fn near_part(value: &Rooted<'_>, table: &TypeTable, needs: Needs<'_>) -> Option<
     }
 }
 
-/// How many fields an object of this kind has.
+/// Returns the number of fields of an object of this kind.
 fn fields_in(kind: Kind) -> u64
     ensures { result ≡ fields_of_kind kind }
 {
@@ -121,7 +122,7 @@ fn fields_in(kind: Kind) -> u64
     }
 }
 
-/// How many fields a value has.
+/// Returns an upper bound on the number of fields of a value.
 fn field_count(heap: &Heap, value: Val) -> u64
     requires { IsValue (length heap.now) value }
     ensures { (i : ℕ) → result ≤ i → field_of heap.now value i ≡ None }
@@ -132,7 +133,8 @@ fn field_count(heap: &Heap, value: Val) -> u64
     }
 }
 
-/// The type that field i of a value at a type has, hidden or not, where these fields have types.
+/// Returns the type of field `i` of a value, wildcard or not, if the field has a type. `needs` are
+/// the value's typed fields.
 fn type_in(tried: &Tried<'_>, needs: Needs<'_>, i: u64) -> Option<usize>
     requires needs { needs_in needs ≡ typed_in tried.now }
     ensures is { result ≡ type_of_field (typed_in tried.now) i }
@@ -142,7 +144,7 @@ fn type_in(tried: &Tried<'_>, needs: Needs<'_>, i: u64) -> Option<usize>
     needs.type_of(i)
 }
 
-/// The type that is needed for field i.
+/// Returns the required type of field `i`.
 fn needed_type(tried: &Tried<'_>, needs: Needs<'_>, i: u64) -> Option<usize>
     requires needs { needs_in needs ≡ typed_in tried.now }
     ensures is { result ≡ type_of_field (needed_in tried.now) i }
@@ -158,7 +160,7 @@ fn needed_type(tried: &Tried<'_>, needs: Needs<'_>, i: u64) -> Option<usize>
     }
 }
 
-/// One step: field i, and the number of the type that is needed there.
+/// Takes one step: returns field `i` and the number of its required type.
 fn part(tried: &Tried<'_>, needs: Needs<'_>, i: u64) -> Option<(Val, usize)>
     requires needs { needs_in needs ≡ typed_in tried.now }
     ensures place { result ≡ step_from tried.now i }
@@ -170,7 +172,7 @@ fn part(tried: &Tried<'_>, needs: Needs<'_>, i: u64) -> Option<(Val, usize)>
     Some((next, ty))
 }
 
-/// Field i, where it does not fit its own type.
+/// Returns field `i` if it does not match its type.
 fn unfit_at(tried: &Tried<'_>, needs: Needs<'_>, i: u64) -> Option<Unfit>
     requires needs { needs_in needs ≡ typed_in tried.now }
     ensures { MatchOption result (¬ IsMisfitOf tried.now (i ∷ []))
@@ -197,7 +199,8 @@ fn unfit_at(tried: &Tried<'_>, needs: Needs<'_>, i: u64) -> Option<Unfit>
     })
 }
 
-/// The first field of a value at a type that does not fit its own, where these fields have types.
+/// Returns the first field of a value that does not match its type. `needs` are the value's typed
+/// fields.
 fn unfit_field(tried: &Tried<'_>, needs: Needs<'_>) -> Option<Unfit>
     requires needs { needs_in needs ≡ typed_in tried.now }
     ensures { MatchOption result (NoneOf (IsMisfitOf tried.now) 1)
@@ -213,7 +216,7 @@ fn unfit_field(tried: &Tried<'_>, needs: Needs<'_>) -> Option<Unfit>
     None
 }
 
-/// The same where nothing is known of the fields.
+/// Does the same if the typed fields are not yet known.
 fn unfit_field_of(tried: &Tried<'_>) -> Option<Unfit>
     ensures { MatchOption result (NoneOf (IsMisfitOf tried.now) 1)
         (λ unfit. IsFirstOf (IsMisfitOf tried.now) (unfit.field ∷ [])
@@ -225,7 +228,7 @@ fn unfit_field_of(tried: &Tried<'_>) -> Option<Unfit>
     unfit_field(tried, needs)
 }
 
-/// The first field of field i that does not fit its own type.
+/// Returns the first field of field `i` that does not match its type.
 fn unfit_in(tried: &Tried<'_>, needs: Needs<'_>, i: u64) -> Option<Unfit>
     requires needs { needs_in needs ≡ typed_in tried.now }
     ensures { MatchOption result (NoneOf (λ path. IsMisfitOf tried.now (i ∷ path)) 1)
@@ -244,8 +247,8 @@ fn unfit_in(tried: &Tried<'_>, needs: Needs<'_>, i: u64) -> Option<Unfit>
     unfit_field_of(&next)
 }
 
-/// The first field of a field of a value at a type that does not fit its own type, and the number
-/// of the field that it is in.
+/// Returns the first field of a field that does not match its type, with the index of the field
+/// that contains it.
 fn unfit_part(tried: &Tried<'_>, needs: Needs<'_>) -> Option<(u64, Unfit)>
     requires needs { needs_in needs ≡ typed_in tried.now }
     ensures { MatchOption result (NoneOf (IsMisfitOf tried.now) 2)

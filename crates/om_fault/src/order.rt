@@ -1,11 +1,12 @@
-//! The order of paths.
+//! The order of paths: by length, then lexicographic.
 
 ghost use Rattle.std.specs.Prelude.{◌≡◌, ◌↔◌, length, IsTrue};
 ghost use Rattle.om_types.specs.Fault.{IsLexicallyBefore, IsBefore};
 
 use om_model::path::Path;
 
-/// Whether a path is shorter, or of one length and smaller where the two first differ.
+/// Returns true if the first path is shorter, or if it has the same length and comes first in
+/// lexicographic order.
 pub fn is_before(first: &Path, second: &Path) -> bool
     ensures { IsTrue result ↔ IsBefore first.now second.now }
 {
@@ -16,7 +17,7 @@ pub fn is_before(first: &Path, second: &Path) -> bool
     }
 }
 
-/// Whether a path of the same length is smaller where the two first differ.
+/// Returns true if the first of two paths of the same length comes first in lexicographic order.
 fn is_smaller(first: &Path, second: &Path) -> bool
     requires { length first.now ≡ length second.now }
     ensures { IsTrue result ↔ IsLexicallyBefore first.now second.now }

@@ -1,4 +1,4 @@
-//! What a value is, put at the end of a text.
+//! Appends descriptions of values to a text.
 
 ghost use Rattle.std.specs.Prelude.{◌≡◌, ◌++◌, OnOk, codes, decimal};
 ghost use Rattle.std.specs.Fmt.{signed_decimal};
@@ -15,7 +15,7 @@ use om_model::code::Custom;
 use om_model::path::Path;
 use om_model::value::Val;
 
-/// Puts what a value is.
+/// Appends the description of a value.
 #[tactic(auto, using(crate::proofs::KindTexts::object_text_by_kind))]
 pub fn put_kind(text: &mut Vec<u8>, value: &Rooted<'_>) -> Result<(), Memory>
     ensures { OnOk result
@@ -28,7 +28,7 @@ pub fn put_kind(text: &mut Vec<u8>, value: &Rooted<'_>) -> Result<(), Memory>
     }
 }
 
-/// Puts an integer that was found.
+/// Appends the description of an integer.
 pub fn put_int(text: &mut Vec<u8>, n: i64) -> Result<(), Memory>
     ensures { OnOk result (text.new.items ≡ text.old.items ++ (codes "int " ++ signed_decimal n)) }
 {
@@ -36,7 +36,7 @@ pub fn put_int(text: &mut Vec<u8>, n: i64) -> Result<(), Memory>
     put_integer(text, n)
 }
 
-/// Puts an atom that was found.
+/// Appends the description of an atom.
 pub fn put_atom(text: &mut Vec<u8>, tag: u8) -> Result<(), Memory>
     ensures { OnOk result (text.new.items ≡ text.old.items ++ (codes "atom " ++ decimal tag)) }
 {
@@ -44,7 +44,7 @@ pub fn put_atom(text: &mut Vec<u8>, tag: u8) -> Result<(), Memory>
     put_number(text, u64::from(tag))
 }
 
-/// Puts what an object is.
+/// Appends the description of an object, given its kind.
 pub fn put_object(text: &mut Vec<u8>, kind: Kind) -> Result<(), Memory>
     ensures { OnOk result (text.new.items ≡ text.old.items ++ text_of_kind kind) }
 {
@@ -67,7 +67,7 @@ pub fn put_object(text: &mut Vec<u8>, kind: Kind) -> Result<(), Memory>
     }
 }
 
-/// Puts a path, without a text of its own.
+/// Appends a path.
 pub fn put_path(text: &mut Vec<u8>, path: &Path) -> Result<(), Memory>
     ensures { OnOk result (text.new.items ≡ text.old.items ++ path_text path.now) }
 {
@@ -80,7 +80,7 @@ pub fn put_path(text: &mut Vec<u8>, path: &Path) -> Result<(), Memory>
     Ok(())
 }
 
-/// Puts the path of a way.
+/// Appends the path to a value near the root.
 pub fn put_way(text: &mut Vec<u8>, way: Way) -> Result<(), Memory>
     ensures { OnOk result (text.new.items ≡ text.old.items ++ path_text (path_in way)) }
 {
@@ -91,7 +91,7 @@ pub fn put_way(text: &mut Vec<u8>, way: Way) -> Result<(), Memory>
     }
 }
 
-/// Puts two steps of a path.
+/// Appends two steps of a path.
 fn put_two(text: &mut Vec<u8>, i: u64, j: u64) -> Result<(), Memory>
     ensures { OnOk result (text.new.items ≡ text.old.items ++ (step_text i ++ step_text j)) }
 {
@@ -99,7 +99,7 @@ fn put_two(text: &mut Vec<u8>, i: u64, j: u64) -> Result<(), Memory>
     put_step(text, j)
 }
 
-/// Puts a step of a path.
+/// Appends a step of a path.
 pub fn put_step(text: &mut Vec<u8>, step: u64) -> Result<(), Memory>
     ensures { OnOk result (text.new.items ≡ text.old.items ++ step_text step) }
 {
@@ -107,7 +107,7 @@ pub fn put_step(text: &mut Vec<u8>, step: u64) -> Result<(), Memory>
     put_number(text, step)
 }
 
-/// Puts a number. Most have one digit.
+/// Appends a number in decimal. Most numbers have one digit.
 #[tactic(auto, using(std::proofs::lemmas::Fmt::decimal_digit))]
 fn put_number(text: &mut Vec<u8>, n: u64) -> Result<(), Memory>
     ensures { OnOk result (text.new.items ≡ text.old.items ++ decimal n) }
@@ -118,7 +118,7 @@ fn put_number(text: &mut Vec<u8>, n: u64) -> Result<(), Memory>
     put_more_digits(text, n)
 }
 
-/// Puts a number of any number of digits.
+/// Appends a number of any length in decimal.
 #[inline(never)]
 fn put_more_digits(text: &mut Vec<u8>, n: u64) -> Result<(), Memory>
     ensures { OnOk result (text.new.items ≡ text.old.items ++ decimal n) }
@@ -132,7 +132,7 @@ fn put_integer(text: &mut Vec<u8>, n: i64) -> Result<(), Memory>
     put(text, Buffer::new().format(n).as_bytes())
 }
 
-/// Puts bytes.
+/// Appends bytes.
 pub fn put(text: &mut Vec<u8>, bytes: &[u8]) -> Result<(), Memory>
     ensures { OnOk result (text.new.items ≡ text.old.items ++ bytes.now) }
 {

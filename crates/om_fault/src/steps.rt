@@ -1,4 +1,4 @@
-//! What a path leads to.
+//! Follows a path in a value.
 
 ghost use Rattle.std.specs.Prelude.{◌≡◌, ◌<◌, length, IfSome};
 ghost use Rattle.om_model.specs.Graph.{IsValue};
@@ -14,7 +14,8 @@ use om_model::path::Path;
 use om_model::value::Val;
 use om_type_table::TypeTable;
 
-/// The value at the end of a path and the number of its type, if the path leads anywhere.
+/// Returns the value at the end of a path and the number of its type, or `None` if the path leads
+/// nowhere.
 pub fn walk(value: &Rooted<'_>, table: &TypeTable, path: &Path) -> Option<(Val, usize)>
     ensures place { result
         ≡ value_at (table_shapes (table_of table.now)) value.now.heap.now value.now.root 0
@@ -38,7 +39,8 @@ pub fn walk(value: &Rooted<'_>, table: &TypeTable, path: &Path) -> Option<(Val, 
     Some((found, at))
 }
 
-/// One step of a path: the value there and the number of its type, if the step is prescribed.
+/// Takes one step of a path: returns the value there and the number of its type, or `None` if the
+/// field has no required type.
 pub fn step(tried: &Tried<'_>, step: u64) -> Option<(Val, usize)>
     ensures place { result
         ≡ step_of (table_shapes (table_of tried.now.table.now)) tried.now.heap.now tried.now.value
@@ -51,7 +53,7 @@ pub fn step(tried: &Tried<'_>, step: u64) -> Option<(Val, usize)>
     Some((next, ty))
 }
 
-/// The type that field i has, hidden or not.
+/// Returns the type of field `i`, wildcard or not.
 fn typed_field(tried: &Tried<'_>, i: u64) -> Option<usize>
     ensures is { result ≡ type_of_field (typed_in tried.now) i }
     ensures number { IfSome result (λ ty. ty < length tried.now.table.now.nodes) }
@@ -63,8 +65,7 @@ fn typed_field(tried: &Tried<'_>, i: u64) -> Option<usize>
     }
 }
 
-/// The type that is needed for field i: the one that it has, where something is asked of the values
-/// of that type.
+/// Returns the required type of field `i`: its type, unless that type admits every value.
 fn field_type(tried: &Tried<'_>, i: u64) -> Option<usize>
     ensures is { result ≡ type_of_field (needed_in tried.now) i }
     ensures number { IfSome result (λ ty. ty < length tried.now.table.now.nodes) }
@@ -79,7 +80,7 @@ fn field_type(tried: &Tried<'_>, i: u64) -> Option<usize>
     }
 }
 
-/// Field i of what a value refers to.
+/// Returns field `i` of the object that a value refers to.
 pub fn field(heap: &Heap, value: Val, i: u64) -> Option<Val>
     requires { IsValue (length heap.now) value }
     ensures is { result ≡ field_of heap.now value i }

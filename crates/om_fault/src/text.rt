@@ -23,10 +23,10 @@ use om_type_table::TypeTable;
 use om_types::fault::Fault;
 use std::alloc::Global;
 
-/// Most texts have no more bytes.
+/// The number of bytes reserved for a text. Most texts are no longer.
 const ROOM: usize = 96;
 
-/// The text of a fault: the paths, the types there, and what was found.
+/// Returns the text of a fault: the paths, the types there, and what was found.
 pub fn fault_text(
     alloc: Global,
     value: &Rooted<'_>,
@@ -44,7 +44,7 @@ pub fn fault_text(
     Ok(List::of(text))
 }
 
-/// Puts the text of a fault at the end of another.
+/// Appends the text of a fault.
 pub fn put_fault(
     text: &mut Vec<u8>,
     alloc: Global,
@@ -64,7 +64,7 @@ pub fn put_fault(
     }
 }
 
-/// Puts where a value does not fit.
+/// Appends the text of a type mismatch.
 fn put_misfit(
     text: &mut Vec<u8>,
     alloc: Global,
@@ -85,7 +85,7 @@ fn put_misfit(
     put_found(text, alloc, value.heap, table, expected, found)
 }
 
-/// Puts where a value near the root does not fit.
+/// Appends the text of a type mismatch near the root.
 pub fn put_near(
     text: &mut Vec<u8>,
     alloc: Global,
@@ -104,7 +104,7 @@ pub fn put_near(
     put_found(text, alloc, heap, table, near.at, near.value)
 }
 
-/// Puts which type was expected, and what was found.
+/// Appends the expected type and what was found.
 fn put_found(
     text: &mut Vec<u8>,
     alloc: Global,
@@ -124,7 +124,7 @@ fn put_found(
     put_kind(text, &Rooted { heap, root: found })
 }
 
-/// Puts where an object is at unequal types.
+/// Appends the text of an aliasing conflict.
 fn put_clash(
     text: &mut Vec<u8>,
     alloc: Global,
@@ -155,7 +155,7 @@ fn put_clash(
     put(text, b" share a mutable object")
 }
 
-/// The number of a type in the store.
+/// Returns the number of a type in the store of types.
 fn stored(table: &TypeTable, number: usize) -> usize
     requires { number < length table.now.stored }
     ensures { slice_get table.now.stored number ≡ Some result }
@@ -163,7 +163,7 @@ fn stored(table: &TypeTable, number: usize) -> usize
     table.stored()[number]
 }
 
-/// Puts a type. A name without arguments is put as it is stored.
+/// Appends a type. A name without arguments is appended as it is stored.
 pub fn put_type(
     text: &mut Vec<u8>,
     alloc: Global,
@@ -180,7 +180,7 @@ pub fn put_type(
     }
 }
 
-/// Puts a type of any form.
+/// Appends a type of any form.
 fn put_any_type(
     text: &mut Vec<u8>,
     alloc: Global,

@@ -1,4 +1,4 @@
-//! A value that is tried at a type.
+//! A value that is checked against a type.
 
 ghost use Rattle.std.specs.Prelude.{◌<◌, length};
 ghost use Rattle.om_model.specs.Graph.{IsValue};
@@ -8,7 +8,7 @@ use om_heap::Heap;
 use om_model::value::Val;
 use om_type_table::TypeTable;
 
-/// A value of a heap, and the number of a type of a table: the value is tried at this type.
+/// A value of a heap and the number of a type of a table. The value is checked against this type.
 #[derive(Clone, Copy)]
 pub struct Tried<'a> {
     pub heap: &'a Heap,

@@ -1,4 +1,4 @@
--- The fields that are needed, by their places.
+-- The typed fields, by index.
 use Rattle.std.proofs.Common.{ℕ, zero, suc, ◌+◌, ◌<◌, ◌≤◌, ◌≡◌, ◌∙◌, ⊎_elim, List, [], ◌∷◌, length}
 use Rattle.std.proofs.Common.{Some, None, refl, ap, sym, cond, ◌==◌, arith}
 use Rattle.std.specs.Prelude.{slice_get, replicate, option_map, find}

@@ -1,4 +1,4 @@
--- Headers and integers' words tell what fits.
+-- Headers and integer words determine matches.
 use Rattle.std.proofs.Common.{ℕ, Some, ◌+◌, ◌-◌, ◌%◌, ◌^◌, ◌<◌, ◌≤◌, ◌≡◌, ◌∙◌, ◌⊎◌, ⊎_elim, List, [], ◌∷◌, length, true, refl, sym, ap, subst, arith}
 use Rattle.std.specs.Prelude.{ℤ, pos, negsuc, Bool, IsSome, IsTrue, ◌==◌, slice_get}
 use Rattle.std.proofs.lemmas.Bool.Decides.{eqb_tells}
@@ -21,7 +21,7 @@ same_number n = ⊎_elim (λ same. same.0) (λ other. absurd (other.1 refl)) (eq
 
 -- ---- headers
 
--- no object has this tag
+-- No object has this tag.
 pub never_1023 : (n : ℕ) (object : Obj) → IsObject n object → ¬ (header_of object % 1024 ≡ 1023)
 never_1023 n (objects.Block tag values) is same = let small = is.0 in omega (arith, small, same)
 never_1023 n (objects.Bytes bytes) is same = omega (arith, same)
@@ -40,7 +40,7 @@ none_by_header shape header more n object none no_more is near =
     let same : header_of object ≡ 1023 = omega (arith, none, no_more, near.0, near.1) in
     absurd (never_1023 n object is (ap (λ h. h % 1024) same))
 
--- no integer has the word 0
+-- No integer has the word 0.
 no_ints : (shape : ShapeOf ℕ) (z : ℤ) → IsInteger z → integer_word z ≤ 0 → IsTrue (fits_int shape z)
 no_ints shape (pos n) is less = absurd (omega (arith, less))
 no_ints shape (negsuc n) is less = absurd (omega (arith, is, less))
@@ -54,11 +54,11 @@ by_tag shape tag tags = record {
   tags = tags;
 }
 
--- a block of as many fields as types
+-- A block with as many fields as types matches.
 fields_fit : (test : Bool) (ts : List ℕ) → test ≡ true → IsSome (fields_if test ts)
 fields_fit test ts is = subst (λ b. IsSome (fields_if b ts)) (sym is) refl
 
--- one constructor more
+-- One more constructor.
 pub alike_more :
     (blocks : List (Constr ℕ)) (more : ℕ) (first next : Constr ℕ) → AreAlikeTo blocks more → more < 243 → more + 1 < length blocks
     → slice_get blocks 0 ≡ Some first → slice_get blocks (more + 1) ≡ Some next → length next.fields ≡ length first.fields
@@ -75,7 +75,7 @@ alike_more blocks more first next to few inside at_0 at_next same = record {
       (same_or_not k (more + 1));
 }
 
--- the first so many, where the first one has this size
+-- The claim for the first constructors, if the first one has this size.
 pub are_alike :
     (blocks : List (Constr ℕ)) (more size : ℕ) (first : Constr ℕ) → slice_get blocks 0 ≡ Some first → size ≡ length first.fields
     → (2 ^ 53 ≤ size → more ≡ 0) → AreAlikeTo blocks more → AreAlike blocks more
@@ -89,7 +89,7 @@ are_alike (constr ∷ blocks) more size first at_0 is small to =
       alike = λ k other least at_k. to.alike k constr other least refl at_k;
     }
 
--- ---- words
+-- ---- 64-bit words
 
 pub is_reference : (graph : List Obj) (word : ℕ) → IsFieldWord graph word → word % 8 ≡ 0 → IsReferenceWord graph word
 is_reference graph word (vals.Int (pos n), is, same) even = absurd (omega (arith, same, even))

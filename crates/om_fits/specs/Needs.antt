@@ -1,4 +1,5 @@
--- The fields that have types, as the list that the table of representations has of them.
+-- The fields that have types, as a list of indices and types in the sense of the table of
+-- representations.
 use Rattle.std.specs.Prelude.{ℕ, List, [], ◌∷◌, replicate}
 use Rattle.om_types.specs.Fitting.{numbered_from}
 use Rattle.om_types.specs.declared.shape.Constr.{Constr}
@@ -11,11 +12,11 @@ needs_in (needs.Listed types) = numbered_from 0 types.now
 needs_in (needs.Each size t) = numbered_from 0 (replicate size t)
 needs_in (needs.Argument t) = (1, t) ∷ []
 
--- the fields of the first constructor
+-- The fields of the first constructor.
 abbrev pub first_fields : List (Constr ℕ) → List ℕ
 first_fields [] = []
 first_fields (constr ∷ blocks) = constr.fields
 
--- the fields of a constructor, by their places
+-- The fields of a constructor, by index.
 abbrev pub constr_needed : Constr ℕ → List (ℕ × ℕ)
 constr_needed constr = numbered_from 0 constr.fields

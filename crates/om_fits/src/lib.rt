@@ -1,5 +1,7 @@
-//! What a value of a heap is at a shape: whether it fits, which fields it then needs, and whether
-//! it may be changed.
+//! Decides whether a value of a heap matches a shape (the representation of a type). If it matches,
+//! reports which of its fields have types and whether the value is mutable. `needs_of` promises the
+//! result of the specification `fields_of`. `Row` is a fast path that decides the common cases by
+//! comparing 64-bit words.
 #![tactic(auto)]
 
 mod needs;

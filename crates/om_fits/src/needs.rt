@@ -1,4 +1,4 @@
-//! What a shape says of a value: whether the value fits, and which fields it then needs.
+//! Decides whether a value matches a shape, and which of its fields then have types.
 
 ghost use Rattle.std.specs.Prelude.{◌≡◌, ◌<◌, length, slice_get, Some, IsSome, option_map};
 ghost use Rattle.std.specs.Prelude.{option_and_then};
@@ -13,22 +13,22 @@ use om_heap::{Heap, Kind, Placed};
 use om_model::value::Val;
 use om_types::shape::{Constr, ShapeOf};
 
-/// The fields for which a shape has types in a value that fits it, and the types. Those are needed
-/// of whose values something is asked.
+/// The fields to which a shape assigns types, in a value that matches the shape, with these types.
+/// A field is required only if its type constrains its values.
 #[derive(Clone, Copy)]
 pub enum Needs<'a> {
     /// No field.
     Nothing,
-    /// A field for each of these types.
+    /// One field for each of these types.
     Listed(&'a [usize]),
-    /// So many fields of one type.
+    /// The first fields, as many as the number, all at the same type.
     Each(u64, usize),
-    /// Field 1.
+    /// Field 1, at this type.
     Argument(usize),
 }
 
 impl<'a> Needs<'a> {
-    /// How many there are.
+    /// Returns the number of fields.
     pub fn len(&self) -> u64
         ensures { result ≡ length (needs_in self.now) }
     {
@@ -40,7 +40,7 @@ impl<'a> Needs<'a> {
         }
     }
 
-    /// The number and the type of need k.
+    /// Returns the index and the type of field `k` in this list.
     pub fn get(&self, k: u64) -> (u64, usize)
         requires { k < length (needs_in self.now) }
         ensures { slice_get (needs_in self.now) k ≡ Some (result.0, result.1) }
@@ -53,7 +53,7 @@ impl<'a> Needs<'a> {
         }
     }
 
-    /// The type of field i, if it is needed.
+    /// Returns the type of field `i`, if the field has one.
     pub fn type_of(&self, i: u64) -> Option<usize>
         ensures { result ≡ type_of_field (needs_in self.now) i }
     {
@@ -66,7 +66,7 @@ impl<'a> Needs<'a> {
     }
 }
 
-/// The type at a place, if there is one.
+/// Returns the type at index `i`, if there is one.
 fn type_if_there(types: &[usize], i: u64) -> Option<usize>
     ensures { result ≡ slice_get types.now i }
 {
@@ -77,7 +77,7 @@ fn type_if_there(types: &[usize], i: u64) -> Option<usize>
     }
 }
 
-/// The type at a place.
+/// Returns the type at index `k`.
 fn type_at(types: &[usize], k: usize) -> usize
     requires { k < length types.now }
     ensures { slice_get types.now k ≡ Some result }
@@ -85,7 +85,7 @@ fn type_at(types: &[usize], k: usize) -> usize
     types[k]
 }
 
-/// What a value needs at a shape, if it fits.
+/// Returns the typed fields of a value at a shape, or `None` if the value does not match the shape.
 pub fn needs_of<'a>(heap: &Heap, v: Val, shape: &'a ShapeOf<usize>) -> Option<Needs<'a>>
     requires { IsValue (length heap.now) v }
     ensures { option_map needs_in result ≡ fields_of heap.now v shape.now }
@@ -97,7 +97,8 @@ pub fn needs_of<'a>(heap: &Heap, v: Val, shape: &'a ShapeOf<usize>) -> Option<Ne
     }
 }
 
-/// The same of an object that is known to fit: often the shape alone says it.
+/// Returns the typed fields of an object that is known to match the shape. In many cases the shape
+/// alone determines them.
 #[inline(always)]
 pub fn known_needs<'a>(heap: &Heap, o: u64, shape: &'a ShapeOf<usize>) -> Option<Needs<'a>>
     requires object { o < length heap.now }
@@ -122,7 +123,7 @@ pub fn known_needs<'a>(heap: &Heap, o: u64, shape: &'a ShapeOf<usize>) -> Option
     }
 }
 
-/// What the first constructor needs.
+/// Returns the fields of the first constructor.
 #[inline(always)]
 fn first_needs(blocks: &[Constr<usize>]) -> Needs<'_>
     requires { 0 < length blocks.now }
@@ -131,7 +132,7 @@ fn first_needs(blocks: &[Constr<usize>]) -> Needs<'_>
     Needs::Listed(blocks[0].fields.as_slice())
 }
 
-/// What the constructor of a tag needs.
+/// Returns the fields of the constructor with this tag.
 #[inline(always)]
 fn tagged_needs(blocks: &[Constr<usize>], tag: u8) -> Option<Needs<'_>>
     ensures { option_map needs_in result ≡ option_map constr_needed (slice_get blocks.now tag) }
@@ -143,7 +144,8 @@ fn tagged_needs(blocks: &[Constr<usize>], tag: u8) -> Option<Needs<'_>>
     }
 }
 
-/// What an object needs at a shape, if it fits.
+/// Returns the typed fields of an object at a shape, or `None` if the object does not match the
+/// shape.
 fn object_needs<'a>(placed: &Placed<'_>, shape: &'a ShapeOf<usize>) -> Option<Needs<'a>>
     ensures { option_map needs_in result
         ≡ option_and_then (object_fields shape.now)
@@ -158,7 +160,7 @@ fn object_needs<'a>(placed: &Placed<'_>, shape: &'a ShapeOf<usize>) -> Option<Ne
     }
 }
 
-/// No field, where the value fits.
+/// Returns no fields if the value matches, and `None` otherwise.
 fn nothing_if<'a>(fits: bool) -> Option<Needs<'a>>
     ensures { option_map needs_in result ≡ none_if fits }
 {

@@ -1,4 +1,4 @@
-//! What a shape says of values and objects of each kind.
+//! Decisions for values and objects of each kind.
 
 ghost use Rattle.std.specs.Prelude.{◌≡◌, ◌<◌, length, slice_get, Some, option_map, option_and_then};
 ghost use Rattle.om_types.specs.Fitting as fitting;
@@ -14,7 +14,7 @@ use om_model::code::Custom;
 use om_model::value::Val;
 use om_types::shape::{Constr, PolyTag, ShapeOf};
 
-/// Whether an integer fits.
+/// Returns true if an integer matches the shape.
 pub fn fits_int(shape: &ShapeOf<usize>, z: i64) -> bool
     ensures { result ≡ fitting.fits_int shape.now z }
 {
@@ -31,28 +31,28 @@ pub fn fits_int(shape: &ShapeOf<usize>, z: i64) -> bool
     }
 }
 
-/// Whether an integer is from 0 and below the limit.
+/// Returns true if an integer is at least 0 and below the limit.
 fn is_below(limit: u64, z: i64) -> bool
     ensures { result ≡ fitting.is_below limit z }
 {
     z >= 0 && (z as u64) < limit
 }
 
-/// The tag of this hash.
+/// Returns the tag with this hash.
 fn tag_of_hash(tags: &[PolyTag<usize>], hash: i64) -> Option<&PolyTag<usize>>
     ensures { option_map (λ tag. tag.now) result ≡ tag_with tags.now hash }
 {
     tags.iter().find(|tag| is_hash(tag.hash, hash))
 }
 
-/// Whether a tag's hash is the number.
+/// Returns true if the two hashes are equal.
 fn is_hash(own: i64, hash: i64) -> bool
     ensures { result ≡ fitting.is_number own hash }
 {
     own == hash
 }
 
-/// Whether an atom fits.
+/// Returns true if an atom (a block without fields) matches the shape.
 pub fn fits_atom(shape: &ShapeOf<usize>, tag: u8) -> bool
     ensures { result ≡ fitting.fits_atom shape.now tag }
 {
@@ -66,7 +66,7 @@ pub fn fits_atom(shape: &ShapeOf<usize>, tag: u8) -> bool
     }
 }
 
-/// Whether an array of so many doubles fits.
+/// Returns true if an array of `size` doubles matches the shape.
 pub fn fits_doubles(shape: &ShapeOf<usize>, size: u64) -> bool
     ensures { result ≡ fitting.has_doubles shape.now size }
 {
@@ -78,7 +78,7 @@ pub fn fits_doubles(shape: &ShapeOf<usize>, size: u64) -> bool
     }
 }
 
-/// Whether a custom fits.
+/// Returns true if a custom block matches the shape.
 pub fn fits_custom(shape: &ShapeOf<usize>, custom: Custom) -> bool
     ensures { fitting.none_if result ≡ fitting.object_fields shape.now (custom_object custom) }
 {
@@ -89,7 +89,7 @@ pub fn fits_custom(shape: &ShapeOf<usize>, custom: Custom) -> bool
     }
 }
 
-/// What a block needs, if it fits.
+/// Returns the typed fields of a block, or `None` if the block does not match the shape.
 pub fn block_needs<'a>(
     block: &Placed<'_>,
     tag: u8,
@@ -113,7 +113,7 @@ pub fn block_needs<'a>(
     }
 }
 
-/// What a block of so many fields needs by its constructor.
+/// Returns the fields of a block of `size` fields by its constructor.
 fn constr_needs(blocks: &[Constr<usize>], tag: u8, size: u64) -> Option<Needs<'_>>
     ensures { option_map needs_in result ≡ constr_fields size (slice_get blocks.now tag) }
 {
@@ -128,7 +128,7 @@ fn constr_needs(blocks: &[Constr<usize>], tag: u8, size: u64) -> Option<Needs<'_
     }
 }
 
-/// What the block of a tag with an argument needs.
+/// Returns the typed fields of the block of a polymorphic variant with an argument.
 fn tag_needs<'a>(block: &Placed<'_>, size: u64, tags: &'a [PolyTag<usize>]) -> Option<Needs<'a>>
     requires { size ≡ length (fields_of (object_at block.now.heap.now block.now.object)) }
     ensures { option_map needs_in result
@@ -143,7 +143,7 @@ fn tag_needs<'a>(block: &Placed<'_>, size: u64, tags: &'a [PolyTag<usize>]) -> O
     }
 }
 
-/// What the argument of the tag of this hash needs.
+/// Returns the typed field for the argument of the tag with this hash.
 fn argument_needs(tags: &[PolyTag<usize>], hash: i64) -> Option<Needs<'_>>
     ensures { option_map needs_in result
         ≡ option_and_then (λ tag. argument_field tag.arg) (tag_with tags.now hash) }
@@ -154,7 +154,7 @@ fn argument_needs(tags: &[PolyTag<usize>], hash: i64) -> Option<Needs<'_>>
     }
 }
 
-/// Whether the object, which fits the shape, may be changed.
+/// Returns true if an object that matches the shape is mutable.
 pub fn is_mutable(heap: &Heap, o: u64, shape: &ShapeOf<usize>) -> bool
     requires { o < length heap.now }
     ensures { result ≡ fitting.is_mutable shape.now (slice_get heap.now o) }
@@ -174,7 +174,7 @@ pub fn is_mutable(heap: &Heap, o: u64, shape: &ShapeOf<usize>) -> bool
     }
 }
 
-/// Whether anything is asked of the values of a shape.
+/// Returns true if the shape constrains its values.
 #[inline(always)]
 pub fn is_asked(shape: &ShapeOf<usize>) -> bool
     ensures { result ≡ fitting.is_asked shape.now }
@@ -185,7 +185,7 @@ pub fn is_asked(shape: &ShapeOf<usize>) -> bool
     }
 }
 
-/// The tag of a block, and 0 of another object.
+/// Returns the tag of a block, and 0 for any other object.
 pub fn block_tag(placed: &Placed<'_>) -> u8
     ensures { result ≡ fitting.tag_of_block (slice_get placed.now.heap.now placed.now.object) }
 {
@@ -195,7 +195,7 @@ pub fn block_tag(placed: &Placed<'_>) -> u8
     }
 }
 
-/// Whether the block of a constructor may be changed.
+/// Returns true if the block of a constructor is mutable.
 fn is_mutable_block(blocks: &[Constr<usize>], tag: u8) -> bool
     ensures { result ≡ fitting.is_mutable_block (slice_get blocks.now tag) }
 {

@@ -1,4 +1,4 @@
-//! What surely fits a shape, told by words alone.
+//! Fast path: sufficient conditions for a match, decided by 64-bit words alone.
 
 ghost use Rattle.std.specs.Prelude.{◌≡◌, ◌⊎◌, ◌<◌, ◌≤◌, ◌%◌, ℕ, ℤ, length, IsTrue, IsSome};
 ghost use Rattle.om_model.specs.Graph.{IsInteger, IsValue};
@@ -12,23 +12,24 @@ ghost use Rattle.std.specs.Bool.{OnTrue};
 use om_heap::Heap;
 use om_types::shape::{Constr, ShapeOf};
 
-/// No header has this tag.
+/// A tag that no header has.
 const NONE: u64 = 1023;
 
-/// Words that fit a shape. Whether others do `needs_of` says.
+/// Conditions on 64-bit words under which a value matches a shape. For all other values, `needs_of`
+/// decides.
 #[derive(Clone, Copy)]
 pub struct Row {
-    /// An integer fits where its word is at most that.
+    /// An integer matches if its word is at most this number.
     pub most: u64,
-    /// An object fits where its header is that ..
+    /// An object matches if its header is this number ..
     pub header: u64,
-    /// .. or one of so many after it.
+    /// .. or one of this many numbers after it.
     pub more: u64,
-    /// An object fits where its header has this tag.
+    /// An object matches if its header has this tag.
     pub tag: u64,
 }
 
-/// What surely fits a shape.
+/// Returns the row of a shape.
 pub fn row_of(shape: &ShapeOf<usize>) -> Row
     ensures { IsRowOf shape.now result }
 {
@@ -71,7 +72,7 @@ pub fn row_of(shape: &ShapeOf<usize>) -> Row
     }
 }
 
-/// Objects of a tag.
+/// Returns the row for objects with this tag.
 fn row_of_tag(tag: u64) -> Row
     ensures { result ≡ record { most = 0; header = 1023; more = 0; tag = tag } }
 {
@@ -83,7 +84,7 @@ fn row_of_tag(tag: u64) -> Row
     }
 }
 
-/// The word of the last integer below a limit.
+/// Returns the word of the last integer below a limit.
 fn most_below(limit: u64) -> u64
     ensures { (z : ℤ) → IsInteger z → integer_word z ≤ result → IsTrue (fitting.is_below limit z) }
 {
@@ -94,7 +95,7 @@ fn most_below(limit: u64) -> u64
     }
 }
 
-/// The header of a block of tag 0 with so many fields.
+/// Returns the header of a block with tag 0 and `size` fields.
 fn header_of_fields(size: usize) -> u64
     ensures { IsSized result size }
 {
@@ -105,7 +106,7 @@ fn header_of_fields(size: usize) -> u64
     }
 }
 
-/// The header of the first constructor with arguments.
+/// Returns the header of the first constructor with arguments.
 fn first_header(blocks: &[Constr<usize>]) -> u64
     ensures { IsFirstHeader blocks.now result }
 {
@@ -116,8 +117,8 @@ fn first_header(blocks: &[Constr<usize>]) -> u64
     }
 }
 
-/// How many constructors right behind the first one have as many fields, of those with tags below
-/// 244.
+/// Returns how many constructors directly after the first one have the same number of fields. Only
+/// tags below 244 are counted.
 fn more_alike(blocks: &[Constr<usize>]) -> u64
     ensures { AreAlike blocks.now result }
 {
@@ -138,7 +139,7 @@ fn more_alike(blocks: &[Constr<usize>]) -> u64
     more as u64
 }
 
-/// How many fields a constructor has.
+/// Returns the number of fields of constructor `k`.
 fn size_at(blocks: &[Constr<usize>], k: usize) -> usize
     requires { k < length blocks.now }
     ensures { IsSizeAt blocks.now k result }
@@ -146,7 +147,7 @@ fn size_at(blocks: &[Constr<usize>], k: usize) -> usize
     blocks[k].fields.len()
 }
 
-/// Whether a header surely fits a shape of this row.
+/// Returns true if the header shows that an object matches the shape of this row.
 #[inline(always)]
 fn is_of(row: Row, header: u64) -> bool
     ensures { OnTrue result (IsNear row header ⊎ (header % 1024 ≡ row.tag)) }
@@ -154,7 +155,8 @@ fn is_of(row: Row, header: u64) -> bool
     header >= row.header && header - row.header <= row.more || header % 1024 == row.tag
 }
 
-/// Whether a word surely fits a shape of this row.
+/// Returns true if the word shows that the value matches the shape of this row. If the result is
+/// false, the value may still match.
 #[inline(always)]
 pub fn surely_fits(heap: &Heap, row: Row, word: u64) -> bool
     requires word { IsFieldWord heap.now word }

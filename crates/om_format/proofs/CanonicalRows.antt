@@ -1,4 +1,5 @@
--- What OCaml writes for these values, against the definition of the canonical bytes.
+-- The bytes that OCaml writes for these values, compared with the definition of the canonical
+-- bytes.
 use Rattle.std.proofs.Common.{true, ◌^◌, ◌-◌, ◌≡◌, [], ◌∷◌, refl, pos, negsuc}
 use Rattle.om_model.specs.declared.value.Obj.TheVariants as objects
 use Rattle.om_format.specs.Canonical.{integer_spelling, block_spelling, string_front, shared_spelling, doubles_front, custom_spelling, header_spelling, canon}
@@ -6,7 +7,7 @@ use Rattle.om_model.specs.declared.code.Custom.TheVariants as customs
 use Rattle.om_format.specs.Token.{integer, shared, block, leaf}
 use Rattle.om_format.specs.Tree.{Tree, Forest, node, none, more}
 
--- integers where the codes change
+-- Integers at which the code changes.
 integers_0 : integer_spelling (pos 0) ≡ 0x40 ∷ []
 unfolding integer_spelling
 integers_0 = refl
@@ -59,7 +60,7 @@ integers_least : integer_spelling (negsuc (2 ^ 62 - 1)) ≡ 3 ∷ 0xc0 ∷ 0 ∷
 unfolding integer_spelling
 integers_least = refl
 
--- blocks where the codes change
+-- Blocks at which the code changes.
 block_7 : block_spelling 15 7 ≡ 0xff ∷ []
 unfolding block_spelling
 block_7 = refl
@@ -80,7 +81,7 @@ block_least_8 : block_spelling 1 (2 ^ 22) ≡ 0x13 ∷ 0 ∷ 0 ∷ 0 ∷ 1 ∷ 0
 unfolding block_spelling
 block_least_8 = refl
 
--- strings and arrays of doubles
+-- Strings and arrays of doubles.
 string_31 : string_front 31 ≡ 0x3f ∷ []
 unfolding string_front
 string_31 = refl
@@ -93,7 +94,7 @@ doubles_256 : doubles_front 256 ≡ 0x07 ∷ 0 ∷ 0 ∷ 1 ∷ 0 ∷ []
 unfolding doubles_front
 doubles_256 = refl
 
--- customs: five in each
+-- Custom blocks of each kind, with the number 5.
 custom_i64 : custom_spelling (customs.I64 (pos 5)) ≡ 0x19 ∷ 0x5f ∷ 0x6a ∷ 0 ∷ 0 ∷ 0 ∷ 0 ∷ 0 ∷ 0 ∷ 0 ∷ 0 ∷ 5 ∷ []
 unfolding custom_spelling
 custom_i64 = refl
@@ -108,31 +109,31 @@ custom_wide = refl
 
 -- ---- whole values
 
--- a tree of one token
+-- A forest of one tree.
 abbrev alone : Tree → Forest
 alone tree = more tree none
 
--- the integer 1
+-- The integer 1.
 one : canon (node (integer (pos 1)) none) ≡ 0x84 ∷ 0x95 ∷ 0xa6 ∷ 0xbe ∷ 0 ∷ 0 ∷ 0 ∷ 1 ∷ 0 ∷ 0 ∷ 0 ∷ 0 ∷ 0 ∷ 0 ∷ 0 ∷ 0 ∷ 0 ∷ 0 ∷ 0 ∷ 0 ∷ 0x41 ∷ []
 unfolding canon header_spelling integer_spelling
 one = refl
 
--- the list of 1 and 2
+-- The list of 1 and 2.
 list_of_two : canon (node (block 0 2) (more (node (integer (pos 1)) none) (alone (node (block 0 2) (more (node (integer (pos 2)) none) (alone (node (integer (pos 0)) none))))))) ≡ 0x84 ∷ 0x95 ∷ 0xa6 ∷ 0xbe ∷ 0 ∷ 0 ∷ 0 ∷ 5 ∷ 0 ∷ 0 ∷ 0 ∷ 2 ∷ 0 ∷ 0 ∷ 0 ∷ 6 ∷ 0 ∷ 0 ∷ 0 ∷ 6 ∷ 0xa0 ∷ 0x41 ∷ 0xa0 ∷ 0x42 ∷ 0x40 ∷ []
 unfolding canon header_spelling integer_spelling block_spelling
 list_of_two = refl
 
--- a pair that has one reference twice
+-- A pair whose two fields are the same reference.
 shared_pair : canon (node (block 0 2) (more (node (block 0 1) (alone (node (integer (pos 0)) none))) (alone (node (shared 1) none)))) ≡ 0x84 ∷ 0x95 ∷ 0xa6 ∷ 0xbe ∷ 0 ∷ 0 ∷ 0 ∷ 5 ∷ 0 ∷ 0 ∷ 0 ∷ 2 ∷ 0 ∷ 0 ∷ 0 ∷ 5 ∷ 0 ∷ 0 ∷ 0 ∷ 5 ∷ 0xa0 ∷ 0x90 ∷ 0x40 ∷ 0x04 ∷ 0x01 ∷ []
 unfolding canon header_spelling integer_spelling block_spelling shared_spelling
 shared_pair = refl
 
--- 1.0
+-- The double 1.0.
 double_one : canon (node (leaf (objects.Double 0x3ff0000000000000)) none) ≡ 0x84 ∷ 0x95 ∷ 0xa6 ∷ 0xbe ∷ 0 ∷ 0 ∷ 0 ∷ 9 ∷ 0 ∷ 0 ∷ 0 ∷ 1 ∷ 0 ∷ 0 ∷ 0 ∷ 3 ∷ 0 ∷ 0 ∷ 0 ∷ 2 ∷ 0x0c ∷ 0 ∷ 0 ∷ 0 ∷ 0 ∷ 0 ∷ 0 ∷ 0xf0 ∷ 0x3f ∷ []
 unfolding canon header_spelling
 double_one = refl
 
--- a header that does not fit four bytes
+-- A header whose length does not fit four bytes.
 big_header : header_spelling (record { big = true; length = 2 ^ 32; objects = 1; w32 = 7; w64 = 3 }) ≡ 0x84 ∷ 0x95 ∷ 0xa6 ∷ 0xbf ∷ 0 ∷ 0 ∷ 0 ∷ 0 ∷ 0 ∷ 0 ∷ 0 ∷ 1 ∷ 0 ∷ 0 ∷ 0 ∷ 0 ∷ 0 ∷ 0 ∷ 0 ∷ 0 ∷ 0 ∷ 0 ∷ 0 ∷ 1 ∷ 0 ∷ 0 ∷ 0 ∷ 0 ∷ 0 ∷ 0 ∷ 0 ∷ 3 ∷ []
 unfolding header_spelling
 big_header = refl

@@ -1,4 +1,5 @@
--- What the bytes after a code say, once they spell a token (`SpellsAfter`): doubles one after another, and a custom.
+-- The contents of the bytes after a code, if they encode a token (`SpellsAfter`): consecutive
+-- doubles, and custom blocks.
 use Rattle.std.proofs.Common.{ℕ, ◌≡◌, ◌+◌, ◌*◌, ◌≤◌, Bool, List, [], ◌∷◌, ◌++◌, length, take, drop, Option, Some, None, inl, inr, refl, sym, arith, length-drop, length-append, subst, length-take-le, take_all, take-add, FitsSigned, w32, ℤ, pos, negsuc, ◌<◌}
 use Rattle.std.proofs.lemmas.List.{take-append-le, drop-append-le, drop_all}
 use Rattle.std.proofs.lemmas.List.Elements.{All-drop}
@@ -15,7 +16,7 @@ use Rattle.om_format.proofs.SpellLemmas.{spelled_length, custom_of_int32, custom
 
 -- ---- doubles
 
--- one double more
+-- Eight further bytes encode one further double.
 doubles_push : (little : Bool) (ds : List ℕ) (xs chunk : List ℕ) (d : ℕ) → SpellsDoubles little ds xs → length chunk ≡ 8 → d ≡ number_in little chunk → SpellsDoubles little (ds ++ d ∷ []) (xs ++ chunk)
 doubles_push little [] xs chunk d s l e =
     let whole : take 8 chunk ≡ chunk = take_all 8 chunk (omega arith) in
@@ -24,21 +25,21 @@ doubles_push little (x ∷ ds) xs chunk d s l e =
     rw (take-append-le 8 xs chunk s.0, drop-append-le 8 xs chunk s.0)
     (omega (arith, s.0, length-append xs chunk), s.1, doubles_push little ds (drop 8 xs) chunk d s.2 l e)
 
--- the doubles of the first bytes, and the next one
+-- The doubles of the first bytes, and the next double.
 pub doubles_more : (little : Bool) (ds bytes : List ℕ) (i d : ℕ) → 8 * i + 8 ≤ length bytes → SpellsDoubles little ds (take (8 * i) bytes) → d ≡ number_in little (take 8 (drop (8 * i) bytes)) → SpellsDoubles little (ds ++ d ∷ []) (take (8 * (i + 1)) bytes)
 doubles_more little ds bytes i d h s e =
     let more : 8 * (i + 1) ≡ 8 * i + 8 = omega arith in
     let whole : length (take 8 (drop (8 * i) bytes)) ≡ 8 = length-take-le 8 (drop (8 * i) bytes) (omega (arith, length-drop (8 * i) bytes)) in
     rw (more, take-add (8 * i) 8 bytes) (doubles_push little ds (take (8 * i) bytes) (take 8 (drop (8 * i) bytes)) d s whole e)
 
--- the bytes after the length of an array are eight for each double
+-- The bytes after the length of an array are eight for each double.
 pub doubles_whole : (width : ℕ) (little : Bool) (rest : List ℕ) (t : Token) → SpellsAfter (kinds.Doubles width little) rest t
     → length (drop width rest) ≡ 8 * number (take width rest)
 doubles_whole width little rest t s = omega (arith, spelled_length (kinds.Doubles width little) rest t s, length-drop width rest)
 
--- ---- a custom
+-- ---- a custom block
 
--- the data after an identifier, and what it spells
+-- The data after an identifier, and the token that they encode.
 abbrev pub SpellsData : Option CustomKind → List ℕ → Token → Type 0
 SpellsData None rest t = ⊥
 SpellsData (Some customs.Int32) rest t = (length rest ≡ 7) × (t ≡ leaf (objects.I32 (signed (drop 3 rest))))
@@ -51,7 +52,7 @@ data_of_custom rest t (inr (inl s)) = rw (s.1, custom_of_int64) (omega (arith, s
 data_of_custom rest t (inr (inr (inl s))) = rw (s.1, custom_of_native) (omega (arith, s.2), omega (arith, s.2), s.3)
 data_of_custom rest t (inr (inr (inr s))) = rw (s.1, custom_of_native) (omega (arith, s.2), omega (arith, s.2), s.3)
 
--- the same, once the identifier is known
+-- The data of a custom block whose identifier is known.
 pub data_at : (kind : Option CustomKind) (rest : List ℕ) (t : Token) → SpellsCustom rest t → kind ≡ custom_of (take 3 rest) → SpellsData kind rest t
 data_at kind rest t s e = subst (λ (k : Option CustomKind). SpellsData k rest t) (sym e) (data_of_custom rest t s)
 
@@ -61,16 +62,16 @@ native_data (Some customs.Int32) rest t n m s = absurd (n refl)
 native_data (Some customs.Int64) rest t n m s = absurd (m refl)
 native_data (Some customs.Native) rest t n m s = s
 
--- an identifier that is neither of the others
+-- If an identifier is neither `_i` nor `_j`, then it is `_n`.
 pub native_at : (kind : Option CustomKind) (rest : List ℕ) (t : Token) → SpellsCustom rest t → kind ≡ custom_of (take 3 rest) → (kind ≡ Some customs.Int32 → ⊥) → (kind ≡ Some customs.Int64 → ⊥) → SpellsData (Some customs.Native) rest t
 native_at kind rest t s e n m = native_data kind rest t n m (data_at kind rest t s e)
 
--- a number of 32 bits fits their type
+-- A signed number of 32 bits fits the type of 32 bits.
 fits_i32 : (z : ℤ) → IsSigned 31 z → FitsSigned w32 z
 fits_i32 (pos n) h = record { sfits = h }
 fits_i32 (negsuc n) h = record { sfits = h }
 
--- four bytes spell such a number
+-- Four bytes encode a signed number of 32 bits.
 pub fits_four : (rest : List ℕ) → AreBytes rest → length rest ≡ 7 → FitsSigned w32 (signed (drop 3 rest))
 fits_four rest a l =
     fits_i32 (signed (drop 3 rest)) (IsSigned-signed_at 31 (drop 3 rest) (omega (arith, length-drop 3 rest)) (All-drop (λ b. b < 256) 3 rest a))

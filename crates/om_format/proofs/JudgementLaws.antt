@@ -1,4 +1,4 @@
--- One thing becomes of bytes, and nothing else.
+-- Every byte string has exactly one judgement.
 use Rattle.std.proofs.Common.{◌≡◌, ℕ, ◌≤◌, ◌<◌, List, length, take, refl, ap, ◌∙◌, length-append, arith}
 use Rattle.std.specs.List.{concat}
 use Rattle.om_model.specs.declared.refusal.ReadRefusal.{ReadRefusal}
@@ -12,7 +12,7 @@ use Rattle.om_format.proofs.SpellTrees.{PassesWhole, PassesWhole-spelled, tree-s
 use Rattle.om_format.proofs.StandLemmas.{Judges-some}
 use Rattle.om_format.proofs.TokenStepLemmas.{header_length-from}
 
--- a value has bytes
+-- An encoded value has at least one byte.
 pub spelled_some :
     (limit : ℕ) (bytes : List ℕ) (tree : Tree) → SpelledUnder limit bytes tree → 0 < length bytes
 spelled_some limit bytes tree s =
@@ -23,22 +23,22 @@ spelled_some limit bytes tree s =
       ap length s.bytes_are ∙ length-append s.header (concat s.pieces),
     )
 
--- a spelled value is closed
+-- An encoded value is closed.
 pub Closed-spelled : (limit : ℕ) (bytes : List ℕ) (tree : Tree) (s : SpelledUnder limit bytes tree) → Closed limit bytes s.header s.pieces
 Closed-spelled limit bytes tree s =
     let w : PassesWhole limit s.header s.pieces = PassesWhole-spelled limit bytes tree s in
     record { bytes_are = s.bytes_are; header_passes = w.header_passes; tokens_pass = w.tokens_pass; none_pending = w.whole }
 
--- a front begins with no value
+-- If bytes are incomplete, then they do not begin with a value.
 pub front_or_value : (limit : ℕ) (bytes : List ℕ) (n : ℕ) (tree : Tree) → IsFront limit bytes → SpelledUnder limit (take n bytes) tree → ⊥
 front_or_value limit bytes n tree f s = front_or_closed limit bytes n s.header s.pieces f (Closed-spelled limit (take n bytes) tree s)
 
--- bytes that begin with a value are not refused
+-- If bytes begin with a value, then they are not refused.
 pub value_or_refused : (limit : ℕ) (bytes : List ℕ) (n m : ℕ) (tree : Tree) (r : ReadRefusal) → SpelledUnder limit (take n bytes) tree → IsRefused limit (take m bytes) r → ⊥
 value_or_refused limit bytes n m tree r s f =
     closed_or_refused limit bytes n m s.header s.pieces r (Closed-spelled limit (take n bytes) tree s) f
 
--- they begin with one value
+-- If bytes begin with a value, then they begin with only one.
 pub value_at_once : (limit : ℕ) (bytes : List ℕ) (n m : ℕ) (t u : Tree) → n ≤ length bytes → m ≤ length bytes
     → SpelledUnder limit (take n bytes) t → SpelledUnder limit (take m bytes) u → (n ≡ m) × (t ≡ u)
 value_at_once limit bytes n m t u p q s v =
@@ -46,7 +46,7 @@ value_at_once limit bytes n m t u p q s v =
     (Closed-spelled limit (take n bytes) t s) (Closed-spelled limit (take m bytes) u v) in
     (same.0, tree-same limit limit (take n bytes) (take m bytes) t u s v same.2)
 
--- two judgements are one
+-- Two judgements that hold are equal.
 pub Judges-same : (limit : ℕ) (bytes : List ℕ) (j k : Judgement) → Judges limit bytes j → Judges limit bytes k → j ≡ k
 Judges-same limit bytes front front p q = refl
 Judges-same limit bytes front (value m u) p q = absurd (front_or_value limit bytes m u p q.1)
@@ -60,7 +60,7 @@ Judges-same limit bytes (refused n r) (value m u) p q = absurd (value_or_refused
 Judges-same limit bytes (refused n r) (refused m s) p q =
     let same = refused_at_once limit bytes n m r s p.0 q.0 p.1 q.1 in λ i. refused (same.0 i) (same.1 i)
 
--- a judgement that holds is the only one
+-- If a judgement holds, then it is the only one.
 pub IsJudgement-holds : (limit : ℕ) (bytes : List ℕ) (j : Judgement) → Judges limit bytes j → IsJudgement limit bytes j
 IsJudgement-holds limit bytes j p = record { holds = p; only = λ k q. Judges-same limit bytes k j q p }
 

@@ -1,4 +1,4 @@
--- What the table of codes holds.
+-- Lemmas on the table of codes.
 use Rattle.std.proofs.Common.{ℕ, ◌<◌, ◌≤◌, ◌%◌, ◌/◌, ◌≡◌, Bool, true, false, List, [], ◌∷◌, Result, Ok, Err, cond, arith, subst, get_or, zero, suc, leb}
 use Rattle.std.specs.Prelude.{IfOk}
 use Rattle.std.specs.List.{AllByRecursion}
@@ -10,13 +10,13 @@ use Rattle.om_model.specs.declared.code.CodeFault.{CodeFault}
 use Rattle.om_model.specs.declared.code.CodeFault.TheVariants.{BadCode}
 use Rattle.om_format.specs.Code.{kind_of, large_kinds, IsKind}
 
--- a fact of each entry, and of the default, holds of the one that is found
+-- If a predicate holds for each entry and for the default, then it holds for the entry found.
 found : {X : Type 0} (P : X → Type 0) (d : X) → P d → (xs : List X) → AllByRecursion P xs → (i : ℕ) → P (get_or xs i d)
 found P d h [] all i = h
 found P d h (x ∷ xs) all zero = all.0
 found P d h (x ∷ xs) all (suc i) = found P d h xs all.1 i
 
--- where it is a kind, its numbers are in range
+-- If the entry is a kind, then its numbers are in range.
 abbrev pub InRange : Result CodeKind CodeFault → Type 0
 InRange result = IfOk result IsKind
 
@@ -87,7 +87,7 @@ choose : (b : Bool) (x y : Result CodeKind CodeFault) → InRange x → InRange 
 choose true x y p q = p
 choose false x y p q = q
 
--- the kind of each code has its numbers in range
+-- The kind of each code has its numbers in range.
 pub kind_of-in_range : (code : ℕ) → InRange (kind_of code)
 unfolding kind_of
 kind_of-in_range code =
@@ -106,7 +106,7 @@ kind_of-in_range code =
 pub IsKind-kind_of : (code : ℕ) (kind : CodeKind) → kind_of code ≡ Ok kind → IsKind kind
 IsKind-kind_of code kind e = subst InRange e (kind_of-in_range code)
 
--- the table ends at 26
+-- The table ends at 26.
 pub past_the_table : (code : ℕ) → 26 ≤ code → code < 32 → kind_of code ≡ Err BadCode
 unfolding kind_of
 past_the_table code past below =

@@ -1,4 +1,5 @@
--- What stands at the front of bytes: a header or a token that passes, a part of one, or a refusal with its fewest bytes.
+-- The first part of the bytes: a header or token that passes, a proper prefix of one, or a refusal
+-- with the least number of bytes.
 use Rattle.std.proofs.Common.{◌≡◌, ℕ, ◌+◌, ◌-◌, ◌<◌, ◌≤◌, List, [], ◌∷◌, ◌++◌, length, take, Some, None, inl, inr, refl, sym, ◌∙◌, ap, arith, slice_index, length-append, length-take, length-take-le, take_at, append_assoc}
 use Rattle.std.proofs.lemmas.Bool.{cases_lt}
 use Rattle.std.proofs.lemmas.List.{take_more}
@@ -13,15 +14,15 @@ use Rattle.om_format.proofs.RawLemmas.{IsPart-take, IsRaw-take, raw_measure-take
 use Rattle.om_format.proofs.StepLemmas.{LeastRefusal, least_refusal, least_refusal-within, first_refusal-more, first_refusal-fewer}
 use Rattle.om_format.proofs.TokenStepLemmas.{token_steps-within, token_steps-take, header_steps-within, header_steps-take, header_length-take, header_length-from}
 
--- the first n bytes with one more
+-- The first `n` bytes are the first `n` - 1 bytes and one more.
 pub take-last : (n : ℕ) (bytes : List ℕ) → 1 ≤ n → n ≤ length bytes → take n bytes ≡ take (n - 1) bytes ++ slice_index bytes (n - 1) ∷ []
 take-last n bytes p l =
     let e : n ≡ n - 1 + 1 = omega arith in
     ap (λ m. take m bytes) e ∙ take_more bytes (n - 1) 0 (omega arith)
 
--- ---- refusals of fronts
+-- ---- refusals of prefixes
 
--- what the first n bytes of a token refuse
+-- The refusal of the first `n` bytes of a token.
 pub token_refusal-take : (header : List ℕ) (before : List (List ℕ)) (n : ℕ) (bytes : List ℕ) → n ≤ length bytes
     → token_refusal header before (take n bytes) ≡ first_refusal n (token_steps (context header before) bytes)
 token_refusal-take header before n bytes l =
@@ -33,7 +34,7 @@ header_refusal-take limit n bytes l =
     ap (λ k. first_refusal k (header_steps limit (take n bytes))) (length-take-le n bytes l)
     ∙ header_steps-take limit n n bytes (omega arith)
 
--- what a front refuses, the whole refuses
+-- If a prefix is refused, then the whole is refused for the same reason.
 pub token_refusal-append : (header : List ℕ) (before : List (List ℕ)) (front more : List ℕ) (r : ReadRefusal)
     → token_refusal header before front ≡ Some r → token_refusal header before (front ++ more) ≡ Some r
 token_refusal-append header before front more r h =
@@ -54,9 +55,9 @@ header_refusal-append limit front more r h =
     first_refusal-more n (length whole) (header_steps limit whole) r l
     (sym (header_refusal-take limit n whole l) ∙ (ap (header_refusal limit) same ∙ h))
 
--- ---- a token at the front
+-- ---- a token at the beginning
 
--- a refusal of the token at the front of `rest`, with the fewest bytes
+-- The token at the beginning of `rest` is refused, with the least number of bytes.
 pub record RefusedNext (header : List ℕ) (before : List (List ℕ)) (rest : List ℕ) (refusal : ReadRefusal) : Type 0 where
   pub count : ℕ
   pub pos : 1 ≤ count
@@ -90,18 +91,18 @@ refused_from header before rest r h =
       passed = token_refusal-take header before (n - 1) rest (omega arith) ∙ fewer;
     }
 
--- where the bytes refuse the token at their front
+-- If the bytes refuse the token at their beginning, then there is such a refusal.
 pub next_refused : (header : List ℕ) (before : List (List ℕ)) (rest : List ℕ) (r : ReadRefusal)
     → first_refusal (length rest) (token_steps (context header before) rest) ≡ Some r → RefusedNext header before rest r
 next_refused header before rest r h = refused_from header before rest r (least_refusal (length rest) (token_steps (context header before) rest) r h)
 
--- a whole token at the front of `rest` that passes
+-- The token at the beginning of `rest` is complete and passes.
 pub record PassesNext (header : List ℕ) (before : List (List ℕ)) (rest : List ℕ) : Type 0 where
   pub raw : IsRaw (take (raw_length rest) rest)
   pub passes : token_refusal header before (take (raw_length rest) rest) ≡ None
   pub measure : raw_measure (take (raw_length rest) rest) ≡ raw_measure rest
 
--- where they pass it and have it whole
+-- If the bytes are not refused and contain the whole token, then the token passes.
 pub next_passes : (header : List ℕ) (before : List (List ℕ)) (rest : List ℕ)
     → first_refusal (length rest) (token_steps (context header before) rest) ≡ None → raw_length rest ≤ length rest → PassesNext header before rest
 next_passes header before rest h l = record {
@@ -112,7 +113,7 @@ next_passes header before rest h l = record {
   measure = raw_measure-take (raw_length rest) rest (omega arith);
 }
 
--- and where they refuse it: the refusal of the bytes up to there
+-- If the next token is refused, then the bytes up to the refusal are refused.
 pub next_is_refused : (limit : ℕ) (header : List ℕ) (tokens : List (List ℕ)) (rest : List ℕ) (r : ReadRefusal)
     → HeaderPasses limit header → TokensPass header [] tokens → IsOpen tokens → (h : RefusedNext header tokens rest r)
     → IsRefused limit (header ++ (concat tokens ++ take h.count rest)) r
@@ -141,14 +142,14 @@ next_is_refused limit header tokens rest r hp tp is_open h =
       refused = ap (token_refusal header tokens) (sym e) ∙ h.refused;
     })
 
--- the bytes up to there, as a front of all of them
+-- The bytes up to there, as a prefix of all the bytes.
 pub take_after : (header middle rest : List ℕ) (n : ℕ) → take (length header + (length middle + n)) (header ++ (middle ++ rest)) ≡ header ++ (middle ++ take n rest)
 take_after header middle rest n =
     take-append-add header (middle ++ rest) (length middle + n) ∙ ap (λ xs. header ++ xs) (take-append-add middle rest n)
 
--- ---- a header at the front
+-- ---- a header at the beginning
 
--- fewer bytes than a header has are a part of one
+-- Fewer bytes than a header has are a proper prefix of a header.
 pub header_part-take : (n : ℕ) (bytes : List ℕ) → n < header_length bytes → length (take n bytes) < header_length (take n bytes)
 header_part-take n bytes l =
     elim (cases_lt n 4) [
@@ -156,7 +157,7 @@ header_part-take n bytes l =
       | inr g ↦ omega (arith, length-take n bytes, header_length-take n bytes g)
     ]
 
--- a refusal of the header at the front, with the fewest bytes
+-- The header at the beginning is refused, with the least number of bytes.
 pub record RefusedHeader (limit : ℕ) (bytes : List ℕ) (refusal : ReadRefusal) : Type 0 where
   pub count : ℕ
   pub least : 4 ≤ count
@@ -185,11 +186,11 @@ header_refused_from limit bytes r h =
       };
     }
 
--- where the bytes refuse the header at their front
+-- If the bytes refuse the header at their beginning, then there is such a refusal.
 pub header_refused : (limit : ℕ) (bytes : List ℕ) (r : ReadRefusal) → first_refusal (length bytes) (header_steps limit bytes) ≡ Some r → RefusedHeader limit bytes r
 header_refused limit bytes r h = header_refused_from limit bytes r (least_refusal (length bytes) (header_steps limit bytes) r h)
 
--- the refusal of the bytes up to there
+-- If the header is refused, then the bytes up to the refusal are refused.
 pub header_is_refused : (limit : ℕ) (bytes : List ℕ) (r : ReadRefusal) → (h : RefusedHeader limit bytes r) → IsRefused limit (take h.count bytes) r
 header_is_refused limit bytes r h = inl (record {
   front = take (h.count - 1) bytes;
@@ -199,7 +200,7 @@ header_is_refused limit bytes r h = inl (record {
   refused = h.refused;
 })
 
--- where they pass it and have it whole
+-- If the bytes are not refused and contain the whole header, then the header passes.
 pub header_passes : (limit : ℕ) (bytes : List ℕ) → first_refusal (length bytes) (header_steps limit bytes) ≡ None → header_length bytes ≤ length bytes
     → HeaderPasses limit (take (header_length bytes) bytes)
 header_passes limit bytes h l =
@@ -210,6 +211,6 @@ header_passes limit bytes h l =
       passes = header_refusal-take limit n bytes l ∙ first_refusal-fewer n (length bytes) (header_steps limit bytes) l h;
     }
 
--- where they pass it and have a part of it
+-- If the bytes are not refused and contain a proper prefix of the header, then they are incomplete.
 pub header_goes_on : (limit : ℕ) (bytes : List ℕ) → first_refusal (length bytes) (header_steps limit bytes) ≡ None → length bytes < header_length bytes → InHeader limit bytes
 header_goes_on limit bytes h l = record { part = l; passes = h }

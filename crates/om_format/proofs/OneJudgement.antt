@@ -1,4 +1,5 @@
--- Bytes are a front, begin with one closed value or are refused, and only one of the three, in one way.
+-- Bytes are incomplete, begin with a closed value, or are refused. Only one case holds, with one
+-- outcome.
 use Rattle.std.proofs.Common.{◌≡◌, ℕ, ◌+◌, ◌<◌, ◌≤◌, List, [], ◌∷◌, ◌++◌, map, length, take, drop, Option, Some, None, inl, inr, refl, sym, ◌∙◌, ap, subst, arith, length-append, length-take-le, append_assoc, append-nil, take_at}
 use Rattle.std.proofs.lemmas.Bool.{cases_lt, cases_order}
 use Rattle.std.proofs.lemmas.List.{append_cancel_left, take-append-drop}
@@ -13,7 +14,7 @@ use Rattle.om_format.proofs.TokenStepLemmas.{header_length-take, header_length-f
 use Rattle.om_format.proofs.NextLemmas.{token_refusal-append, header_refusal-append}
 use Rattle.om_format.proofs.ReadingLemmas.{GoesOn, GoesOn-passes, readings}
 
--- a header and the tokens of one value, all of which pass
+-- A header and the tokens of one value, all of which pass.
 pub record Closed (limit : ℕ) (bytes header : List ℕ) (pieces : List (List ℕ)) : Type 0 where
   pub bytes_are : bytes ≡ header ++ concat pieces
   pub header_passes : HeaderPasses limit header
@@ -22,20 +23,21 @@ pub record Closed (limit : ℕ) (bytes header : List ℕ) (pieces : List (List �
 
 -- ---- headers
 
--- a raw header in front says the length
+-- A raw header at the beginning determines its own length.
 pub header_length-append : (header more : List ℕ) → length header ≡ header_length header → header_length (header ++ more) ≡ header_length header
 header_length-append header more raw =
     sym (header_length-take (length header) (header ++ more) (omega (arith, header_length-from header)))
     ∙ ap header_length (take_at header more (length header) refl)
 
--- no raw header begins another
+-- No raw header is a proper prefix of another.
 pub headers_same : (h k x y : List ℕ) → length h ≡ header_length h → length k ≡ header_length k → h ++ x ≡ k ++ y → (h ≡ k) × (x ≡ y)
 headers_same h k x y p q e =
     let l : length h ≡ length k = p ∙ (sym (header_length-append h x p) ∙ (ap header_length e ∙ (header_length-append k y q ∙ sym q))) in
     let same : h ≡ k = same_front h k x y l e in
     (same, append_cancel_left k x y (ap (λ v. v ++ x) (sym same) ∙ e))
 
--- a part of a header in front of the same bytes as a raw one is shorter
+-- If a proper prefix of a header and a raw header begin the same bytes, then the proper prefix is
+-- shorter.
 pub header_part_shorter : (p h x y : List ℕ) → length p < header_length p → length h ≡ header_length h → p ++ x ≡ h ++ y → length p < length h
 header_part_shorter p h x y part raw e =
     elim (cases_lt (length p) (length h)) [
@@ -46,13 +48,13 @@ header_part_shorter p h x y part raw e =
           absurd (omega arith)
     ]
 
--- ---- places
+-- ---- end positions
 
--- no token that passes stands at the front of x
+-- No token that passes is at the beginning of `x`.
 abbrev pub Stops : List ℕ → List (List ℕ) → List ℕ → Type 0
 Stops header ts x = (t z : List ℕ) → TokenPasses header ts t → x ≡ t ++ z → ⊥
 
--- a header and tokens that pass, and after them bytes at which no further one does
+-- A header and tokens that pass, followed by bytes at which no further token passes.
 pub record Place (limit : ℕ) (bytes header : List ℕ) (ts : List (List ℕ)) (x : List ℕ) : Type 0 where
   pub bytes_are : bytes ≡ header ++ (concat ts ++ x)
   pub header_passes : HeaderPasses limit header
@@ -72,7 +74,7 @@ same_tokens header ts us x y p q s t e =
       | inr (inr g) ↦ absurd (not_further header us ts y x p t g)
     ]
 
--- there is one such place
+-- There is at most one such position.
 pub same_place : (limit : ℕ) (bytes h k : List ℕ) (ts us : List (List ℕ)) (x y : List ℕ) → Place limit bytes h ts x → Place limit bytes k us y
     → (h ≡ k) × (ts ≡ us) × (x ≡ y)
 same_place limit bytes h k ts us x y p q =
@@ -83,7 +85,7 @@ same_place limit bytes h k ts us x y p q =
     p.stops (subst (λ v. Stops v us y) (sym heads.0) q.stops) heads.1 in
     (heads.0, same.0, same.1)
 
--- of a front
+-- The end position of incomplete bytes.
 front_place : (limit : ℕ) (bytes header : List ℕ) (ts : List (List ℕ)) (x : List ℕ) → InTokens limit bytes header ts x → Place limit bytes header ts x
 front_place limit bytes header ts x f = record {
   bytes_are = f.bytes_are;
@@ -92,7 +94,7 @@ front_place limit bytes header ts x f = record {
   stops = λ t z p e. not_in_part x t z f.part p.raw e;
 }
 
--- of a closed value, after it
+-- The end position after a closed value.
 closed_place : (limit : ℕ) (bytes front more header : List ℕ) (ts : List (List ℕ)) → bytes ≡ front ++ more → Closed limit front header ts → Place limit bytes header ts more
 closed_place limit bytes front more header ts e c = record {
   bytes_are = e ∙ (ap (λ v. v ++ more) c.bytes_are ∙ append_assoc header (concat ts) more);
@@ -101,7 +103,7 @@ closed_place limit bytes front more header ts e c = record {
   stops = λ t z p f. let l : 0 < pending (map raw_measure ts) = p.open_before in omega (arith, c.none_pending);
 }
 
--- a refusal in a token
+-- A refusal in a token.
 record RefusedAt (limit : ℕ) (bytes header : List ℕ) (ts : List (List ℕ)) (part : List ℕ) (last : ℕ) (more : List ℕ) (r : ReadRefusal) : Type 0 where
   bytes_are : bytes ≡ header ++ (concat ts ++ ((part ++ last ∷ []) ++ more))
   header_passes : HeaderPasses limit header
@@ -134,7 +136,8 @@ refused_place limit bytes header ts part last more r f = record {
 
 -- ---- refusals with their last bytes
 
--- of two fronts that pass, each refused with one more byte, neither is shorter
+-- Two prefixes pass, and each is refused with one more byte. Then neither is shorter than the
+-- other.
 no_earlier : (R : List ℕ → Option ReadRefusal) → ((xs ys : List ℕ) (r : ReadRefusal) → R xs ≡ Some r → R (xs ++ ys) ≡ Some r)
     → (f g : List ℕ) (a b : ℕ) (y z : List ℕ) (r : ReadRefusal) → R (f ++ a ∷ []) ≡ Some r → R g ≡ None
     → (f ++ a ∷ []) ++ y ≡ (g ++ b ∷ []) ++ z → length f < length g → ⊥
@@ -145,7 +148,7 @@ no_earlier R stays f g a b y z r p q e l =
     let refused : R g ≡ Some r = ap R split ∙ stays whole (drop (length whole) g) r p in
     cc
 
--- so they are as long, and the refusal is one
+-- Two such prefixes have the same length and the same refusal.
 two_refusals : (R : List ℕ → Option ReadRefusal) → ((xs ys : List ℕ) (r : ReadRefusal) → R xs ≡ Some r → R (xs ++ ys) ≡ Some r)
     → (f g : List ℕ) (a b : ℕ) (y z : List ℕ) (r s : ReadRefusal) → R f ≡ None → R (f ++ a ∷ []) ≡ Some r → R g ≡ None → R (g ++ b ∷ []) ≡ Some s
     → (f ++ a ∷ []) ++ y ≡ (g ++ b ∷ []) ++ z → (length f ≡ length g) × (r ≡ s)
@@ -189,14 +192,14 @@ closed_not_refused limit bytes front after h k ts us part last more r e c g =
     let none : pending (map raw_measure us) ≡ 0 = ap (λ vs. pending (map raw_measure vs)) (sym same.1) ∙ c.none_pending in
     omega arith
 
--- two closed values at the front are one
+-- Two closed values at the beginning are equal.
 pub closed_once : (limit : ℕ) (bytes f g x y h k : List ℕ) (ts us : List (List ℕ)) → bytes ≡ f ++ x → bytes ≡ g ++ y
     → Closed limit f h ts → Closed limit g k us → (f ≡ g) × (h ≡ k) × (ts ≡ us)
 closed_once limit bytes f g x y h k ts us d e p q =
     let same = same_place limit bytes h k ts us x y (closed_place limit bytes f x h ts d p) (closed_place limit bytes g y k us e q) in
     (p.bytes_are ∙ ((λ i. same.0 i ++ concat (same.1 i)) ∙ sym q.bytes_are), same.0, same.1)
 
--- two refusals in tokens are one
+-- Two refusals in tokens are equal.
 refused_alike : (limit : ℕ) (bytes h k : List ℕ) (ts us : List (List ℕ)) (p q : List ℕ) (a b : ℕ) (y z : List ℕ) (r s : ReadRefusal)
     → RefusedAt limit bytes h ts p a y r → RefusedAt limit bytes k us q b z s → (h ≡ k) × (ts ≡ us) × (length p ≡ length q) × (r ≡ s)
 refused_alike limit bytes h k ts us p q a b y z r s f g =
@@ -209,13 +212,13 @@ refused_alike limit bytes h k ts us p q a b y z r s f g =
 
 -- ---- within the header
 
--- no header that passes stands at the front of a part of one
+-- No header that passes is at the beginning of a proper prefix of a header.
 in_header_alone : (limit : ℕ) (bytes h x : List ℕ) → InHeader limit bytes → HeaderPasses limit h → bytes ≡ h ++ x → ⊥
 in_header_alone limit bytes h x f p e =
     let l : length bytes < length h = header_part_shorter bytes h [] x f.part p.raw (append-nil bytes ∙ e) in
     omega (arith, ap length e, length-append h x)
 
--- nor of one that is refused
+-- No header that passes is at the beginning of bytes with a refused header.
 header_refusal_alone : (limit : ℕ) (front : List ℕ) (last : ℕ) (more h x : List ℕ) (r : ReadRefusal) → InHeader limit front → header_refusal limit (front ++ last ∷ []) ≡ Some r
     → HeaderPasses limit h → (front ++ last ∷ []) ++ more ≡ h ++ x → ⊥
 header_refusal_alone limit front last more h x r f g p e =
@@ -227,7 +230,7 @@ header_refusal_alone limit front last more h x r f g p e =
     let b : header_refusal limit h ≡ None = p.passes in
     cc
 
--- nor a refused one at the front of a part that passes
+-- No refused header is at the beginning of a prefix that passes.
 in_header_not_refused : (limit : ℕ) (bytes front : List ℕ) (last : ℕ) (more : List ℕ) (r : ReadRefusal) → InHeader limit bytes
     → header_refusal limit (front ++ last ∷ []) ≡ Some r → bytes ≡ (front ++ last ∷ []) ++ more → ⊥
 in_header_not_refused limit bytes front last more r f g e =
@@ -235,7 +238,7 @@ in_header_not_refused limit bytes front last more r f g e =
     let b : header_refusal limit bytes ≡ None = f.passes in
     cc
 
--- ---- of any front of the bytes
+-- ---- prefixes of the bytes in general
 
 refused_at : (limit : ℕ) (bytes whole more : List ℕ) (r : ReadRefusal) → bytes ≡ whole ++ more → (t : RefusedInTokens limit whole r)
     → RefusedAt limit bytes t.header t.tokens t.part t.last more r
@@ -255,7 +258,7 @@ refused_at limit bytes whole more r e t =
     regroup : (a b c d v : List ℕ) → ((a ++ (b ++ c)) ++ d) ++ v ≡ a ++ (b ++ ((c ++ d) ++ v))
     regroup a b c d v = simp append_assoc
 
--- up to a refusal in the tokens there are the header, the tokens and the part with its last byte
+-- The length of bytes refused in a token: the header, the tokens, and the part with its last byte.
 refused_length : (limit : ℕ) (whole : List ℕ) (r : ReadRefusal) → (t : RefusedInTokens limit whole r)
     → length whole ≡ length t.header + (length (concat t.tokens) + (length t.part + 1))
 refused_length limit whole r t =
@@ -269,7 +272,7 @@ refused_length limit whole r t =
       length-append (concat t.tokens) t.part,
     )
 
--- a header that is refused stands in front of no header that passes
+-- If a header is refused, then no header that passes begins the same bytes.
 refused_header_alone : (limit : ℕ) (bytes whole more h x : List ℕ) (r : ReadRefusal) → bytes ≡ whole ++ more → RefusedInHeader limit whole r
     → HeaderPasses limit h → bytes ≡ h ++ x → ⊥
 refused_header_alone limit bytes whole more h x r e t p f =
@@ -294,14 +297,14 @@ two_refused_in_tokens limit bytes v w x y r s d e p q =
     (refused_at limit bytes v x r d p) (refused_at limit bytes w y s e q) in
     (omega (arith, same.2, ap length same.0, ap (λ vs. length (concat vs)) same.1, refused_length limit v r p, refused_length limit w s q), same.3)
 
--- a refusal in the tokens has a header that passes in front
+-- If bytes are refused in a token, then they begin with a header that passes.
 refused_after_header : (limit : ℕ) (bytes whole more : List ℕ) (r : ReadRefusal) → bytes ≡ whole ++ more → RefusedInTokens limit whole r
     → (h x : List ℕ) × HeaderPasses limit h × (bytes ≡ h ++ x)
 refused_after_header limit bytes whole more r e t =
     let a : RefusedAt limit bytes t.header t.tokens t.part t.last more r = refused_at limit bytes whole more r e t in
     (t.header, concat t.tokens ++ ((t.part ++ t.last ∷ []) ++ more), a.header_passes, a.bytes_are)
 
--- a front begins with no closed value
+-- If bytes are incomplete, then they do not begin with a closed value.
 pub front_excludes_closed : (limit : ℕ) (bytes front more header : List ℕ) (pieces : List (List ℕ)) → bytes ≡ front ++ more
     → IsFront limit bytes → Closed limit front header pieces → ⊥
 front_excludes_closed limit bytes front more header pieces e f c =
@@ -311,7 +314,7 @@ front_excludes_closed limit bytes front more header pieces e f c =
       | inr t ↦ front_not_closed limit bytes front more t.0 header t.1 pieces t.2 e t.3 c
     ]
 
--- and with nothing that is refused
+-- If bytes are incomplete, then they do not begin with refused bytes.
 pub front_excludes_refused : (limit : ℕ) (bytes front more : List ℕ) (r : ReadRefusal) → bytes ≡ front ++ more → IsFront limit bytes → IsRefused limit front r → ⊥
 front_excludes_refused limit bytes front more r e f g =
     elim f [
@@ -326,7 +329,7 @@ front_excludes_refused limit bytes front more r e f g =
       ]
     ]
 
--- bytes that begin with a closed value begin with nothing that is refused
+-- If bytes begin with a closed value, then they do not begin with refused bytes.
 pub closed_excludes_refused : (limit : ℕ) (bytes v w x y header : List ℕ) (pieces : List (List ℕ)) (r : ReadRefusal) → bytes ≡ v ++ x → bytes ≡ w ++ y
     → Closed limit v header pieces → IsRefused limit w r → ⊥
 closed_excludes_refused limit bytes v w x y header pieces r d e c g =
@@ -336,7 +339,7 @@ closed_excludes_refused limit bytes v w x y header pieces r d e c g =
       | inr u ↦ closed_not_refused limit bytes v x header u.header pieces u.tokens u.part u.last y r d c (refused_at limit bytes w y r e u)
     ]
 
--- two refusals are one
+-- Two refusals at the beginning of the same bytes are equal.
 pub refused_once : (limit : ℕ) (bytes v w x y : List ℕ) (r s : ReadRefusal) → bytes ≡ v ++ x → bytes ≡ w ++ y
     → IsRefused limit v r → IsRefused limit w s → (length v ≡ length w) × (r ≡ s)
 refused_once limit bytes v w x y r s d e f g =
@@ -351,7 +354,7 @@ refused_once limit bytes v w x y r s d e f g =
       ]
     ]
 
--- ---- of the first n bytes
+-- ---- the first `n` bytes
 
 front_of : (n : ℕ) (bytes : List ℕ) → bytes ≡ take n bytes ++ drop n bytes
 front_of n bytes = sym (take-append-drop n bytes)

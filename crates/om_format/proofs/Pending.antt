@@ -1,4 +1,4 @@
--- How many values are still to come after tokens.
+-- The number of values that are still to come after tokens.
 use Rattle.std.proofs.Common.{◌≡◌, ◌+◌, ◌-◌, ◌<◌, ◌≤◌, List, [], ◌∷◌, ◌++◌, length, map, sum_by, Option, refl, arith, length-append, append_assoc, append-nil}
 use Rattle.std.proofs.lemmas.List.{map-append, length_push}
 use Rattle.std.proofs.lemmas.List.Sums.{sum_by-append, sum_by-cons, sum_by_push}
@@ -8,14 +8,14 @@ use Rattle.om_format.specs.Token.{Token, measure_of}
 use Rattle.om_format.specs.Tree.{Tree, Forest, node, none, more, trees_in, IsTree, AreTrees, tokens, forest_tokens}
 use Rattle.om_format.specs.Preorder.{OpenBefore}
 
--- a token takes one place, and its fields come on top
+-- A token is one of the values to come, and adds its fields.
 pub pending_push : (ms : List (Option Measure)) (m : Option Measure) → 0 < pending ms → pending (ms ++ m ∷ []) ≡ pending ms - 1 + of_object fields m
 pending_push ms m h =
     let s = sum_by_push (of_object fields) ms m in
     let l = length_push ms m in
     rw (s, l) (omega arith)
 
--- each value that is to come takes a token at least
+-- Each value to come takes at least one token.
 pub pending-le : (ms ns : List (Option Measure)) → pending ms ≤ pending (ms ++ ns) + length ns
 pending-le ms ns =
     let s = sum_by-append (of_object fields) ms ns in
@@ -25,7 +25,7 @@ pending-le ms ns =
 pub pending-le-length : (ms ns : List (Option Measure)) → pending (ms ++ ns) ≡ 0 → pending ms ≤ length ns
 pending-le-length ms ns h = omega (arith, pending-le ms ns)
 
--- tokens one after another, each while a value is to come
+-- Consecutive tokens, each of which comes while a value is to come.
 
 before_push : (ms : List (Option Measure)) (t : Token) (ts : List Token) → (ms ++ measure_of t ∷ []) ++ map measure_of ts ≡ ms ++ map measure_of (t ∷ ts)
 before_push ms t ts = append_assoc ms (measure_of t ∷ []) (map measure_of ts)
@@ -35,9 +35,9 @@ OpenBefore-append ms [] ys h k = rw append-nil at k
 OpenBefore-append ms (x ∷ xs) ys h k =
     (h.0, OpenBefore-append (ms ++ measure_of x ∷ []) xs ys h.1 (rw (before_push ms x xs) k))
 
--- the tokens of a tree take one place together
+-- The tokens of a tree together are one value.
 
--- the fields among the tokens of trees are the other trees in them
+-- The fields among the tokens of trees are the other trees in them.
 mutual
   fields-tokens : (tree : Tree) → IsTree tree → sum_by (of_object fields) (map measure_of (tokens tree)) + 1 ≡ length (map measure_of (tokens tree))
   fields-tokens (node t f) h =
@@ -62,7 +62,7 @@ pending-tokens ms tree h k =
     let e = fields-tokens tree h in
     rw (s, l) (omega arith)
 
--- each token of trees comes while one is to come
+-- Each token of a tree comes while a value is to come.
 mutual
   pub open_tokens : (ms : List (Option Measure)) (tree : Tree) → IsTree tree → 0 < pending ms → OpenBefore ms (tokens tree)
   open_tokens ms (node t f) h k =

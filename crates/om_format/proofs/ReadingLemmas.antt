@@ -1,4 +1,4 @@
--- Bytes are cut into tokens in one way.
+-- There is only one way to split bytes into tokens.
 use Rattle.std.proofs.Common.{◌≡◌, ℕ, List, [], ◌∷◌, ◌++◌, inl, inr, ◌⊎◌, refl, sym, ◌∙◌, ap, ap₂, subst, append_assoc, append-nil}
 use Rattle.std.proofs.lemmas.List.{append_cancel_left}
 use Rattle.std.specs.List.{concat}
@@ -13,11 +13,11 @@ pub concat-append : (ts us : List (List ℕ)) → concat (ts ++ us) ≡ concat t
 concat-append [] us = refl
 concat-append (t ∷ ts) us = ap (λ xs. t ++ xs) (concat-append ts us) ∙ sym (append_assoc t (concat ts) (concat us))
 
--- one more token
+-- The bytes of one more token.
 pub concat-push : (ts : List (List ℕ)) (t : List ℕ) → concat (ts ++ t ∷ []) ≡ concat ts ++ t
 concat-push ts t = concat-append ts (t ∷ []) ∙ ap (λ xs. concat ts ++ xs) (append-nil t)
 
--- the tokens after a cut pass after those before it
+-- If tokens pass, and further tokens pass after them, then all of them pass.
 pub TokensPass-append : (header : List ℕ) (before ts us : List (List ℕ))
     → TokensPass header before ts → TokensPass header (before ++ ts) us → TokensPass header before (ts ++ us)
 TokensPass-append header before [] us p q = subst (λ xs. TokensPass header xs us) (append-nil before) q
@@ -29,13 +29,13 @@ TokensPass-after header before [] us p = subst (λ xs. TokensPass header xs us) 
 TokensPass-after header before (t ∷ ts) us p =
     subst (λ xs. TokensPass header xs us) (append_assoc before (t ∷ []) ts) (TokensPass-after header (before ++ t ∷ []) ts us p.1)
 
--- one more token that passes
+-- If tokens pass, and one more token passes after them, then all of them pass.
 pub TokensPass-push : (header : List ℕ) (before ts : List (List ℕ)) (t : List ℕ) → TokensPass header before ts → TokenPasses header (before ++ ts) t → TokensPass header before (ts ++ t ∷ [])
 TokensPass-push header before ts t p q = TokensPass-append header before ts (t ∷ []) p (q, tt)
 
 -- ---- one reading
 
--- each is a raw token
+-- Each is a raw token.
 abbrev pub AreRaw : List (List ℕ) → Type 0
 AreRaw [] = Unit {0}
 AreRaw (t ∷ ts) = IsRaw t × AreRaw ts
@@ -44,14 +44,15 @@ pub TokensPass-raw : (header : List ℕ) (before ts : List (List ℕ)) → Token
 TokensPass-raw header before [] p = tt
 TokensPass-raw header before (t ∷ ts) p = (p.0.raw, TokensPass-raw header (before ++ t ∷ []) ts p.1)
 
--- the second list of tokens goes on after the first, whose bytes end in x, with y after all of them
+-- The second list of tokens extends the first one. The bytes end in `x` after the first list, and
+-- in `y` after the second.
 pub record GoesOn (ts us : List (List ℕ)) (x y : List ℕ) : Type 0 where
   pub next : List ℕ
   pub more : List (List ℕ)
   pub tokens_are : us ≡ ts ++ next ∷ more
   pub bytes_are : x ≡ concat (next ∷ more) ++ y
 
--- two readings of the same bytes: they are the same, or one goes on after the other
+-- Two readings of the same bytes: they are equal, or one extends the other.
 abbrev pub Readings : List (List ℕ) → List (List ℕ) → List ℕ → List ℕ → Type 0
 Readings ts us x y = ((ts ≡ us) × (x ≡ y)) ⊎ (GoesOn ts us x y ⊎ GoesOn us ts y x)
 
@@ -74,15 +75,15 @@ raw_readings (t ∷ ts) (u ∷ us) x y p q e =
     append_cancel_left u (concat ts ++ x) (concat us ++ y) (ap (λ v. v ++ (concat ts ++ x)) (sym same) ∙ split) in
     readings_more t u ts us x y same (raw_readings ts us x y p.1 q.1 after)
 
--- the readings of the bytes after a header
+-- The readings of the bytes after a header.
 pub readings : (header : List ℕ) (before : List (List ℕ)) (ts us : List (List ℕ)) (x y : List ℕ)
     → TokensPass header before ts → TokensPass header before us → concat ts ++ x ≡ concat us ++ y → Readings ts us x y
 readings header before ts us x y p q e = raw_readings ts us x y (TokensPass-raw header before ts p) (TokensPass-raw header before us q) e
 
--- what goes on passes after the other
+-- The extending tokens pass after the others.
 pub GoesOn-tokens_pass : (header : List ℕ) (ts us : List (List ℕ)) (x y : List ℕ) → TokensPass header [] us → (g : GoesOn ts us x y) → TokensPass header ts (g.next ∷ g.more)
 GoesOn-tokens_pass header ts us x y p g = TokensPass-after header [] ts (g.next ∷ g.more) (subst (TokensPass header []) g.tokens_are p)
 
--- its first token too
+-- The first extending token passes.
 pub GoesOn-passes : (header : List ℕ) (ts us : List (List ℕ)) (x y : List ℕ) → TokensPass header [] us → (g : GoesOn ts us x y) → TokenPasses header ts g.next
 GoesOn-passes header ts us x y p g = (GoesOn-tokens_pass header ts us x y p g).0

@@ -1,4 +1,4 @@
--- References that lead back, told token by token.
+-- References that lead back, token by token.
 use Rattle.std.proofs.Common.{◌≡◌, ℕ, ◌+◌, ◌↔◌, List, [], ◌∷◌, ◌++◌, map, add_assoc, add-zero, sym, ap, ◌∙◌}
 use Rattle.om_format.specs.Words.{objects}
 use Rattle.om_format.specs.Token.{Token, measure_of}
@@ -6,7 +6,7 @@ use Rattle.om_format.specs.Tree.{Tree, Forest, node, none, more, tokens, forest_
 use Rattle.om_format.specs.Preorder.{EachRefersBack}
 use Rattle.om_format.proofs.Counts.{objects-tokens, objects-tokens-cons}
 
--- after the objects of a token and those of more tokens
+-- The objects after a token and further tokens.
 after_token : (c : ℕ) (x : Token) (xs : List Token) → (c + made_by x) + objects (map measure_of xs) ≡ c + objects (map measure_of (x ∷ xs))
 after_token c x xs = add_assoc c (made_by x) (objects (map measure_of xs)) ∙ ap (λ n. c + n) (sym (objects-tokens-cons x xs))
 
@@ -22,7 +22,7 @@ pub EachRefersBack-rest : (c : ℕ) (xs ys : List Token) → EachRefersBack c (x
 EachRefersBack-rest c [] ys h = rw add-zero h
 EachRefersBack-rest c (x ∷ xs) ys h = rw (← after_token c x xs) (EachRefersBack-rest (c + made_by x) xs ys h.1)
 
--- the references of trees
+-- If the references of a tree lead back, then those of its tokens do.
 mutual
   pub each_refers_back : (tree : Tree) (c : ℕ) → ReferBack tree c → EachRefersBack c (tokens tree)
   each_refers_back (node t f) c h = (h.0, all_refer_back f (c + made_by t) h.1)
@@ -44,6 +44,6 @@ mutual
     AllReferBack-from_each f (c + made tree) (rw (objects-tokens tree) at (EachRefersBack-rest c (tokens tree) (forest_tokens f) h)),
   )
 
--- a tree's references lead back where each of its tokens' does
+-- A tree's references lead back if and only if those of its tokens do.
 pub ReferBack-each : (tree : Tree) (c : ℕ) → ReferBack tree c ↔ EachRefersBack c (tokens tree)
 ReferBack-each tree c = (each_refers_back tree c, ReferBack-from_each tree c)

@@ -4,7 +4,7 @@ use Rattle.om_model.specs.Graph.{IsValue}
 use Rattle.om_format.specs.Token.{integer, atom, shared, block, leaf}
 use Rattle.om_format.specs.Tree.{Tree, node, IsTree, ReferBack, root, objects_of}
 
--- it is a value among the tree's objects
+-- The root is a value among the tree's objects.
 pub root_is_value :
     (tree : Tree) → IsTree tree → ReferBack tree 0
     → IsValue (length (objects_of tree 0)) (root tree 0)

@@ -1,4 +1,4 @@
--- The steps of a token pass just where some facts on its numbers hold.
+-- The steps of a token pass if and only if certain facts about its numbers hold.
 use Rattle.std.proofs.Common.{ℕ, ℤ, ◌+◌, ◌%◌, ◌<◌, ◌≤◌, ◌≡◌, Bool, true, false, not, ◌&&◌, ◌||◌, ltb, eqb, List, take, slice_index, Option, Some, None, is_none, ◌⊎◌, inl, inr, refl, arith, ltb-false, le-ltb, eqb-true, eq-eqb, ne_eqb, pos_of_ne-zero, le_of_eq, le_refl, subst}
 use Rattle.std.proofs.lemmas.Bool.{cond_both, cases_eq, eqb-false, not-false, and_left, and_right, not_from_true, or_parts, or_from}
 use Rattle.om_model.specs.declared.refusal.ReadRefusal.TheVariants.{OtherCustom, BadTag, BadShared, NoTable, BadNative, IntRange, ZeroArray, Overlong, SizeMismatch, CountMismatch, LengthMismatch}
@@ -17,20 +17,20 @@ use Rattle.om_format.proofs.RawLemmas.{fields_fit, sizing_fits}
 use Rattle.om_format.proofs.SpellSteps.{AllStepsPass, AllEndWithin, no_refusal, steps_pass, fails_if_none, none_fails_if, or_else_none, or_else_parts, AllStepsPass-append, AllStepsPass-parts, AllEndWithin-append, AllStepsPass-cond, AllStepsPass-when, AllEndWithin-cond}
 use Rattle.om_format.proofs.SpellFields.{IsKnownData, AreSoundFields}
 
--- the bytes after the fixed ones are there
+-- The variable bytes fit the data left.
 abbrev pub VariableFits : Context → CodeKind → Option CustomKind → List ℕ → Type 0
 VariableFits c (kinds.Custom old) (Some customs.Native) rest =
     (1 ≤ left_after c 4) × (0 < native_bytes (slice_index rest 3)) × (native_bytes (slice_index rest 3) ≤ left_after c 5)
 VariableFits c kind custom rest = variable_bytes kind rest ≤ left_after c (1 + fixed_bytes kind)
 
--- after the last token, of n bytes, with the sums of all
+-- The facts after the last token, which has `n` bytes, for the sums of all tokens.
 pub record EndFacts (c : Context) (n : ℕ) (all : Sums) : Type 0 where
   pub left : left_after c n ≡ 0
   pub w32 : c.head.big ≡ false → c.head.w32 ≡ all.w32
   pub w64 : c.head.w64 ≡ all.w64
   pub count : (c.head.objects ≡ 0) ⊎ (c.head.objects ≡ all.objects)
 
--- a token's length, and the sums up to it
+-- The length of a token, and the sums up to it.
 abbrev pub token_length : CodeKind → List ℕ → ℕ
 token_length kind rest = 1 + fixed_bytes kind + variable_bytes kind rest
 
@@ -48,15 +48,15 @@ pub record TokenFacts (c : Context) (kind : CodeKind) (rest : List ℕ) : Type 0
 
 -- ---- each step
 
--- where enough bytes are left
+-- If a step is not overlong, then enough bytes are left.
 pub room_from_none : (c : Context) (need n : ℕ) → overlong c need n ≡ None → need ≤ left_after c n
 room_from_none c need n e = ltb-false (left_after c n) need (none_fails_if (ltb (left_after c n) need) (Overlong (place c) need (left_after c n)) e)
 
--- and the other way round
+-- The converse holds.
 pub none_from_room : (c : Context) (need n : ℕ) → need ≤ left_after c n → overlong c need n ≡ None
 none_from_room c need n h = fails_if_none (ltb (left_after c n) need) (Overlong (place c) need (left_after c n)) (le-ltb (left_after c n) need h)
 
--- where the steps on the variable bytes pass these are there
+-- If the steps on the variable bytes pass, then these bytes fit.
 variable_from_steps : (c : Context) (kind : CodeKind) (custom : Option CustomKind) (rest : List ℕ) → AllStepsPass (variable_steps c kind custom rest) → VariableFits c kind custom rest
 variable_from_steps c (kinds.Custom old) (Some customs.Native) rest p =
     let kind = slice_index rest 3 in
@@ -64,42 +64,42 @@ variable_from_steps c (kinds.Custom old) (Some customs.Native) rest p =
     (room_from_none c 1 4 p.0, pos_of_ne-zero some, room_from_none c (native_bytes kind) 5 p.1.1.0)
 variable_from_steps c kind custom rest p = room_from_none c (variable_bytes kind rest) (1 + fixed_bytes kind) p.0
 
--- and the other way round
+-- The converse holds.
 steps_from_variable : (c : Context) (kind : CodeKind) (custom : Option CustomKind) (rest : List ℕ) → VariableFits c kind custom rest → AllStepsPass (variable_steps c kind custom rest)
 steps_from_variable c (kinds.Custom old) (Some customs.Native) rest f =
     let kind = slice_index rest 3 in
     (none_from_room c 1 4 f.0, (fails_if_none (eqb (native_bytes kind) 0) (BadNative (place c) kind) (ne_eqb (native_bytes kind) 0 (λ e. omega (arith, f.1))), (none_from_room c (native_bytes kind) 5 f.2, tt)))
 steps_from_variable c kind custom rest f = (none_from_room c (variable_bytes kind rest) (1 + fixed_bytes kind) f, tt)
 
--- a test that is no equality
+-- If the test for 0 fails, then the number is positive.
 zero_from_test : (n : ℕ) → eqb n 0 ≡ false → 0 < n
 zero_from_test n e = pos_of_ne-zero (eqb-false n 0 e)
 
--- and the other way round
+-- The converse holds.
 test_from_positive : (n : ℕ) → 0 < n → eqb n 0 ≡ false
 test_from_positive n h = ne_eqb n 0 (λ e. omega arith)
 
--- a custom that is known, with its data
+-- The data of a known custom block.
 known_data : (old : Bool) (c : Context) (known : Option CustomKind) (rest : List ℕ) → is_none known ≡ false → VariableFits c (kinds.Custom old) known rest → IsKnownData known (slice_index rest 3)
 known_data old c None rest e f = absurd (cc)
 known_data old c (Some customs.Int32) rest e f = tt
 known_data old c (Some customs.Int64) rest e f = tt
 known_data old c (Some customs.Native) rest e f = f.1
 
--- data of a known identifier
+-- If data are those of a known identifier, then the identifier is known.
 data_known : (known : Option CustomKind) (kind : ℕ) → IsKnownData known kind → is_none known ≡ false
 data_known None kind d = absurd d
 data_known (Some custom) kind d = refl
 
--- an integer that is not refused
+-- If an integer is not refused, then it fits 63 bits.
 integer_small : (c : Context) (z : ℤ) → integer_refusal c z ≡ None → is_integer z ≡ true
 integer_small c z e = not-false (is_integer z) (none_fails_if (not (is_integer z)) (IntRange (place c) z) e)
 
--- and the other way round
+-- The converse holds.
 small_integer : (c : Context) (z : ℤ) → is_integer z ≡ true → integer_refusal c z ≡ None
 small_integer c z e = fails_if_none (not (is_integer z)) (IntRange (place c) z) (not_from_true (is_integer z) e)
 
--- fields that are not refused are sound
+-- If fields are not refused, then they are valid.
 pub fields_from_none : (c : Context) (code : ℕ) (kind : CodeKind) (rest : List ℕ) → field_refusal c code kind rest ≡ None → VariableFits c kind (custom_of (take 3 rest)) rest → AreSoundFields kind rest (c.sums.objects) c.head.objects
 fields_from_none c code (kinds.SmallBlock tag size) rest e f = tt
 fields_from_none c code (kinds.SmallInt n) rest e f = tt
@@ -121,7 +121,7 @@ fields_from_none c code (kinds.Doubles width little) rest e f =
 fields_from_none c code (kinds.Custom old) rest e f =
     known_data old c (custom_of (take 3 rest)) rest (none_fails_if (is_none (custom_of (take 3 rest))) (OtherCustom (place c) code) e) f
 
--- and sound fields are not refused
+-- If fields are valid, then they are not refused.
 none_from_fields : (c : Context) (code : ℕ) (kind : CodeKind) (rest : List ℕ) → AreSoundFields kind rest (c.sums.objects) c.head.objects → field_refusal c code kind rest ≡ None
 none_from_fields c code (kinds.SmallBlock tag size) rest s = refl
 none_from_fields c code (kinds.SmallInt n) rest s = refl
@@ -143,17 +143,17 @@ none_from_fields c code (kinds.Doubles width little) rest s =
 none_from_fields c code (kinds.Custom old) rest s =
     fails_if_none (is_none (custom_of (take 3 rest))) (OtherCustom (place c) code) (data_known (custom_of (take 3 rest)) (slice_index rest 3) s)
 
--- a test that a big header is spared
+-- If the test passes, then the numbers agree in a small header. A big header skips the test.
 spared : (big differ : Bool) → (not big && differ) ≡ false → big ≡ false → differ ≡ false
 spared true differ e b = absurd (cc)
 spared false differ e b = e
 
--- and the other way round
+-- The converse holds.
 test_spared : (big differ : Bool) → (big ≡ false → differ ≡ false) → (not big && differ) ≡ false
 test_spared true differ f = refl
 test_spared false differ f = f refl
 
--- a number that is 0 or another
+-- If the test passes, then the number is 0 or equal to the other one.
 zero_or_same : (n m : ℕ) → (not (eqb n 0) && nat_ne n m) ≡ false → (n ≡ 0) ⊎ (n ≡ m)
 zero_or_same n m e =
     elim (cases_eq n 0) [
@@ -161,40 +161,40 @@ zero_or_same n m e =
       | inr z ↦ inr (eqb-true n m (not-false (eqb n m) (rw (ne_eqb n 0 z) at e)))
     ]
 
--- and the other way round
+-- The converse holds.
 test_zero_or_same : (n m : ℕ) → (n ≡ 0) ⊎ (n ≡ m) → (not (eqb n 0) && nat_ne n m) ≡ false
 test_zero_or_same n m (inl z) = and_left (not (eqb n 0)) (nat_ne n m) (not_from_true (eqb n 0) (eq-eqb n 0 z))
 test_zero_or_same n m (inr e) = and_right (not (eqb n 0)) (nat_ne n m) (not_from_true (eqb n m) (eq-eqb n m e))
 
--- numbers that do not differ
+-- If numbers do not differ, then they are equal.
 same_from_ne : (n m : ℕ) → nat_ne n m ≡ false → n ≡ m
 same_from_ne n m e = eqb-true n m (not-false (eqb n m) e)
 
--- and the other way round
+-- The converse holds.
 ne_from_same : (n m : ℕ) → n ≡ m → nat_ne n m ≡ false
 ne_from_same n m e = not_from_true (eqb n m) (eq-eqb n m e)
 
--- a sum of words on 32 bits that is not refused
+-- If a sum of words on 32 bits is not refused, then its test passes.
 words32_test : (differ : ℕ → ℕ → Bool) (p : ℕ) (head : Head) (found : ℕ) → words32_refusal differ p head found ≡ None → head.big ≡ false → differ head.w32 found ≡ false
 words32_test differ p head found e =
     spared head.big (differ head.w32 found) (none_fails_if (not head.big && differ head.w32 found) (SizeMismatch p W32 head.w32 found) e)
 
--- and the other way round
+-- The converse holds.
 words32_none : (differ : ℕ → ℕ → Bool) (p : ℕ) (head : Head) (found : ℕ) → (head.big ≡ false → differ head.w32 found ≡ false) → words32_refusal differ p head found ≡ None
 words32_none differ p head found f =
     fails_if_none (not head.big && differ head.w32 found) (SizeMismatch p W32 head.w32 found) (test_spared head.big (differ head.w32 found) f)
 
--- a sum of words on 64 bits that is not refused
+-- If a sum of words on 64 bits is not refused, then its test passes.
 words64_test : (differ : ℕ → ℕ → Bool) (p : ℕ) (head : Head) (found : ℕ) → words64_refusal differ p head found ≡ None → differ head.w64 found ≡ false
 words64_test differ p head found e = none_fails_if (differ head.w64 found) (SizeMismatch p W64 head.w64 found) e
 
--- and the other way round
+-- The converse holds.
 words64_none : (differ : ℕ → ℕ → Bool) (p : ℕ) (head : Head) (found : ℕ) → differ head.w64 found ≡ false → words64_refusal differ p head found ≡ None
 words64_none differ p head found e = fails_if_none (differ head.w64 found) (SizeMismatch p W64 head.w64 found) e
 
 -- ---- the steps of the end
 
--- where the steps of the end pass the header states what was read
+-- If the steps of the end pass, then the header agrees with the tokens read.
 end_from_steps : (c : Context) (n : ℕ) (all : Sums) → AllStepsPass (end_steps c n all) → EndFacts c n all
 end_from_steps c n all p =
     let p' = place c + n in
@@ -207,7 +207,7 @@ end_from_steps c n all p =
       count = zero_or_same c.head.objects all.objects (none_fails_if count (CountMismatch p' c.head.objects all.objects) p.1.1.1.0);
     }
 
--- and the other way round
+-- The converse holds.
 steps_from_end : (c : Context) (n : ℕ) (all : Sums) → EndFacts c n all → AllStepsPass (end_steps c n all)
 steps_from_end c n all f =
     let p' = place c + n in
@@ -224,7 +224,7 @@ steps_from_end c n all f =
 
 -- ---- the steps of a token
 
--- where the steps of a token pass its facts hold
+-- If the steps of a token pass, then its facts hold.
 pub facts_from_steps : (c : Context) (code : ℕ) (kind : CodeKind) (rest : List ℕ) → AllStepsPass (steps_after c code kind rest) → TokenFacts c kind rest
 facts_from_steps c code kind rest p =
     let n = token_length kind rest in
@@ -241,7 +241,7 @@ facts_from_steps c code kind rest p =
       end = λ e. end_from_steps c n all (AllStepsPass-when (eqb all.pending 0) (end_steps c n all) parts.1.1.1.1 (eq-eqb all.pending 0 e));
     }
 
--- and the other way round
+-- The converse holds.
 pub steps_from_facts : (c : Context) (code : ℕ) (kind : CodeKind) (rest : List ℕ) → TokenFacts c kind rest → AllStepsPass (steps_after c code kind rest)
 steps_from_facts c code kind rest f =
     let n = token_length kind rest in
@@ -263,20 +263,20 @@ steps_from_facts c code kind rest f =
       ),
     )
 
--- ---- a whole token decides them all
+-- ---- a whole token decides all its steps
 
--- the steps on the variable bytes are decided within the token
+-- The token's bytes decide the steps on the variable bytes.
 variable_steps_end : (n : ℕ) (c : Context) (kind : CodeKind) (custom : Option CustomKind) (rest : List ℕ) → custom ≡ custom_of (take 3 rest) → n ≡ token_length kind rest → AllEndWithin n (variable_steps c kind custom rest)
 variable_steps_end n c (kinds.Custom old) (Some customs.Native) rest e h =
     let long : 5 ≤ n = omega (arith, rw (← e) at h) in
     (omega arith, (long, (long, tt)))
 variable_steps_end n c kind custom rest e h = (omega (arith, fields_fit kind), tt)
 
--- those of the end too
+-- The token's bytes decide the steps of the end.
 end_steps_end : (c : Context) (n : ℕ) (all : Sums) → AllEndWithin n (end_steps c n all)
 end_steps_end c n all = (le_refl n, (le_refl n, (le_refl n, (le_refl n, tt))))
 
--- all of them
+-- The token's bytes decide all steps.
 steps_end : (c : Context) (code : ℕ) (kind : CodeKind) (rest : List ℕ) → AllEndWithin (token_length kind rest) (steps_after c code kind rest)
 steps_end c code kind rest =
     let n = token_length kind rest in
@@ -291,11 +291,11 @@ steps_end c code kind rest =
       ),
     )
 
--- a whole token of a kind that passes its steps has the facts
+-- If a whole token passes its steps, then its facts hold.
 pub facts_from_none : (c : Context) (code : ℕ) (kind : CodeKind) (rest : List ℕ) (n : ℕ) → n ≡ token_length kind rest → first_refusal n (steps_after c code kind rest) ≡ None → TokenFacts c kind rest
 facts_from_none c code kind rest n e p =
     facts_from_steps c code kind rest (steps_pass (token_length kind rest) (steps_after c code kind rest) (steps_end c code kind rest) (subst (λ m. first_refusal m (steps_after c code kind rest) ≡ None) e p))
 
--- and where the facts hold no step is refused
+-- If the facts hold, then no step is refused.
 pub none_from_facts : (c : Context) (code : ℕ) (kind : CodeKind) (rest : List ℕ) (n : ℕ) → TokenFacts c kind rest → first_refusal n (steps_after c code kind rest) ≡ None
 none_from_facts c code kind rest n f = no_refusal n (steps_after c code kind rest) (steps_from_facts c code kind rest f)

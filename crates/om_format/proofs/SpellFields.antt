@@ -1,4 +1,4 @@
--- The fields of a raw token: where they are sound its bytes spell a token, and those of a spelled token are.
+-- The fields of a raw token are valid if and only if its bytes encode a token.
 use Rattle.std.proofs.Common.{ℕ, ℤ, pos, negsuc, zero, suc, ◌+◌, ◌*◌, ◌/◌, ◌%◌, ◌^◌, ◌<◌, ◌≤◌, ◌≡◌, Bool, true, List, [], ◌∷◌, length, take, drop, slice_index, All, Option, Some, None, ◌⊎◌, inl, inr, refl, ap, subst, ◌∙◌, arith, length-drop, length-take-le, take_all, lt-ltb, ltb-true, ne_eqb, drop-cons, pos_of_ne-zero}
 use Rattle.std.proofs.lemmas.Bool.{cases_eq}
 use Rattle.std.proofs.lemmas.List.{nil_from_length}
@@ -20,14 +20,14 @@ use Rattle.om_format.proofs.SpellNumbers.{number_in_lt-at, IsSigned-signed_at}
 use Rattle.om_format.proofs.SpellCustoms.{custom_letter, custom_of_parts}
 use Rattle.om_format.proofs.SpellLemmas.{custom_of_int32, custom_of_int64, custom_of_native}
 
--- data of a known identifier: a `Nativeint` has four or eight bytes
+-- The data of a known identifier. The number of a `Nativeint` has four or eight bytes.
 abbrev pub IsKnownData : Option CustomKind → ℕ → Type 0
 IsKnownData None kind = ⊥
 IsKnownData (Some customs.Int32) kind = Unit {0}
 IsKnownData (Some customs.Int64) kind = Unit {0}
 IsKnownData (Some customs.Native) kind = 0 < native_bytes kind
 
--- fields that say what a token may, after n objects and a header that states so many
+-- The fields are valid for a token after `n` objects, under a header that counts `stated` objects.
 abbrev pub AreSoundFields : CodeKind → List ℕ → ℕ → ℕ → Type 0
 AreSoundFields (kinds.SmallBlock tag size) rest n stated = Unit {0}
 AreSoundFields (kinds.SmallInt i) rest n stated = Unit {0}
@@ -40,7 +40,7 @@ AreSoundFields (kinds.Double little) rest n stated = Unit {0}
 AreSoundFields (kinds.Doubles width little) rest n stated = 0 < number (take width rest)
 AreSoundFields (kinds.Custom old) rest n stated = IsKnownData (custom_of (take 3 rest)) (slice_index rest 3)
 
--- a token that may stand there
+-- A token that is allowed at this point.
 pub record IsTokenThere (t : Token) (n stated : ℕ) : Type 0 where
   pub is_token : IsToken t
   pub refers_back : RefersBack t n
@@ -48,17 +48,17 @@ pub record IsTokenThere (t : Token) (n stated : ℕ) : Type 0 where
 
 -- ---- from bytes to tokens
 
--- the test for 63 bits
+-- If the test for 63 bits succeeds, then the integer fits 63 bits.
 pub IsInteger-is_integer : (z : ℤ) → is_integer z ≡ true → IsInteger z
 IsInteger-is_integer (pos n) e = ltb-true n (2 ^ 62) e
 IsInteger-is_integer (negsuc n) e = ltb-true n (2 ^ 62) e
 
--- a block or an atom may stand anywhere
+-- A block or an atom is allowed anywhere.
 block_there : (tag size n stated : ℕ) → tag ≤ 243 → IsTokenThere (block_or_atom tag size) n stated
 block_there tag zero n stated h = record { is_token = h; refers_back = tt; table = λ _. tt }
 block_there tag (suc size) n stated h = record { is_token = (h, omega arith); refers_back = tt; table = λ _. tt }
 
--- an integer of at most eight bytes, where one of eight passes the test
+-- An integer of at most eight bytes is valid, if the test succeeds for an integer of eight bytes.
 width_integer : (width : ℕ) (rest : List ℕ) → width ≤ 8 → length rest ≡ width → AreBytes rest → (width ≡ 8 → is_integer (signed (take 8 rest)) ≡ true) → IsInteger (signed rest)
 width_integer width rest k l a f =
     elim (cases_eq width 8) [
@@ -68,7 +68,7 @@ width_integer width rest k l a f =
       | inr n ↦ IsSigned-signed_at 62 rest (omega arith) a
     ]
 
--- so many doubles
+-- Bytes encode `n` doubles if their number is 8 * `n`.
 pub doubles_of : (little : Bool) (n : ℕ) (bytes : List ℕ) → AreBytes bytes → length bytes ≡ 8 * n → (all : List ℕ) × (length all ≡ n) × SpellsDoubles little all bytes × All (λ bits. bits < 2 ^ 64) all
 doubles_of little zero bytes a e = ([], refl, nil_from_length bytes e, All-nil (λ bits. bits < 2 ^ 64))
 doubles_of little (suc n) bytes a e =
@@ -78,11 +78,11 @@ doubles_of little (suc n) bytes a e =
     let first : number_in little (take 8 bytes) < 2 ^ 64 = number_in_lt-at little 8 (2 ^ 64) (take 8 bytes) refl (length-take-le 8 bytes long) (All-take (λ b. b < 256) 8 bytes a) in
     (number_in little (take 8 bytes) ∷ rest.0, ap suc rest.1, (long, refl, rest.2), All-cons (λ bits. bits < 2 ^ 64) (number_in little (take 8 bytes)) rest.0 first rest.3)
 
--- a token that bytes after a code of this kind spell
+-- Some token is encoded by the bytes after a code of this kind.
 abbrev pub SpellsSome : CodeKind → List ℕ → ℕ → ℕ → Type 0
 SpellsSome kind rest n stated = (t : Token) × SpellsAfter kind rest t × IsTokenThere t n stated
 
--- three bytes at least, and then the content
+-- The identifier of a custom block is its first three bytes, and the content follows.
 front_of_three : (rest : List ℕ) (kind : CustomKind) → 3 ≤ length rest → custom_of (take 3 rest) ≡ Some kind → rest ≡ 95 ∷ custom_letter kind ∷ 0 ∷ drop 3 rest
 front_of_three [] kind l e = absurd (omega arith)
 front_of_three (a ∷ []) kind l e = absurd (omega arith)
@@ -91,7 +91,7 @@ front_of_three (a ∷ b ∷ c ∷ content) kind l e =
     let parts = custom_of_parts a b c kind e in
     cc (parts.0, parts.1, parts.2)
 
--- the two kind bytes
+-- The two kind bytes of a `Nativeint`.
 pub native_cases : (kind : ℕ) → 0 < native_bytes kind → ((kind ≡ 1) × (native_bytes kind ≡ 4)) ⊎ ((kind ≡ 2) × (native_bytes kind ≡ 8))
 native_cases kind h =
     elim (cases_eq kind 1) [
@@ -102,7 +102,7 @@ native_cases kind h =
       ]
     ]
 
--- a `Nativeint`
+-- A `Nativeint` is allowed.
 native_there : (old : Bool) (kind : ℕ) (content rest : List ℕ) (n stated : ℕ) → rest ≡ 95 ∷ 110 ∷ 0 ∷ kind ∷ content → AreBytes content → length content ≡ native_bytes kind → 0 < native_bytes kind → SpellsSome (kinds.Custom old) rest n stated
 native_there old kind content rest n stated e a l s =
     elim (native_cases kind s) [
@@ -120,7 +120,7 @@ native_there old kind content rest n stated e a l s =
           )
     ]
 
--- a custom, by what its identifier names
+-- A custom block is allowed, by its identifier.
 custom_there : (old : Bool) (known : Option CustomKind) (rest : List ℕ) (n stated : ℕ) → custom_of (take 3 rest) ≡ known → AreBytes rest → length rest ≡ 3 + custom_bytes known (slice_index rest 3) → IsKnownData known (slice_index rest 3) → SpellsSome (kinds.Custom old) rest n stated
 custom_there old None rest n stated e a l s = absurd s
 custom_there old (Some customs.Int32) rest n stated e a l s =
@@ -138,7 +138,7 @@ custom_there old (Some customs.Native) rest n stated e a l s =
     let left : length (drop 4 rest) ≡ native_bytes (slice_index rest 3) = omega (arith, length-drop 4 rest) in
     native_there old (slice_index rest 3) (drop 4 rest) rest n stated front (All-drop (λ b. b < 256) 4 rest a) left s
 
--- sound fields spell a token
+-- If the fields are valid, then the bytes encode a token.
 pub spelled_of : (kind : CodeKind) (rest : List ℕ) (n stated : ℕ) → IsKind kind → AreBytes rest → length rest ≡ fixed_bytes kind + variable_bytes kind rest → AreSoundFields kind rest n stated → SpellsSome kind rest n stated
 spelled_of (kinds.SmallBlock tag size) rest n stated k a l s =
     (block_or_atom tag size, (nil_from_length rest l, refl), block_there tag size n stated (omega arith))
@@ -170,24 +170,24 @@ spelled_of (kinds.Custom old) rest n stated k a l s = custom_there old (custom_o
 
 -- ---- from tokens to fields
 
--- the test for 63 bits, the other way round
+-- If the integer fits 63 bits, then the test succeeds.
 is_integer-IsInteger : (z : ℤ) → IsInteger z → is_integer z ≡ true
 is_integer-IsInteger (pos n) e = lt-ltb n (2 ^ 62) e
 is_integer-IsInteger (negsuc n) e = lt-ltb n (2 ^ 62) e
 
--- the tag of a block or an atom
+-- The tag of a block or an atom is at most 243.
 tag_of_block : (tag size : ℕ) → IsToken (block_or_atom tag size) → tag ≤ 243
 tag_of_block tag zero t = t
 tag_of_block tag (suc n) t = t.0
 
--- a spelled custom is known, and has its data
+-- If bytes encode a custom block, then its identifier is known and has its data.
 custom_sound : (rest : List ℕ) (t : Token) → SpellsCustom rest t → IsKnownData (custom_of (take 3 rest)) (slice_index rest 3)
 custom_sound rest t (inl s) = rw (s.1, custom_of_int32) tt
 custom_sound rest t (inr (inl s)) = rw (s.1, custom_of_int64) tt
 custom_sound rest t (inr (inr (inl s))) = rw (s.1, custom_of_native) (omega arith)
 custom_sound rest t (inr (inr (inr s))) = rw (s.1, custom_of_native) (omega arith)
 
--- the fields of a spelled token are sound
+-- If bytes encode a token, then the fields are valid.
 pub sound_of : (kind : CodeKind) (rest : List ℕ) (t : Token) (n stated : ℕ) → SpellsAfter kind rest t → IsTokenThere t n stated → AreSoundFields kind rest n stated
 sound_of (kinds.SmallBlock tag size) rest t n stated s there = tt
 sound_of (kinds.SmallInt i) rest t n stated s there = tt

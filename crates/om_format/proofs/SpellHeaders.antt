@@ -1,4 +1,5 @@
--- The steps of a header pass just where it is one and states a length and words within the limits.
+-- The steps of a header pass if and only if it is a header whose length and words are within the
+-- limits.
 use Rattle.std.proofs.Common.{ℕ, ◌^◌, ◌<◌, ◌≤◌, ◌≡◌, not, ◌||◌, ltb, eqb, List, length, None, ◌⊎◌, inl, inr, refl, sym, arith, ltb-false, le-ltb, eqb-true, ne_eqb, pos_of_ne-zero, le_of_eq}
 use Rattle.std.proofs.lemmas.Bool.{cases_Bool, eqb-false, not-false, or_cases}
 use Rattle.om_model.specs.declared.refusal.ReadRefusal.TheVariants.{BadMagic, TooLarge, Overlong}
@@ -10,7 +11,7 @@ use Rattle.om_format.specs.Spelled.{IsHeader}
 use Rattle.om_format.proofs.TokenStepLemmas.{header_length-from, header_steps_of, header_steps_is}
 use Rattle.om_format.proofs.SpellSteps.{AllStepsPass, no_refusal, steps_pass, fails_if_none, none_fails_if}
 
--- what a header that passes is
+-- The facts of a header that passes.
 pub record HeaderFacts (limit : ℕ) (header : List ℕ) : Type 0 where
   pub is_header : IsHeader header
   pub words : (head_of header).w64 ≤ limit
@@ -19,7 +20,7 @@ pub record HeaderFacts (limit : ℕ) (header : List ℕ) : Type 0 where
 
 -- ---- the magic number
 
--- a magic number that is not refused
+-- If a magic number is not refused, then it is one of the two.
 magic_from_none : (m : ℕ) → magic_refusal m ≡ None → (m ≡ small_magic) ⊎ (m ≡ big_magic)
 magic_from_none m e =
     elim (cases_Bool (eqb m compressed_magic)) [
@@ -32,14 +33,14 @@ magic_from_none m e =
           ]
     ]
 
--- and the other way round
+-- The converse holds.
 pub none_from_magic : (m : ℕ) → (m ≡ small_magic) ⊎ (m ≡ big_magic) → magic_refusal m ≡ None
 none_from_magic m (inl e) = rw e refl
 none_from_magic m (inr e) = rw e refl
 
 -- ---- the steps
 
--- where the steps of a whole header pass its facts hold
+-- If the steps of a whole header pass, then its facts hold.
 facts_of_steps : (limit : ℕ) (header : List ℕ) → length header ≡ header_length header → AllStepsPass (header_steps_of limit (magic header) (header_length header) (head_of header)) → HeaderFacts limit header
 facts_of_steps limit header e p =
     let head = head_of header in
@@ -51,7 +52,7 @@ facts_of_steps limit header e p =
       some = pos_of_ne-zero (eqb-false head.length 0 (none_fails_if (eqb head.length 0) (Overlong n 1 0) p.1.1.1.0));
     }
 
--- and the other way round
+-- The converse holds.
 steps_of_facts : (limit : ℕ) (header : List ℕ) → HeaderFacts limit header → AllStepsPass (header_steps_of limit (magic header) (header_length header) (head_of header))
 steps_of_facts limit header f =
     let head = head_of header in
@@ -66,7 +67,7 @@ steps_of_facts limit header f =
       ),
     )
 
--- a header that passes its steps is one
+-- If a header passes its steps, then its facts hold.
 pub HeaderFacts-passes : (limit : ℕ) (header : List ℕ) → HeaderPasses limit header → HeaderFacts limit header
 HeaderFacts-passes limit header p =
     let n = header_length header in
@@ -75,7 +76,7 @@ HeaderFacts-passes limit header p =
     (omega (arith, header_length-from header, p.raw), (le_of_eq (sym p.raw), (le_of_eq (sym p.raw), (le_of_eq (sym p.raw), tt))))
     (rw header_steps_is at p.passes))
 
--- and one that states a length and words within the limits passes
+-- If the facts of a header hold, then it passes its steps.
 pub HeaderPasses-facts : (limit : ℕ) (header : List ℕ) → HeaderFacts limit header → HeaderPasses limit header
 HeaderPasses-facts limit header f = record {
   raw = f.is_header.whole;

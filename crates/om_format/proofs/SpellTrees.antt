@@ -1,4 +1,4 @@
--- A spelled value passes its steps, and what passes its steps is a spelled value, of one tree.
+-- An encoded value passes its steps, and bytes that pass their steps encode the value of one tree.
 use Rattle.std.proofs.Common.{ℕ, ◌+◌, ◌<◌, ◌≡◌, Bool, true, false, List, [], ◌∷◌, ◌++◌, length, map, All, inl, inr, refl, arith, length-append}
 use Rattle.std.specs.List.{concat, AllZip}
 use Rattle.om_model.specs.declared.header.Head.{Head}
@@ -18,7 +18,7 @@ use Rattle.om_format.proofs.SpellTokens.{EndsAt, FitsUpTo}
 use Rattle.om_format.proofs.SpellHeaders.{HeaderFacts, HeaderFacts-passes, HeaderPasses-facts}
 use Rattle.om_format.proofs.SpellValues.{raw_measures-spelled, tokens-same, some_bytes, table_from_states, ends_from_states, tokens_pass, SpelledTokens, spelled_tokens, AreBytes-rest}
 
--- a value that these bytes spell, cut so
+-- A value that these bytes encode, with this header and these chunks.
 pub record SpelledBy (limit : ℕ) (bytes header : List ℕ) (pieces : List (List ℕ)) : Type 0 where
   pub tree : Tree
   pub spelled : SpelledUnder limit bytes tree
@@ -26,27 +26,27 @@ pub record SpelledBy (limit : ℕ) (bytes header : List ℕ) (pieces : List (Lis
   pub pieces_are : spelled.pieces ≡ pieces
   pub spells : AllZip Spells (tokens tree) pieces
 
--- what a spelled value passes
+-- The steps that an encoded value passes.
 pub record PassesWhole (limit : ℕ) (header : List ℕ) (pieces : List (List ℕ)) : Type 0 where
   pub header_passes : HeaderPasses limit header
   pub tokens_pass : TokensPass header [] pieces
   pub whole : pending (map raw_measure pieces) ≡ 0
 
--- a tree has a token, which has a byte
+-- A tree has a token, which has a byte.
 some_data : (tree : Tree) (pieces : List (List ℕ)) → AllZip Spells (tokens tree) pieces → 0 < length (concat pieces)
 some_data (node t forest) [] s = absurd s
 some_data (node t forest) (piece ∷ pieces) s = omega (arith, some_bytes t piece s.0, length-append piece (concat pieces))
 
--- where nothing is read yet
+-- The facts before any token is read.
 fits_at_start : (head : Head) → 0 < head.length → FitsUpTo head 0 []
 fits_at_start head h = record { within = omega arith; room = omega arith; w32 = λ b. omega arith; w64 = omega arith; end = λ e. absurd (omega arith) }
 
--- the words on 32 bits, which a big header does not state
+-- The words on 32 bits, which a big header does not have.
 states_words32 : (big : Bool) (stated found : ℕ) → (big ≡ false → stated ≡ found) → StatesWords32 big stated found
 states_words32 true stated found e = tt
 states_words32 false stated found e = e refl
 
--- a header that states what was read
+-- If the header agrees with the tokens read, then it states their sums.
 states_from_ends : (head : Head) (n : ℕ) (ts : List Token) → EndsAt head n (map measure_of ts) → (head.objects ≡ 0 → All IsNoReference ts) → States head ts
 states_from_ends head n ts e table = record {
   w32 = states_words32 head.big head.w32 (all_words32 (map measure_of ts)) e.w32;
@@ -54,7 +54,7 @@ states_from_ends head n ts e table = record {
   objects = elim e.count [ inl z ↦ inr (z, table z) | inr o ↦ inl o ];
 }
 
--- a value, from its tokens and its tree
+-- A value, from its tokens and its tree.
 spelled_by : (limit : ℕ) (bytes header : List ℕ) (pieces : List (List ℕ)) → bytes ≡ header ++ concat pieces → HeaderFacts limit header → (r : SpelledTokens header [] [] pieces) → pending (map measure_of r.all) ≡ 0 → (t : TreeOf r.all) → ReferBack t.tree 0 → SpelledBy limit bytes header pieces
 spelled_by limit bytes header pieces e h r none t back =
     let head = head_of header in
@@ -76,11 +76,11 @@ spelled_by limit bytes header pieces e h r none t back =
       spells = spells;
     }
 
--- after a tree's tokens no value is to come
+-- After a tree's tokens, no value is to come.
 none_to_come : (tree : Tree) → IsTree tree → pending (map measure_of (tokens tree)) ≡ 0
 none_to_come tree h = omega (arith, pending-tokens [] tree h (omega arith))
 
--- a spelled value passes
+-- An encoded value passes its steps.
 pub PassesWhole-spelled : (limit : ℕ) (bytes : List ℕ) (tree : Tree) (s : SpelledUnder limit bytes tree) → PassesWhole limit s.header s.pieces
 PassesWhole-spelled limit bytes tree s =
     let v = s.spells in
@@ -95,7 +95,7 @@ PassesWhole-spelled limit bytes tree s =
       whole = rw (raw_measures-spelled ts s.pieces v.spells) none;
     }
 
--- what passes is a spelled value
+-- If bytes pass their steps, then they encode a value.
 pub SpelledBy-passes : (limit : ℕ) (bytes header : List ℕ) (pieces : List (List ℕ)) → AreBytes bytes → bytes ≡ header ++ concat pieces → HeaderPasses limit header → TokensPass header [] pieces → pending (map raw_measure pieces) ≡ 0 → SpelledBy limit bytes header pieces
 SpelledBy-passes limit bytes header pieces a e h p none =
     let facts = HeaderFacts-passes limit header h in
@@ -105,7 +105,7 @@ SpelledBy-passes limit bytes header pieces a e h p none =
     let t : TreeOf r.all = tree_from_tokens r.all r.are_tokens r.opens none' in
     spelled_by limit bytes header pieces e facts r none' t ((ReferBack-each t.tree 0).1 (rw t.tokens_are r.refers_back))
 
--- one header and pieces spell one tree
+-- One header and its chunks encode one tree.
 pub tree-same : (limit limit' : ℕ) (bytes bytes' : List ℕ) (tree tree' : Tree) (s : SpelledUnder limit bytes tree) (s' : SpelledUnder limit' bytes' tree') → s.pieces ≡ s'.pieces → tree ≡ tree'
 tree-same limit limit' bytes bytes' tree tree' s s' e =
     let spells : AllZip Spells (tokens tree) s'.pieces = rw e at s.spells.spells in

@@ -1,4 +1,5 @@
--- A spelled value passes the steps of its header and its tokens, and a header and tokens that pass spell a value.
+-- An encoded value passes the steps of its header and its tokens, and a header and tokens that pass
+-- encode a value.
 use Rattle.std.proofs.Common.{ℕ, ◌+◌, ◌<◌, ◌≤◌, ◌≡◌, Bool, true, false, List, [], ◌∷◌, ◌++◌, length, map, All, Option, inl, inr, refl, sym, ◌∙◌, subst₂, arith, append-nil, append_assoc, length-append, add-zero, take_at, drop_at}
 use Rattle.std.proofs.lemmas.List.{map_push, length-map}
 use Rattle.std.proofs.lemmas.List.Sums.{sum_by_push, sum_by-append, sum_by-cons}
@@ -19,27 +20,27 @@ use Rattle.om_format.proofs.Pending.{pending-le-length}
 use Rattle.om_format.proofs.SpellLemmas.{IsRaw-spelled, raw_measure-spelled, Spells-same}
 use Rattle.om_format.proofs.SpellTokens.{EndsAt, FitsUpTo, FitsAfter, SpelledThere, SpelledThere-passes, FitsAfter-passes, passes-spelled}
 
--- ---- pieces and their tokens
+-- ---- chunks and their tokens
 
--- the bytes of one more piece
+-- The number of bytes with one more chunk.
 pub length-concat_push : (pieces : List (List ℕ)) (piece : List ℕ) → length (concat (pieces ++ piece ∷ [])) ≡ length (concat pieces) + length piece
 length-concat_push [] piece = omega (arith, length-append piece [])
 length-concat_push (p ∷ pieces) piece =
     omega (arith, length-append p (concat (pieces ++ piece ∷ [])), length-append p (concat pieces), length-concat_push pieces piece)
 
--- each piece has a byte at least
+-- Each chunk has at least one byte.
 pub some_bytes : (t : Token) (piece : List ℕ) → Spells t piece → 0 < length piece
 some_bytes t [] s = absurd s
 some_bytes t (code ∷ rest) s = omega arith
 
--- tokens take as many bytes at least
+-- Tokens take at least as many bytes as there are tokens.
 pub bytes_of_tokens : (ts : List Token) (pieces : List (List ℕ)) → AllZip Spells ts pieces → length ts ≤ length (concat pieces)
 bytes_of_tokens [] pieces s = omega arith
 bytes_of_tokens (t ∷ ts) [] s = absurd s
 bytes_of_tokens (t ∷ ts) (piece ∷ pieces) s =
     omega (arith, some_bytes t piece s.0, bytes_of_tokens ts pieces s.1, length-append piece (concat pieces))
 
--- the pieces of tokens have their measures
+-- The chunks of tokens have the tokens' measures.
 pub raw_measures-spelled : (ts : List Token) (pieces : List (List ℕ)) → AllZip Spells ts pieces → map raw_measure pieces ≡ map measure_of ts
 raw_measures-spelled [] [] s = refl
 raw_measures-spelled [] (piece ∷ pieces) s = absurd s
@@ -49,7 +50,7 @@ raw_measures-spelled (t ∷ ts) (piece ∷ pieces) s =
     let rest = raw_measures-spelled ts pieces s.1 in
     cc (first, rest)
 
--- pieces spell the tokens of one list only
+-- Chunks encode only one list of tokens.
 pub tokens-same : (ts us : List Token) (pieces : List (List ℕ)) → AllZip Spells ts pieces → AllZip Spells us pieces → ts ≡ us
 tokens-same [] [] pieces s v = refl
 tokens-same [] (u ∷ us) [] s v = absurd v
@@ -62,17 +63,17 @@ tokens-same (t ∷ ts) (u ∷ us) (piece ∷ pieces) s v =
     let rest = tokens-same ts us pieces s.1 v.1 in
     cc (first, rest)
 
--- one more measure
+-- The measures with one more chunk.
 measures_push : (before : List (List ℕ)) (ms : List (Option Measure)) (piece : List ℕ) (m : Option Measure) → map raw_measure before ≡ ms → raw_measure piece ≡ m → map raw_measure (before ++ piece ∷ []) ≡ ms ++ m ∷ []
 measures_push before ms piece m e f = map_push raw_measure before piece ∙ cc (e, f)
 
--- a measure after the first ones or before the others
+-- A measure may be the last of the first ones or the first of the others.
 measures_cons : (ms : List (Option Measure)) (m : Option Measure) (ns : List (Option Measure)) → (ms ++ m ∷ []) ++ ns ≡ ms ++ (m ∷ ns)
 measures_cons ms m ns = append_assoc ms (m ∷ []) ns
 
 -- ---- from a value to steps
 
--- after no object a token refers to none
+-- A token after no objects is not a reference.
 no_reference : (t : Token) (c : ℕ) → RefersBack t c → c ≡ 0 → IsNoReference t
 no_reference (integer z) c r e = tt
 no_reference (atom tag) c r e = tt
@@ -80,14 +81,14 @@ no_reference (shared offset) c r e = omega (arith, r.0, r.1)
 no_reference (block tag size) c r e = tt
 no_reference (leaf object) c r e = tt
 
--- where no object is made no token refers to one
+-- If no object is made, then no token is a reference.
 no_references : (c : ℕ) (ts : List Token) → EachRefersBack c ts → c + objects (map measure_of ts) ≡ 0 → All IsNoReference ts
 no_references c [] r e = All-nil IsNoReference
 no_references c (t ∷ ts) r e =
     let sum : objects (map measure_of (t ∷ ts)) ≡ made_by t + objects (map measure_of ts) = sum_by-cons (of_object (λ _. 1)) (measure_of t) (map measure_of ts) in
     All-cons IsNoReference t ts (no_reference t c r.0 (omega arith)) (no_references (c + made_by t) ts r.1 (omega arith))
 
--- where the header states no object no token refers to one
+-- If the header counts no objects, then no token is a reference.
 pub table_from_states : (head : Head) (ts : List Token) → States head ts → EachRefersBack 0 ts → head.objects ≡ 0 → All IsNoReference ts
 table_from_states head ts s r z =
     elim s.objects [
@@ -95,12 +96,12 @@ table_from_states head ts s r z =
       | inr n ↦ n.1
     ]
 
--- the words on 32 bits, where they are stated
+-- The words on 32 bits, if the header has them.
 states32 : (big : Bool) (stated found : ℕ) → StatesWords32 big stated found → big ≡ false → stated ≡ found
 states32 true stated found s b = absurd (cc)
 states32 false stated found s b = s
 
--- the header of a spelled value states what its tokens take
+-- The header of an encoded value agrees with its tokens.
 pub ends_from_states : (head : Head) (n : ℕ) (ts : List Token) → head.length ≡ n → States head ts → EndsAt head n (map measure_of ts)
 ends_from_states head n ts e s = record {
   length = e;
@@ -109,7 +110,7 @@ ends_from_states head n ts e s = record {
   count = elim s.objects [ inl o ↦ inr o | inr o ↦ inl o.0 ];
 }
 
--- tokens before others fit where the header states what all take
+-- If the header agrees with all tokens, then the end facts hold for the first tokens.
 ends_here : (head : Head) (n rest : ℕ) (ms : List (Option Measure)) (ts : List Token) → EndsAt head (n + rest) (ms ++ map measure_of ts) → OpenBefore ms ts → (ts ≡ [] → rest ≡ 0) → pending ms ≡ 0 → EndsAt head n ms
 ends_here head n rest ms [] e o none p =
     let all : ms ++ [] ≡ ms = append-nil ms in
@@ -117,7 +118,7 @@ ends_here head n rest ms [] e o none p =
     record { length = omega (arith, f.length, none refl); w32 = f.w32; w64 = f.w64; count = f.count }
 ends_here head n rest ms (t ∷ ts) e o none p = absurd (omega (arith, o.0))
 
--- the first tokens of all fit
+-- If the header agrees with all tokens, then the first tokens fit.
 fits_here : (head : Head) (n rest : ℕ) (ms : List (Option Measure)) (ts : List Token) → EndsAt head (n + rest) (ms ++ map measure_of ts) → pending (ms ++ map measure_of ts) ≡ 0 → OpenBefore ms ts → length ts ≤ rest → (ts ≡ [] → rest ≡ 0) → FitsUpTo head n ms
 fits_here head n rest ms ts e p o l none = record {
   within = omega (arith, e.length);
@@ -127,13 +128,13 @@ fits_here head n rest ms ts e p o l none = record {
   end = ends_here head n rest ms ts e o none;
 }
 
--- no tokens have no bytes
+-- No tokens have no bytes.
 no_bytes : (ts : List Token) (pieces : List (List ℕ)) → AllZip Spells ts pieces → ts ≡ [] → length (concat pieces) ≡ 0
 no_bytes [] [] s e = refl
 no_bytes [] (piece ∷ pieces) s e = absurd s
 no_bytes (t ∷ ts) pieces s e = absurd (cc)
 
--- spelled tokens pass, with others before them, where the header states what all take
+-- If the header agrees with all tokens, then encoded tokens after others pass.
 pub tokens_pass : (header : List ℕ) (before : List (List ℕ)) (ms : List (Option Measure)) (ts : List Token) (pieces : List (List ℕ)) → map raw_measure before ≡ ms → AllZip Spells ts pieces → OpenBefore ms ts → EachRefersBack (objects ms) ts → ((head_of header).objects ≡ 0 → All IsNoReference ts) → pending (ms ++ map measure_of ts) ≡ 0 → EndsAt (head_of header) (length (concat before) + length (concat pieces)) (ms ++ map measure_of ts) → TokensPass header before pieces
 tokens_pass header before ms [] [] e s o r table p ends = tt
 tokens_pass header before ms [] (piece ∷ pieces) e s o r table p ends = absurd s
@@ -162,7 +163,7 @@ tokens_pass header before ms (t ∷ ts) (piece ∷ pieces) e s o r table p ends 
 
 -- ---- from steps to a value
 
--- the tokens that pieces spell after others with these measures
+-- The tokens that chunks encode, after other chunks with these measures.
 pub record SpelledTokens (header : List ℕ) (before : List (List ℕ)) (ms : List (Option Measure)) (pieces : List (List ℕ)) : Type 0 where
   pub all : List Token
   pub spells : AllZip Spells all pieces
@@ -172,7 +173,7 @@ pub record SpelledTokens (header : List ℕ) (before : List (List ℕ)) (ms : Li
   pub table : (head_of header).objects ≡ 0 → All IsNoReference all
   pub fits : FitsUpTo (head_of header) (length (concat before) + length (concat pieces)) (ms ++ map measure_of all)
 
--- what is spelled is a token
+-- Only tokens are encoded.
 pub IsToken-spelled : (t : Token) (piece : List ℕ) → Spells t piece → IsToken t
 IsToken-spelled t [] s = absurd s
 IsToken-spelled t (code ∷ rest) s = s.0
@@ -184,14 +185,14 @@ IsToken-all_spelled (t ∷ ts) [] s = absurd s
 IsToken-all_spelled (t ∷ ts) (p ∷ pieces) s =
     All-cons IsToken t ts (IsToken-spelled t p s.0) (IsToken-all_spelled ts pieces s.1)
 
--- the first of bytes, and the others
+-- The first bytes of bytes are bytes, and so are the others.
 pub AreBytes-front : (xs ys : List ℕ) → AreBytes (xs ++ ys) → AreBytes xs
 AreBytes-front xs ys a = rw (take_at xs ys (length xs) refl) at (All-take (λ b. b < 256) (length xs) (xs ++ ys) a)
 
 pub AreBytes-rest : (xs ys : List ℕ) → AreBytes (xs ++ ys) → AreBytes ys
 AreBytes-rest xs ys a = rw (drop_at xs ys (length xs) refl) at (All-drop (λ b. b < 256) (length xs) (xs ++ ys) a)
 
--- one more token in front
+-- The tokens with one more at the beginning.
 spelled_cons : (header : List ℕ) (before : List (List ℕ)) (ms : List (Option Measure)) (piece : List ℕ) (pieces : List (List ℕ)) → map raw_measure before ≡ ms → 0 < pending ms → (there : SpelledThere header before piece) → SpelledTokens header (before ++ piece ∷ []) (ms ++ measure_of there.token ∷ []) pieces → SpelledTokens header before ms (piece ∷ pieces)
 spelled_cons header before ms piece pieces e k there r =
     let t = there.token in
@@ -207,13 +208,13 @@ spelled_cons header before ms piece pieces e k there r =
       fits = subst₂ (λ n ns. FitsUpTo (head_of header) n ns) here (measures_cons ms (measure_of t) (map measure_of r.all)) r.fits;
     }
 
--- what fits after the pieces before fits after their measures
+-- If a chunk fits after other chunks, then it fits after their measures.
 fits_after : (header : List ℕ) (before : List (List ℕ)) (ms : List (Option Measure)) (piece : List ℕ) (m : Option Measure) → map raw_measure before ≡ ms → raw_measure piece ≡ m → FitsAfter (head_of header) before piece → FitsUpTo (head_of header) (length (concat (before ++ piece ∷ []))) (ms ++ m ∷ [])
 fits_after header before ms piece m e f fits =
     let same : map raw_measure before ++ raw_measure piece ∷ [] ≡ ms ++ m ∷ [] = cc (e, f) in
     subst₂ (λ n ns. FitsUpTo (head_of header) n ns) (sym (length-concat_push before piece)) same fits
 
--- tokens that pass are spelled, after others that fit
+-- If tokens pass after others that fit, then they are encoded tokens.
 pub spelled_tokens : (header : List ℕ) (before : List (List ℕ)) (ms : List (Option Measure)) (pieces : List (List ℕ)) → map raw_measure before ≡ ms → AreBytes (concat pieces) → FitsUpTo (head_of header) (length (concat before)) ms → TokensPass header before pieces → SpelledTokens header before ms pieces
 spelled_tokens header before ms [] e a f p = record {
   all = [];

@@ -1,4 +1,4 @@
--- Spellings of tokens: none begins another, and each spells one token.
+-- No encoding of a token is a proper prefix of another, and each encodes one token.
 use Rattle.std.proofs.Common.{◌≡◌, [], ◌++◌, sym, ◌∙◌, subst, append-nil}
 use Rattle.std.proofs.lemmas.List.{append_cancel_left}
 use Rattle.om_format.specs.Token.{Spells}

@@ -1,4 +1,5 @@
--- A header and tokens that pass, with a value to come, stand before the rest of the bytes: what the rest says.
+-- The judgement after a header and tokens that pass, if a value is to come, by the rest of the
+-- bytes.
 use Rattle.std.proofs.Common.{◌≡◌, ℕ, zero, suc, ◌+◌, ◌<◌, ◌≤◌, List, [], ◌++◌, length, take, drop, map, None, inl, inr, sym, ◌∙◌, ap, subst, arith, length-append, append_assoc, take_at}
 use Rattle.std.proofs.lemmas.Bool.{cases_lt}
 use Rattle.std.proofs.lemmas.List.{take-append-drop, length-drop}
@@ -20,14 +21,14 @@ use Rattle.om_format.proofs.NextLemmas.{RefusedNext, PassesNext, RefusedHeader, 
 use Rattle.om_format.proofs.SpellValues.{AreBytes-front}
 use Rattle.om_format.proofs.SpellTrees.{SpelledBy, SpelledBy-passes}
 
--- the rest comes after a header and tokens that pass, and a value is to come
+-- The rest comes after a header and tokens that pass, and a value is to come.
 pub record Stands (limit : ℕ) (bytes header : List ℕ) (tokens : List (List ℕ)) (rest : List ℕ) : Type 0 where
   pub bytes_are : bytes ≡ header ++ (concat tokens ++ rest)
   pub header_passes : HeaderPasses limit header
   pub tokens_pass : TokensPass header [] tokens
   pub is_open : IsOpen tokens
 
--- a value that begins the bytes
+-- The bytes begin with a value.
 pub record BeginsValue (limit : ℕ) (bytes : List ℕ) (n : ℕ) (pieces : List (List ℕ)) : Type 0 where
   pub tree : Tree
   pub judges : Judges limit bytes (value n tree)
@@ -38,7 +39,7 @@ pub record BeginsValue (limit : ℕ) (bytes : List ℕ) (n : ℕ) (pieces : List
 abbrev pub after_next : List ℕ → List ℕ
 after_next rest = drop (raw_length rest) rest
 
--- a part of a token that passes: the bytes are a front
+-- If the rest is a proper prefix of a token that passes, then the bytes are incomplete.
 pub Stands-front : (limit : ℕ) (bytes header : List ℕ) (tokens : List (List ℕ)) (rest : List ℕ) → Stands limit bytes header tokens rest
     → first_refusal (length rest) (token_steps (context header tokens) rest) ≡ None → length rest < raw_length rest → Judges limit bytes front
 Stands-front limit bytes header tokens rest s e part = inr (
@@ -55,7 +56,7 @@ Stands-front limit bytes header tokens rest s e part = inr (
   },
 )
 
--- a refusal of it
+-- If the next token is refused, then the bytes are refused.
 pub Stands-refused : (limit : ℕ) (bytes header : List ℕ) (tokens : List (List ℕ)) (rest : List ℕ) (r : ReadRefusal) → Stands limit bytes header tokens rest
     → (h : RefusedNext header tokens rest r) → Judges limit bytes (refused (length header + (length (concat tokens) + h.count)) r)
 Stands-refused limit bytes header tokens rest r s h =
@@ -78,7 +79,7 @@ next_tokens : (limit : ℕ) (bytes header : List ℕ) (tokens : List (List ℕ))
 next_tokens limit bytes header tokens rest s p =
     TokensPass-push header [] tokens (take (raw_length rest) rest) s.tokens_pass (record { open_before = s.is_open; raw = p.raw; passes = p.passes })
 
--- a token that passes, after which a value is to come
+-- If the next token passes and a value is to come after it, then the state holds after the token.
 pub Stands-next : (limit : ℕ) (bytes header : List ℕ) (tokens : List (List ℕ)) (rest : List ℕ) → Stands limit bytes header tokens rest → PassesNext header tokens rest
     → IsOpen (with_next tokens rest) → Stands limit bytes header (with_next tokens rest) (after_next rest)
 Stands-next limit bytes header tokens rest s p is_open = record {
@@ -91,7 +92,7 @@ Stands-next limit bytes header tokens rest s p is_open = record {
 pub AreBytes-take : (n : ℕ) (bytes : List ℕ) → AreBytes bytes → AreBytes (take n bytes)
 AreBytes-take n bytes a = AreBytes-front (take n bytes) (drop n bytes) (subst (λ xs. AreBytes xs) (sym (take-append-drop n bytes)) a)
 
--- and one that ends a value
+-- If the next token passes and ends the value, then the bytes begin with a value.
 pub Stands-value : (limit : ℕ) (bytes header : List ℕ) (tokens : List (List ℕ)) (rest : List ℕ) → AreBytes bytes → Stands limit bytes header tokens rest
     → PassesNext header tokens rest → pending (map raw_measure (with_next tokens rest)) ≡ 0
     → BeginsValue limit bytes (length header + length (concat (with_next tokens rest))) (with_next tokens rest)
@@ -111,7 +112,7 @@ Stands-value limit bytes header tokens rest a s p none =
 
 -- ---- at the header
 
--- the header alone, where it passes
+-- If the header passes, then the state holds after it.
 pub Stands-header : (limit : ℕ) (bytes : List ℕ) → first_refusal (length bytes) (header_steps limit bytes) ≡ None → header_length bytes ≤ length bytes
     → Stands limit bytes (take (header_length bytes) bytes) [] (drop (header_length bytes) bytes)
 Stands-header limit bytes e l = record {
@@ -123,7 +124,7 @@ Stands-header limit bytes e l = record {
 
 -- ---- to the end
 
--- what becomes of the bytes, by the length of the rest
+-- The judgement of the bytes, by recursion on the length of the rest.
 judged : (fuel limit : ℕ) (bytes header : List ℕ) (tokens : List (List ℕ)) (rest : List ℕ) → AreBytes bytes → Stands limit bytes header tokens rest → length rest < fuel
     → (j : Judgement) × Judges limit bytes j
 judged zero limit bytes header tokens rest a s l = absurd (omega arith)
@@ -147,7 +148,7 @@ judged (suc fuel) limit bytes header tokens rest a s l =
       ]
     ]
 
--- each list of bytes has a judgement
+-- Each byte string has a judgement.
 pub Judges-some : (limit : ℕ) (bytes : List ℕ) → AreBytes bytes → (j : Judgement) × Judges limit bytes j
 Judges-some limit bytes a =
     elim (none_or_some (first_refusal (length bytes) (header_steps limit bytes))) [

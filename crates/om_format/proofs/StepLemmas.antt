@@ -1,24 +1,24 @@
--- Lists of steps: the first refusal among those that are decided in n bytes.
+-- Lists of steps: the first refusal among the steps that `n` bytes decide.
 use Rattle.std.proofs.Common.{◌≡◌, ℕ, ◌<◌, ◌≤◌, max, List, [], ◌∷◌, ◌++◌, Option, Some, None, ◌⊎◌, inl, inr, refl, sym, ◌∙◌, ap, subst, arith, le_refl, lt-ltb, le-ltb, nat_lt, if◌then◌else◌, ap₂}
 use Rattle.std.proofs.lemmas.Bool.{cases_lt, cond-true, cond-false}
 use Rattle.om_model.proofs.Options.{none_or_some}
 use Rattle.om_model.specs.declared.refusal.ReadRefusal.{ReadRefusal}
 use Rattle.om_format.specs.Step.{Step, or_else, first_refusal}
 
--- a step that n bytes do not decide stops the list
+-- If `n` bytes do not decide a step, then the list refuses nothing from this step on.
 pub first_refusal-undecided : (n : ℕ) (s : Step) (steps : List Step) → n < s.ends → first_refusal n (s ∷ steps) ≡ None
 first_refusal-undecided n s steps l = cond-true (nat_lt n s.ends) None (or_else s.refusal (first_refusal n steps)) (lt-ltb n s.ends l)
 
--- a step that they decide refuses, or leaves it to the next
+-- If `n` bytes decide a step, then the step refuses or the next steps do.
 pub first_refusal-decided : (n : ℕ) (s : Step) (steps : List Step) → s.ends ≤ n → first_refusal n (s ∷ steps) ≡ or_else s.refusal (first_refusal n steps)
 first_refusal-decided n s steps l = cond-false (nat_lt n s.ends) None (or_else s.refusal (first_refusal n steps)) (le-ltb n s.ends l)
 
--- of two continuations the second refuses as the first does
+-- If the second continuation refuses whenever the first does, then so does the whole.
 or_else-mono : (o a b : Option ReadRefusal) (r : ReadRefusal) → (a ≡ Some r → b ≡ Some r) → or_else o a ≡ Some r → or_else o b ≡ Some r
 or_else-mono None a b r f h = f h
 or_else-mono (Some q) a b r f h = h
 
--- a refusal stays with more bytes
+-- More bytes keep a refusal.
 pub first_refusal-more : (n m : ℕ) (steps : List Step) (r : ReadRefusal) → n ≤ m → first_refusal n steps ≡ Some r → first_refusal m steps ≡ Some r
 first_refusal-more n m [] r l h = cc
 first_refusal-more n m (s ∷ steps) r l h =
@@ -31,7 +31,7 @@ first_refusal-more n m (s ∷ steps) r l h =
           (sym (first_refusal-decided n s steps d) ∙ h)
     ]
 
--- what passes with more bytes passes with fewer
+-- If more bytes are not refused, then fewer are not refused.
 pub first_refusal-fewer : (n m : ℕ) (steps : List Step) → n ≤ m → first_refusal m steps ≡ None → first_refusal n steps ≡ None
 first_refusal-fewer n m steps l h =
     elim (none_or_some (first_refusal n steps)) [
@@ -39,14 +39,15 @@ first_refusal-fewer n m steps l h =
       | inr p ↦ let e : first_refusal m steps ≡ Some p.0 = first_refusal-more n m steps p.0 l p.1 in cc
     ]
 
--- the fewest bytes with which the steps refuse
+-- The least number of bytes with which the steps refuse.
 pub record LeastRefusal (m : ℕ) (steps : List Step) (r : ReadRefusal) : Type 0 where
   pub least : ℕ
   pub within : least ≤ m
   pub refuses : first_refusal least steps ≡ Some r
   pub before : (k : ℕ) → k < least → first_refusal k steps ≡ None
 
--- where the first step passes, the others refuse, with no fewer bytes than the first step takes
+-- If the first step passes, then the refusal of the others takes at least the bytes of the first
+-- step.
 least_after : (m : ℕ) (s : Step) (steps : List Step) (r : ReadRefusal) → s.ends ≤ m → s.refusal ≡ None → LeastRefusal m steps r → LeastRefusal m (s ∷ steps) r
 least_after m s steps r d e h = record {
   least = max s.ends h.least;
@@ -65,7 +66,7 @@ least_after m s steps r d e h = record {
       ];
 }
 
--- where it fails, it is the refusal
+-- If the first step fails, then its refusal is that of the list.
 least_here : (m : ℕ) (s : Step) (steps : List Step) (r : ReadRefusal) → s.ends ≤ m → s.refusal ≡ Some r → LeastRefusal m (s ∷ steps) r
 least_here m s steps r d e = record {
   least = s.ends;
@@ -74,7 +75,7 @@ least_here m s steps r d e = record {
   before = λ k l. first_refusal-undecided k s steps l;
 }
 
--- by what the first step says
+-- The least number, by the result of the first step.
 least_from : (m : ℕ) (s : Step) (steps : List Step) (r : ReadRefusal) → s.ends ≤ m → (first_refusal m steps ≡ Some r → LeastRefusal m steps r)
     → first_refusal m (s ∷ steps) ≡ Some r → LeastRefusal m (s ∷ steps) r
 least_from m s steps r d rest h =
@@ -84,7 +85,7 @@ least_from m s steps r d rest h =
       | inr p ↦ least_here m s steps r d (p.1 ∙ (rw p.1 at f))
     ]
 
--- steps that refuse do so with some fewest bytes
+-- If steps refuse, then there is a least number of bytes with which they refuse.
 pub least_refusal : (m : ℕ) (steps : List Step) (r : ReadRefusal) → first_refusal m steps ≡ Some r → LeastRefusal m steps r
 least_refusal m [] r h = absurd (let e : None ≡ Some r = h in cc)
 least_refusal m (s ∷ steps) r h =
@@ -93,7 +94,7 @@ least_refusal m (s ∷ steps) r h =
       | inr d ↦ least_from m s steps r d (least_refusal m steps r) h
     ]
 
--- every step takes at least low bytes, and at most high
+-- Every step takes at least `low` and at most `high` bytes.
 abbrev pub EndWithin : ℕ → ℕ → List Step → Type 0
 EndWithin low high [] = Unit {0}
 EndWithin low high (s ∷ steps) = (low ≤ s.ends) × (s.ends ≤ high) × EndWithin low high steps
@@ -102,7 +103,7 @@ pub EndWithin-append : (low high : ℕ) (steps more : List Step) → EndWithin l
 EndWithin-append low high [] more h k = k
 EndWithin-append low high (s ∷ steps) more h k = (h.0, h.1, EndWithin-append low high steps more h.2 k)
 
--- a refusal takes at least the bytes that every step takes
+-- A refusal takes at least the bytes that every step takes.
 pub EndWithin-low : (low high n : ℕ) (steps : List Step) (r : ReadRefusal) → EndWithin low high steps → first_refusal n steps ≡ Some r → low ≤ n
 EndWithin-low low high n [] r w h = absurd (let e : None ≡ Some r = h in cc)
 EndWithin-low low high n (s ∷ steps) r w h =
@@ -111,7 +112,7 @@ EndWithin-low low high n (s ∷ steps) r w h =
       | inr d ↦ omega (arith, w.0)
     ]
 
--- with the bytes that the steps take at most, everything is decided
+-- `high` bytes decide all steps.
 pub EndWithin-high : (low high n : ℕ) (steps : List Step) → EndWithin low high steps → high ≤ n → first_refusal n steps ≡ first_refusal high steps
 EndWithin-high low high n [] w l = refl
 EndWithin-high low high n (s ∷ steps) w l =
@@ -119,7 +120,7 @@ EndWithin-high low high n (s ∷ steps) w l =
     ∙ (ap (λ o. or_else s.refusal o) (EndWithin-high low high n steps w.2 l)
     ∙ sym (first_refusal-decided high s steps w.1))
 
--- so the fewest bytes of a refusal stand between the bounds
+-- The least number of bytes of a refusal is within the bounds.
 pub least_refusal-within : (low high m : ℕ) (steps : List Step) (r : ReadRefusal) → EndWithin low high steps → (h : LeastRefusal m steps r)
     → (low ≤ h.least) × (h.least ≤ high)
 least_refusal-within low high m steps r w h = (
@@ -132,7 +133,7 @@ least_refusal-within low high m steps r w h = (
   ],
 )
 
--- as far as n bytes decide, the two have the same steps
+-- The two lists have the same steps as far as `n` bytes decide.
 abbrev pub AgreeUpTo : ℕ → List Step → List Step → Type 0
 AgreeUpTo n [] [] = Unit {0}
 AgreeUpTo n [] (t ∷ more) = n < t.ends
@@ -143,11 +144,11 @@ pub agree_itself : (n : ℕ) (steps : List Step) → AgreeUpTo n steps steps
 agree_itself n [] = tt
 agree_itself n (s ∷ steps) = inl (refl, agree_itself n steps)
 
--- equal steps agree
+-- Equal lists of steps agree.
 pub agree_same : (n : ℕ) (steps more : List Step) → steps ≡ more → AgreeUpTo n steps more
 agree_same n steps more e = subst (λ ss. AgreeUpTo n steps ss) e (agree_itself n steps)
 
--- what agrees refuses alike, with up to so many bytes
+-- If lists agree up to `n` bytes, then they have the same refusal for at most `n` bytes.
 pub agree_refuses : (n k : ℕ) (steps more : List Step) → AgreeUpTo n steps more → k ≤ n → first_refusal k steps ≡ first_refusal k more
 agree_refuses n k [] [] h l = refl
 agree_refuses n k [] (t ∷ more) h l = sym (first_refusal-undecided k t more (omega arith))

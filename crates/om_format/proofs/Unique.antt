@@ -1,17 +1,17 @@
--- A tree is known by its tokens.
+-- A tree is determined by its tokens.
 use Rattle.std.proofs.Common.{◌≡◌, List, [], ◌∷◌, ◌++◌, refl, ap, ap₂, sym, ◌∙◌, arith, append_assoc, append-nil}
 use Rattle.om_format.specs.Words.{of_object, fields}
 use Rattle.om_format.specs.Token.{Token, measure_of}
 use Rattle.om_format.specs.Tree.{Tree, Forest, node, none, more, trees_in, IsTree, AreTrees, tokens, forest_tokens}
 
--- two lists that are equal have equal heads and equal tails
+-- Equal lists have equal heads and equal tails.
 same_head : {X : Type 0} (x y : X) (xs ys : List X) → x ∷ xs ≡ y ∷ ys → x ≡ y
 same_head x y xs ys e = cc
 
 same_tail : {X : Type 0} (x y : X) (xs ys : List X) → x ∷ xs ≡ y ∷ ys → xs ≡ ys
 same_tail x y xs ys e = cc
 
--- also where other tokens follow
+-- A tree is determined by its tokens, even if other tokens follow.
 mutual
   pub same_tree : (tree other : Tree) (xs ys : List Token) → IsTree tree → IsTree other → tokens tree ++ xs ≡ tokens other ++ ys → (tree ≡ other) × (xs ≡ ys)
   same_tree (node t f) (node u g) xs ys h k e =
@@ -32,6 +32,6 @@ mutual
       let s : (f ≡ g) × (xs ≡ ys) = same_forest f g xs ys h.1 k.1 (omega arith) r.1 in
       (ap₂ more r.0 s.0, s.1)
 
--- alone
+-- A tree is determined by its tokens alone.
 pub tokens_injective : (tree other : Tree) → IsTree tree → IsTree other → tokens tree ≡ tokens other → tree ≡ other
 tokens_injective tree other h k e = (same_tree tree other [] [] h k (append-nil (tokens tree) ∙ e ∙ sym (append-nil (tokens other)))).0

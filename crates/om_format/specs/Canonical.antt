@@ -1,5 +1,5 @@
--- The bytes that the runtime writes (`extern.c`): one spelling of each token, and a header with the
--- full count.
+-- The bytes that the runtime writes (`extern.c`): one encoding for each token, and a header with
+-- the full number of objects.
 use Rattle.std.specs.Prelude.{ℕ, suc, ◌+◌, ◌-◌, ◌*◌, ◌^◌, Bool, ◌&&◌, ◌||◌, nat_lt, nat_le, List}
 use Rattle.std.specs.Prelude.{[], ◌∷◌, ◌++◌, length, map, flat_map, if◌then◌else◌, ℤ, pos, negsuc}
 use Rattle.std.specs.Int.{bytes_high_first, bytes_low_first}
@@ -13,23 +13,23 @@ use Rattle.om_format.specs.Words.{objects as object_count, all_words32, all_word
 use Rattle.om_format.specs.Token.{Token, integer, atom, shared, block, leaf, measure_of}
 use Rattle.om_format.specs.Tree.{Tree, tokens}
 
--- from -2 ^ k up to 2 ^ k - 1
+-- The integer lies between -2 ^ `k` and 2 ^ `k` - 1.
 abbrev pub is_signed : ℕ → ℤ → Bool
 is_signed k (pos n) = nat_lt n (2 ^ k)
 is_signed k (negsuc n) = nat_lt n (2 ^ k)
 
--- so many bytes in two's complement, the most significant first
+-- The integer in two's complement in that many bytes, with the most significant byte first.
 abbrev pub signed_bytes : ℕ → ℤ → List ℕ
 signed_bytes width (pos n) = bytes_high_first width n
 signed_bytes width (negsuc n) = bytes_high_first width (256 ^ width - suc n)
 
--- the eight bytes of a double, the least significant first
+-- The eight bytes of a double, with the least significant byte first.
 abbrev pub double_bytes : ℕ → List ℕ
 double_bytes bits = bytes_low_first 0 8 bits
 
 -- ---- a token
 
--- an integer by a code and its bytes
+-- An integer that is not in the code: a code and the bytes of the integer.
 abbrev pub wide_integer : ℤ → List ℕ
 wide_integer z =
     if is_signed 7 z then 0x00 ∷ signed_bytes 1 z
@@ -37,16 +37,16 @@ wide_integer z =
     else if is_signed 30 z then 0x02 ∷ signed_bytes 4 z
     else 0x03 ∷ signed_bytes 8 z
 
--- an integer: from 0 to 63 it is in the code
+-- An integer. An integer from 0 to 63 is in the code.
 unfoldable pub integer_spelling : ℤ → List ℕ
 integer_spelling (pos n) = if nat_lt n 64 then (0x40 + n) ∷ [] else wide_integer (pos n)
 integer_spelling (negsuc n) = wide_integer (negsuc n)
 
--- the header word of a block, with bits 8 and 9 at 0
+-- The header word of a block, with bits 8 and 9 set to 0.
 abbrev pub block_word : ℕ → ℕ → ℕ
 block_word tag size = tag + 1024 * size
 
--- a block by its tag and size, and an atom as a block of size 0
+-- A block by its tag and size. An atom is a block of size 0.
 unfoldable pub block_spelling : ℕ → ℕ → List ℕ
 block_spelling tag size =
     if nat_lt tag 16 && nat_lt size 8 then (0x80 + 16 * size + tag) ∷ []
@@ -54,7 +54,7 @@ block_spelling tag size =
     then 0x08 ∷ bytes_high_first 4 (block_word tag size)
     else 0x13 ∷ bytes_high_first 8 (block_word tag size)
 
--- what comes before the content of a string, by its length
+-- The bytes before the content of a string, by the string's length.
 unfoldable pub string_front : ℕ → List ℕ
 string_front n =
     if nat_lt n 32 then (0x20 + n) ∷ []
@@ -62,7 +62,7 @@ string_front n =
     else if nat_lt n (2 ^ 32) then 0x0a ∷ bytes_high_first 4 n
     else 0x15 ∷ bytes_high_first 8 n
 
--- a reference by its offset
+-- A reference, by its offset.
 unfoldable pub shared_spelling : ℕ → List ℕ
 shared_spelling offset =
     if nat_lt offset (2 ^ 8) then 0x04 ∷ bytes_high_first 1 offset
@@ -70,24 +70,24 @@ shared_spelling offset =
     else if nat_lt offset (2 ^ 32) then 0x06 ∷ bytes_high_first 4 offset
     else 0x14 ∷ bytes_high_first 8 offset
 
--- what comes before the elements of a double array, by its length
+-- The bytes before the elements of a double array, by the array's length.
 unfoldable pub doubles_front : ℕ → List ℕ
 doubles_front n =
     if nat_lt n (2 ^ 8) then 0x0e ∷ bytes_high_first 1 n
     else if nat_lt n (2 ^ 32) then 0x07 ∷ bytes_high_first 4 n
     else 0x17 ∷ bytes_high_first 8 n
 
--- the number of a `Nativeint` after its kind byte
+-- The bytes of a `Nativeint` after its identifier: the kind byte and the number.
 abbrev pub native_spelling : ℤ → List ℕ
 native_spelling z = if is_signed 31 z then 1 ∷ signed_bytes 4 z else 2 ∷ signed_bytes 8 z
 
--- a custom: code, identifier and data
+-- A custom block: its code, identifier and data.
 unfoldable pub custom_spelling : Custom → List ℕ
 custom_spelling (customs.I32 z) = 0x19 ∷ 95 ∷ 105 ∷ 0 ∷ signed_bytes 4 z
 custom_spelling (customs.I64 z) = 0x19 ∷ 95 ∷ 106 ∷ 0 ∷ signed_bytes 8 z
 custom_spelling (customs.Native z) = 0x19 ∷ 95 ∷ 110 ∷ 0 ∷ native_spelling z
 
--- an object without fields
+-- An object without fields.
 abbrev pub leaf_spelling : Obj → List ℕ
 leaf_spelling (objects.Block tag values) = []
 leaf_spelling (objects.Bytes bytes) = string_front (length bytes) ++ bytes
@@ -106,8 +106,8 @@ spelling (leaf object) = leaf_spelling object
 
 -- ---- a value
 
--- five numbers of four bytes; in a big header reserved bytes after the magic number, and then three
--- numbers of eight bytes
+-- A small header has five numbers of four bytes. A big header has the magic number, four reserved
+-- bytes, and three numbers of eight bytes.
 unfoldable pub header_spelling : Head → List ℕ
 header_spelling head =
     if head.big
@@ -119,11 +119,12 @@ header_spelling head =
 abbrev pub data_spelling : List Token → List ℕ
 data_spelling all = flat_map spelling all
 
--- one of three numbers does not fit four bytes
+-- At least one of the three numbers does not fit four bytes.
 abbrev pub is_big : ℕ → ℕ → ℕ → Bool
 is_big n w32 w64 = nat_le (2 ^ 32) n || (nat_le (2 ^ 32) w32 || nat_le (2 ^ 32) w64)
 
--- the header states the length, the number of all objects, and their words
+-- The header with the length of the data, the number of all objects, and the sizes of the objects
+-- in words.
 abbrev pub canonical_head : List Token → Head
 canonical_head all =
     let n = length (data_spelling all) in
@@ -137,6 +138,6 @@ canonical_head all =
       w64 = w64;
     }
 
--- the bytes of a value
+-- The bytes of a value.
 unfoldable pub canon : Tree → List ℕ
 canon tree = header_spelling (canonical_head (tokens tree)) ++ data_spelling (tokens tree)

@@ -11,7 +11,7 @@ use Rattle.om_model.specs.declared.code.CodeFault.TheVariants.{BadCode, PointerC
 use Rattle.om_model.specs.declared.code.CustomKind.{CustomKind}
 use Rattle.om_model.specs.declared.code.CustomKind.TheVariants.{Int32, Int64, Native}
 
--- the codes below 32, from 0x00 on, and BadCode after the last
+-- The kinds of the codes from 0x00 on. A code below 32 beyond the list is a `BadCode`.
 abbrev pub large_kinds : List (Result CodeKind CodeFault)
 large_kinds =
     Ok (Int 1) ∷ Ok (Int 2) ∷ Ok (Int 4) ∷ Ok (Int 8)
@@ -22,7 +22,7 @@ large_kinds =
     ∷ Ok (Shared 8) ∷ Ok (Str 8) ∷ Ok (Doubles 8 false) ∷ Ok (Doubles 8 true)
     ∷ Err CustomLen ∷ Ok (Custom false) ∷ []
 
--- what a code begins
+-- The kind of token that a code begins.
 unfoldable pub kind_of : ℕ → Result CodeKind CodeFault
 kind_of code =
     if nat_le 128 code then Ok (SmallBlock (code % 16) (code / 16 % 8))
@@ -30,7 +30,7 @@ kind_of code =
     else if nat_le 32 code then Ok (SmallString (code % 32))
     else slice_index_or large_kinds code (Err BadCode)
 
--- the identifiers end in a zero byte: `_i`, `_j` and `_n`
+-- The identifiers `_i`, `_j` and `_n` of custom blocks, each with its final zero byte.
 unfoldable pub custom_of : List ℕ → Option CustomKind
 custom_of bytes =
     if (slice_index bytes 0 == 95) && (slice_index bytes 2 == 0) then
@@ -40,11 +40,11 @@ custom_of bytes =
     else None
     else None
 
--- a custom's data: four bytes, eight, and after a kind byte of 1 or 2 four or eight
+-- The bytes of a `Nativeint`'s number: four if the kind byte is 1, and eight if the kind byte is 2.
 abbrev pub native_bytes : ℕ → ℕ
 native_bytes kind = if kind == 1 then 4 else if kind == 2 then 8 else 0
 
--- the widths of numbers and the small numbers that kinds have
+-- The bounds on the widths and on the small numbers of each kind.
 abbrev pub IsKind : CodeKind → Type 0
 IsKind (SmallBlock tag size) = (tag < 16) × (size < 8)
 IsKind (SmallInt n) = n < 64

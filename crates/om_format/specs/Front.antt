@@ -1,5 +1,6 @@
--- Which bytes may still become a value, and which are refused (this project's own, over the format
--- of `intern.c`).
+-- Incomplete bytes, which may still become a value, and refused bytes. Bytes are incomplete if no
+-- step that they decide fails and more bytes must follow. These definitions are this project's own,
+-- over the format of `intern.c`.
 use Rattle.std.specs.Prelude.{ℕ, ◌<◌, ◌≡◌, ◌⊎◌, List, [], ◌∷◌, ◌++◌, length, take, map, Option}
 use Rattle.std.specs.Prelude.{Some, None}
 use Rattle.std.specs.List.{concat}
@@ -9,7 +10,7 @@ use Rattle.om_format.specs.Raw.{raw_length, raw_measure, IsRaw, IsPart}
 use Rattle.om_format.specs.Words.{pending, sums_of}
 use Rattle.om_format.specs.Step.{Context, first_refusal, header_steps, token_steps}
 
--- where a token comes after these bytes of a header and these tokens
+-- The context of a token after these bytes of a header and these tokens.
 abbrev pub context : List ℕ → List (List ℕ) → Context
 context header before = record {
   head = head_of header;
@@ -18,11 +19,11 @@ context header before = record {
   sums = sums_of (map raw_measure before);
 }
 
--- the tokens with the next one of the bytes that are left
+-- The tokens, extended by the next token of the remaining bytes.
 abbrev pub with_next : List (List ℕ) → List ℕ → List (List ℕ)
 with_next before rest = before ++ take (raw_length rest) rest ∷ []
 
--- the refusal of the first step that these bytes of a token decide and fail
+-- The refusal of the first step that is decided by these bytes of a token and fails.
 abbrev pub token_refusal : List ℕ → List (List ℕ) → List ℕ → Option ReadRefusal
 token_refusal header before token =
     first_refusal (length token) (token_steps (context header before) token)
@@ -30,33 +31,34 @@ token_refusal header before token =
 abbrev pub header_refusal : ℕ → List ℕ → Option ReadRefusal
 header_refusal limit bytes = first_refusal (length bytes) (header_steps limit bytes)
 
--- some value is still to come after these tokens
+-- After these tokens, at least one value is still to come.
 abbrev pub IsOpen : List (List ℕ) → Type 0
 IsOpen before = 0 < pending (map raw_measure before)
 
--- a whole raw token that passes its steps, where one is still to come
+-- A complete raw token that passes its steps, at a position at which a value is still to come.
 pub record TokenPasses (header : List ℕ) (before : List (List ℕ)) (token : List ℕ) : Type 0 where
   pub open_before : IsOpen before
   pub raw : IsRaw token
   pub passes : token_refusal header before token ≡ None
 
--- tokens that pass, one after another
+-- Each of these consecutive tokens passes.
 abbrev pub TokensPass : List ℕ → List (List ℕ) → List (List ℕ) → Type 0
 TokensPass header before [] = Unit {0}
 TokensPass header before (token ∷ tokens) =
     TokenPasses header before token × TokensPass header (before ++ token ∷ []) tokens
 
--- a raw header that passes its steps
+-- A complete raw header that passes its steps.
 pub record HeaderPasses (limit : ℕ) (header : List ℕ) : Type 0 where
   pub raw : length header ≡ header_length header
   pub passes : header_refusal limit header ≡ None
 
--- a proper part of a raw header, which passes the steps decided in it
+-- A proper prefix of a raw header, which passes the steps that it decides.
 pub record InHeader (limit : ℕ) (bytes : List ℕ) : Type 0 where
   pub part : length bytes < header_length bytes
   pub passes : header_refusal limit bytes ≡ None
 
--- a header and tokens that pass, and a part of the next token, which passes the steps decided in it
+-- The bytes are a header and tokens that pass, and a proper prefix of the next raw token, which
+-- passes the steps that it decides.
 pub record InTokens (limit : ℕ) (bytes header : List ℕ) (tokens : List (List ℕ)) (last : List ℕ)
     : Type 0 where
   pub bytes_are : bytes ≡ header ++ (concat tokens ++ last)
@@ -66,14 +68,15 @@ pub record InTokens (limit : ℕ) (bytes header : List ℕ) (tokens : List (List
   pub part : IsPart last
   pub passes : token_refusal header tokens last ≡ None
 
--- the bytes are a front of a value: more have to come
+-- The bytes are incomplete: no step that they decide fails, and more bytes must follow.
 abbrev pub IsFront : ℕ → List ℕ → Type 0
 IsFront limit bytes =
     InHeader limit bytes
     ⊎ ((header : List ℕ) × (tokens : List (List ℕ)) × (last : List ℕ)
     × InTokens limit bytes header tokens last)
 
--- the last byte decides a step of the header that fails, or one of the token that it belongs to
+-- The last byte decides a failing step of the header, or a failing step of the token to which the
+-- byte belongs.
 pub record RefusedInHeader (limit : ℕ) (bytes : List ℕ) (refusal : ReadRefusal) : Type 0 where
   pub front : List ℕ
   pub last : ℕ
@@ -91,7 +94,7 @@ pub record RefusedInTokens (limit : ℕ) (bytes : List ℕ) (refusal : ReadRefus
   pub in_tokens : InTokens limit front header tokens part
   pub refused : token_refusal header tokens (part ++ last ∷ []) ≡ Some refusal
 
--- all but the last byte are a front, and the last decides the first step that fails
+-- All bytes but the last are incomplete, and the last byte decides the first step that fails.
 abbrev pub IsRefused : ℕ → List ℕ → ReadRefusal → Type 0
 IsRefused limit bytes refusal =
     RefusedInHeader limit bytes refusal ⊎ RefusedInTokens limit bytes refusal

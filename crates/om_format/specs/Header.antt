@@ -1,4 +1,4 @@
--- The header of a value (`intext.h`, `intern.c`), all of it big endian.
+-- The header of a value (`intext.h`, `intern.c`). All its numbers are big endian.
 use Rattle.std.specs.Prelude.{ℕ, ◌==◌, true, false, List, take, slice_range, if◌then◌else◌}
 use Rattle.om_model.specs.declared.header.Head.{Head}
 use Rattle.om_model.specs.Bytes.{number}
@@ -15,13 +15,13 @@ compressed_magic = 0x8495A6BD
 abbrev pub magic : List ℕ → ℕ
 magic bytes = number (take 4 bytes)
 
--- the bytes of a header that begins so
+-- The length of a header that begins with these bytes.
 abbrev pub header_length : List ℕ → ℕ
 header_length bytes = if magic bytes == big_magic then 32 else 20
 
--- what a header states: data length, objects, words on 32 bits, words on 64 bits, of four bytes
--- each; in a big one four reserved bytes come first, the numbers have eight bytes, and there are no
--- words on 32 bits
+-- The contents of a header. A small header has four numbers of four bytes: data length, objects,
+-- words on 32 bits and words on 64 bits. A big header has four reserved bytes, and then three
+-- numbers of eight bytes, without the words on 32 bits.
 abbrev pub small_head : List ℕ → Head
 small_head bytes = record {
   big = false;

@@ -1,4 +1,4 @@
--- When two values are the same up to the numbers of their objects.
+-- Isomorphism of values: two values are equal up to the numbers of their objects.
 use Rattle.std.specs.Prelude.{ℕ, ◌≡◌, ◌↔◌, List, slice_get, IsSomeAnd, Contains}
 use Rattle.std.specs.List.{AllZip}
 use Rattle.om_model.specs.declared.value.Val.{Val}
@@ -7,14 +7,15 @@ use Rattle.om_model.specs.declared.value.Obj.{Obj}
 use Rattle.om_model.specs.declared.value.Obj.TheVariants as objects
 use Rattle.om_format.specs.Tree.{Tree, root, objects_of, IsTree, ReferBack}
 
--- equal integers, equal atoms, or references to two objects that are paired
+-- Two values agree: they are equal integers, equal atoms, or references to a pair of objects.
 abbrev pub AreAlike : List (ℕ × ℕ) → Val → Val → Type 0
 AreAlike pairs (vals.Int x) (vals.Int y) = x ≡ y
 AreAlike pairs (vals.Atom x) (vals.Atom y) = x ≡ y
 AreAlike pairs (vals.Ref k) (vals.Ref l) = Contains pairs (k, l)
 AreAlike pairs v w = ⊥
 
--- blocks of one tag and size, with fields alike; or equal objects without fields
+-- Two objects agree: they are blocks of one tag and size whose fields agree, or equal objects
+-- without fields.
 abbrev pub AreAlikeObjects : List (ℕ × ℕ) → Obj → Obj → Type 0
 AreAlikeObjects pairs (objects.Block tag values) (objects.Block tag' values') =
     (tag ≡ tag') × AllZip (AreAlike pairs) values values'
@@ -26,18 +27,18 @@ AreAlikeObjects pairs (objects.I64 z) b = objects.I64 z ≡ b
 AreAlikeObjects pairs (objects.Native z) b = objects.Native z ≡ b
 AreAlikeObjects pairs (objects.Block tag values) b = ⊥
 
--- the pairs go from the objects of one graph to those of the other: no number is twice on one side,
--- and the two objects of each pair are there and alike
+-- The pairs relate the objects of two graphs one to one, and both objects of each pair exist and
+-- agree.
 pub record IsPairing (g h : List Obj) (pairs : List (ℕ × ℕ)) : Type 0 where
   pub one_to_one : (k l m n : ℕ) → Contains pairs (k, l) → Contains pairs (m, n) → (k ≡ m) ↔ (l ≡ n)
   pub alike : (k l : ℕ) → Contains pairs (k, l)
       → IsSomeAnd (slice_get g k) (λ a. IsSomeAnd (slice_get h l) (λ b. AreAlikeObjects pairs a b))
 
--- some pairs make the two values alike
+-- The two values are isomorphic: they agree under some pairing.
 abbrev pub Iso : List Obj → Val → List Obj → Val → Type 0
 Iso g v h w = (pairs : List (ℕ × ℕ)) × IsPairing g h pairs × AreAlike pairs v w
 
--- a tree whose value is the same
+-- The tree encodes a value that is isomorphic to this value.
 pub record IsTreeOf (g : List Obj) (v : Val) (tree : Tree) : Type 0 where
   pub is_tree : IsTree tree
   pub refers_back : ReferBack tree 0

@@ -1,17 +1,19 @@
--- Tokens one after another, in preorder.
+-- Sequences of tokens in preorder.
 use Rattle.std.specs.Prelude.{ℕ, ◌+◌, ◌<◌, List, [], ◌∷◌, ◌++◌, Option}
 use Rattle.om_model.specs.declared.code.Measure.{Measure}
 use Rattle.om_format.specs.Words.{pending}
 use Rattle.om_format.specs.Token.{Token, measure_of}
 use Rattle.om_format.specs.Tree.{made_by, RefersBack}
 
--- after these measures each token comes while a value is still to come
+-- If tokens with the measures `before` come first, then at each of these tokens a value is still to
+-- come.
 abbrev pub OpenBefore : List (Option Measure) → List Token → Type 0
 OpenBefore before [] = Unit {0}
 OpenBefore before (token ∷ tokens) =
     (0 < pending before) × OpenBefore (before ++ measure_of token ∷ []) tokens
 
--- after c objects each reference leads to one that was made before it
+-- If `c` objects come first, then each reference among the tokens leads to an object made before
+-- it.
 abbrev pub EachRefersBack : ℕ → List Token → Type 0
 EachRefersBack c [] = Unit {0}
 EachRefersBack c (token ∷ tokens) = RefersBack token c × EachRefersBack (c + made_by token) tokens

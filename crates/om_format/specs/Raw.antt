@@ -1,4 +1,4 @@
--- A raw token: the fields of one, in their lengths, with any contents (`intern.c`).
+-- A raw token: the fields of a token with their lengths, and with any contents (`intern.c`).
 use Rattle.std.specs.Prelude.{ℕ, zero, suc, ◌+◌, ◌*◌, ◌/◌, ◌<◌, ◌≡◌, ◌==◌, List, [], ◌∷◌, take}
 use Rattle.std.specs.Prelude.{length, Option, Some, None, Result, Ok, Err, slice_index}
 use Rattle.std.specs.Prelude.{if◌then◌else◌}
@@ -12,7 +12,7 @@ use Rattle.om_model.specs.declared.code.Measure.TheVariants as measures
 use Rattle.om_model.specs.Bytes.{number}
 use Rattle.om_format.specs.Code.{kind_of, custom_of, native_bytes}
 
--- the bytes that each token of the kind has after its code
+-- The number of bytes after the code that every token of the kind has.
 abbrev pub fixed_bytes : CodeKind → ℕ
 fixed_bytes (kinds.SmallBlock tag size) = 0
 fixed_bytes (kinds.SmallInt n) = 0
@@ -25,8 +25,8 @@ fixed_bytes (kinds.Double little) = 8
 fixed_bytes (kinds.Doubles width little) = width
 fixed_bytes (kinds.Custom old) = 3
 
--- those of them that say more than a content: a header word, an offset, a length, an identifier, an
--- integer of eight bytes
+-- The number of those bytes that hold more than content: a header word, an offset, a length, an
+-- identifier, or an integer of eight bytes.
 abbrev pub field_bytes : CodeKind → ℕ
 field_bytes (kinds.SmallBlock tag size) = 0
 field_bytes (kinds.SmallInt n) = 0
@@ -39,7 +39,8 @@ field_bytes (kinds.Double little) = 0
 field_bytes (kinds.Doubles width little) = width
 field_bytes (kinds.Custom old) = 3
 
--- the data of a custom, by the kind byte of a `Nativeint`, which is a field too
+-- The number of bytes of a custom block's data. The kind byte of a `Nativeint` is part of the data,
+-- and is a field too.
 abbrev pub custom_bytes : Option CustomKind → ℕ → ℕ
 custom_bytes None kind = 0
 custom_bytes (Some customs.Int32) kind = 4
@@ -58,7 +59,8 @@ custom_measure (Some customs.Int32) = Some (measures.Custom 4 4)
 custom_measure (Some customs.Int64) = Some (measures.Custom 8 8)
 custom_measure (Some customs.Native) = Some (measures.Custom 4 8)
 
--- after the code stands `rest`: the bytes after the fixed ones, of a string, an array or a custom
+-- The number of bytes after the fixed ones, for a string, an array or a custom block. `rest` are
+-- the bytes after the code.
 abbrev pub variable_bytes : CodeKind → List ℕ → ℕ
 variable_bytes (kinds.SmallBlock tag size) rest = 0
 variable_bytes (kinds.SmallInt n) rest = 0
@@ -71,7 +73,7 @@ variable_bytes (kinds.Double little) rest = 0
 variable_bytes (kinds.Doubles width little) rest = 8 * number (take width rest)
 variable_bytes (kinds.Custom old) rest = custom_bytes (custom_of (take 3 rest)) (slice_index rest 3)
 
--- the object that such a token makes
+-- The measure of the object that a block of this size makes.
 abbrev pub block_measure : ℕ → Option Measure
 block_measure zero = None
 block_measure (suc n) = Some (measures.Block (suc n))
@@ -88,7 +90,7 @@ measure_after (kinds.Double little) rest = Some measures.Double
 measure_after (kinds.Doubles width little) rest = Some (measures.Doubles (number (take width rest)))
 measure_after (kinds.Custom old) rest = custom_measure (custom_of (take 3 rest))
 
--- the bytes after the code after which the token's size is known
+-- The number of bytes after the code that determine the token's size.
 abbrev pub sizing_bytes : CodeKind → List ℕ → ℕ
 sizing_bytes (kinds.Custom old) rest = 3 + kind_bytes (custom_of (take 3 rest))
 sizing_bytes kind rest = field_bytes kind
@@ -97,7 +99,7 @@ abbrev pub length_after : Result CodeKind CodeFault → List ℕ → ℕ
 length_after (Ok kind) rest = fixed_bytes kind + variable_bytes kind rest
 length_after (Err fault) rest = 0
 
--- how many bytes a raw token has that begins so
+-- The length of a raw token that begins with these bytes.
 abbrev pub raw_length : List ℕ → ℕ
 raw_length [] = 1
 raw_length (code ∷ rest) = 1 + length_after (kind_of code) rest
@@ -106,7 +108,7 @@ abbrev pub measure_from : Result CodeKind CodeFault → List ℕ → Option Meas
 measure_from (Ok kind) rest = measure_after kind rest
 measure_from (Err fault) rest = None
 
--- the object that a raw token makes
+-- The measure of the object that a raw token makes.
 abbrev pub raw_measure : List ℕ → Option Measure
 raw_measure [] = None
 raw_measure (code ∷ rest) = measure_from (kind_of code) rest
@@ -114,6 +116,6 @@ raw_measure (code ∷ rest) = measure_from (kind_of code) rest
 abbrev pub IsRaw : List ℕ → Type 0
 IsRaw token = length token ≡ raw_length token
 
--- a part of a raw token, nothing of it too
+-- A proper prefix of a raw token. The empty prefix counts.
 abbrev pub IsPart : List ℕ → Type 0
 IsPart token = length token < raw_length token

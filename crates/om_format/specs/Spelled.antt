@@ -1,4 +1,4 @@
--- The bytes that spell a value (`intern.c`): a header, and spellings of the tokens of one tree.
+-- The bytes that encode a value (`intern.c`): a header, and encodings of the tokens of one tree.
 use Rattle.std.specs.Prelude.{ℕ, ◌^◌, ◌<◌, ◌≤◌, ◌≡◌, ◌⊎◌, Bool, true, false, List, ◌++◌, length}
 use Rattle.std.specs.Prelude.{map, All}
 use Rattle.std.specs.List.{concat, AllZip}
@@ -8,7 +8,7 @@ use Rattle.om_format.specs.Words.{objects, all_words32, all_words64}
 use Rattle.om_format.specs.Token.{Token, integer, atom, shared, block, leaf, measure_of, Spells}
 use Rattle.om_format.specs.Tree.{Tree, tokens, IsTree, ReferBack}
 
--- the bytes of a header, big or small
+-- The bytes of a big or small header.
 pub record IsHeader (bytes : List ℕ) : Type 0 where
   pub magic_is : (magic bytes ≡ small_magic) ⊎ (magic bytes ≡ big_magic)
   pub whole : length bytes ≡ header_length bytes
@@ -20,20 +20,20 @@ IsNoReference (shared offset) = ⊥
 IsNoReference (block tag size) = Unit {0}
 IsNoReference (leaf object) = Unit {0}
 
--- a big header states no words on 32 bits
+-- A big header has no number of words on 32 bits. A small header has the number that was found.
 abbrev pub StatesWords32 : Bool → ℕ → ℕ → Type 0
 StatesWords32 true stated found = Unit {0}
 StatesWords32 false stated found = stated ≡ found
 
--- the header states what the tokens take: the words, and the number of objects, or 0 where nothing
--- refers to one
+-- The header agrees with the tokens: the numbers of words are equal, and the number of objects is
+-- equal, or it is 0 and no token is a reference.
 pub record States (head : Head) (all : List Token) : Type 0 where
   pub w32 : StatesWords32 head.big head.w32 (all_words32 (map measure_of all))
   pub w64 : head.w64 ≡ all_words64 (map measure_of all)
   pub objects : (head.objects ≡ objects (map measure_of all))
       ⊎ ((head.objects ≡ 0) × All IsNoReference all)
 
--- the bytes spell the tree, cut into its header and its tokens
+-- A header and chunks, one for each token, encode the tree.
 pub record SpellsTree (tree : Tree) (header : List ℕ) (pieces : List (List ℕ)) : Type 0 where
   pub is_tree : IsTree tree
   pub refers_back : ReferBack tree 0
@@ -42,7 +42,7 @@ pub record SpellsTree (tree : Tree) (header : List ℕ) (pieces : List (List ℕ
   pub length : (head_of header).length ≡ length (concat pieces)
   pub states : States (head_of header) (tokens tree)
 
--- the bytes spell the tree, of at most so many words on 64 bits
+-- The bytes encode the tree, and the header has at most `limit` words on 64 bits.
 pub record SpelledUnder (limit : ℕ) (bytes : List ℕ) (tree : Tree) : Type 0 where
   pub header : List ℕ
   pub pieces : List (List ℕ)

@@ -1,5 +1,5 @@
--- The steps that a header, a token and the end of a tree have to pass, in their order (`intern.c`;
--- the limits and the places are this project's own).
+-- The steps that a header, a token and the end of a tree must pass, in their order (`intern.c`).
+-- The limits and the offsets are this project's own.
 use Rattle.std.specs.Prelude.{ℕ, ◌+◌, ◌-◌, ◌%◌, ◌^◌, ◌==◌, ◌||◌, ◌&&◌, not, nat_lt, Bool, true}
 use Rattle.std.specs.Prelude.{false, List, [], ◌∷◌, ◌++◌, take, Option, Some, None, is_none, Result}
 use Rattle.std.specs.Prelude.{Ok, Err, slice_index, if◌then◌else◌, ℤ, pos, negsuc}
@@ -28,8 +28,8 @@ use Rattle.om_format.specs.Raw.{fixed_bytes, field_bytes, sizing_bytes, variable
 use Rattle.om_format.specs.Raw.{measure_after}
 use Rattle.om_format.specs.Words.{Sums, one_more}
 
--- a step: how many bytes of the header or the token hold the fields that it reads, and the refusal
--- where it fails
+-- A step: the number of bytes of the header or token that hold the fields that the step reads, and
+-- the refusal if the step fails.
 pub record Step : Type 0 where
   pub ends : ℕ
   pub refusal : Option ReadRefusal
@@ -45,8 +45,8 @@ abbrev pub or_else : Option ReadRefusal → Option ReadRefusal → Option ReadRe
 or_else None next = next
 or_else (Some r) next = Some r
 
--- A step is decided once the fields that it and the earlier ones read are among the first n bytes.
--- The refusal of the first step that is decided and fails.
+-- The refusal of the first step that is decided and fails. A step is decided if the fields that it
+-- and the earlier steps read are among the first `n` bytes.
 abbrev pub first_refusal : ℕ → List Step → Option ReadRefusal
 first_refusal n [] = None
 first_refusal n (s ∷ steps) =
@@ -59,11 +59,11 @@ magic_refusal m =
     if m == compressed_magic then Some Compressed
     else fails_if (not ((m == small_magic) || (m == big_magic))) (BadMagic m)
 
--- the data of a value, in bytes
+-- The largest length of a value's data, in bytes.
 abbrev pub length_limit : ℕ
 length_limit = 2 ^ 48 - 1
 
--- of a value of at most so many words on 64 bits
+-- The steps of the header of a value of at most `limit` words on 64 bits.
 unfoldable pub header_steps : ℕ → List ℕ → List Step
 header_steps limit header =
     let n = header_length header in
@@ -76,8 +76,8 @@ header_steps limit header =
 
 -- ---- a token
 
--- where a token stands: after which header, after how many of its bytes and of those of the data,
--- and the sums over the tokens before it
+-- The context of a token: the header, the number of bytes of the header, the number of data bytes
+-- before the token, and the sums over the tokens before it.
 pub record Context : Type 0 where
   pub head : Head
   pub start : ℕ
@@ -87,11 +87,12 @@ pub record Context : Type 0 where
 abbrev pub place : Context → ℕ
 place c = c.start + c.taken
 
--- the data bytes after the first n of the token
+-- The number of data bytes after the first `n` of the token.
 abbrev pub left_after : Context → ℕ → ℕ
 left_after c n = c.head.length - (c.taken + n)
 
--- more bytes, or more values, are needed than there are bytes left after the first n of the token
+-- Fails if more bytes, or more values, are needed than there are data bytes after the first `n` of
+-- the token.
 abbrev pub overlong : Context → ℕ → ℕ → Option ReadRefusal
 overlong c need n =
     fails_if (nat_lt (left_after c n) need) (Overlong (place c) need (left_after c n))
@@ -101,16 +102,17 @@ code_refusal faults.BadCode p code = BadCode p code
 code_refusal faults.PointerCode p code = PointerCode p code
 code_refusal faults.CustomLen p code = OtherCustom p code
 
--- outside 63 bits
+-- The integer fits 63 bits.
 abbrev pub is_integer : ℤ → Bool
 is_integer (pos n) = nat_lt n (2 ^ 62)
 is_integer (negsuc n) = nat_lt n (2 ^ 62)
 
--- an integer of eight bytes
+-- Fails if an integer of eight bytes does not fit 63 bits.
 abbrev pub integer_refusal : Context → ℤ → Option ReadRefusal
 integer_refusal c z = fails_if (not (is_integer z)) (IntRange (place c) z)
 
--- an offset, which counts back from the next object, and then the header's count
+-- Fails if an offset, counted back from the next object, leads to no object, and then if the header
+-- counts no objects.
 abbrev pub shared_refusal : Context → ℕ → Option ReadRefusal
 shared_refusal c offset =
     or_else
@@ -118,8 +120,7 @@ shared_refusal c offset =
     (BadShared (place c) offset (c.sums.objects)))
     (fails_if (c.head.objects == 0) (NoTable (place c)))
 
--- what is wrong with the token's fields: its tag, its offset, its identifier, its integer or its
--- length
+-- The fault in the token's fields: its tag, offset, identifier, integer or length.
 abbrev pub field_refusal : Context → ℕ → CodeKind → List ℕ → Option ReadRefusal
 field_refusal c code (kinds.SmallBlock tag size) rest = None
 field_refusal c code (kinds.SmallInt n) rest = None
@@ -136,7 +137,7 @@ field_refusal c code (kinds.Doubles width little) rest =
 field_refusal c code (kinds.Custom old) rest =
     fails_if (is_none (custom_of (take 3 rest))) (OtherCustom (place c) code)
 
--- the kind byte of a `Nativeint` is taken first, and then its number
+-- The steps of a `Nativeint`, which reads the kind byte first and then the number.
 abbrev pub native_steps : Context → ℕ → List Step
 native_steps c kind =
     step 4 (overlong c 1 4)
@@ -149,7 +150,7 @@ variable_steps c (kinds.Custom old) (Some customs.Native) rest = native_steps c 
 variable_steps c kind custom rest =
     step (1 + field_bytes kind) (overlong c (variable_bytes kind rest) (1 + fixed_bytes kind)) ∷ []
 
--- a sum of words against the header's, which in a big one states none on 32 bits
+-- Compares a sum of words with the header's number. A big header has no number of words on 32 bits.
 abbrev pub words32_refusal : (ℕ → ℕ → Bool) → ℕ → Head → ℕ → Option ReadRefusal
 words32_refusal differ p head found =
     fails_if (not head.big && differ head.w32 found) (SizeMismatch p W32 head.w32 found)
@@ -161,7 +162,8 @@ words64_refusal differ p head found =
 abbrev pub nat_ne : ℕ → ℕ → Bool
 nat_ne a b = not (a == b)
 
--- after the last token, which has n bytes: the bytes left, the words and the objects
+-- The steps after the last token, which has `n` bytes: the remaining bytes, the words and the
+-- objects.
 abbrev pub end_steps : Context → ℕ → Sums → List Step
 end_steps c n all =
     let p = place c + n in
@@ -173,14 +175,15 @@ end_steps c n all =
     (CountMismatch p c.head.objects all.objects))
     ∷ []
 
--- the bytes of each token of the kind, and its fields
+-- The steps of the token's fixed bytes and of its fields.
 abbrev pub entry_steps : Context → ℕ → CodeKind → List ℕ → List Step
 entry_steps c code kind rest =
     step 1 (overlong c (fixed_bytes kind) 1)
     ∷ step (1 + field_bytes kind) (field_refusal c code kind rest)
     ∷ []
 
--- the values that are to come and the words, and after the last token the tree's end
+-- The steps of the values that are still to come and of the words. After the last token, the steps
+-- of the end of the tree follow.
 abbrev pub closing_steps : Context → CodeKind → List ℕ → List Step
 closing_steps c kind rest =
     let n = 1 + fixed_bytes kind + variable_bytes kind rest in
@@ -191,7 +194,7 @@ closing_steps c kind rest =
     ∷ step sized (words64_refusal nat_lt (place c) c.head all.w64)
     ∷ (if all.pending == 0 then end_steps c n all else [])
 
--- the steps of a token of this kind
+-- The steps of a token of this kind.
 abbrev pub steps_after : Context → ℕ → CodeKind → List ℕ → List Step
 steps_after c code kind rest =
     entry_steps c code kind rest

@@ -1,19 +1,20 @@
--- Bytes as a stream of values: the values, and what comes after them.
+-- Byte strings as streams of values: the values, and the bytes after them.
 use Rattle.std.specs.Prelude.{ℕ, ◌<◌, ◌≤◌, ◌≡◌, List, [], ◌∷◌, ◌++◌, length, take}
 use Rattle.om_model.specs.declared.refusal.ReadRefusal.{ReadRefusal}
 use Rattle.om_format.specs.Tree.{Tree}
 use Rattle.om_format.specs.Spelled.{SpelledUnder}
 use Rattle.om_format.specs.Front.{IsFront, IsRefused}
 
--- the bytes spell the trees, one after another, each under the limit, and then the rest stands
+-- The bytes encode the trees, one after another and each under the limit, and then the rest
+-- follows.
 abbrev pub SpellAll : ℕ → List ℕ → List Tree → List ℕ → Type 0
 SpellAll limit bytes [] rest = bytes ≡ rest
 SpellAll limit bytes (tree ∷ trees) rest =
     (first more : List ℕ) × (bytes ≡ first ++ more) × SpelledUnder limit first tree
     × SpellAll limit more trees rest
 
--- what comes after the last value: nothing, bytes that are refused, or n bytes of a value that is
--- cut short
+-- The end of a stream after the last value: no bytes, bytes that are refused, or `n` bytes of a
+-- truncated value.
 pub data End : Type 0 where
   clean : End
   refused : ReadRefusal → End
@@ -25,7 +26,7 @@ IsTail limit tail (refused refusal) =
     (n : ℕ) × (n ≤ length tail) × IsRefused limit (take n tail) refusal
 IsTail limit tail (cut n) = (0 < n) × (length tail ≡ n) × IsFront limit tail
 
--- the bytes are those of the values, and then a tail
+-- The bytes are those of the values, followed by a tail with this end.
 abbrev pub Stream : List ℕ → ℕ → List Tree → End → Type 0
 Stream bytes limit trees end =
     (tail : List ℕ) × SpellAll limit bytes trees tail × IsTail limit tail end

@@ -1,4 +1,4 @@
--- Tokens, and the bytes that spell them: `intern.c` reads each width and byte order.
+-- Tokens, and the bytes that encode them. `intern.c` reads each width and byte order.
 use Rattle.std.specs.Prelude.{ℕ, zero, suc, ◌/◌, ◌%◌, ◌<◌, ◌≤◌, ◌≡◌, List, [], ◌∷◌, length, take}
 use Rattle.std.specs.Prelude.{drop, ℤ, pos, Option, Some, None, Result, Ok, Err, ◌⊎◌}
 use Rattle.om_model.specs.declared.value.Obj.{Obj}
@@ -12,8 +12,12 @@ use Rattle.om_model.specs.Bytes.{number, number_in, signed, SpellsDoubles}
 use Rattle.om_model.specs.Graph.{IsInteger, IsObject}
 use Rattle.om_format.specs.Code.{kind_of}
 
--- an integer; an atom, by its tag; a reference to the object so many places back from the next one;
--- a block, by tag and size, whose fields are the values after it; and an object without fields
+-- A token is one of:
+-- - an integer,
+-- - an atom, by its tag,
+-- - a reference, by the distance back from the next object,
+-- - a block, by tag and size, whose fields are the values after the token,
+-- - an object without fields.
 pub data Token : Type 0 where
   integer : ℤ → Token
   atom : ℕ → Token
@@ -21,7 +25,7 @@ pub data Token : Type 0 where
   block : ℕ → ℕ → Token
   leaf : Obj → Token
 
--- an object without fields
+-- A valid object without fields.
 abbrev pub IsLeaf : Obj → Type 0
 IsLeaf (objects.Block tag values) = ⊥
 IsLeaf (objects.Bytes bytes) = IsObject 0 (objects.Bytes bytes)
@@ -38,7 +42,7 @@ IsToken (shared offset) = Unit {0}
 IsToken (block tag size) = (tag ≤ 243) × (0 < size)
 IsToken (leaf object) = IsLeaf object
 
--- how large the object is that a token makes, where it makes one
+-- The size of the object that a token makes, if it makes an object.
 abbrev pub leaf_measure : Obj → Option Measure
 leaf_measure (objects.Block tag values) = None
 leaf_measure (objects.Bytes bytes) = Some (measures.Bytes (length bytes))
@@ -55,17 +59,17 @@ measure_of (shared offset) = None
 measure_of (block tag size) = Some (measures.Block size)
 measure_of (leaf object) = leaf_measure object
 
--- a block of no fields is an atom
+-- A block without fields is an atom.
 abbrev pub block_or_atom : ℕ → ℕ → Token
 block_or_atom tag zero = atom tag
 block_or_atom tag (suc n) = block tag (suc n)
 
--- what a header word says: the tag in bits 0 to 7, the size from bit 10 on, and bits 8 and 9
--- anything
+-- The token of a header word: the tag is in bits 0 to 7, and the size begins at bit 10. Bits 8 and
+-- 9 are ignored.
 abbrev pub word_token : ℕ → Token
 word_token word = block_or_atom (word % 256) (word / 1024)
 
--- after the code of a custom: its identifier, and then its data
+-- The bytes after the code of a custom block: its identifier, and then its data.
 abbrev pub SpellsCustom : List ℕ → Token → Type 0
 SpellsCustom rest token =
     ((content : List ℕ) × (rest ≡ 95 ∷ 105 ∷ 0 ∷ content) × (length content ≡ 4)
@@ -77,7 +81,7 @@ SpellsCustom rest token =
     ⊎ ((content : List ℕ) × (rest ≡ 95 ∷ 110 ∷ 0 ∷ 2 ∷ content) × (length content ≡ 8)
     × (token ≡ leaf (objects.Native (signed content))))))
 
--- what may come after a code of this kind, and the token that it spells
+-- The bytes that may follow a code of this kind, and the token that they encode.
 abbrev pub SpellsAfter : CodeKind → List ℕ → Token → Type 0
 SpellsAfter (kinds.SmallBlock tag size) rest token = (rest ≡ []) × (token ≡ block_or_atom tag size)
 SpellsAfter (kinds.SmallInt n) rest token = (rest ≡ []) × (token ≡ integer (pos n))
@@ -102,7 +106,7 @@ abbrev pub SpellsFrom : Result CodeKind CodeFault → List ℕ → Token → Typ
 SpellsFrom (Ok kind) rest token = SpellsAfter kind rest token
 SpellsFrom (Err fault) rest token = ⊥
 
--- the bytes spell the token
+-- The bytes encode the token.
 abbrev pub Spells : Token → List ℕ → Type 0
 Spells token [] = ⊥
 Spells token (code ∷ rest) = IsToken token × SpellsFrom (kind_of code) rest token

@@ -1,5 +1,5 @@
--- A value as a tree of tokens: a token with as many subtrees as its size (`intern.c` reads it in
--- preorder).
+-- A value as a tree of tokens: a block's token has one subtree for each field (`intern.c` reads the
+-- tree in preorder).
 use Rattle.std.specs.Prelude.{ℕ, suc, ◌+◌, ◌-◌, ◌≤◌, ◌≡◌, List, [], ◌∷◌, ◌++◌}
 use Rattle.om_model.specs.declared.value.Val.{Val}
 use Rattle.om_model.specs.declared.value.Val.TheVariants as vals
@@ -16,7 +16,7 @@ mutual
     none : Forest
     more : Tree → Forest → Forest
 
--- a token has as many subtrees as its size
+-- The number of trees in a forest. A token has as many subtrees as its size.
 abbrev pub trees_in : Forest → ℕ
 trees_in none = 0
 trees_in (more tree forest) = suc (trees_in forest)
@@ -30,7 +30,7 @@ abbrev mutual
   AreTrees none = Unit {0}
   AreTrees (more tree forest) = IsTree tree × AreTrees forest
 
--- the tokens in preorder
+-- The tokens in preorder.
 abbrev mutual
   pub tokens : Tree → List Token
   tokens (node token forest) = token ∷ forest_tokens forest
@@ -39,7 +39,7 @@ abbrev mutual
   forest_tokens none = []
   forest_tokens (more tree forest) = tokens tree ++ forest_tokens forest
 
--- the value of a token after c objects
+-- The value of a token that comes after `c` objects.
 abbrev pub value_of : Token → ℕ → Val
 value_of (integer z) c = vals.Int z
 value_of (atom tag) c = vals.Atom tag
@@ -50,7 +50,7 @@ value_of (leaf object) c = vals.Ref c
 abbrev pub root : Tree → ℕ → Val
 root (node token forest) c = value_of token c
 
--- how many objects a token makes
+-- The number of objects that a token makes.
 abbrev pub made_by : Token → ℕ
 made_by token = of_object (λ _. 1) (measure_of token)
 
@@ -62,12 +62,12 @@ abbrev mutual
   all_made none = 0
   all_made (more tree forest) = made tree + all_made forest
 
--- the values of trees one after another, the first after c objects
+-- The values of consecutive trees, the first of which comes after `c` objects.
 abbrev pub roots : Forest → ℕ → List Val
 roots none c = []
 roots (more tree forest) c = root tree c ∷ roots forest (c + made tree)
 
--- the object that a token makes, given its fields
+-- The object that a token makes from its fields, if it makes one.
 abbrev pub object_of : Token → List Val → List Obj
 object_of (integer z) values = []
 object_of (atom tag) values = []
@@ -75,8 +75,8 @@ object_of (shared offset) values = []
 object_of (block tag size) values = objects.Block tag values ∷ []
 object_of (leaf object) values = object ∷ []
 
--- the objects of a tree, numbered from c on in the order of their tokens: a block comes before its
--- fields
+-- The objects of a tree, numbered from `c` on in the order of their tokens. A block comes before
+-- its fields.
 abbrev mutual
   pub objects_of : Tree → ℕ → List Obj
   objects_of (node token forest) c =
@@ -86,7 +86,7 @@ abbrev mutual
   all_objects none c = []
   all_objects (more tree forest) c = objects_of tree c ++ all_objects forest (c + made tree)
 
--- each reference after c objects leads to one of them
+-- A reference after `c` objects leads to one of them.
 abbrev pub RefersBack : Token → ℕ → Type 0
 RefersBack (integer z) c = Unit {0}
 RefersBack (atom tag) c = Unit {0}

@@ -1,19 +1,20 @@
-//! Laws over the definitions. The functions do nothing: what each ensures is the law.
+//! Laws of the definitions. Each function is a lemma function: it has no effect and exists only for
+//! its contract.
 
 ghost use Rattle.om_format.specs.Laws.{HasOneJudgement, NoSpellingBeginsAnother, SpellsOneToken};
 
-/// Bytes are a front of a value, or begin with one value, or have one refusal at their front:
-/// always one of the three, and in one way.
+/// Byte strings fall into three cases: they are incomplete, they begin with a value, or they begin
+/// with refused bytes. Exactly one case holds, with exactly one outcome.
 pub fn one_judgement()
     ensures { HasOneJudgement }
 {}
 
-/// No spelling of a token begins a longer spelling of a token.
+/// No encoding of a token is a proper prefix of another encoding of a token.
 pub fn no_spelling_begins_another()
     ensures { NoSpellingBeginsAnother }
 {}
 
-/// Bytes that spell a token spell no other.
+/// Bytes encode at most one token.
 pub fn one_token()
     ensures { SpellsOneToken }
 {}

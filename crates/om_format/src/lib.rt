@@ -1,5 +1,7 @@
-//! The bytes of a value: codes, headers, words, tokens, trees, steps, fronts, judgements and
-//! streams, as definitions (`intext.h`, `intern.c`), and the laws on them.
+//! Defines the byte format of OCaml's Marshal (`intext.h`, `intern.c`): codes, headers, word
+//! counts, tokens, trees, read steps, incomplete and refused bytes, and streams. The crate has no
+//! code besides its laws. The laws `HasOneJudgement`, `NoSpellingBeginsAnother` and
+//! `SpellsOneToken` say that the format is unambiguous.
 #![tactic(auto)]
 
 pub mod laws;

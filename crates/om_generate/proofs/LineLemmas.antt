@@ -1,4 +1,4 @@
--- What `tally_of` knows of a value: the bytes that came to the sink are those of each tree of it.
+-- Lemmas for `tally_of`: the sink receives the bytes of each tree of the value.
 use Rattle.std.proofs.Common.{◌≡◌, List, ℕ, [], length, sym, ◌∙◌, ap}
 use Rattle.om_model.specs.declared.value.Val.{Val}
 use Rattle.om_model.specs.declared.value.Obj.{Obj}
@@ -12,11 +12,11 @@ use Rattle.om_edge.specs.State.{change}
 use Rattle.om_edge.specs.Sink.{Puts}
 use Rattle.om_generate.specs.Tally.{Told, tally_state}
 
--- a value has one tree
+-- A value has exactly one tree.
 same_tree : (g : List Obj) (v : Val) (one other : Tree) → IsHeap g → IsValue (length g) v → IsTreeOf g v one → IsTreeOf g v other → one ≡ other
 same_tree g v one other heap valid is_one is_other = let t = has_one_tree g v heap.is_graph valid in t.only one is_one ∙ sym (t.only other is_other)
 
--- what was put into an empty tally is all that it has
+-- If a text is written to an empty sink, then the sink contains exactly this text.
 pub all_put : (before after : Told) (text : List ℕ) → before.written ≡ [] → Puts (change (tally_state before) (tally_state after)) text → after.written ≡ text
 all_put before after text empty puts = let e = puts.appended in cc
 

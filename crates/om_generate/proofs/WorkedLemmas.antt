@@ -1,4 +1,4 @@
--- The trees of the worked values: `worked_values_are_generated`.
+-- The trees of the worked examples, for `worked_values_are_generated`.
 use Rattle.std.proofs.Common.{◌≡◌, ℕ, ◌+◌, ◌<◌, List, [], ◌∷◌, refl, arith, lit<}
 use Rattle.std.specs.Prelude.{replicate, All, IsSomeAnd, slice_get, pos}
 use Rattle.std.proofs.lemmas.List.Elements.{All-from_recursion, All-contains, All-replicate}
@@ -32,7 +32,7 @@ empty_is = record {
   same = ([], record { one_to_one = λ k l m n a b. absurd (let none : a.0 < 0 = a.1 in omega arith); alike = λ k l a. absurd (let none : a.0 < 0 = a.1 in omega arith) }, refl);
 }
 
--- the tree numbers the objects from the last one on
+-- The tree numbers the objects from the last to the first.
 abbrev pairs : List (ℕ × ℕ)
 pairs = (4, 0) ∷ (3, 1) ∷ (2, 2) ∷ (1, 3) ∷ (0, 4) ∷ []
 

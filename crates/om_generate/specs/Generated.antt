@@ -1,5 +1,5 @@
--- Values that are made from a number: a list of items, each drawn from a linear congruential
--- generator modulo 2^31, with items that share earlier ones.
+-- Generated values: a list of items that a linear congruential generator modulo 2^31 draws. Items
+-- may share earlier items.
 use Rattle.std.specs.Prelude.{ℕ, zero, suc, ◌+◌, ◌*◌, ◌/◌, ◌%◌, ◌^◌, ◌==◌, if◌then◌else◌, List, []}
 use Rattle.std.specs.Prelude.{◌∷◌, ◌++◌, length, replicate, slice_index_or, pos, codes}
 use Rattle.om_model.specs.declared.value.Val.{Val}
@@ -9,34 +9,34 @@ use Rattle.om_model.specs.declared.value.Obj.TheVariants as objects
 use Rattle.om_generate.specs.declared.item.Item.{Item}
 use Rattle.om_generate.specs.declared.item.Item.TheVariants.{Nil, Num, Text, Pair, Cell}
 
--- the type of the items, as a file of declarations
+-- The type of the items, as a file of declarations.
 abbrev pub item_declarations : List ℕ
 item_declarations =
     codes "type item = Nil | Num of int | Text of string | Pair of item * item | Cell of item ref"
 
 -- ---- draws
 
--- the state after one draw more
+-- The state after one more draw.
 abbrev pub next_state : ℕ → ℕ
 next_state state = (state * 1103515245 + 12345) % 2 ^ 31
 
--- what a draw gives, by the state after it
+-- The drawn number, by the state after the draw.
 abbrev pub drawn : ℕ → ℕ
 drawn state = state / 256
 
--- the state after so many draws
+-- The state after `n` draws.
 abbrev pub state_after : ℕ → ℕ → ℕ
 state_after zero state = state
 state_after (suc n) state = next_state (state_after n state)
 
--- draw k from a state, counted from 1
+-- The number of draw `k` from a state, counted from 1.
 abbrev pub draw : ℕ → ℕ → ℕ
 draw k state = drawn (state_after k state)
 
 -- ---- items
 
--- the item of a kind, number i, by two draws; a pair and a cell refer to earlier items, so that
--- item 0 is none of them
+-- Item `i` of a kind, by two drawn numbers. A pair and a cell refer to earlier items, so item 0 is
+-- neither.
 abbrev pub item_of : (kind i b c : ℕ) → Item
 item_of kind i b c =
     if kind == 0 then Nil
@@ -46,18 +46,18 @@ item_of kind i b c =
     else (if kind == 3 then Pair (b % i) (c % i)
     else Cell (b % i)))))
 
--- item i takes three draws, of which the first chooses its kind
+-- Item `i` takes three draws. The first draw chooses its kind.
 abbrev pub item_at : ℕ → ℕ → Item
 item_at i state = item_of (draw 1 state % 5) i (draw 2 state) (draw 3 state)
 
--- ---- their objects
+-- ---- the objects of items
 
--- the value of an earlier item
+-- The value of an earlier item.
 abbrev pub earlier : List Val → ℕ → Val
 earlier values i = slice_index_or values i (vals.Int (pos 0))
 
--- the objects of an item, which are numbered from `first` on, by the values of the earlier items;
--- the constructors with arguments are Num, Text, Pair and Cell, with tags from 0 on
+-- The objects of an item, numbered from `first`. `values` holds the values of the earlier items.
+-- The constructors with arguments are `Num`, `Text`, `Pair` and `Cell`, with tags from 0.
 abbrev pub objects_of : (first : ℕ) → List Val → Item → List Obj
 objects_of first values Nil = []
 objects_of first values (Num n) = objects.Block 0 (vals.Int (pos n) ∷ []) ∷ []
@@ -67,7 +67,7 @@ objects_of first values (Pair i j) = objects.Block 2 (earlier values i ∷ earli
 objects_of first values (Cell i) =
     objects.Block 0 (earlier values i ∷ []) ∷ objects.Block 3 (vals.Ref first ∷ []) ∷ []
 
--- its value is the last of them
+-- The value of an item. If it is an object, it is the last of the item's objects.
 abbrev pub value_of : (first : ℕ) → Item → Val
 value_of first Nil = vals.Int (pos 0)
 value_of first (Num n) = vals.Ref first
@@ -75,13 +75,13 @@ value_of first (Text len byte) = vals.Ref (first + 1)
 value_of first (Pair i j) = vals.Ref first
 value_of first (Cell i) = vals.Ref (first + 1)
 
--- the objects so far, the values of the items so far, and the state of the draws
+-- The objects and values of the items so far, and the state of the random generator.
 pub record Made : Type 0 where
   pub all : List Obj
   pub values : List Val
   pub state : ℕ
 
--- with one item more
+-- The state with one more item.
 abbrev pub with_item : Made → Item → Made
 with_item made item = record {
   all = made.all ++ objects_of (length made.all) made.values item;
@@ -92,20 +92,20 @@ with_item made item = record {
 abbrev pub next_made : Made → Made
 next_made made = with_item made (item_at (length made.values) made.state)
 
--- the first so many items
+-- The first `count` items.
 abbrev pub items_made : ℕ → ℕ → Made
 items_made number zero = record { all = []; values = []; state = number }
 items_made number (suc count) = next_made (items_made number count)
 
--- ---- the list of them
+-- ---- the list of the items
 
--- the list of these values, and the objects with its cells behind them, the last cell first
+-- The list of these values, and the objects followed by its cells, the last cell first.
 abbrev pub listed : List Obj → List Val → List Obj × Val
 listed all [] = (all, vals.Int (pos 0))
 listed all (v ∷ vs) =
     let rest = listed all vs in
     (rest.0 ++ objects.Block 0 (v ∷ rest.1 ∷ []) ∷ [], vals.Ref (length rest.0))
 
--- the graph and the root that a number and a count of items make
+-- The graph and the root for a number and a count of items.
 abbrev pub generated : ℕ → ℕ → List Obj × Val
 generated number count = let made = items_made number count in listed made.all made.values

@@ -4,11 +4,11 @@ use Rattle.om_model.specs.Graph.{IsValue}
 use Rattle.om_generate.specs.Generated.{Made}
 use Rattle.om_generate.specs.declared.made.Items.{Items}
 
--- as the definitions have them
+-- The items in terms of the specification.
 abbrev pub made_of : Items → Made
 made_of items = record { all = items.heap; values = items.values.items; state = items.state }
 
--- the state is one of draws, and the values are those of the objects
+-- The state is a state of the random generator, and the values belong to the heap.
 pub record AreSound (items : Items) : Type 0 where
   pub state : items.state < 2 ^ 31
   pub values : All (IsValue (length items.heap)) items.values.items

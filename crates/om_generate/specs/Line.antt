@@ -1,10 +1,10 @@
--- The line on a value that is made from a number.
+-- The line for a generated value.
 use Rattle.std.specs.Prelude.{ℕ, List, ◌++◌, length, sum, codes, decimal}
 use Rattle.om_format.specs.Canonical.{canon, canonical_head}
 use Rattle.om_format.specs.Tree.{Tree, tokens}
 
--- its canonical bytes with their header, and the sum of these; its objects and their words on 64
--- bits, as the header states them; and its verdict
+-- The line contains the number of the canonical bytes including the header, their sum, the objects
+-- and 64-bit words as the header states them, and the verdict.
 abbrev pub generated_text : Tree → List ℕ → List ℕ
 generated_text tree verdict =
     let head = canonical_head (tokens tree) in

@@ -1,9 +1,9 @@
--- What holds of items.
+-- Valid items.
 use Rattle.std.specs.Prelude.{ℕ, ◌^◌, ◌<◌}
 use Rattle.om_generate.specs.declared.item.Item.{Item}
 use Rattle.om_generate.specs.declared.item.Item.TheVariants.{Nil, Num, Text, Pair, Cell}
 
--- after i items: its numbers are in range, and it refers to earlier items alone
+-- Item `i`: its numbers are in range, and it refers only to earlier items.
 abbrev pub IsItem : ℕ → Item → Type 0
 IsItem i Nil = Unit {0}
 IsItem i (Num n) = n < 2 ^ 23

@@ -1,8 +1,8 @@
--- A sink that counts.
+-- The model of the sink that counts bytes.
 use Rattle.std.specs.Prelude.{ℕ, ◌+◌, ◌^◌, ◌≤◌, ◌⊎◌, List, length, sum, Some}
 use Rattle.om_edge.specs.State.{ByteState}
 
--- the bytes that came, and how many calls failed
+-- The bytes received, and the number of failed calls.
 pub record Told : Type 0 where
   pub written : List ℕ
   pub faults : ℕ
@@ -10,7 +10,7 @@ pub record Told : Type 0 where
 abbrev pub tally_state : Told → ByteState
 tally_state told = record { bytes = Some told.written; faults = told.faults }
 
--- with these bytes more, their number or their sum does not fit 64 bits
+-- With these additional bytes, the number or the sum of the bytes does not fit in 64 bits.
 abbrev pub HasNoRoom : Told → List ℕ → Type 0
 HasNoRoom told bytes =
     (2 ^ 64 ≤ length told.written + length bytes) ⊎ (2 ^ 64 ≤ sum told.written + sum bytes)

@@ -1,4 +1,4 @@
--- Values that were worked out by hand.
+-- Worked examples.
 use Rattle.std.specs.Prelude.{ℕ, ◌≡◌, [], ◌∷◌, replicate, pos, codes}
 use Rattle.om_model.specs.declared.value.Val.TheVariants as vals
 use Rattle.om_model.specs.declared.value.Obj.TheVariants as objects
@@ -8,25 +8,25 @@ use Rattle.om_format.specs.Tree.{Tree, node, none, more}
 use Rattle.om_generate.specs.Generated.{generated}
 use Rattle.om_generate.specs.Line.{generated_text}
 
--- an integer as a tree, and a cell of a list
+-- The tree of an integer, and the tree of a list cell.
 abbrev pub an_int : ℕ → Tree
 an_int n = node (integer (pos n)) none
 
 abbrev pub a_cell : Tree → Tree → Tree
 a_cell first rest = node (block 0 2) (more first (more rest none))
 
--- `Text` of 38 bytes `c`
+-- The tree of `Text` with 38 bytes `c`.
 abbrev pub a_text : Tree
 a_text = node (block 1 1) (more (node (leaf (objects.Bytes (replicate 38 99))) none) none)
 
--- the list of Nil, Nil and this Text
+-- The list of `Nil`, `Nil` and this `Text`.
 abbrev pub three : Tree
 three = a_cell (an_int 0) (a_cell (an_int 0) (a_cell a_text (an_int 0)))
 
 pub record Worked : Type 0 where
-  -- number 1 with no items
+  -- Number 1 with no items.
   pub none_at_all : generated 1 0 ≡ ([], vals.Int (pos 0))
-  -- and with three
+  -- Number 1 with three items.
   pub three_items : generated 1 3 ≡ (
     objects.Bytes (replicate 38 99) ∷ objects.Block 1 (vals.Ref 0 ∷ [])
         ∷ objects.Block 0 (vals.Ref 1 ∷ vals.Int (pos 0) ∷ [])
@@ -34,10 +34,10 @@ pub record Worked : Type 0 where
         ∷ objects.Block 0 (vals.Int (pos 0) ∷ vals.Ref 3 ∷ []) ∷ [],
     vals.Ref 4,
   )
-  -- their trees
+  -- The trees of both values.
   pub empty_tree : IsTreeOf (generated 1 0).0 (generated 1 0).1 (an_int 0)
   pub three_tree : IsTreeOf (generated 1 3).0 (generated 1 3).1 three
-  -- their lines
+  -- The lines for both values.
   pub empty_line : generated_text (an_int 0) (codes "yes")
       ≡ codes "bytes 21 sum 702 objects 0 words 0 yes"
   pub three_line : generated_text three (codes "yes")

@@ -1,30 +1,30 @@
-//! The items of a value that is made, as they are drawn.
+//! The pseudo-random items of a generated value.
 
 ghost use Rattle.std.specs.Prelude.{◌≡◌, ◌^◌, ◌<◌};
 ghost use Rattle.om_generate.specs.Generated.{item_declarations, next_state, drawn, item_of};
 ghost use Rattle.om_generate.specs.Generated.{item_at, state_after};
 ghost use Rattle.om_generate.specs.Sound.{IsItem};
 
-/// An item: what is drawn for it, and the numbers of the earlier items that it refers to.
+/// An item: the numbers drawn for it, and the numbers of the earlier items to which it refers.
 #[derive(Clone, Copy)]
 pub enum Item {
     Nil,
     Num(u64),
-    /// So many bytes, each the same.
+    /// A string: its length in bytes, and the byte that it repeats.
     Text(u64, u8),
     Pair(u64, u64),
-    /// A reference of its own to an item.
+    /// A new reference cell that contains an item.
     Cell(u64),
 }
 
-/// The type of the items, as a file of declarations.
+/// Returns the type of the items, as a file of declarations.
 pub fn declarations() -> &'static [u8]
     ensures { result.now ≡ item_declarations }
 {
     b"type item = Nil | Num of int | Text of string | Pair of item * item | Cell of item ref"
 }
 
-/// Draws a number of 23 bits.
+/// Draws a pseudo-random number of 23 bits.
 fn draw(state: &mut u64) -> u64
     requires { state.old < 2 ^ 31 }
     ensures state { state.new ≡ next_state state.old }
@@ -36,7 +36,7 @@ fn draw(state: &mut u64) -> u64
     *state / 256
 }
 
-/// Draws item i. Each item takes three draws, whatever it is.
+/// Draws item `i`. Every item takes three draws.
 pub fn draw_item(state: &mut u64, i: u64) -> Item
     requires { state.old < 2 ^ 31 }
     ensures item { result ≡ item_at i state.old }
@@ -50,7 +50,7 @@ pub fn draw_item(state: &mut u64, i: u64) -> Item
     item_by(kind, i, b, c)
 }
 
-/// The item of a kind.
+/// Returns the item of a kind.
 fn item_by(kind: u64, i: u64, b: u64, c: u64) -> Item
     requires { b < 2 ^ 23 }
     ensures item { result ≡ item_of kind i b c }

@@ -1,8 +1,9 @@
-//! Laws over the definitions. The functions do nothing: what each ensures is the law.
+//! Laws over the definitions, as contracts of lemma functions.
 
 ghost use Rattle.om_generate.specs.Worked.{Worked};
 
-/// Worked numbers make the values that they should, of which is said what should be.
+/// States worked examples: the values that certain numbers generate, and the lines for these
+/// values.
 pub fn worked_values_are_generated()
     ensures { Worked }
 {}

@@ -1,5 +1,6 @@
-//! Values that are made from a number, and what is said of them: how many bytes they have when they
-//! are written, the sum of these, their objects and their words.
+//! Generates a value from a number, and reports on it: the length and the sum of its bytes, its
+//! objects and its words. `generate` promises the value that the specification `generated` defines.
+//! `generated_line` promises the line for a value. The verdict in that line comes from the caller.
 #![tactic(auto)]
 
 mod item;

@@ -1,4 +1,4 @@
-//! What is said of a value that was made.
+//! The line for a generated value.
 
 ghost use Rattle.std.specs.Prelude.{◌≡◌, ◌++◌, OnOk, IfOk, decimal};
 ghost use Rattle.om_format.specs.Canonical.{canon};
@@ -13,8 +13,8 @@ use om_model::Memory;
 use om_write::{head_of, write};
 use std::alloc::Global;
 
-/// The line of a value: its canonical bytes, their sum, its objects, their words on 64 bits, and
-/// its verdict.
+/// Returns the line for a value: the number of its canonical bytes, their sum, its objects, its
+/// size in 64-bit words, and its verdict.
 pub fn generated_line(alloc: Global, value: &Rooted<'_>, verdict: &[u8]) -> Result<Vec<u8>, Memory>
     ensures { (tree : Tree) → IsTreeOf value.now.heap.now value.now.root tree
         → IfOk result (λ line. line.items ≡ generated_text tree verdict.now) }
@@ -31,7 +31,7 @@ pub fn generated_line(alloc: Global, value: &Rooted<'_>, verdict: &[u8]) -> Resu
     Ok(line)
 }
 
-/// The canonical bytes of a value, counted and summed.
+/// Counts and sums the canonical bytes of a value.
 fn tally_of(alloc: Global, value: &Rooted<'_>) -> Result<Tally, Memory>
     ensures { (tree : Tree) → IsTreeOf value.now.heap.now value.now.root tree
         → IfOk result (λ tally. tally.written ≡ canon tree) }
@@ -44,7 +44,7 @@ fn tally_of(alloc: Global, value: &Rooted<'_>) -> Result<Tally, Memory>
     }
 }
 
-/// Puts a name and a number at the end.
+/// Appends a name and a number.
 fn put_count(line: &mut Vec<u8>, name: &[u8], n: u64) -> Result<(), Memory>
     ensures { OnOk result (line.new.items ≡ line.old.items ++ name.now ++ decimal n) }
 {
@@ -52,7 +52,7 @@ fn put_count(line: &mut Vec<u8>, name: &[u8], n: u64) -> Result<(), Memory>
     put(line, Buffer::new().format(n).as_bytes())
 }
 
-/// Puts bytes at the end.
+/// Appends bytes.
 fn put(line: &mut Vec<u8>, bytes: &[u8]) -> Result<(), Memory>
     ensures { OnOk result (line.new.items ≡ line.old.items ++ bytes.now) }
 {

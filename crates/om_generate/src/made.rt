@@ -1,4 +1,4 @@
-//! The value that a number makes.
+//! The value generator.
 
 ghost use Rattle.std.specs.Prelude.{◌≡◌, ◌^◌, ◌<◌, ◌≤◌, length, OnOk, IfOk};
 ghost use Rattle.om_model.specs.Graph.{IsValue};
@@ -12,14 +12,14 @@ use om_model::Memory;
 use om_model::value::Val;
 use std::alloc::Global;
 
-/// A value: its root, and the graph that it refers to.
+/// A generated value: its heap and its root.
 #[derive(Drop)]
 pub struct Generated {
     pub heap: Heap,
     pub root: Val,
 }
 
-/// The items so far: their objects, their values, and the state of the draws.
+/// The items so far: their heap, their values, and the state of the random generator.
 #[derive(Drop)]
 struct Items {
     heap: Heap,
@@ -27,7 +27,7 @@ struct Items {
     state: u64,
 }
 
-/// The value that a number makes, with so many items.
+/// Generates the value of a number, with `count` items.
 pub fn generate(alloc: Global, number: u64, count: u64) -> Result<Generated, Memory>
     requires number { number < 2 ^ 31 }
     requires count { count ≤ 1000000 }

@@ -1,4 +1,4 @@
-//! The objects of items, and of the list of them.
+//! Appends the objects of items, and the list of the items, to a heap.
 
 ghost use Rattle.std.specs.Prelude.{◌≡◌, ◌++◌, ◌∷◌, [], ◌<◌, ◌≤◌, length, All, IfOk, OnOk};
 ghost use Rattle.om_model.specs.Graph.{IsValue};
@@ -12,7 +12,7 @@ use om_heap::Heap;
 use om_model::Memory;
 use om_model::value::Val;
 
-/// Appends a block of one field.
+/// Appends a block with one field.
 fn add_one(heap: &mut Heap, tag: u8, v: Val) -> Result<u64, Memory>
     requires tag { tag ≤ 243 }
     requires valid { IsValue (length heap.old) v }
@@ -22,7 +22,7 @@ fn add_one(heap: &mut Heap, tag: u8, v: Val) -> Result<u64, Memory>
     heap.add_block_of(tag, &words)
 }
 
-/// Appends a block of two fields.
+/// Appends a block with two fields.
 fn add_two(heap: &mut Heap, tag: u8, v: Val, w: Val) -> Result<u64, Memory>
     requires tag { tag ≤ 243 }
     requires first { IsValue (length heap.old) v }
@@ -33,7 +33,8 @@ fn add_two(heap: &mut Heap, tag: u8, v: Val, w: Val) -> Result<u64, Memory>
     heap.add_block_of(tag, &words)
 }
 
-/// Appends the objects of an item; its value, where these are the values of the earlier items.
+/// Appends the objects of an item, and returns its value. `values` holds the values of the earlier
+/// items.
 pub fn add_item(heap: &mut Heap, values: &[Val], item: Item) -> Result<Val, Memory>
     requires values { All (IsValue (length heap.old)) values.now }
     requires item { IsItem (length values.now) item }
@@ -57,7 +58,7 @@ pub fn add_item(heap: &mut Heap, values: &[Val], item: Item) -> Result<Val, Memo
     }
 }
 
-/// Appends a text of so many bytes.
+/// Appends a `Text` item with a string of `len` bytes.
 fn add_text(heap: &mut Heap, len: usize, byte: u8) -> Result<Val, Memory>
     requires { len < 40 }
     ensures objects { OnOk result
@@ -70,7 +71,7 @@ fn add_text(heap: &mut Heap, len: usize, byte: u8) -> Result<Val, Memory>
     Ok(Val::Ref(add_one(heap, 1, Val::Ref(of))?))
 }
 
-/// Appends the cells of the list of these values, the last one first; the list.
+/// Appends the cells of the list of these values, the last cell first. Returns the list.
 pub fn add_list(heap: &mut Heap, values: &[Val]) -> Result<Val, Memory>
     requires { All (IsValue (length heap.old)) values.now }
     ensures listed { IfOk result (λ list. (heap.new, list) ≡ listed heap.old values.now) }

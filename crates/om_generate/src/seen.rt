@@ -1,11 +1,11 @@
-//! Bytes that only clauses see.
+//! Bytes that exist only in contracts.
 
 ghost use Rattle.std.specs.Prelude.{◌≡◌, ◌++◌, [], ℕ, List};
 ghost use Rattle.std.specs.Borrow.{ftrue};
 
 use std::marker::{Model, PhantomData};
 
-/// The bytes that have come. When the program runs, nothing of them is kept.
+/// The bytes received so far. At run time nothing is stored.
 #[derive(Drop)]
 pub struct Seen {
     marker: PhantomData<u8>,
@@ -17,7 +17,7 @@ impl Model for Seen {
 }
 
 impl Seen {
-    /// None.
+    /// Creates an empty record of bytes.
     pub(crate) fn nothing() -> Seen
         ensures { result.bytes ≡ [] }
     {
@@ -26,7 +26,7 @@ impl Seen {
         }
     }
 
-    /// These bytes come after the others.
+    /// Appends bytes.
     pub(crate) fn add(&mut self, _more: &[u8])
         ensures { self.new.bytes ≡ self.old.bytes ++ _more.now }
     {}

@@ -1,4 +1,4 @@
-//! A sink that counts the bytes that go to it, and keeps their sum.
+//! A sink that counts and sums bytes.
 
 ghost use Rattle.std.specs.Prelude.{◌≡◌, ◌↔◌, ◌≤◌, [], length, take, min, sum, is_err, IsErr, IfOk};
 ghost use Rattle.om_edge.specs.Faults.{count_after};
@@ -9,11 +9,11 @@ use crate::seen::Seen;
 use om_edge::{Failed, Sink};
 use std::marker::Model;
 
-/// How many bytes are summed in one call.
+/// The maximum number of bytes that one call accepts.
 const MOST: usize = 65536;
 
-/// A sink that keeps of its bytes only how many there are, and their sum. A call fails where one of
-/// these has no room in 64 bits.
+/// A sink that stores only the number and the sum of its bytes. A call fails if one of these would
+/// not fit in 64 bits.
 #[derive(Drop)]
 pub struct Tally {
     count: u64,
@@ -34,7 +34,7 @@ impl Model for Tally {
 }
 
 impl Tally {
-    /// No byte has come.
+    /// Creates a sink that has received no bytes.
     pub fn new() -> Tally
         ensures { result ≡ record { written = []; faults = 0 } }
     {
@@ -46,14 +46,14 @@ impl Tally {
         }
     }
 
-    /// How many bytes came.
+    /// Returns the number of bytes received.
     pub fn count(&self) -> u64
         ensures { result ≡ length self.now.written }
     {
         self.count
     }
 
-    /// Their sum.
+    /// Returns the sum of the bytes received.
     pub fn sum(&self) -> u64
         ensures { result ≡ sum self.now.written }
     {
@@ -70,7 +70,7 @@ impl Sink for Tally {
         ensures appends { AppendsFront (tally_state self.old) (tally_state self.new) result
             piece.now }
 
-        // How many bytes it takes, and when it fails.
+        // How many bytes a call accepts, and when it fails.
         ensures amount { IfOk result (λ n. n ≡ min (length piece.now) MOST) }
         ensures fails { IsErr result
             ↔ HasNoRoom self.old (take (min (length piece.now) MOST) piece.now) }
@@ -95,7 +95,7 @@ impl Sink for Tally {
     }
 }
 
-/// The sum of the bytes.
+/// Returns the sum of the bytes.
 fn sum_of(bytes: &[u8]) -> u64
     requires { length bytes.now ≤ MOST }
     ensures { result ≡ sum bytes.now }

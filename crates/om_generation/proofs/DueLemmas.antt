@@ -1,4 +1,5 @@
--- A call has exactly the status that its words and TYPE have, unless it could not be said.
+-- A run has exactly the status that its arguments and TYPE determine, unless memory ran out or
+-- writing failed.
 use Rattle.std.proofs.Common.{◌≡◌, ◌≢◌, ◌⊎◌, ℕ, List, [], Bool, true, false, Ok, Err, inl, inr, refl, sym, ap, ◌∙◌, subst, append-nil}
 use Rattle.std.specs.Prelude.{◌↔◌, ◌&&◌, if◌then◌else◌}
 use Rattle.om_outcome.specs.declared.status.Status.{Status}
@@ -22,7 +23,7 @@ use Rattle.om_generation.specs.Meanings.{IsToldOf, IsTold, Gives, AskFor, IsDue,
 use Rattle.om_generation.proofs.FindLemmas.{refused_type}
 
 module _ {D T E : Type 0} (language : Language D T E) where
-  -- the one reply is the line
+  -- The only reply is the line.
   alone_says :
       (a : Making T) (all : Replies) → SaysAlone (generation language) a all
       → (said : Said) × (all ≡ replies [] (says said)) × IsMadeLine language a said
@@ -37,7 +38,7 @@ module _ {D T E : Type 0} (language : Language D T E) where
     by (stops stop) e ends = absurd ends
 
   module _ (words : List (List ℕ)) where
-    -- the line is said, which was asked for
+    -- Case: the output is the line.
     pub record IsLineOf (all : Replies) : Type 0 where
       pub asked : Asked
       pub ask : AskFor language words asked
@@ -45,7 +46,7 @@ module _ {D T E : Type 0} (language : Language D T E) where
       pub told : IsToldOf language asked said
       pub is : all ≡ replies [] (says said)
 
-    -- or the run stops at its words or its TYPE
+    -- Case: the run ends at its arguments or at TYPE.
     pub record IsStopOf (all : Replies) : Type 0 where
       pub stop : Stop
       pub is : all ≡ stopped stop
@@ -54,7 +55,7 @@ module _ {D T E : Type 0} (language : Language D T E) where
           × IsRefusedType language item_declarations (asked_type asked.type false))
 
     module _ (given : Given) where
-      -- what an outcome says
+      -- The two cases of an outcome.
       outcome_is :
           (all : Replies) → RunReplies (generation language) words given all
           → IsLineOf all ⊎ IsStopOf all
@@ -97,7 +98,7 @@ module _ {D T E : Type 0} (language : Language D T E) where
                   is = one.1;
                 })
 
-      -- the line gives its status
+      -- The line determines its status.
       line_gives :
           (asked : Asked) (well : Bool) → IsTold language asked well
           → Gives language asked (if well && true then statuses.Well else statuses.No)
@@ -121,7 +122,7 @@ module _ {D T E : Type 0} (language : Language D T E) where
             by (inr (asked, ask, is, refused)) =
                 subst (IsDue language words) (sym is) (inr (asked, ask, refused))
 
-      -- and back: what is due has an outcome
+      -- Conversely, if a status is due, then there is an outcome with it.
       abbrev HasOutcome : Status → Type 0
       HasOutcome status =
           (all : Replies) × RunReplies (generation language) words given all
@@ -235,7 +236,7 @@ module _ {D T E : Type 0} (language : Language D T E) where
         by (inr unsaid) = inl unsaid
 
     module _ (call : Call) where
-      -- a status that is neither due nor one of the outside does not come
+      -- A status that is neither due nor caused by the environment does not occur.
       not_due :
           HasWhatIsDue language words call → (status : Status) → (IsUnsaid status → ⊥)
           → (IsDue language words status → ⊥) → call.status ≢ status

@@ -1,4 +1,4 @@
--- TYPE is read once over the declarations of the items, as over those of a file that holds them.
+-- TYPE is parsed in one way over the declarations of the items, as over a file that contains them.
 use Rattle.std.proofs.Common.{◌≡◌, ℕ, false, List, [], Some, None, Result, Ok, Err, inl, inr, refl, sym, ap, ◌∙◌, subst}
 use Rattle.om_outcome.specs.declared.status.Status.TheVariants.{Types}
 use Rattle.om_outcome.specs.Outcome.{Found, opened, whole, Request, asked_type, status_of, Language, Then, ReadsTypeOf}
@@ -13,11 +13,11 @@ use Rattle.om_commands.proofs.GivenLemmas.{type_given}
 use Rattle.om_meanings.specs.Stages.{IsRefusedType}
 use Rattle.om_generation.specs.Generation.{Asked, generated_by, Making, making, ReadsItemType, Finds}
 
--- each name has the declarations of the items
+-- Each file name has the declarations of the items.
 abbrev items_file : List ℕ → Found
 items_file name = opened (whole item_declarations)
 
--- the words ask for one thing
+-- The arguments parse in one way.
 same_asked :
     (request : Request) (asked other : Asked) → generated_by request ≡ Some asked
     → generated_by request ≡ Some other → asked ≡ other
@@ -29,14 +29,14 @@ module _ {D T E : Type 0} (language : Language D T E) where
       → ReadsTypeOf language items_file ([], asked_type text false) result
   as_typed text result h = (Ok item_declarations, refl, h)
 
-  -- the type was read
+  -- Case: TYPE is valid.
   item_type_given :
       (text : List ℕ) (type : T) → ReadsItemType language text (Ok type) → IsGiven language type
   item_type_given text type h =
       type_given language (record { file = items_file; script = items_file }) []
       (asked_type text false) type (as_typed text (Ok type) h)
 
-  -- a stop there tells that TYPE is refused
+  -- If the run ends there, then TYPE is refused.
   pub refused_type :
       (text : List ℕ) (stop : Stop) → ReadsItemType language text (Err stop)
       → (status_of stop ≡ Types) × IsRefusedType language item_declarations (asked_type text false)
@@ -61,7 +61,7 @@ module _ {D T E : Type 0} (language : Language D T E) where
         by (inl inner) = inner
         by (inr fault) = let never : None ≡ Some stop = fault in absurd (cc never)
 
-    -- what is found of what is asked for
+    -- The task that is found for the parsed arguments.
     abbrev FindsMaking : Asked → Result (Making T) Stop → Type 0
     FindsMaking asked =
         Then (ReadsItemType language asked.type) (λ type found. found ≡ Ok (making asked type))

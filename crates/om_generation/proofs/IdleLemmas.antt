@@ -1,4 +1,4 @@
--- The command is idle at each other request.
+-- The command does nothing for any other request.
 use Rattle.std.proofs.Common.{◌≡◌, ◌∙◌, Some, None, sym}
 use Rattle.om_outcome.specs.Outcome.{Request, Language}
 use Rattle.om_choice.specs.Choice.{IsIdleAt}

@@ -1,4 +1,4 @@
--- The command is lawful, where the language is: a value has one tree, and this one line.
+-- If the language is lawful, then the command is. A value has one tree, and the tree has one line.
 use Rattle.std.proofs.Common.{◌≡◌, ℕ, List, inl, sym, ap, ◌∙◌, subst}
 use Rattle.om_format.specs.Tree.{Tree}
 use Rattle.om_canonical.proofs.SameTree.{one_tree_only}
@@ -59,7 +59,7 @@ module _ {D T E : Type 0} (language : Language D T E) where
     at = λ a found. lawful_at lawful a (found_given language found.0 found.1 a found.2);
   }
 
-  -- it wants no file
+  -- The command requests no file.
   pub generation_turns : AreInTurns (generation language)
   generation_turns = record {
     by_earlier = λ request files others turn name same h. h;

@@ -1,4 +1,4 @@
--- No file is fetched, and nothing is taken of the input.
+-- No file is fetched, and no input is read.
 use Rattle.std.proofs.Common.{◌≡◌, ◌≤◌, ℕ, zero, suc, List, inl, inr, sym, ◌∙◌, subst, arith}
 use Rattle.om_outcome.specs.Outcome.{Taken, Language}
 use Rattle.om_edge.specs.State.{Change, FilesState, change}

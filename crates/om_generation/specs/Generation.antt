@@ -1,5 +1,5 @@
--- The command on a value that is made from a number, in the general form: it wants no file and
--- reads no input, and its last reply is the line of the value.
+-- The command `gen` in the general form. It requests no file and reads no input. Its final reply is
+-- the line of the generated value.
 use Rattle.std.specs.Prelude.{ℕ, ◌≡◌, false, List, [], Option, Some, None, Result, Ok}
 use Rattle.om_format.specs.Iso.{IsTreeOf}
 use Rattle.om_format.specs.Tree.{Tree}
@@ -12,7 +12,7 @@ use Rattle.om_generate.specs.Generated.{item_declarations, generated}
 use Rattle.om_generate.specs.Line.{generated_text}
 use Rattle.om_promises.specs.Commands.{Item, Fetches, Commands}
 
--- what is asked for: the number, how many items are made from it, and TYPE
+-- The parsed arguments: the number, the count of items that are made from it, and TYPE.
 pub record Asked : Type 0 where
   pub number : ℕ
   pub count : ℕ
@@ -23,22 +23,23 @@ generated_by (own (generate number count type)) =
     Some (record { number = number; count = count; type = type })
 generated_by request = None
 
--- what is done: the value that the number makes is told of at a type
+-- The task: the output for the value that the number makes, at a type.
 pub record Making (T : Type 0) : Type 0 where
   pub number : ℕ
   pub count : ℕ
   pub type : T
 
--- so much of it, at the type that TYPE is read as
+-- The task for the type that TYPE denotes.
 abbrev pub making : {T : Type 0} → Asked → T → Making T
 making asked type = record { number = asked.number; count = asked.count; type = type }
 
--- a tree of the value
+-- A tree of the generated value.
 abbrev pub IsMadeTree : (number count : ℕ) → Tree → Type 0
 IsMadeTree number count tree = IsTreeOf (generated number count).0 (generated number count).1 tree
 
 module _ {D T E : Type 0} (language : Language D T E) where
-  -- TYPE, over the declarations of the items; places in it are told by the numbers of bytes
+  -- TYPE is parsed over the declarations of the items. Positions in TYPE are reported as byte
+  -- numbers.
   abbrev pub ReadsItemType : List ℕ → Result T Stop → Type 0
   ReadsItemType text =
       Then (OrRefusal (language.ReadsDeclarations false item_declarations) declarations) (λ decls.
@@ -49,7 +50,7 @@ module _ {D T E : Type 0} (language : Language D T E) where
       (asked : Asked) × (generated_by request ≡ Some asked)
       × Then (ReadsItemType asked.type) (λ type found. found ≡ Ok (making asked type)) result
 
-  -- what is said of the value: the numbers of its canonical bytes, and its verdict
+  -- The output for the value: the numbers of its canonical bytes, and its verdict.
   pub record IsMadeLine (a : Making T) (said : Said) : Type 0 where
     pub tree : Tree
     pub is_tree : IsMadeTree a.number a.count tree
@@ -57,7 +58,7 @@ module _ {D T E : Type 0} (language : Language D T E) where
     pub is_verdict : language.LineOf the_verdict a.type tree verdict said.well
     pub text_is : said.text ≡ line (generated_text tree verdict)
 
-  -- before any byte it is said, and the run never stops
+  -- The output comes before any byte of the input, and the run always ends with an output.
   abbrev pub EndsWithLine : Making T → List Item → List ℕ → Reply → Type 0
   EndsWithLine a items bytes (says said) = (items ≡ []) × (bytes ≡ []) × IsMadeLine a said
   EndsWithLine a items bytes (stops stop) = ⊥

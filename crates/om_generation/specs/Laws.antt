@@ -1,4 +1,4 @@
--- The command is idle at each request that is not its own.
+-- The command does nothing for a request that is not its own.
 use Rattle.std.specs.Prelude.{◌≡◌, None}
 use Rattle.om_outcome.specs.Outcome.{Request, Language}
 use Rattle.om_choice.specs.Choice.{IsIdleAt}

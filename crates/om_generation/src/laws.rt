@@ -1,4 +1,4 @@
-//! The laws. Each function does nothing: what it ensures is the law.
+//! Lemma functions. They do nothing at run time: the contract of each function is a law.
 
 ghost use Rattle.om_promises.specs.CommandLaws.{HaveOneOutcome, HaveOneStop, StopsStay};
 ghost use Rattle.om_promises.specs.CommandLaws.{StopsAreLast, ArePromised, Follow};
@@ -18,7 +18,7 @@ use om_commands::laws::Speaks;
 use om_promises::laws::{Act, files_in_turns, lawful_commands, promised, promises_of_commands};
 use std::marker::PhantomData;
 
-/// The command on a value that is made from a number, in a language.
+/// The command `gen`, over a language of types.
 pub struct OnMade<L>(PhantomData<L>);
 
 impl<L: Speaks> Act for OnMade<L> {
@@ -27,18 +27,18 @@ impl<L: Speaks> Act for OnMade<L> {
     ghost commands = { generation L.language };
 }
 
-/// The command is lawful, where the language is.
+/// Proves that the command is lawful if the language is.
 pub fn generation_is_lawful<L: Speaks>()
     requires { IsLawful L.language }
     ensures { AreLawful (generation L.language) }
 {}
 
-/// It takes no file, so that each comes in its turn.
+/// Proves that the command fetches its files in turn. It fetches none.
 pub fn generation_takes_turns<L: Speaks>()
     ensures { AreInTurns (generation L.language) }
 {}
 
-/// So words have one outcome, whatever the files and the input are.
+/// Proves that the arguments have at most one outcome, whatever the files and the input are.
 pub fn generation_answers_once<L: Speaks>()
     requires { IsLawful L.language }
     ensures outcome { HaveOneOutcome (generation L.language) }
@@ -50,7 +50,8 @@ pub fn generation_answers_once<L: Speaks>()
     lawful_commands::<OnMade<L>>();
 }
 
-/// What is promised of a call follows from its account, and from that all else.
+/// Proves that the specification of a run follows from its account, and that the other laws follow
+/// from the specification.
 pub fn generation_keeps_promises<L: Speaks>()
     requires { IsLawful L.language }
     ensures account { ArePromised (generation L.language) }
@@ -83,14 +84,15 @@ pub fn generation_keeps_promises<L: Speaks>()
     files_in_turns::<OnMade<L>>();
 }
 
-/// It is idle at each request that is not its own.
+/// Proves that the command does nothing for any other request.
 pub fn generation_is_idle_elsewhere<L: Speaks>()
     ensures { IsIdleElsewhere L.language }
 {}
 
-/// What is promised of a call gives it exactly the status that its words and TYPE have, unless
-/// memory ran out, or out or err failed; and with 0 and 1 out has the line. No status of the input
-/// or of files comes, since nothing is taken of them.
+/// Proves the exit status specification (`Causes`). A run has exactly the status that its arguments
+/// and TYPE determine, unless memory ran out or writing to out or err failed. With status 0 or 1,
+/// the output is the line of the value. No status depends on the input or on files, because the
+/// command reads none.
 pub fn causes_of_generation<L: Speaks>()
     requires { IsLawful L.language }
     ensures { Follow (generation L.language) (Causes L.language) }

@@ -1,5 +1,7 @@
-//! The command on a value that is made from a number, in the general form: it reads nothing, and
-//! says one line. These are definitions, and the laws on them: nothing here does anything.
+//! The specification of the command `gen` in the general form of `Commands`: it makes a value from
+//! a number, reads no input, and writes one line. `causes_of_generation` proves the meaning of its
+//! exit statuses. The crate contains only definitions and laws; the command's code is in another
+//! crate.
 #![tactic(auto)]
 
 pub mod laws;

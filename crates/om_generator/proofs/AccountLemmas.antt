@@ -1,4 +1,4 @@
--- The account of a call: a stop before the value is made, and the value.
+-- Proves `Account` for a run of `gen`: an error before the value is generated, or the value.
 use Rattle.std.proofs.Common.{◌≡◌, ◌⊎◌, ℕ, List, [], Ok, Err, inl, inr, refl, ◌∙◌, subst, arith}
 use Rattle.om_outcome.specs.declared.status.Status.{Status}
 use Rattle.om_outcome.specs.Outcome.{unfetched, nothing, stops as stops_reply, stopped, ending_of, own, generate, Asks}
@@ -24,7 +24,7 @@ abbrev unfetched_files : Fetches
 unfetched_files turn name = unfetched
 
 module _ (words : List (List ℕ)) (files : FilesState) where
-  -- nothing was fetched
+  -- No file was fetched.
   none_fetched : FetchesFor (generation declared_types) words (change files files) unfetched_files
   none_fetched = record {
     turns = 0;
@@ -68,7 +68,7 @@ module _ (words : List (List ℕ)) (files : FilesState) where
     abbrev Line : Stop → Type 0
     Line s = PutsLine err status (ending_of (stopped s))
 
-    -- the stop is reported, or that memory ran out
+    -- The run reports the exit reason, or that memory ran out.
     stop_account :
         (s : Stop)
         → (Prepares (generation declared_types) words unfetched_files (Err s) ⊎ (s ≡ out_of_memory))
@@ -85,7 +85,7 @@ module _ (words : List (List ℕ)) (files : FilesState) where
 
   module _ (number count : ℕ) (type : List ℕ)
       (asks : Asks words (own (generate number count type))) where
-    -- TYPE is refused
+    -- TYPE is refused.
     pub type_account :
         (stop : Stop) → GivesItemType type (Err stop)
         → (input out : ByteState) (err : Change ByteState) (status : Status)
@@ -105,7 +105,7 @@ module _ (words : List (List ℕ)) (files : FilesState) where
           ),
         )) r
 
-    -- the value is made
+    -- The value is generated.
     pub made_account :
         (r : Prepared) → GivesItemType type (Ok r)
         → (input out err : Change ByteState) (status : Status)

@@ -1,4 +1,4 @@
--- The words ask for numbers in their ranges alone.
+-- The arguments request only numbers in their ranges.
 use Rattle.std.proofs.Common.{◌≡◌, ◌^◌, ◌<◌, ◌≤◌, ℕ, List, [], ◌∷◌, Bool, true, false, Some, subst, arith}
 use Rattle.std.specs.Prelude.{find, if◌then◌else◌}
 use Rattle.std.specs.Str.{bytes_eq}
@@ -6,12 +6,12 @@ use Rattle.clap.specs.Words.{Row}
 use Rattle.om_outcome.specs.declared.reading.Reading.{Reading}
 use Rattle.om_outcome.specs.CommandLine.{Request, own, tell, the_verdict, certify, generate, read_by, Form, forms, HasArguments, AreReadAs, Asks}
 
--- what is asked for is in range
+-- The requested numbers are in range.
 abbrev IsRanged : Request → Type 0
 IsRanged (own (generate number count type)) = (number < 2 ^ 31) × (count ≤ 1000000)
 IsRanged request = Unit {0}
 
--- a form asks for such alone
+-- A form of arguments requests only numbers in range.
 abbrev AsksRanged : Form → Type 0
 AsksRanged form = (rows : List Row) (request : Request)
     → HasArguments form.arguments form.asks rows request → IsRanged request
@@ -34,7 +34,7 @@ found_ranged test (first ∷ rest) ranged form e =
 below_number : (n : ℕ) → n ≤ 2147483647 → n < 2 ^ 31
 below_number n fits = omega arith
 
--- each of two requests is in range
+-- If both requests are in range, then the chosen one is.
 either_ranged :
     (used : Bool) (one other : Request) → IsRanged one → IsRanged other
     → IsRanged (if used then one else other)

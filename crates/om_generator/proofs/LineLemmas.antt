@@ -1,4 +1,4 @@
--- The line of a value is that of a tree of it.
+-- The line of a value is that of a tree of the value.
 use Rattle.std.proofs.Common.{◌≡◌, ◌∙◌, ℕ, Bool, List, [], ◌∷◌, ◌++◌, length, inl, inr, ap}
 use Rattle.om_model.specs.declared.value.Val.{Val}
 use Rattle.om_model.specs.declared.value.Obj.{Obj}

@@ -1,4 +1,4 @@
--- The command takes nothing, and its last reply is the line.
+-- The command takes no input, and its final output is the line.
 use Rattle.std.proofs.Common.{ℕ, List, [], Bool, Result, Ok, Err, inr, refl, sym, subst}
 use Rattle.om_outcome.specs.Outcome.{Said}
 use Rattle.om_outcome.specs.declared.stop.Stop.TheVariants.{Memory as out_of_memory}

@@ -1,4 +1,4 @@
--- TYPE over the declarations of the items is read as over a file that holds them.
+-- TYPE over the declarations of the items means the same as over a file with these declarations.
 use Rattle.std.proofs.Common.{◌≡◌, ℕ, false, List, Some, None, Result, Ok, Err, inl, inr, sym, ◌∙◌, ap, subst}
 use Rattle.om_outcome.specs.Outcome.{opened, whole, Taken, asked_type, Then, OrRefusal, ReadsTypeOf}
 use Rattle.om_outcome.specs.declared.stop.Stop.{Stop}

@@ -1,4 +1,4 @@
--- The verdict on a value, as a text that was put.
+-- The verdict on a value, as the text that was appended.
 use Rattle.std.proofs.Common.{◌≡◌, ◌∙◌, ℕ, List, [], ◌++◌, true, false, inl, inr, refl, sym, ap, subst}
 use Rattle.std.specs.Prelude.{codes}
 use Rattle.om_model.specs.declared.value.Val.{Val}
@@ -12,7 +12,7 @@ use Rattle.om_outcome.specs.Outcome.{Said, the_verdict}
 use Rattle.om_declared.specs.Language.{TypeOver, IsTypeLine}
 use Rattle.om_declared.specs.Verdict.{PutsNo}
 
--- nothing is wrong
+-- The output of a value without faults.
 abbrev said_well : List ℕ → Said
 said_well text = record { text = text; well = true }
 

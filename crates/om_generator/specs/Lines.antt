@@ -1,4 +1,4 @@
--- The line of a value that is made.
+-- The output line for a generated value.
 use Rattle.std.specs.Prelude.{ℕ, ◌^◌, ◌<◌, ◌≤◌, ◌≡◌, List, []}
 use Rattle.om_model.specs.declared.value.Val.{Val}
 use Rattle.om_model.specs.declared.value.Obj.{Obj}
@@ -12,15 +12,15 @@ use Rattle.om_generate.specs.Line.{generated_text}
 use Rattle.om_generation.specs.Generation.{Making}
 use Rattle.om_generator.specs.declared.verdict.Line.{Line}
 
--- as what is said
+-- The line as an output.
 abbrev pub said_of : Line → Said
 said_of line = record { text = line.text.items; well = line.well }
 
--- what is done
+-- The parameters of the command.
 abbrev pub making_of : (number count : ℕ) → Prepared → Making TypeOver
 making_of number count r = record { number = number; count = count; type = type_over r }
 
--- this is the line of a value of a graph, whose verdict is on a tree of it
+-- The line of a value of a graph. Its verdict is that of a tree of the value.
 pub record IsGraphLine (t : TypeOver) (graph : List Obj) (v : Val) (said : Said) : Type 0 where
   pub tree : Tree
   pub is_tree : IsTreeOf graph v tree
@@ -28,7 +28,7 @@ pub record IsGraphLine (t : TypeOver) (graph : List Obj) (v : Val) (said : Said)
   pub is_verdict : IsTypeLine the_verdict t (objects_of tree 0) (root tree 0) verdict said.well
   pub text_is : said.text ≡ line (generated_text tree verdict)
 
--- nothing was taken, and the value can be made and checked
+-- No input was taken, and the value can be generated and checked.
 pub record HasNothing (number count : ℕ) (r : Prepared) (bytes : List ℕ) (said : List Said)
     : Type 0 where
   pub none : bytes ≡ []

@@ -1,5 +1,6 @@
-//! The command on a value that is made from a number, over declared types: the value is made, it is
-//! checked at its type, and its line is put. No file is fetched, and no input is taken.
+//! The command `gen`: builds a value from a number over the built-in item declarations, checks it
+//! at its type, and writes its line. It fetches no file and reads no input. The contract of
+//! `run_generation` states that the run satisfies `Account`.
 #![tactic(auto)]
 
 mod line;

@@ -1,4 +1,4 @@
-//! The line of a value that is made.
+//! The output line for a generated value.
 
 ghost use Rattle.std.specs.Prelude.{◌^◌, ◌<◌, ◌≤◌, IfOk};
 ghost use Rattle.om_declared.specs.Language.{declared_types};
@@ -15,7 +15,7 @@ use om_same_type::{the_same_has_the_same_line, the_same_has_the_same_types};
 use om_stops::put::put;
 use std::alloc::Global;
 
-/// The line of the value that a number makes, with so many items.
+/// Returns the line of the value generated from `number`, with `count` items.
 pub fn made_line(
     alloc: Global,
     number: u64,
@@ -35,7 +35,7 @@ pub fn made_line(
     line_of(alloc, &value, requested)
 }
 
-/// The line of a value.
+/// Returns the line of a value.
 fn line_of(alloc: Global, value: &Rooted<'_>, requested: &Requested) -> Result<Line, Memory>
     ensures { IfOk result (λ line. IsGraphLine (type_over requested.now) value.now.heap.now
         value.now.root (said_of line)) }

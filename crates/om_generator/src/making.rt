@@ -7,7 +7,8 @@ use om_stops::stop::Halt;
 use om_work::Work;
 use std::alloc::Global;
 
-/// Says the line of the value that a number makes, with so many items, at a type.
+/// Writes the line of the value that is generated from a number, with a given number of items, at a
+/// type.
 #[derive(Drop)]
 pub struct Generating<'a> {
     pub number: u64,

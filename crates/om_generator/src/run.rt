@@ -1,4 +1,4 @@
-//! A whole call of the command.
+//! A whole run of the command.
 
 ghost use Rattle.std.specs.Prelude.{◌≡◌, ◌^◌, ◌<◌, ◌≤◌, List, ℕ};
 ghost use Rattle.om_outcome.specs.Outcome.{Asks, own, generate};
@@ -21,20 +21,20 @@ use om_stops::stop::report_stop;
 use om_work::run_reported;
 use std::alloc::Global;
 
-/// NUMBER goes up to this.
+/// The greatest allowed NUMBER.
 const GREATEST_NUMBER: u64 = 2147483647;
 
-/// COUNT goes up to this.
+/// The greatest allowed COUNT.
 const GREATEST_COUNT: u64 = 1000000;
 
-// Puts the line of a stop on err, and answers the status.
+// Writes the error line of an exit reason to `err`, and returns the exit status.
 fn report<E: Sink>(alloc: Global, err: &mut E, stop: Stop) -> Status
     ensures { Reports stop (change (E.state err.old) (E.state err.new)) result }
 {
     report_stop(alloc, err, &stop)
 }
 
-/// Makes the value, and says its line.
+/// Generates the value and writes its line.
 fn generate_at<S: Source, K: Sink, E: Sink>(
     alloc: Global,
     number: u64,
@@ -61,7 +61,7 @@ fn generate_at<S: Source, K: Sink, E: Sink>(
     run_reported(alloc, &mut work, input, out, err)
 }
 
-/// Does what `gen NUMBER COUNT TYPE` asks for: it leaves the input and the files alone.
+/// Runs `gen NUMBER COUNT TYPE` and returns the exit status. Does not use the input or any file.
 pub fn run_generation<S: Source, K: Sink, E: Sink>(
     alloc: Global,
     number: u64,

@@ -1,4 +1,4 @@
-//! TYPE, over the declarations of the items.
+//! The argument TYPE, over the declarations of the items.
 
 ghost use Rattle.std.specs.Prelude.{◌≡◌, IfOk};
 ghost use Rattle.om_generate.specs.Generated.{item_declarations};
@@ -11,7 +11,7 @@ use om_outcome::stop::Stop;
 use om_stops::put::put;
 use std::alloc::Global;
 
-/// The declarations of the items, in memory.
+/// Returns the text of the declarations of the items.
 fn item_text(alloc: Global) -> Result<Vec<u8>, Memory>
     ensures { IfOk result (λ text. text.items ≡ item_declarations) }
 {
@@ -20,7 +20,7 @@ fn item_text(alloc: Global) -> Result<Vec<u8>, Memory>
     Ok(text)
 }
 
-/// Reads TYPE.
+/// Parses TYPE. The error is the exit reason.
 pub fn find_item_type(alloc: Global, type_text: &str) -> Result<Requested, Stop>
     ensures { GivesItemType type_text.now result }
 {

@@ -14,14 +14,14 @@ use om_stops::put::put;
 use om_table::tables_decide;
 use std::alloc::Global;
 
-/// What is said of a value, and whether nothing is wrong with it.
+/// The output for a value, and whether the value is ok.
 #[derive(Drop)]
 pub struct Line {
     pub text: Vec<u8>,
     pub well: bool,
 }
 
-/// `yes`, or `no` and the least fault.
+/// Returns `yes`, or `no` and the first fault.
 pub fn verdict_of(alloc: Global, value: &Rooted<'_>, requested: &Requested) -> Result<Line, Memory>
     ensures { IfOk result (λ line. IsTypeLine the_verdict (type_over requested.now)
         value.now.heap.now value.now.root line.text.items line.well) }
@@ -30,7 +30,7 @@ pub fn verdict_of(alloc: Global, value: &Rooted<'_>, requested: &Requested) -> R
     text_of(alloc, value, requested, &verdict)
 }
 
-/// The same by what was found.
+/// Returns the text of a verdict.
 fn text_of(
     alloc: Global,
     value: &Rooted<'_>,

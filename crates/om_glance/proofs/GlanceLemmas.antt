@@ -1,5 +1,5 @@
--- Bytes that are a front of a value: a part of a header, or what was passed, or searched, up to a
--- cut token; and looks that go on.
+-- Bytes that are a prefix of a value: a part of a header, or bytes that passed or were searched up
+-- to an incomplete token. Also: checks that continue.
 use Rattle.std.proofs.Common.{ℕ, ◌+◌, ◌-◌, ◌^◌, ◌<◌, ◌≤◌, ◌≡◌, ◌⊎◌, inl, inr, false, List, [], ◌∷◌, ◌++◌, length, drop, map, Option, Some, None, refl, sym, ap, subst, subst₂, arith}
 use Rattle.std.specs.Prelude.{if◌then◌else◌}
 use Rattle.std.proofs.lemmas.List.{length-append}
@@ -36,7 +36,7 @@ use Rattle.om_glance.proofs.LawLemmas.{passing_is_front, passing_but_is_front}
 
 -- ---- in a header
 
--- a step that is decided and does not fail
+-- A step that is decided and does not fail.
 passed : (n k : ℕ) (r : Option ReadRefusal) (after : List Step) → k ≤ n → r ≡ None → first_refusal n after ≡ None → first_refusal n (step k r ∷ after) ≡ None
 passed n k r after whole none others = rw (le-ltb n k whole, none) others
 
@@ -52,7 +52,7 @@ header_front bytes k has some sum limit =
     let short : length bytes < header_length bytes = grind (arith, nat_tests) in
     inl (record { part = short; passes = waits limit bytes has short (cases_lt (length bytes) 4) })
 
--- no byte was taken
+-- If no byte is buffered, then the state is valid.
 pub fresh_glance : (g : Glance) → g.kept.items ≡ [] → ((table : Table) (limit : ℕ) (bytes : List ℕ) → IsLooking table limit bytes g.looking) → (table : Table) (limit : ℕ) → IsGlance table limit g
 fresh_glance g none looking table limit = record {
   bytes = subst AreBytes (sym none) (All-nil (λ (b : ℕ). b < 256));
@@ -60,14 +60,14 @@ fresh_glance g none looking table limit = record {
   looking = looking table limit g.kept.items;
 }
 
--- a look that goes on
+-- If more bytes are appended, then the state stays valid.
 pub looking_longer : (table : Table) (limit : ℕ) (bytes more : List ℕ) (looking : Looking) → IsLooking table limit bytes looking → IsLooking table limit (bytes ++ more) looking
 looking_longer table limit bytes more looking l = record {
   underway = λ begun. let p = looking.passing in leads_longer table limit bytes more p.head p.start p.at p.marks.items p.notes.items p.state (l.underway begun);
   sought = λ sought. let s = looking.seeking in finds_longer table limit bytes more s.head s.start s.at [] s.finding (l.sought sought);
 }
 
--- a look at the bytes that were taken and the piece showed that they are a front
+-- Case: the buffered bytes and the chunk are a prefix of a value.
 pub more_taken :
     (table : Table) (limit : ℕ) (old new : Glance) (piece : List ℕ) → AreBytes old.kept.items → AreBytes piece → new.kept.items ≡ old.kept.items ++ piece → IsFront limit (old.kept.items ++ piece) → IsLooking table limit (old.kept.items ++ piece) new.looking
     → (new.kept.items ≡ old.kept.items ++ piece) × IsGlance table limit new
@@ -80,7 +80,7 @@ more_taken table limit old new piece before bytes kept front looking = (
   },
 )
 
--- it showed a value with one misfit, and the next value begins
+-- Case: they are a value with one mismatch, and the next value begins.
 pub missed_next :
     (table : Table) (limit : ℕ) (old new : Glance) (piece bytes : List ℕ) (total n : ℕ) (found : Found) → total ≡ length old.kept.items + n → bytes ≡ old.kept.items ++ piece → 0 < n → held new ≡ Some found → IsFound table limit total bytes found
     → found.ty < length table.nodes → new.kept.items ≡ [] → ((other : Table) (limit' : ℕ) → IsGlance other limit' new) → IsMissedNext table limit old piece new n

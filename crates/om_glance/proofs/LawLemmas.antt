@@ -1,4 +1,4 @@
--- From a pass to a front.
+-- From the streaming check to a prefix of a value.
 use Rattle.std.proofs.Common.{ℕ, ◌+◌, ◌<◌, ◌≤◌, ◌^◌, ◌≡◌, ◌∙◌, List, ◌++◌, length, take, drop, map, Option, sym, ap, subst, subst₂, arith}
 use Rattle.std.specs.List.{concat}
 use Rattle.std.proofs.lemmas.List.{append_assoc, length-append, length-take-le, take-append-drop}
@@ -19,11 +19,11 @@ use Rattle.om_misfit_law.specs.PassedBut.{values_at}
 use Rattle.om_misfit_law.proofs.StatedLemmas.{passed_many as but_many, passed_open as but_open}
 use Rattle.om_glance.specs.Laws.{HasRoomAt, PassingIsFront, PassingButIsFront}
 
--- where tokens of these measures stand
+-- The context after tokens of these measures.
 abbrev place_at : Head → ℕ → ℕ → List (Option Measure) → Context
 place_at head start taken ms = record { head = head; start = start; taken = taken; sums = sums_of ms }
 
--- ---- a header and the tokens' spellings were taken
+-- ---- a header and the encodings of the tokens were read
 
 bytes_are : (bytes : List ℕ) (n : ℕ) (header : List ℕ) (pieces : List (List ℕ)) → take n bytes ≡ header ++ concat pieces → bytes ≡ header ++ (concat pieces ++ drop n bytes)
 bytes_are bytes n header pieces taken = sym (take-append-drop n bytes) ∙ ap (λ xs. xs ++ drop n bytes) taken ∙ append_assoc header (concat pieces) (drop n bytes)
@@ -50,7 +50,7 @@ front_there limit bytes head start n tokens header pieces values long few32 few6
     underway_is_front limit bytes header pieces tokens (drop n bytes) long few32 few64 u cut
     (subst₂ (λ (h : Head) (ms : List (Option Measure)). HasRoom (place_at h (length header) (length (concat pieces)) ms) long few32 few64) (sym head_is) (sym (raw_measures-spelled tokens pieces u.spells)) here)
 
--- ---- THE LAWS
+-- ---- the laws
 
 pub passing_is_front : PassingIsFront
 passing_is_front noted table limit bytes head start n tokens types needs long few32 few64 p cut room =

@@ -1,4 +1,4 @@
--- What is known of a value of which some bytes were taken.
+-- The state of the streaming check after some bytes of a value.
 use Rattle.std.specs.Prelude.{ℕ, ◌+◌, ◌<◌, ◌≤◌, ◌≡◌, List, [], ◌++◌, length, Option, Some}
 use Rattle.om_model.specs.Bytes.{AreBytes}
 use Rattle.om_types.specs.Table.{Table}
@@ -11,18 +11,18 @@ use Rattle.om_glance.specs.declared.glance.Answer.{Answer}
 use Rattle.om_glance.specs.declared.glance.Answer.TheVariants as answers
 use Rattle.om_glance.specs.Look.{IsLooking, missed_in}
 
--- the bytes that were taken are a front of a value, and lead to what is known of it
+-- The buffered bytes are a prefix of a value, and they lead to the state of the check.
 pub record IsGlance (table : Table) (limit : ℕ) (g : Glance) : Type 0 where
   pub bytes : AreBytes g.kept.items
   pub is_front : IsFront limit g.kept.items
   pub looking : IsLooking table limit g.kept.items g.looking
 
--- the misfit that was found last
+-- The mismatch that was found last.
 abbrev pub held : Glance → Option Found
 held g = missed_in g.looking
 
--- the bytes that were taken, and the first n of the piece, are a value that has the table's first
--- type; nothing is taken of the next one
+-- The buffered bytes and the first `n` bytes of the chunk are a value that has the table's first
+-- type. No byte of the next value is buffered.
 pub record IsTypedNext
     (table : Table) (limit : ℕ) (old : Glance) (piece : List ℕ) (new : Glance) (n : ℕ)
     : Type 0 where
@@ -33,8 +33,9 @@ pub record IsTypedNext
   pub none : new.kept.items ≡ []
   pub glance : (other : Table) (limit' : ℕ) → IsGlance other limit' new
 
--- they are a value whose least fault is one misfit, at one of the table's types, and it is held;
--- nothing is taken of the next one
+-- The buffered bytes and the first `n` bytes of the chunk are a value whose first fault is a
+-- mismatch at one of the table's types. The mismatch is available, and no byte of the next value is
+-- buffered.
 pub record IsMissedNext
     (table : Table) (limit : ℕ) (old : Glance) (piece : List ℕ) (new : Glance) (n : ℕ)
     : Type 0 where
@@ -47,7 +48,7 @@ pub record IsMissedNext
   pub none : new.kept.items ≡ []
   pub glance : (other : Table) (limit' : ℕ) → IsGlance other limit' new
 
--- what comes of a piece
+-- The result of a chunk.
 abbrev pub Glances : Table → ℕ → Glance → List ℕ → Glance → Answer → Type 0
 Glances table limit old piece new (answers.Typed n) = IsTypedNext table limit old piece new n
 Glances table limit old piece new (answers.Missed n) = IsMissedNext table limit old piece new n

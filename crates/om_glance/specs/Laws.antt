@@ -1,5 +1,5 @@
--- Bytes that were passed up to a part of a token are a front of a value, whether or not all of them
--- have what their places ask for.
+-- Bytes that passed up to a part of a token are a prefix of a value, whether or not all parts match
+-- their types.
 use Rattle.std.specs.Prelude.{ℕ, ◌+◌, ◌<◌, ◌≤◌, ◌≡◌, false, List, drop, map}
 use Rattle.om_model.specs.declared.header.Head.{Head}
 use Rattle.om_types.specs.Table.{Table}
@@ -12,8 +12,8 @@ use Rattle.om_pass_law.specs.OnePass.{IsPassing}
 use Rattle.om_misfit_law.specs.PassedBut.{Place, Made, Missed, values_at}
 use Rattle.om_misfit_law.specs.MissedFront.{IsPassingBut}
 
--- after n bytes so many values are to come, some at least, and the header has room for a token of
--- so many bytes, for a byte of each other value, and for so many words
+-- After `n` bytes `values` values are pending, at least one. The header has room for a token of
+-- `bytes` bytes, for one byte of each other pending value, and for `few32` and `few64` words.
 pub record HasRoomAt
     (head : Head) (start n : ℕ) (tokens : List Token) (values bytes few32 few64 : ℕ)
     : Type 0 where
@@ -31,7 +31,7 @@ PassingIsFront =
     → HasRoomAt head start n tokens (values_in needs) long few32 few64
     → IsFront limit bytes
 
--- the same of bytes that were passed but for misfits
+-- The law for bytes that passed except for mismatches.
 abbrev pub PassingButIsFront : Type 0
 PassingButIsFront =
     (back : List ℕ) (table : Table) (limit : ℕ) (bytes : List ℕ) (head : Head) (start n : ℕ)

@@ -1,4 +1,4 @@
--- What a look at the bytes of a value shows.
+-- The result of a check on the bytes of a value.
 use Rattle.std.specs.Prelude.{ℕ, ◌+◌, ◌<◌, ◌≤◌, ◌≡◌, true, List, length, drop, Option, Some}
 use Rattle.om_types.specs.Table.{Table}
 use Rattle.om_format.specs.Front.{IsFront}
@@ -11,18 +11,18 @@ use Rattle.om_glance.specs.declared.look.Looking.{Looking}
 use Rattle.om_glance.specs.declared.look.Shown.{Shown}
 use Rattle.om_glance.specs.declared.look.Shown.TheVariants as shown
 
--- where tokens are begun the bytes lead to what is passed, and where a misfit is sought they lead
--- to what is known of it
+-- If the pass has begun, then the bytes lead to its state. If the search has begun, then the bytes
+-- lead to its state.
 pub record IsLooking (table : Table) (limit : ℕ) (bytes : List ℕ) (looking : Looking)
     : Type 0 where
   pub underway : looking.begun ≡ true → IsUnderway table limit bytes looking.passing
   pub sought : looking.sought ≡ true → IsSought table limit bytes looking.seeking
 
--- the misfit that was found last
+-- The mismatch that was found last.
 abbrev pub missed_in : Looking → Option Found
 missed_in looking = looking.seeking.finding.found
 
--- what a look at all bytes of the value so far shows, and what is then known of it
+-- What each result implies for all bytes of the value so far, and for the state of the check.
 abbrev pub IsShown : Table → ℕ → List ℕ → Looking → Shown → Type 0
 IsShown table limit bytes looking (shown.Typed n) = IsTypedFront table limit n bytes
 IsShown table limit bytes looking (shown.Missed n) =
@@ -32,8 +32,8 @@ IsShown table limit bytes looking shown.More =
     IsFront limit bytes × IsLooking table limit bytes looking
 IsShown table limit bytes looking shown.Untold = Unit {0}
 
--- after n bytes stands a part of a token, and a header that states so many bytes has room for it
--- and for so many values more
+-- After `n` bytes there is a part of a token. A header that states `stated` bytes has room for that
+-- token and for `most` pending values.
 pub record HasRoomAfter
     (stated start n few32 few64 : ℕ) (bytes : List ℕ) (most : ℕ)
     : Type 0 where

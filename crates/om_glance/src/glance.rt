@@ -1,4 +1,4 @@
-//! The value in hand, whose bytes come in pieces.
+//! The streaming check of the current value, whose bytes arrive in chunks.
 
 use crate::look::{Looking, Shown};
 use om_misfit::Found;
@@ -6,22 +6,22 @@ use om_model::Memory;
 use om_type_table::TypeTable;
 use std::alloc::Global;
 
-/// What came of a piece.
+/// The result of a chunk.
 #[derive(Clone, Copy)]
 pub enum Answer {
-    /// So many bytes of it complete a value that has the type.
+    /// This many bytes of the chunk complete a value that has the type.
     Typed(usize),
-    /// So many bytes of it complete a value with one misfit, which is held until the next piece is
-    /// taken.
+    /// This many bytes of the chunk complete a value with exactly one mismatch. The mismatch is
+    /// available until the next chunk is fed.
     Missed(usize),
-    /// All of it was taken: more of the value has to come.
+    /// The whole chunk was consumed, and the value needs more bytes.
     More,
-    /// Nothing is said, and nothing of it was taken. The next piece is looked at from the value's
-    /// first byte on.
+    /// The result is inconclusive, and nothing of the chunk was consumed. The next chunk is checked
+    /// from the value's first byte on.
     Untold,
 }
 
-/// The bytes taken so far of the value in hand, and how far they were looked at.
+/// The buffered bytes of the current value, and the state of the check.
 #[derive(Drop)]
 pub struct Glance<'a> {
     kept: Vec<u8>,
@@ -34,7 +34,7 @@ impl<'a> Glance<'a> {
     ghost use Rattle.om_type_table.specs.Made.{table_of};
     ghost use Rattle.om_glance.specs.Glance.{IsGlance, Glances, held};
 
-    /// No byte was taken. It takes no memory.
+    /// Creates a check without buffered bytes. It allocates no memory.
     pub fn new(alloc: Global) -> Glance<'a>
         ensures none { result.kept.items ≡ [] }
         ensures glance { (table : Table) (limit : ℕ) → IsGlance table limit result }
@@ -45,14 +45,14 @@ impl<'a> Glance<'a> {
         }
     }
 
-    /// The bytes that were taken of the value in hand.
+    /// Returns the buffered bytes of the current value.
     pub fn kept(&self) -> &[u8]
         ensures { result.now ≡ self.now.kept.items }
     {
         self.kept.as_slice()
     }
 
-    /// The misfit that is held.
+    /// Returns the mismatch that was found last, if it is still available.
     pub fn missed(&self) -> Option<&Found>
         ensures { MatchOption result (held self.now ≡ None)
             (λ found. held self.now ≡ Some found.now) }
@@ -60,7 +60,7 @@ impl<'a> Glance<'a> {
         self.looking.missed()
     }
 
-    /// A value ends: the next one begins, in the same memory.
+    /// Ends a value and starts the next one. It keeps its memory.
     fn end(&mut self)
         ensures none { self.new.kept.items ≡ [] }
         ensures found { held self.new ≡ held self.old }
@@ -70,7 +70,7 @@ impl<'a> Glance<'a> {
         self.looking.restart();
     }
 
-    /// Takes a piece where no byte of the value was taken before.
+    /// Feeds a chunk while no byte of the value is buffered.
     #[inline(always)]
     fn first(
         &mut self,
@@ -104,7 +104,7 @@ impl<'a> Glance<'a> {
         }
     }
 
-    /// The same where bytes of the value were taken, and kept.
+    /// Feeds a chunk while bytes of the value are buffered.
     #[inline(never)]
     fn next(
         &mut self,
@@ -140,8 +140,9 @@ impl<'a> Glance<'a> {
         }
     }
 
-    /// Takes a piece, up to the end of the value in hand, or all of it, or nothing. No byte of a
-    /// value is copied that lies whole in the piece.
+    /// Feeds a chunk. Consumes it up to the end of the current value, or all of it, or nothing.
+    /// Does not copy the bytes of a value that lies completely in the chunk. Fails with `Memory` if
+    /// memory runs out.
     #[inline(always)]
     pub fn feed(
         &mut self,

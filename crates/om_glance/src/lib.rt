@@ -1,7 +1,7 @@
-//! Values are looked at as their bytes come in pieces, without a heap: a value is of the table's
-//! first type, or has one misfit, or more of it has to come, or nothing is said of it. The laws say
-//! that where a piece ends inside a value that was passed so far, or passed but for misfits, the
-//! bytes are a front of one; their functions do nothing.
+//! The streaming check: checks values as their bytes arrive in chunks, without building a heap.
+//! `Glance::feed` reports that a value has the table's first type, or has exactly one mismatch, or
+//! needs more bytes; otherwise the result is inconclusive. The laws `passing_is_front` and
+//! `passing_but_is_front` prove that bytes of which more are needed are a prefix of a value.
 #![tactic(auto)]
 
 mod glance;

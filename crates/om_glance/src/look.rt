@@ -1,6 +1,7 @@
-//! A look at the value in hand: a pass over its bytes, and where that tells nothing a search for
-//! its one misfit, from its first byte on. After some values that had one, with none between that
-//! had the type, a small value is searched first.
+//! Checks the current value. First a pass over its bytes tests whether the value has the type. If
+//! the pass is inconclusive, a search for the only mismatch starts at the first byte. After several
+//! values with one mismatch each, and none with the type between them, small values are searched
+//! first.
 
 ghost use Rattle.std.specs.Prelude.{ℕ, ◌<◌, length, IfSome};
 ghost use Rattle.std.specs.Bool.{OnTrue};
@@ -20,28 +21,29 @@ use om_pass::{Passing, Stop, Words};
 use om_type_table::TypeTable;
 use std::alloc::Global;
 
-/// What all bytes of the value so far show.
+/// The result of the check on all bytes of the value so far.
 #[derive(Clone, Copy)]
 pub enum Shown {
-    /// So many of them are a value that has the type.
+    /// This many bytes are a value that has the type.
     Typed(usize),
-    /// So many of them are a value whose least fault is the misfit that is held.
+    /// This many bytes are a value whose first fault is the mismatch that `missed` returns.
     Missed(usize),
-    /// They are a front of a value.
+    /// The bytes are a prefix of a value.
     More,
-    /// Nothing.
+    /// The result is inconclusive.
     Untold,
 }
 
-/// Whether the bytes are a part of a header, of which nothing is refused.
+/// Returns true if the bytes are a part of a header and no step refuses them.
 fn is_header_cut(bytes: &[u8]) -> bool
     ensures { OnTrue result ((limit : ℕ) → IsFront limit bytes.now) }
 {
     matches!(parse(bytes), Ok(HeaderStep::More(_)))
 }
 
-/// How many values may be open where a part of a token stands after so many bytes, by the data
-/// bytes that the header states, and the words that are still to come.
+/// Returns the maximum number of pending values if an incomplete token follows the first `at`
+/// bytes. The result depends on the data bytes that the header states (`stated`) and on the
+/// remaining words. Returns `None` if there is no room.
 fn room_after(stated: u64, words: Words, start: usize, at: usize, bytes: &[u8]) -> Option<u64>
     ensures { IfSome result (HasRoomAfter stated start at words.w32 words.w64 bytes.now) }
 {
@@ -55,8 +57,8 @@ fn room_after(stated: u64, words: Words, start: usize, at: usize, bytes: &[u8]) 
     others.checked_add(1)
 }
 
-/// Whether the bytes are surely a front of a value, where the pass stopped before a token that is
-/// cut. What may be looked at again is counted down.
+/// Returns true if the bytes are surely a prefix of a value, after the pass ended before an
+/// incomplete token. Subtracts the blocks that it counts from `left`.
 fn is_front(passing: &Passing<'_>, left: &mut u64, bytes: &[u8]) -> bool
     ensures { OnTrue result ((table : Table) (limit : ℕ)
         → IsUnderway table limit bytes.now passing.now → 0 < length (needs_in passing.now.state)
@@ -70,7 +72,7 @@ fn is_front(passing: &Passing<'_>, left: &mut u64, bytes: &[u8]) -> bool
     passing.state.places.are_within(most, left)
 }
 
-/// The same where the search stopped.
+/// As `is_front`, after the search ended before an incomplete token.
 fn is_front_but(seeking: &Seeking<'_>, left: &mut u64, bytes: &[u8]) -> bool
     ensures { OnTrue result ((table : Table) (limit : ℕ)
         → IsSought table limit bytes.now seeking.now
@@ -85,21 +87,21 @@ fn is_front_but(seeking: &Seeking<'_>, left: &mut u64, bytes: &[u8]) -> bool
     seeking.are_within(most, left)
 }
 
-/// After so many values with one misfit each, with none between that has the type, a small value is
-/// searched first.
+/// After this many values with one mismatch each, and none with the type between them, a small
+/// value is searched first.
 const MISSES: u8 = 8;
 
-/// A value is small where its header states no more data bytes.
+/// A value is small if its header states at most this many data bytes.
 const SMALL: u64 = 256;
 
-/// Whether a reference stands after so many bytes (`CODE_SHARED8` to `CODE_SHARED64`).
+/// Returns true if a reference begins at offset `at` (`CODE_SHARED8` to `CODE_SHARED64`).
 fn is_reference(bytes: &[u8], at: usize) -> bool {
     at < bytes.len() && matches!(bytes[at], 0x04..=0x06 | 0x14)
 }
 
-/// How far the value in hand was passed, and, where that told nothing, how far its misfit was
-/// sought; and how many values had one misfit each since one had the type, or was searched first
-/// and not told.
+/// The state of the check: the pass over the current value and, if the pass was inconclusive, the
+/// search for its mismatch. `misses` counts the values with one mismatch since a value had the
+/// type, or since a value was searched first without a result.
 #[derive(Drop)]
 pub struct Looking<'a> {
     pub begun: bool,
@@ -116,7 +118,7 @@ impl<'a> Looking<'a> {
     ghost use Rattle.om_misfit.specs.Find.{IsSought};
     ghost use Rattle.om_glance.specs.Look.{IsLooking, IsShown, missed_in};
 
-    /// Nothing was looked at. It takes no memory.
+    /// Creates a check that has read nothing. It allocates no memory.
     pub fn new(alloc: Global) -> Looking<'a>
         ensures { (table : Table) (limit : ℕ) (bytes : List ℕ)
             → IsLooking table limit bytes result }
@@ -130,8 +132,8 @@ impl<'a> Looking<'a> {
         }
     }
 
-    /// The misfit that was found last, until the next search begins: of the value that was told
-    /// last only where that was `Missed`.
+    /// Returns the mismatch that was found last, until the next search starts. It belongs to the
+    /// value that was checked last only if the result was `Missed`.
     pub fn missed(&self) -> Option<&Found>
         ensures { MatchOption result (missed_in self.now ≡ None)
             (λ found. missed_in self.now ≡ Some found.now) }
@@ -139,7 +141,7 @@ impl<'a> Looking<'a> {
         self.seeking.finding.found.as_ref()
     }
 
-    /// The next look begins at a value's first byte, in the same memory. The misfit is held on.
+    /// Starts the next check at the first byte of a value. It keeps its memory and the mismatch.
     pub fn restart(&mut self)
         ensures looking { (table : Table) (limit : ℕ) (bytes : List ℕ)
             → IsLooking table limit bytes self.new }
@@ -150,7 +152,8 @@ impl<'a> Looking<'a> {
         self.sought = false;
     }
 
-    /// The same, and the memory of the search is given back, with the misfit.
+    /// Starts the next check at the first byte of a value, and releases the memory of the search
+    /// with the mismatch.
     pub fn forget(&mut self, alloc: Global)
         ensures { (table : Table) (limit : ℕ) (bytes : List ℕ)
             → IsLooking table limit bytes self.new }
@@ -159,7 +162,8 @@ impl<'a> Looking<'a> {
         self.restart();
     }
 
-    /// Looks at the value that begins the bytes, from where the last look ended.
+    /// Checks the value at the start of the bytes, and continues where the last check of it ended.
+    /// Fails with `Memory` if memory runs out.
     pub fn look(
         &mut self,
         alloc: Global,
@@ -184,8 +188,8 @@ impl<'a> Looking<'a> {
         self.pass(alloc, table, limit, bytes)
     }
 
-    /// The pass goes on, or begins. Where it tells nothing the search begins, but for a reference:
-    /// the search would hardly tell more of it.
+    /// Starts or continues the pass. If the pass is inconclusive, starts the search, except at a
+    /// reference: the search would rarely decide more there.
     fn pass(
         &mut self,
         alloc: Global,
@@ -230,8 +234,8 @@ impl<'a> Looking<'a> {
         }
     }
 
-    /// The search begins, at the value's first byte, where so many bytes of data at most are
-    /// stated.
+    /// Starts the search at the first byte of the value, if its header states at most `most` data
+    /// bytes.
     fn search(
         &mut self,
         alloc: Global,
@@ -248,8 +252,7 @@ impl<'a> Looking<'a> {
         self.seek(alloc, table, limit, bytes)
     }
 
-    /// The search goes on. Where it has to wait for more bytes, the memory of the pass is given
-    /// back.
+    /// Continues the search. If the search needs more bytes, releases the memory of the pass.
     fn seek(
         &mut self,
         alloc: Global,

@@ -28,7 +28,7 @@ slice_get-map f [] (suc i) o is = absurd (none-some o is)
 slice_get-map f (x ∷ xs) zero o is = ap (λ found. option_map f found) is
 slice_get-map f (x ∷ xs) (suc i) o is = slice_get-map f xs i o is
 
--- ---- numbers that are c greater
+-- ---- numbers shifted by c
 
 module _ (c : ℕ) where
   abbrev moved : ℕ → ℕ × ℕ
@@ -64,7 +64,7 @@ module _ (c : ℕ) where
   object_alike n (objects.I64 z) is = refl
   object_alike n (objects.Native z) is = refl
 
-  -- a graph is the same one behind c objects
+  -- A graph after `c` objects is the same graph.
   module _ (own other : List Obj) (graph : IsGraph own) (stand : StandFrom other c (map (later_object c) own)) where
     pair_alike : (k l : ℕ) → (l < length own) × (k ≡ c + l)
         → IsSomeAnd (slice_get other k) (λ a. IsSomeAnd (slice_get own l) (λ b. AreAlikeObjects (all_moved (length own)) a b))
@@ -130,7 +130,7 @@ one_copy_follows graph v c is_graph' valid =
           (copy.all ∙ ap (λ tree. objects_of tree c) same, copy.top ∙ ap (λ tree. root tree c) same);
     }
 
--- ---- a copy refers to its own objects alone
+-- ---- a copy refers only to its own objects
 
 module _ (c n : ℕ) where
   value_within : (v : Val) → IsValue n v → IsWithin c (c + n) (later_value c v)
@@ -178,7 +178,7 @@ copies_are_closed graph v c copied value copy =
           (objects_within c (length all) all (λ o has. All-contains (IsObject (length all)) all o valid has))),
     )
 
--- ---- a graph with a copy behind it
+-- ---- a graph followed by a copy
 
 module _ (old new graph : List Obj) (v : Val) (copied : List Obj) (value : Val) (copy : IsCopy graph v (length old) copied value) (behind' : new ≡ old ++ copied) where
   pub stands_behind : StandFrom new (length old) copied

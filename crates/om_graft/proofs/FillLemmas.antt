@@ -1,4 +1,4 @@
--- Blank objects are filled, one field after the other.
+-- Filling of blank objects, one field after the other.
 use Rattle.std.proofs.Common.{ℕ, ◌+◌, ◌-◌, ◌<◌, ◌≤◌, ◌≡◌, ◌∙◌, List, [], ◌∷◌, ◌++◌, length, get_or, set, take, drop, replicate, Some, refl, sym, ap, ap₂, subst, arith, append_assoc, add-one}
 use Rattle.std.specs.Prelude.{map, pos, slice_get}
 use Rattle.std.proofs.lemmas.List.{map_more, set_at, set-set, set-get_or, get_or-set_same, length-map, length-take-le, length-append, length-replicate, get_or_at}
@@ -24,7 +24,7 @@ no_object = objects.I32 (pos 0)
 module _ (base : ℕ) (marks : List ℕ) where
   -- ---- one object
 
-  -- the first i fields are filled
+  -- The object with its first `i` fields filled.
   abbrev pub partly : ℕ → Obj → Obj
   partly i (objects.Block tag values) =
       objects.Block tag (map (renamed_value base marks) (take i values) ++ replicate (length values - i) zero_field)
@@ -69,7 +69,7 @@ module _ (base : ℕ) (marks : List ℕ) where
   partly_more (objects.I64 z) i inside = absurd (omega (arith, inside))
   partly_more (objects.Native z) i inside = absurd (omega (arith, inside))
 
-  -- in a graph
+  -- The same within a graph.
   module _ (graph : List Obj) (o : ℕ) (object : Obj) where
     pub fill_none : slice_get graph o ≡ Some (blank object) → graph ≡ set graph o (partly 0 object)
     fill_none is =
@@ -88,7 +88,7 @@ module _ (base : ℕ) (marks : List ℕ) where
     fields_there i there within =
         ap (λ x. length (fields_of x)) (get_or-set_same graph o (partly i object) no_object there) ∙ partly_fields object i within
 
-    -- an object without fields is whole
+    -- An object without fields needs no filling.
     pub fill_nothing : (kind : Kind) → kind ≡ kind_of object → ((tag size : ℕ) → kind ≡ kinds.Block tag size → ⊥) → slice_get graph o ≡ Some (blank object)
         → graph ≡ set graph o (renamed_object base marks object)
     fill_nothing kind is none at =
@@ -117,7 +117,7 @@ module _ (base : ℕ) (marks : List ℕ) where
   -- ---- all objects
 
   module _ (graph front : List Obj) (ks : List ℕ) where
-    -- the first j are filled
+    -- The graph with the first `j` objects filled.
     abbrev pub filled : ℕ → List Obj
     filled j = front ++ (renamed base marks graph (take j ks) ++ blanks graph (drop j ks))
 

@@ -1,4 +1,4 @@
--- The objects by their marks, and which of them a value refers to.
+-- The objects in the order of their marks, and the objects to which a value refers.
 use Rattle.std.proofs.Common.{ℕ, zero, suc, ◌+◌, ◌-◌, ◌<◌, ◌≤◌, ◌≡◌, ◌≢◌, ◌∙◌, List, [], ◌∷◌, length, set, get_or, Some, ⊎_elim, refl, sym, ap, subst, arith, get_or-set_same, get_or-set_other}
 use Rattle.std.specs.Prelude.{slice_get, slice_index, All, pos}
 use Rattle.std.specs.List.{AllZip, AllByRecursion}
@@ -26,7 +26,7 @@ module _ (g : List Obj) (ks marks : List ℕ) (marked : AreMarked g ks (length k
       (λ (past : length marks ≤ k). let none = get_or_past marks k 0 past in absurd (omega (arith, is, none)))
       (cases_lt k (length marks))
 
-  -- ---- how many there are
+  -- ---- the number of objects
 
   mark_small : (k m : ℕ) → slice_index marks k ≡ m → m ≤ length ks
   mark_small k zero is = omega arith
@@ -47,9 +47,9 @@ module _ (g : List Obj) (ks marks : List ℕ) (marked : AreMarked g ks (length k
       let below = least (length ks) (λ k inside. mark_small k (slice_index marks k) refl) in
       omega (arith, above, below)
 
-  -- ---- their order
+  -- ---- the order of objects
 
-  -- the objects before number k stand at their places
+  -- The objects before number `k` are at their positions.
   abbrev pub AreOrdered : List ℕ → ℕ → Type 0
   AreOrdered order k = (i m : ℕ) → m < k → slice_get ks i ≡ Some m → get_or order i 0 ≡ m
 
@@ -87,7 +87,7 @@ module _ (g : List Obj) (ks marks : List ℕ) (marked : AreMarked g ks (length k
       let less = mark_inside there.0 i mark in
       ordered i there.0 (omega (arith, less, all, size)) there.1 ∙ sym (get_or_from_slice_get ks i there.0 0 there.1))
 
-  -- ---- what is referred to has a mark
+  -- ---- objects that are referred to have marks
 
   module _ (base : ℕ) where
     value_met : (v w : Val) → AreAlike (numbered ks) v w → IsMet marks base (base + length ks) v
@@ -135,7 +135,7 @@ module _ (g : List Obj) (ks marks : List ℕ) (marked : AreMarked g ks (length k
     all_met (l ∷ ls) (b ∷ bs) all = (shown_met l b all.0, all_met ls bs all.1)
     all_met (l ∷ ls) [] all = absurd all
 
--- ---- of an order
+-- ---- the objects of an order
 
 module _ (g : List Obj) (v : Val) (marks ks : List ℕ) (order : IsOrder g v marks ks) (base : ℕ) where
   pub order_met : All (IsMetObject g marks base (base + length ks)) ks

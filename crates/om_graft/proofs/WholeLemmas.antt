@@ -1,4 +1,4 @@
--- The objects of a part are appended blank and then filled: so they are its copy.
+-- The objects of a value are appended blank and then filled, so they form its copy.
 use Rattle.std.proofs.Common.{ℕ, ◌+◌, ◌≤◌, ◌≡◌, ◌∙◌, List, ◌++◌, length, take, length-append, sym, ap, ap₂, subst}
 use Rattle.std.specs.Prelude.{All}
 use Rattle.std.proofs.lemmas.List.{length-map, take_at}

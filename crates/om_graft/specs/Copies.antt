@@ -1,4 +1,4 @@
--- A copy of a value behind the objects of a graph.
+-- A copy of a value after the objects of a graph.
 use Rattle.std.specs.Prelude.{ℕ, ◌+◌, ◌<◌, ◌≤◌, ◌≡◌, List, ◌++◌, length, All, Some, slice_get}
 use Rattle.om_model.specs.declared.value.Val.{Val}
 use Rattle.om_model.specs.declared.value.Val.TheVariants as vals
@@ -7,8 +7,8 @@ use Rattle.om_model.specs.declared.value.Obj.TheVariants as objects
 use Rattle.om_format.specs.Tree.{Tree, root, objects_of}
 use Rattle.om_format.specs.Iso.{Iso, IsTreeOf}
 
--- The objects that the value reaches, in the order in which they are met, depth first, numbered
--- from c on; and the value among them.
+-- The objects that the value reaches, in the order of their first visit, depth first, numbered from
+-- `c`; and the value that refers to these objects.
 pub record IsCopy (graph : List Obj) (v : Val) (c : ℕ) (objects : List Obj) (value : Val)
     : Type 0 where
   pub tree : Tree
@@ -16,24 +16,24 @@ pub record IsCopy (graph : List Obj) (v : Val) (c : ℕ) (objects : List Obj) (v
   pub all : objects ≡ objects_of tree c
   pub top : value ≡ root tree c
 
--- the objects stand in the graph from place c on
+-- The objects are in the graph from number `c`.
 abbrev pub StandFrom : List Obj → ℕ → List Obj → Type 0
 StandFrom graph c objects =
     (i : ℕ) (o : Obj) → slice_get objects i ≡ Some o → slice_get graph (c + i) ≡ Some o
 
--- a value that refers to no object before number c, nor from number n on
+-- The value refers to no object before number `c`, and to none from number `n`.
 abbrev pub IsWithin : ℕ → ℕ → Val → Type 0
 IsWithin c n (vals.Int z) = Unit {0}
 IsWithin c n (vals.Atom tag) = Unit {0}
 IsWithin c n (vals.Ref k) = (c ≤ k) × (k < n)
 
--- an object whose fields are such values
+-- An object whose fields are such values.
 abbrev pub AreWithin : ℕ → ℕ → Obj → Type 0
 AreWithin c n (objects.Block tag values) = All (IsWithin c n) values
 AreWithin c n object = Unit {0}
 
--- The new graph is the old one and a copy of the value behind it. The copy is the same value, with
--- its sharing and its cycles, and all that it refers to is new.
+-- The new graph is the old one followed by a copy of the value. The copy is the same value, with
+-- its sharing and cycles, and refers to new objects only.
 pub record HasCopy (old new : List Obj) (graph : List Obj) (v value : Val) : Type 0 where
   pub copied : List Obj
   pub is : IsCopy graph v (length old) copied value

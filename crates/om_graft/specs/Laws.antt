@@ -1,4 +1,4 @@
--- What a copy is good for.
+-- Laws of copies.
 use Rattle.std.specs.Prelude.{ℕ, ◌+◌, ◌≡◌, List, length, All}
 use Rattle.om_model.specs.declared.value.Val.{Val}
 use Rattle.om_model.specs.declared.value.Obj.{Obj}
@@ -6,14 +6,15 @@ use Rattle.om_model.specs.Graph.{IsValue, IsGraph}
 use Rattle.om_format.specs.Iso.{Iso}
 use Rattle.om_graft.specs.Copies.{IsCopy, StandFrom, IsWithin, AreWithin}
 
--- in each graph where the copy's objects stand it is the same value as the one that was copied
+-- In each graph that contains the objects of the copy from number `c`, the copy is the same value
+-- as the original.
 abbrev pub CopiesAreTheSame : Type 0
 CopiesAreTheSame =
     (graph : List Obj) (v : Val) (c : ℕ) (objects : List Obj) (value : Val)
     → IsCopy graph v c objects value
     → (other : List Obj) → StandFrom other c objects → Iso other value graph v
 
--- a value of a graph has a copy behind c objects, and no other
+-- A value of a graph has exactly one copy after `c` objects.
 pub record HasOneCopy (graph : List Obj) (v : Val) (c : ℕ) : Type 0 where
   pub copied : List Obj
   pub value : Val
@@ -26,7 +27,7 @@ OneCopyFollows =
     (graph : List Obj) (v : Val) (c : ℕ) → IsGraph graph → IsValue (length graph) v
     → HasOneCopy graph v c
 
--- a copy refers to its own objects alone, none of which is among the c before
+-- A copy refers only to its own objects, which come after the `c` earlier ones.
 abbrev pub CopiesAreClosed : Type 0
 CopiesAreClosed =
     (graph : List Obj) (v : Val) (c : ℕ) (copied : List Obj) (value : Val)

@@ -1,4 +1,4 @@
--- The objects of a value with other numbers, as a copy is made of them.
+-- The objects of a value with new numbers, as in its copy.
 use Rattle.std.specs.Prelude.{ℕ, ◌+◌, ◌-◌, ◌<◌, ◌≤◌, List, length, map, replicate, All, pos}
 use Rattle.std.specs.Prelude.{slice_index, ⊤}
 use Rattle.om_model.specs.declared.value.Val.{Val}
@@ -7,23 +7,24 @@ use Rattle.om_model.specs.declared.value.Obj.{Obj}
 use Rattle.om_model.specs.declared.value.Obj.TheVariants as objects
 use Rattle.om_heap.specs.Heap.{object_at, fields_of}
 
--- object k has its new number by its mark, which is its place counted from 1
+-- The value with the new number of its object. The new number is determined by the object's mark,
+-- which is its position, counted from 1.
 abbrev pub renamed_value : ℕ → List ℕ → Val → Val
 renamed_value base marks (vals.Int z) = vals.Int z
 renamed_value base marks (vals.Atom tag) = vals.Atom tag
 renamed_value base marks (vals.Ref k) = vals.Ref (base + (slice_index marks k - 1))
 
--- an object with such fields
+-- An object with renumbered fields.
 abbrev pub renamed_object : ℕ → List ℕ → Obj → Obj
 renamed_object base marks (objects.Block tag values) =
     objects.Block tag (map (renamed_value base marks) values)
 renamed_object base marks object = object
 
--- the objects of these numbers
+-- The renumbered objects with these numbers.
 abbrev pub renamed : ℕ → List ℕ → List Obj → List ℕ → List Obj
 renamed base marks graph ks = map (λ k. renamed_object base marks (object_at graph k)) ks
 
--- an object before its fields are filled
+-- An object before its fields are filled.
 abbrev pub blank : Obj → Obj
 blank (objects.Block tag values) =
     objects.Block tag (replicate (length values) (vals.Int (pos 0)))
@@ -32,14 +33,14 @@ blank object = object
 abbrev pub blanks : List Obj → List ℕ → List Obj
 blanks graph ks = map (λ k. blank (object_at graph k)) ks
 
--- a value whose object, if it refers to one, has a mark, by which its new number is below the end
+-- If the value refers to an object, then the object has a mark, and its new number is below `end`.
 abbrev pub IsMet : List ℕ → ℕ → ℕ → Val → Type 0
 IsMet marks base end (vals.Int z) = ⊤
 IsMet marks base end (vals.Atom tag) = ⊤
 IsMet marks base end (vals.Ref k) =
     (k < length marks) × (0 < slice_index marks k) × (base + slice_index marks k ≤ end)
 
--- an object whose fields are such values
+-- An object whose fields are such values.
 abbrev pub IsMetObject : List Obj → List ℕ → ℕ → ℕ → ℕ → Type 0
 IsMetObject graph marks base end k =
     (k < length graph) × All (IsMet marks base end) (fields_of (object_at graph k))

@@ -1,4 +1,4 @@
-//! Objects whose fields are still to be filled.
+//! Objects whose fields are not filled yet.
 
 ghost use Rattle.std.specs.Prelude.{◌≡◌, ◌<◌, ◌++◌, length, All, MatchResult};
 ghost use Rattle.om_heap.specs.Heap.{Appends, IsOfKind, object_at};
@@ -9,7 +9,7 @@ use om_heap::{Heap, Kind};
 use om_model::Memory;
 use std::alloc::Global;
 
-/// Appends objects equal to these of another heap, but for their fields, which are 0.
+/// Appends copies of these objects of another heap, with all fields set to 0.
 pub fn append_blanks(
     alloc: Global,
     heap: &mut Heap,
@@ -30,7 +30,7 @@ pub fn append_blanks(
     Ok(())
 }
 
-/// Appends one.
+/// Appends one such copy of object `k`.
 fn append_blank(alloc: Global, heap: &mut Heap, from: &Heap, k: u64) -> Result<u64, Memory>
     requires { k < length from.now }
     ensures { Appends heap.old heap.new (blank (object_at from.now k)) result }
@@ -45,7 +45,7 @@ fn append_blank(alloc: Global, heap: &mut Heap, from: &Heap, k: u64) -> Result<u
     }
 }
 
-/// Appends a string equal to string k of another heap.
+/// Appends a copy of string `k` of another heap.
 fn append_bytes(
     alloc: Global,
     heap: &mut Heap,
@@ -65,7 +65,7 @@ fn append_bytes(
     heap.add_bytes_of(&content)
 }
 
-/// Appends an array equal to array k of doubles of another heap.
+/// Appends a copy of the array of doubles `k` of another heap.
 fn append_doubles(
     alloc: Global,
     heap: &mut Heap,

@@ -1,4 +1,4 @@
-//! A copy of a part.
+//! Copying of a value to another heap.
 
 ghost use Rattle.std.specs.Prelude.{◌≡◌, length, IfOk, MatchResult};
 ghost use Rattle.om_model.specs.Graph.{IsValue};
@@ -12,7 +12,8 @@ use om_model::Memory;
 use om_model::value::Val;
 use std::alloc::Global;
 
-/// Appends a copy of all that a part of another heap reaches. Sharing and cycles stay.
+/// Appends a copy of everything that a value of another heap reaches, and returns the copied value.
+/// The copy preserves sharing and cycles. If memory runs out, the heap is unchanged.
 pub fn append_copy(alloc: Global, heap: &mut Heap, from: &Heap, part: Val) -> Result<Val, Memory>
     requires { IsValue (length from.now) part }
     ensures copy { MatchResult result (HasCopy heap.old heap.new from.now part)

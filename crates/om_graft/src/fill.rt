@@ -1,4 +1,4 @@
-//! The fields of copies.
+//! Filling of the fields of copies.
 
 ghost use Rattle.std.specs.Prelude.{◌≡◌, ◌≤◌, ◌++◌, ◌^◌, length, take, All, Some, slice_get};
 ghost use Rattle.std.specs.Prelude.{slice_set};
@@ -11,7 +11,7 @@ use om_heap::{Heap, Kind};
 use om_model::value::Val;
 use om_write::Numbers;
 
-/// Fills the blank objects from number `base` on with the fields of these objects of another heap.
+/// Fills the blank objects from number `base` with the fields of these objects of another heap.
 pub fn fill_all(heap: &mut Heap, from: &Heap, numbers: &Numbers, base: u64, objects: &[u64])
     requires base { base ≤ length heap.old }
     requires blank { heap.old ≡ take base heap.old ++ blanks from.now objects.now }
@@ -26,7 +26,7 @@ pub fn fill_all(heap: &mut Heap, from: &Heap, numbers: &Numbers, base: u64, obje
     }
 }
 
-/// Fills the blank object of this number with the fields of object k of another heap.
+/// Fills the blank object `number` with the fields of object `k` of another heap.
 fn fill(heap: &mut Heap, from: &Heap, numbers: &Numbers, base: u64, number: u64, k: u64)
     requires blank { slice_get heap.old number ≡ Some (blank (object_at from.now k)) }
     requires met { IsMetObject from.now (marks_of numbers.now.marks) base (length heap.old) k }
@@ -44,7 +44,7 @@ fn fill(heap: &mut Heap, from: &Heap, numbers: &Numbers, base: u64, number: u64,
     }
 }
 
-/// The value, where its object is the copy of the one that it was.
+/// Returns the value with its object, if it refers to one, replaced by that object's copy.
 pub fn renamed_by(numbers: &Numbers, base: u64, v: Val) -> Val
     requires { IsMet (marks_of numbers.now.marks) base (2 ^ 64) v }
     ensures { result ≡ renamed_value base (marks_of numbers.now.marks) v }

@@ -1,9 +1,9 @@
-//! Laws over the definitions. The functions do nothing: what each ensures is the law.
+//! Laws over the definitions, as contracts of lemma functions.
 
 ghost use Rattle.om_graft.specs.Laws.{CopiesAreTheSame, OneCopyFollows, CopiesAreClosed};
 
-/// A copy of a value is the same value, in each graph that holds it, and is made of new objects
-/// alone. A value has one copy behind so many objects.
+/// States that a copy of a value is the same value in each graph that contains it, and that it
+/// consists of new objects only. A value has exactly one copy after a given number of objects.
 pub fn copies_are_the_same()
     ensures same { CopiesAreTheSame }
     ensures one { OneCopyFollows }

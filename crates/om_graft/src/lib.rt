@@ -1,4 +1,6 @@
-//! Copies of values: what a part of one heap reaches, behind the objects of another.
+//! Copies a value from one heap to the end of another. `append_copy` promises that the copy is the
+//! same value, with its sharing and cycles, and that it refers to new objects only (`HasCopy`). If
+//! memory runs out, the heap is unchanged.
 #![tactic(auto)]
 
 mod blank;

@@ -1,4 +1,4 @@
-//! The objects that a value reaches, in the order in which they are met.
+//! The objects that a value reaches, in the order of their first visit.
 
 ghost use Rattle.std.specs.Prelude.{◌≡◌, ◌≤◌, ◌<◌, ℕ, List, length, slice_index, IfOk};
 ghost use Rattle.om_model.specs.declared.value.Obj.{Obj};
@@ -13,7 +13,8 @@ use om_model::value::Val;
 use om_write::{Numbers, number_objects};
 use std::alloc::Global;
 
-/// The objects that a value reaches, in the order in which they are met, and the place of each.
+/// The objects that a value reaches, in the order of their first visit, and the position of each
+/// object.
 #[derive(Drop)]
 pub struct Order {
     pub numbers: Numbers,
@@ -21,7 +22,7 @@ pub struct Order {
 }
 
 impl Order {
-    /// Of a value.
+    /// Computes the order for a value.
     pub fn of(alloc: Global, heap: &Heap, root: Val) -> Result<Order, Memory>
         requires { IsValue (length heap.now) root }
         ensures { IfOk result
@@ -33,7 +34,7 @@ impl Order {
     }
 }
 
-/// The greatest mark.
+/// Returns the largest mark.
 fn last_mark(numbers: &Numbers, objects: u64) -> u64
     requires { objects ≡ length (marks_of numbers.now.marks) }
     ensures most { (k : ℕ) → k < objects → slice_index (marks_of numbers.now.marks) k ≤ result }
@@ -51,7 +52,7 @@ fn last_mark(numbers: &Numbers, objects: u64) -> u64
     last
 }
 
-/// The objects by their marks.
+/// Returns the objects in the order of their marks.
 fn order_of(alloc: Global, numbers: &Numbers, objects: u64) -> Result<Vec<u64>, Memory>
     requires { objects ≡ length (marks_of numbers.now.marks) }
     ensures { (graph : List Obj) (ks : List ℕ)

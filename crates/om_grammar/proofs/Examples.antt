@@ -1,4 +1,4 @@
--- Rows of lexemes, and what the tables make of them, by computing.
+-- Examples: lists of lexemes and the result of the tables on them, by computation.
 use Rattle.std.proofs.Common.{ℕ, suc, ◌≡◌, Bool, false, cond, ltb, [], ◌∷◌, ◌++◌, Option, Some, None, replicate, refl}
 use Rattle.std.specs.Prelude.{◌||◌}
 use Rattle.om_lex.specs.declared.lexeme.LexemeKind.{LexemeKind}
@@ -75,7 +75,7 @@ file xs = told (of_file xs)
 abbrev ty : Kinds → Answer
 ty xs = told (of_type xs)
 
--- ---- lexemes, and the front `type t =`
+-- ---- lexemes, and the prefix `type t =`
 
 abbrev k : Symbol → LexemeKind
 k s = kinds.Symbol s
@@ -149,7 +149,7 @@ two_bars = refl
 bar_alone : file (head ++ bar ∷ []) ≡ syntax 4
 bar_alone = refl
 
--- type t = A of t * t: two arguments; type t = A of (t * t): one
+-- type t = A of t * t: two arguments; type t = A of (t * t): one argument
 abbrev variant_of : ConstrTree → FileTree
 variant_of c = record {
   first = record {
@@ -177,7 +177,7 @@ one_argument : of_file (head ++ A ∷ of ∷ paren ∷ t ∷ star ∷ t ∷ clos
     }))
 one_argument = refl
 
--- type t = A of (t, t): a name is due
+-- type t = A of (t, t): a type name must follow
 no_pairs : file (head ++ A ∷ of ∷ paren ∷ t ∷ k symbols.Comma ∷ t ∷ close ∷ []) ≡ syntax 10
 no_pairs = refl
 
@@ -218,7 +218,7 @@ bar_and_item = refl
 array_bracket : ty (k symbols.OpenArray ∷ b ∷ []) ≡ syntax 0
 array_bracket = refl
 
--- [ t t | `B | 'a ]: a type is included, with its arguments, and a variable too; [ t * t ]
+-- [ t t | `B | 'a ]: an included type may have arguments, and may be a variable; [ t * t ]
 included_first : of_type (k symbols.OpenBracket ∷ t ∷ t ∷ bar ∷ b ∷ k symbols.CloseBracket ∷ [])
     ≡ text_read (single (simple (bracket false (more (one (included (applied t_app (116 ∷ []))))
     (tag (66 ∷ []))))))
@@ -258,7 +258,8 @@ no_type = refl
 abbrev many : ℕ → LexemeKind → Kinds
 many n kind = replicate n kind
 
--- a name in 199 parentheses has depth 200, in 200 the last of them ends a type of depth 201
+-- A name in 199 parentheses has depth 200. In 200 parentheses, the last one ends a type of depth
+-- 201.
 parentheses_199 : ty (many 199 paren ++ t ∷ many 199 close) ≡ fine
 parentheses_199 = refl
 
@@ -268,7 +269,7 @@ parentheses_200 = refl
 parentheses_201 : ty (many 201 paren ++ t ∷ many 201 close) ≡ too_deep 200
 parentheses_201 = refl
 
--- 200 parentheses may be open, and Syntax comes first at one place
+-- 200 parentheses may be open. If both errors are at one position, the syntax error is reported.
 open_200 : ty (many 200 paren) ≡ syntax 200
 open_200 = refl
 
@@ -278,12 +279,13 @@ brace_201 = refl
 bracket_201 : ty (many 200 paren ++ mark symbols.OpenBracket) ≡ too_deep 200
 bracket_201 = refl
 
--- a record's brace counts
+-- The brace of a record counts as an open bracket.
 in_a_record : file (head ++ k symbols.OpenBrace ∷ t ∷ k symbols.Colon ∷ many 200 paren)
     ≡ too_deep 205
 in_a_record = refl
 
--- a name applied 199 times has depth 200; a tuple with it is too deep where two components end
+-- A name applied 199 times has depth 200. A tuple with this component is too deep where two
+-- components end.
 applied_199 : ty (t ∷ many 199 t) ≡ fine
 applied_199 = refl
 
@@ -293,20 +295,20 @@ applied_200 = refl
 tuple_of_deep : ty (t ∷ many 199 t ++ star ∷ t ∷ []) ≡ too_deep 201
 tuple_of_deep = refl
 
--- whatever comes after
+-- The error does not depend on later lexemes.
 tuple_goes_on : ty (t ∷ many 199 t ++ star ∷ t ∷ t ∷ []) ≡ too_deep 201
 tuple_goes_on = refl
 
--- the arguments of a constructor are no tuple
+-- The arguments of a constructor are not a tuple.
 arguments_of_deep : file (head ++ A ∷ of ∷ t ∷ many 199 t ++ star ∷ t ∷ []) ≡ fine
 arguments_of_deep = refl
 
--- an included type counts as an argument does
+-- An included type counts as deep as an argument.
 included_deep : ty (k symbols.OpenBracket ∷ t ∷ many 199 t ++ mark symbols.CloseBracket)
     ≡ too_deep 201
 included_deep = refl
 
--- a variable in two parentheses of parameters opens none
+-- A closed parenthesis of type parameters is not an open bracket.
 parameters : file (kinds.Keyword keywords.Type ∷ paren ∷ v ∷ k symbols.Comma ∷ v ∷ close ∷ t ∷ k
     symbols.Equals ∷ many 200 paren) ≡ syntax 208
 parameters = refl

@@ -1,4 +1,4 @@
--- Each step outside of types adds its lexeme to what was read.
+-- Each step outside of types appends its lexeme to the lexemes read.
 use Rattle.std.proofs.Common.{
   ℕ,
   ◌≡◌,
@@ -135,7 +135,7 @@ use Rattle.om_grammar.proofs.HolesFronts.{AddsIf, begin_adds}
 abbrev AddsTo : Kinds → ℕ → LexemeKind → Option FileState → Type 0
 AddsTo before count kind next = AddsIf declarations before count kind next
 
--- ---- rows
+-- ---- lists
 
 flat_map_end : {X : Type 0} (f : X → Kinds) (xs : List X) (x : X) → flat_map f (xs ++ x ∷ [])
     ≡ flat_map f xs ++ f x
@@ -154,7 +154,7 @@ row_grows between spelled (so_far f m) x = ap (λ k. spelled f ++ k)
     regroup : (f e s x : Kinds) → f ++ (e ++ (s ++ x)) ≡ f ++ e ++ s ++ x
     regroup f e s x = simp append_assoc
 
--- a row in what stands round it
+-- A list within its context.
 row_within : (a h e r d m : Kinds) → h ++ e ≡ r ++ d → a ++ h ++ e ++ m ≡ a ++ r ++ d ++ m
 row_within a h e r d m i = ap (λ k. k ++ m) (append_assoc a h e ∙ ap (λ k. a ++ k) i
     ∙ sym (append_assoc a r d))

@@ -1,4 +1,4 @@
--- What a file of declarations spells leads on to it.
+-- The lexemes of a file of declarations lead the table to that file.
 use Rattle.std.proofs.Common.{
   ℕ,
   ◌≡◌,
@@ -146,7 +146,7 @@ starts_like : (s : FileState) {s' t : FileState} {xs : Kinds} {ds : List ℕ} �
 starts_like s f h stop = absurd (omega arith)
 starts_like s f h (go e l p) = go (f _ _ e) l p
 
--- ---- rows
+-- ---- lists
 
 module _ {X : Type 0} (begun : Before X → FileState) (between : Kinds) (spelled : X → Kinds)
     (ends : X → List ℕ) (Done : X → List X → FileState → Type 0) where
@@ -287,7 +287,7 @@ record_leads s r t h = closes t.closed
         field_kinds field_ends (FieldsDone r) (field_leads r) t.more nothing t.first in
         onward (onward (go h (omega arith) q.leads) stop) (one_more q.done.brace)
 
--- ---- what may come after a declaration
+-- ---- what may follow a declaration
 
 pub record DeclDone (g : GroupHole) (d : DeclTree) (s : FileState) : Type 0 where
   pub and_next : step declarations s (kinds.Keyword keywords.And)

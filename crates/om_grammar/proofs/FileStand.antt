@@ -1,4 +1,4 @@
--- Each state of a file has a file that begins with what was read.
+-- For each state of a file, some file begins with the lexemes read.
 use Rattle.std.proofs.Common.{
   ℕ,
   suc,
@@ -180,7 +180,7 @@ all_even f e h [] = refl
 all_even f e h (x ∷ xs) = even_both (e x) (flat_map e xs) (f x) (flat_map f xs) (h x)
     (all_even f e h xs)
 
--- ---- rows
+-- ---- lists
 
 module _ {X : Type 0} (between : Kinds) (spelled : X → Kinds) (ends : X → List ℕ) (even : (x : X) →
     length (ends x) ≡ length (spelled x)) where
@@ -253,7 +253,7 @@ group_even : (g : GroupTree) → length (group_ends g) ≡ length (group_kinds g
 group_even g = sym (ap length (append-nil (group_ends g))) ∙ file_even (g ∷ [])
     ∙ ap length (append-nil (group_kinds g))
 
--- ---- by what stands round
+-- ---- by the context
 
 pub decl_stands : (g : GroupHole) (d : DeclTree) → Stands (group_front g) (decl_kinds d)
     (decl_ends d) (file_kinds (closed_decl g d)) (file_ends (closed_decl g d))
@@ -345,12 +345,12 @@ alone_stands (listed_part c x b) a =
 
 -- ---- states outside of types
 
--- what was read, and more, is the file's beginning
+-- If a file consists of the lexemes read and further ones, then the state is completed.
 by_more : (q : Outside) (text : FileTree) (extra : Kinds) → file_kinds text ≡ outer_front q
     ++ extra → Completed declarations file_kinds file_ends (outside q)
 by_more q text extra e = record { text = text; rest = extra; begins = e; deep = omega arith }
 
--- what was read lies inside of what stands in the file
+-- If the lexemes read lie within a part of the file, then the state is completed.
 by_part : (q : Outside) (text : FileTree) {before inner : Kinds} {depths : List ℕ} (extra : Kinds) →
     before ++ inner ≡ outer_front q ++ extra → Stands before inner depths (file_kinds text)
     (file_ends text) → Completed declarations file_kinds file_ends (outside q)
@@ -363,7 +363,7 @@ some_type = single (simple (variable []))
 abbrev decl_of : Params → Name → DeclTree
 decl_of ps x = record { params = ps; name = x; body = type_body some_type }
 
--- after the parameters, or some of them
+-- After some or all of the parameters.
 params_grow : (b : Before Name) (x : Name) → params_kinds (params (head_of b x) (rest_of b x))
     ≡ mark symbols.OpenParen ++ row_front (mark symbols.Comma) variable_kind b ++ variable_kind x
     ++ mark symbols.CloseParen

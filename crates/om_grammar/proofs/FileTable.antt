@@ -1,4 +1,4 @@
--- The table of declarations reads the grammar's files.
+-- The table of declarations reads the files of the grammar.
 use Rattle.std.proofs.Common.{
   ◌≡◌,
   ◌∙◌,

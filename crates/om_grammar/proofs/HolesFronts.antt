@@ -1,4 +1,5 @@
--- Each step adds its lexeme to what was read, and opens and closes brackets as the lexeme does.
+-- Each step appends its lexeme to the lexemes read, and updates the number of open brackets as the
+-- lexeme does.
 use Rattle.std.proofs.Common.{
   ℕ,
   suc,

@@ -1,4 +1,5 @@
--- What a tree spells leads on to that tree, and no deeper types end on the way than a state tells.
+-- The lexemes of a tree lead the table to that tree. The types that end on the way are no deeper
+-- than the states report.
 use Rattle.std.proofs.Common.{
   ℕ,
   ◌≡◌,
@@ -84,7 +85,7 @@ use Rattle.om_grammar.specs.Holes.{
 use Rattle.om_grammar.proofs.MachineLemmas.{onward, one_more, one_deep, raised}
 
 module _ {W P O : Type 0} where
-  -- ---- where a tree leads
+  -- ---- the state after a tree
 
   abbrev pub type_read : TypeHole W P → Texpr → State W P O
   type_read h (single a) = read (first_part h) a
@@ -107,7 +108,7 @@ module _ {W P O Text : Type 0} (o : Outer W P O Text) where
   abbrev pub Led : State W P O → Kinds → List ℕ → State W P O → Type 0
   Led = Leads (step o) ended
 
-  -- ---- what comes next there
+  -- ---- the next lexeme after a tree
 
   star_next : (h : TypeHole W P) (t : Texpr) → step o (type_read h t) (kinds.Symbol symbols.Star)
       ≡ Some (due (next_part h t))
@@ -157,7 +158,7 @@ module _ {W P O Text : Type 0} (o : Outer W P O Text) where
   end_next p bar (one i) = end_after (first_item p bar) i
   end_next p bar (more before i) = end_after (next_item p bar before) i
 
-  -- a bracket's first item is due
+  -- The state that expects the first item of a bracket.
   bar_leads : (p : PartHole W P) (bar : Bool) → Led (due (inclusion (first_item p false)))
       (bar_if bar) (replicate (length (bar_if bar)) 0) (due (inclusion (first_item p bar)))
   bar_leads p true = one_more refl

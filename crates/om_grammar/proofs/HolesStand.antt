@@ -1,4 +1,5 @@
--- Each state has a text that begins with what was read, in which the type that was read last ends.
+-- For each state, some text begins with the lexemes read, and the type that was read last ends in
+-- it.
 use Rattle.std.proofs.Common.{
   ℕ,
   ◌-◌,

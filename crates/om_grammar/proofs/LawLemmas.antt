@@ -1,4 +1,4 @@
--- A table that reads a grammar's texts shows the laws of that grammar.
+-- If a table reads the texts of a grammar, then the laws of the grammar hold.
 use Rattle.std.proofs.Common.{
   ℕ,
   zero,
@@ -104,7 +104,7 @@ module _ {Text State : Type 0} {spelled : Text → Kinds} {ends : Text → List 
       (viable_front r lexemes (suc k) (suc j) (omega arith) (deep_viable lexemes j d))))
       (cases_lt j k)
 
-  -- ---- reading on from a place
+  -- ---- reading from a position
 
   abbrev Found : Kinds → Type 0
   Found lexemes = ((t : Text) × (spelled t ≡ lexemes)) ⊎ ((k : ℕ) × IsSyntax spelled lexemes k)
@@ -138,7 +138,7 @@ module _ {Text State : Type 0} {spelled : Text → Kinds} {ends : Text → List 
       (λ (k, s). inr (k, s, λ j i. one_syntax lexemes j k i s)) (read_on lexemes (length lexemes) 0
       start (omega arith) refl)
 
-  -- ---- the same with depths
+  -- ---- the same, with depths
 
   abbrev Readable : Kinds → Type 0
   Readable lexemes = (reading : Reading Text) × IsReading spelled ends lexemes reading

@@ -1,4 +1,4 @@
--- The kinds of lexemes up to a place, plain numbers, and open brackets.
+-- Lemmas about the kinds of a prefix of the lexemes, plain numbers, and open brackets.
 use Rattle.std.proofs.Common.{ℕ, zero, suc, ◌≡◌, ◌<◌, ℤ, pos, Bool, false, Some, List, [], ◌∷◌, ◌++◌, length, take, get_or, refl, sym, ap, arith}
 use Rattle.om_lex.specs.declared.lexeme.Lexeme.{Lexeme}
 use Rattle.om_lex.specs.declared.lexeme.LexemeKind.{LexemeKind}

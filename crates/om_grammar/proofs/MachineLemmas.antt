@@ -1,4 +1,4 @@
--- Reading one text after the other, by any table.
+-- Reading two texts one after the other, for any table.
 use Rattle.std.proofs.Common.{
   ℕ,
   suc,
@@ -47,7 +47,7 @@ module _ {State : Type 0} {step : State → LexemeKind → Option State} {ended 
   leads_run (go {rest = xs} h l p) rest = ap (option_and_then (λ next. run step next (xs ++ rest)))
       h ∙ leads_run p rest
 
-  -- the last lexeme may end a deeper type
+  -- If the final state admits a deeper type, then the last lexeme may end one.
   pub raised : {s t : State} {xs : Kinds} {ds : List ℕ} (n : ℕ) → n ≤ ended t →
       Leads step ended s xs ds t → Leads step ended s xs (at_last n ds) t
   raised n e stop = stop

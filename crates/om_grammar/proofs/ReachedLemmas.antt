@@ -1,5 +1,6 @@
--- A loop that reads lexemes as a table does: what it has reached at a place, and what it may answer
--- there. What the code holds there is told by `Shown`, which says which states of the table it is.
+-- A loop that reads lexemes as a table does: the state that it has reached at a position, and the
+-- results that it may return there. `Shown` relates the variables of the code to the states of the
+-- table.
 use Rattle.std.proofs.Common.{ℕ, suc, ◌≡◌, ◌≤◌, ◌<◌, ◌⊎◌, inl, inr, ⊎_elim, ◌∙◌, min, List, [], ◌∷◌, ◌++◌, length, take, Option, Some, None, refl, sym, ap, subst, arith}
 use Rattle.std.specs.Prelude.{IfSome}
 use Rattle.std.proofs.lemmas.Bool.{cases_lt}
@@ -9,7 +10,7 @@ use Rattle.om_grammar.specs.Refusals.{opened, IsDeep, IsTooDeep, IsRefusedAsSynt
 use Rattle.om_grammar.specs.Machine.{run}
 use Rattle.om_grammar.proofs.TableLemmas.{Adds, Reads, take_whole, run_more, text_is_read, is_syntax_at, syntax_end, deep_at, shallow_at}
 
--- a step of the table to what the code holds after a lexeme
+-- A step of the table to the state that the code represents after a lexeme.
 pub record Moved {State : Type 0} (step : State → LexemeKind → Option State) (Shown : State →
     Type 0) (kind : LexemeKind) (s : State) : Type 0 where
   pub next : State
@@ -41,7 +42,7 @@ module _ {Text State : Type 0} {spelled : Text → Kinds} {ends : Text → List 
   }
 
   module _ {Shown : State → Type 0} {count place : ℕ} (here : Reached Shown count place) where
-    -- no lexeme is left
+    -- No lexeme is left.
     ran_whole : length lexemes ≤ place → run step start lexemes ≡ Some here.state
     ran_whole h = let e : place ≡ length lexemes = omega (arith, here.within) in
         subst (λ ks. run step start ks ≡ Some here.state) (ap (λ k. take k lexemes) e

@@ -1,4 +1,4 @@
--- Where lexemes stand in a longer row, with the types that end in them.
+-- The position of lexemes in a longer list, with the types that end in them.
 use Rattle.std.proofs.Common.{
   ℕ,
   zero,
@@ -78,7 +78,7 @@ use Rattle.om_grammar.proofs.HolesLead.{
   item_leads,
 }
 
--- these lexemes, with types that end in them, stand after others in a longer row
+-- In a longer list, these lexemes, with types that end in them, follow others.
 pub record Stands (before inner : Kinds) (depths : List ℕ) (all : Kinds) (ends : List ℕ) : Type 0
   where
     pub rest : Kinds

@@ -1,4 +1,4 @@
--- What a table tells of lexemes is what the grammar says: whether they are a text, where Syntax is,
+-- The table agrees with the grammar about whether lexemes are a text, where the syntax error is,
 -- and where they are too deep.
 use Rattle.std.proofs.Common.{
   ℕ,
@@ -50,7 +50,7 @@ pub record Completes {Text State : Type 0} (spelled : Text → Kinds) (ends : Te
   pub begins : spelled text ≡ front s ++ rest
   pub deep : ended s ≤ slice_index (ends text) (length (front s) - 1)
 
--- a table that reads these texts
+-- A table that reads the texts of this grammar.
 pub record Reads {Text State : Type 0} (spelled : Text → Kinds) (ends : Text → List ℕ)
     (step : State → LexemeKind → Option State) (start : State) (front : State → Kinds)
     (brackets ended : State → ℕ) (accepted : State → Option Text) : Type 0 where
@@ -64,7 +64,7 @@ pub record Reads {Text State : Type 0} (spelled : Text → Kinds) (ends : Text �
       IfSome (step s kind) (λ next. Adds front brackets (front s) (brackets s) kind next)
   pub completes : (s : State) → Completes spelled ends front ended s
 
--- one lexeme more
+-- One more lexeme.
 pub next_lexeme : (lexemes : Kinds) (k : ℕ) → k < length lexemes → (kind : LexemeKind)
     × (take (suc k) lexemes ≡ take k lexemes ++ kind ∷ [])
 next_lexeme [] k h = absurd (omega arith)
@@ -90,7 +90,7 @@ take_whole [] = refl
 take_whole (kind ∷ rest) = ap (λ xs. kind ∷ xs) (take_whole rest)
 
 module _ {State : Type 0} {step : State → LexemeKind → Option State} {ended : State → ℕ} where
-  -- a row of lexemes leads on through each of its fronts
+  -- If a list of lexemes leads to a state, then each of its prefixes does.
   through : (xs rest : Kinds) {s t : State} {ds : List ℕ} → Leads step ended s (xs ++ rest) ds t →
       (m : State) × (run step s xs ≡ Some m)
   through [] rest {s = s} p = (s, refl)
@@ -126,7 +126,7 @@ module _ {Text State : Type 0} {spelled : Text → Kinds} {ends : Text → List 
     LexemeKind → Option State} {start : State} {front : State → Kinds} {brackets ended : State → ℕ}
     {accepted : State → Option Text} (r : Reads spelled ends step start front brackets ended
     accepted) where
-  -- what a state has read
+  -- The lexemes that a state has read.
   reached : (xs : Kinds) (s t : State) → run step s xs ≡ Some t → (front t ≡ front s ++ xs)
       × (brackets t ≡ open_after (brackets s) xs)
   reached [] s t h = let e : s ≡ t = cc in (
@@ -158,7 +158,7 @@ module _ {Text State : Type 0} {spelled : Text → Kinds} {ends : Text → List 
   viable s xs h = let c = r.completes s in
       (c.text, c.rest, c.begins ∙ ap (λ ys. ys ++ c.rest) (front_is_read s xs h))
 
-  -- nothing else begins a text
+  -- The table reads every prefix of a text.
   pub viable_is_read : (xs : Kinds) → IsViable spelled xs → (m : State)
       × (run step start xs ≡ Some m)
   viable_is_read xs v = through xs v.1
@@ -183,7 +183,7 @@ module _ {Text State : Type 0} {spelled : Text → Kinds} {ends : Text → List 
   text_is_accepted t s lexemes h e = let f : Some s ≡ Some (r.final t) = sym h ∙ ap (run step start)
       (sym e) ∙ text_leads t in let g : s ≡ r.final t = cc in ap accepted g ∙ r.accepts t
 
-  -- lexemes have one tree
+  -- At most one tree has these lexemes.
   pub one_text : (t u : Text) → spelled t ≡ spelled u → t ≡ u
   one_text t u e = let f : accepted (r.final u) ≡ Some t = text_is_accepted t (r.final u)
       (spelled u) (text_leads u) e in let g : accepted (r.final u) ≡ Some u = r.accepts u in cc

@@ -1,4 +1,4 @@
--- A type expression by itself: nothing stands outside of it.
+-- The grammar of a type expression by itself, with nothing around it.
 use Rattle.std.specs.Prelude.{Option, Some, None, []}
 use Rattle.om_grammar.specs.Grammar.{Texpr, single, starred}
 use Rattle.om_grammar.specs.Holes.{Outer, State, due, read, first_part, next_part, whole}

@@ -1,4 +1,4 @@
--- How deep types are, and how deep those are that end at each lexeme.
+-- The depth of a type, and the depth of the types that end at each lexeme.
 use Rattle.std.specs.Prelude.{ℕ, suc, max, List, [], ◌∷◌, ◌++◌, length, replicate}
 use Rattle.std.specs.List.{flat_map}
 use Rattle.om_lex.specs.declared.lexeme.Keyword.TheVariants as keywords
@@ -11,14 +11,14 @@ use Rattle.om_grammar.specs.Grammar.{mark_if, more, named, no_arguments, one, pa
 use Rattle.om_grammar.specs.Grammar.{record_body, simple, single, starred, tag, tag_of, type_body}
 use Rattle.om_grammar.specs.Grammar.{variable, variant_body, word, word_if}
 
--- ---- how deep they are
+-- ---- depth of a type
 
 abbrev mutual
   pub texpr_depth : Texpr → ℕ
   texpr_depth (single a) = app_depth a
   texpr_depth (starred t a) = suc (max (part_depth t) (app_depth a))
 
-  -- the deepest component so far
+  -- The depth of the deepest component so far.
   pub part_depth : Texpr → ℕ
   part_depth (single a) = app_depth a
   part_depth (starred t a) = max (part_depth t) (app_depth a)
@@ -47,11 +47,11 @@ abbrev mutual
   item_depth (tag_of name t) = texpr_depth t
   item_depth (included a) = app_depth a
 
--- For each lexeme the depth of the deepest type of the tree that ends there, 0 where none does.
--- What an application or a tuple begins with is a type of its own, but in `a * b c` the tuple
--- `a * b` is none: it is one in another tree that begins with these lexemes.
+-- For each lexeme, the depth of the deepest type of the tree that ends there, or 0 if none does. A
+-- prefix of an application or of a tuple is a type of its own. In `a * b c`, however, the tuple `a
+-- * b` is not counted, because it is a type only in another tree that begins with the same lexemes.
 
--- the last lexeme ends a type of this depth
+-- The last lexeme ends a type of this depth.
 abbrev pub at_last : ℕ → List ℕ → List ℕ
 at_last n [] = []
 at_last n (m ∷ []) = max m n ∷ []
@@ -92,7 +92,7 @@ abbrev mutual
   item_ends (tag_of name t) = no_end ++ no_end ++ texpr_ends t
   item_ends (included a) = app_ends a
 
--- ---- the depths of the types that end, lexeme by lexeme
+-- ---- depths of the types that end at each lexeme
 
 abbrev pub silent : Kinds → List ℕ
 silent [] = []

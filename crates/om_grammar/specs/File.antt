@@ -1,4 +1,4 @@
--- What was read of a file of declarations, outside of types.
+-- The states of the parsing table for a file of declarations, outside of types.
 use Rattle.std.specs.Prelude.{ℕ, Bool, true, false, Option, Some, None, List, [], ◌∷◌, ◌++◌}
 use Rattle.om_lex.specs.declared.lexeme.LexemeKind.{LexemeKind}
 use Rattle.om_lex.specs.declared.lexeme.LexemeKind.TheVariants as kinds
@@ -57,7 +57,7 @@ use Rattle.om_grammar.specs.Holes.{
   begin,
 }
 
--- ---- rows with something between each two
+-- ---- lists with separators
 
 pub data Before (X : Type 0) : Type 0 where
   nothing : Before X
@@ -79,7 +79,7 @@ module _ {X : Type 0} where
   row_front between spelled nothing = []
   row_front between spelled (so_far f m) = spelled f ++ each_after between spelled m ++ between
 
--- ---- what is open
+-- ---- constructs that are still open
 
 pub record GroupHole : Type 0 where
   pub groups : List GroupTree
@@ -125,7 +125,7 @@ pub data Outside : Type 0 where
 abbrev pub FileState : Type 0
 FileState = State TypeOutside PartOutside Outside
 
--- ---- trees that end here
+-- ---- trees of constructs that end here
 
 abbrev pub group_with : GroupHole → DeclTree → Bool → List GroupTree
 group_with g d ended = g.groups ++ record {
@@ -276,7 +276,7 @@ outer_step (mutable_read r b) kind = take_field_name r b kind
 outer_step (field_named r b mutable x) kind = take_colon r b mutable x kind
 outer_step (record_read r t) kind = after_record r t kind
 
--- ---- the lexemes that were read
+-- ---- the lexemes read so far
 
 abbrev pub group_front : GroupHole → Kinds
 group_front g = file_kinds g.groups ++ (word keywords.Type ++ row_front (word keywords.And)
@@ -337,7 +337,7 @@ outer_open (mutable_read r b) = 1
 outer_open (field_named r b mutable x) = 1
 outer_open q = 0
 
--- ---- closed at once
+-- ---- files obtained by closing every open construct at once
 
 abbrev pub closed_decl : GroupHole → DeclTree → FileTree
 closed_decl g d = group_with g d false

@@ -1,6 +1,6 @@
--- The grammar of declarations and types, as trees of the lexemes that they spell (a part of the
--- syntax of type definitions and type expressions in OCaml's reference manual). A tree has a case
--- for each production. A name is any row of bytes here; those of lexemes are names.
+-- The grammar of declarations and types, as trees of lexemes. It covers a part of the syntax of
+-- type definitions and type expressions in OCaml's reference manual. A tree has one case for each
+-- production. Here a name is any list of bytes; the lexer only produces valid names.
 use Rattle.std.specs.Prelude.{ℕ, Bool, true, false, List, [], ◌∷◌, ◌++◌}
 use Rattle.std.specs.List.{flat_map}
 use Rattle.om_lex.specs.declared.lexeme.LexemeKind.{LexemeKind}
@@ -30,9 +30,9 @@ mutual
     variable : Name → Simple
     named : Name → Simple
     grouped : Texpr → Simple
-    -- two arguments or more, and the name
+    -- Two or more arguments, and the name of the type constructor.
     arguments : Texprs → Texpr → Name → Simple
-    -- with a bar in front or without one
+    -- With or without a leading bar.
     bracket : Bool → Items → Simple
 
   -- texpr { "," texpr }
@@ -50,7 +50,7 @@ mutual
     tag_of : Name → Texpr → Item
     included : App → Item
 
--- ---- what they spell
+-- ---- the lexemes of a tree
 
 abbrev pub Kinds : Type 0
 Kinds = List LexemeKind
@@ -98,7 +98,7 @@ abbrev mutual
 
 -- ---- declarations
 
--- VAR, or names in parentheses with commas between
+-- Nothing, a VAR, or names in parentheses, separated by commas.
 pub data Params : Type 0 where
   no_params : Params
   param : Name → Params
@@ -109,7 +109,7 @@ pub record FieldTree : Type 0 where
   pub name : Name
   pub type : Texpr
 
--- with a semicolon after the last field or without one
+-- With or without a semicolon after the last field.
 pub record RecordTree : Type 0 where
   pub first : FieldTree
   pub more : List FieldTree
@@ -134,7 +134,7 @@ pub record DeclTree : Type 0 where
   pub name : Name
   pub body : BodyTree
 
--- with `;;` after it or without
+-- With or without `;;` after the group.
 pub record GroupTree : Type 0 where
   pub first : DeclTree
   pub more : List DeclTree
@@ -157,7 +157,7 @@ word_if false keyword = []
 abbrev pub variable_kind : Name → Kinds
 variable_kind name = kinds.Variable name ∷ []
 
--- each with this in front of it
+-- Each element, preceded by these lexemes.
 abbrev pub each_after : {X : Type 0} → Kinds → (X → Kinds) → List X → Kinds
 each_after before spelled all = flat_map (λ x. before ++ spelled x) all
 

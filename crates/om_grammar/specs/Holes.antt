@@ -1,5 +1,6 @@
--- What was read of a type, as a state: the tree that was read last, in what stands round it so far.
--- Round the whole type, or round one that is no tuple, stands something of another grammar.
+-- The states of the parsing table inside a type: the tree that was read last, within its context so
+-- far. The context of the whole type, or of a type that is not a tuple, belongs to another grammar
+-- and is a parameter.
 use Rattle.std.specs.Prelude.{ℕ, suc, Bool, true, false, Option, Some, None, [], ◌∷◌, ◌++◌}
 use Rattle.om_lex.specs.declared.lexeme.LexemeKind.{LexemeKind}
 use Rattle.om_lex.specs.declared.lexeme.LexemeKind.TheVariants as kinds
@@ -39,21 +40,21 @@ use Rattle.om_grammar.specs.Grammar.{
 use Rattle.om_grammar.specs.Depths.{texpr_depth, app_depth}
 
 mutual
-  -- what stands round a type that is being read
+  -- The context of a type that is being read.
   pub data TypeHole (W P : Type 0) : Type 0 where
     whole : W → TypeHole W P
     group : PartHole W P → TypeHole W P
     argument : PartHole W P → Texprs → TypeHole W P
     of_tag : ItemHole W P → Name → TypeHole W P
 
-  -- round a component
+  -- The context of a component.
   pub data PartHole (W P : Type 0) : Type 0 where
     first_part : TypeHole W P → PartHole W P
     next_part : TypeHole W P → Texpr → PartHole W P
     inclusion : ItemHole W P → PartHole W P
     alone : P → PartHole W P
 
-  -- round an item
+  -- The context of an item.
   pub data ItemHole (W P : Type 0) : Type 0 where
     first_item : PartHole W P → Bool → ItemHole W P
     next_item : PartHole W P → Bool → Items → ItemHole W P
@@ -61,12 +62,12 @@ mutual
 pub data State (W P O : Type 0) : Type 0 where
   due : PartHole W P → State W P O
   read : PartHole W P → App → State W P O
-  -- after the parenthesis that ends several arguments
+  -- After the parenthesis that closes several arguments.
   name_due : PartHole W P → Texprs → Texpr → State W P O
   tag_read : ItemHole W P → Name → State W P O
   outside : O → State W P O
 
--- what stands outside of types
+-- The grammar outside of types.
 pub record Outer (W P O Text : Type 0) : Type 0 where
   pub type_step : W → Texpr → LexemeKind → Option (State W P O)
   pub part_step : P → App → LexemeKind → Option (State W P O)
@@ -81,7 +82,7 @@ pub record Outer (W P O Text : Type 0) : Type 0 where
   pub closed_round_part : P → App → Text
 
 module _ {W P : Type 0} where
-  -- the depth of the deepest type that ends at the last lexeme
+  -- The depth of the deepest type that ends at the last lexeme.
   abbrev pub part_ended : PartHole W P → App → ℕ
   part_ended (first_part h) a = app_depth a
   part_ended (next_part h t) a = texpr_depth (starred t a)
@@ -191,7 +192,7 @@ module _ {W P O Text : Type 0} (o : Outer W P O Text) where
   front (tag_read h x) = item_front h ++ kinds.Tag x ∷ []
   front (outside q) = o.front_of_outside q
 
-  -- the brackets that are open
+  -- The number of open brackets.
   abbrev mutual
     pub type_open : TypeHole W P → ℕ
     type_open (whole w) = o.open_of_type w
@@ -216,7 +217,7 @@ module _ {W P O Text : Type 0} (o : Outer W P O Text) where
   still_open (tag_read h x) = item_open h
   still_open (outside q) = o.open_of_outside q
 
-  -- ---- the trees closed at once
+  -- ---- texts obtained by closing every open construct at once
 
   abbrev mutual
     pub closed_type : TypeHole W P → Texpr → Text

@@ -1,4 +1,4 @@
--- The kinds of lexemes, and plain numbers among them.
+-- The kinds of lexemes, and which of them are plain numbers.
 use Rattle.std.specs.Prelude.{ℕ, ℤ, pos, Bool, false, Option, Some, None, List, map}
 use Rattle.om_lex.specs.declared.lexeme.Lexeme.{Lexeme}
 use Rattle.om_lex.specs.declared.lexeme.LexemeKind.{LexemeKind}
@@ -10,7 +10,7 @@ use Rattle.om_grammar.specs.Grammar.{Kinds}
 abbrev pub kinds_of : List Lexeme → Kinds
 kinds_of lexemes = map (λ (l : Lexeme). l.kind) lexemes
 
--- the lexeme that a number is, without sign and suffix
+-- The lexeme of a number without sign and suffix.
 abbrev pub number : ℕ → LexemeKind
 number n = kinds.Integer (record { minus = false; value = pos n; suffix = suffixes.Absent })
 

@@ -1,4 +1,4 @@
--- A table that reads lexemes one by one. A state holds what was read.
+-- A table that reads lexemes one by one. A state stands for the lexemes read so far.
 use Rattle.std.specs.Prelude.{ℕ, ◌≡◌, ◌≤◌, Option, Some, List, [], ◌∷◌, option_and_then}
 use Rattle.om_lex.specs.declared.lexeme.LexemeKind.{LexemeKind}
 use Rattle.om_grammar.specs.Grammar.{Kinds}
@@ -8,8 +8,8 @@ module _ {State : Type 0} (step : State → LexemeKind → Option State) where
   run s [] = Some s
   run s (kind ∷ rest) = option_and_then (λ next. run next rest) (step s kind)
 
--- reading these lexemes leads from the one state to the other, and at each a type as deep as this
--- may end
+-- Reading these lexemes leads from the first state to the second. At each lexeme, the state admits
+-- the end of a type of the given depth.
 pub data Leads {State : Type 0} (step : State → LexemeKind → Option State) (ended : State →
     ℕ) : State → Kinds → List ℕ → State → Type 0 where
   stop : {s : State} → Leads step ended s [] [] s

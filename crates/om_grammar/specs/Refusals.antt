@@ -1,4 +1,5 @@
--- Where lexemes are no text of a grammar, and where they are too deep, for any kind of tree.
+-- Errors in a list of lexemes, for any type of trees: where a syntax error is, and where a type is
+-- too deep.
 use Rattle.std.specs.Prelude.{
   ℕ,
   suc,
@@ -23,7 +24,7 @@ use Rattle.om_grammar.specs.Grammar.{Kinds}
 
 -- ---- brackets
 
--- how many are open after this lexeme, where so many are open before it
+-- The number of open brackets after this lexeme, given the number before it.
 abbrev pub opened : LexemeKind → ℕ → ℕ
 opened (kinds.Symbol symbols.OpenParen) n = suc n
 opened (kinds.Symbol symbols.OpenBracket) n = suc n
@@ -37,14 +38,14 @@ abbrev pub open_after : ℕ → Kinds → ℕ
 open_after n [] = n
 open_after n (kind ∷ rest) = open_after (opened kind n) rest
 
--- ---- no text
+-- ---- syntax errors
 
 module _ {Text : Type 0} (spelled : Text → Kinds) where
-  -- some text begins with these lexemes
+  -- Some text begins with these lexemes.
   abbrev pub IsViable : Kinds → Type 0
   IsViable front = (text : Text) × (rest : Kinds) × (spelled text ≡ front ++ rest)
 
-  -- lexeme k, or the end, is the first at which no text goes on
+  -- Lexeme `k`, or the end of the lexemes, is the first position at which no text continues.
   pub record IsSyntax (lexemes : Kinds) (k : ℕ) : Type 0 where
     pub within : k ≤ length lexemes
     pub viable : IsViable (take k lexemes)
@@ -54,8 +55,9 @@ module _ {Text : Type 0} (spelled : Text → Kinds) where
 -- ---- too deep
 
 module _ {Text : Type 0} (spelled : Text → Kinds) (ends : Text → List ℕ) where
-  -- Some text begins with the lexemes up to this one, and a type of depth above 200 ends there in
-  -- it, or more than 200 brackets are open there. The type may go on in the lexemes themselves.
+  -- Some text begins with the lexemes up to and including lexeme `k`. In that text a type of depth
+  -- above 200 ends at `k`, or more than 200 brackets are open after `k`. The type may continue in
+  -- the given lexemes.
   pub record IsDeep (lexemes : Kinds) (k : ℕ) : Type 0 where
     pub text : Text
     pub rest : Kinds
@@ -63,24 +65,25 @@ module _ {Text : Type 0} (spelled : Text → Kinds) (ends : Text → List ℕ) w
     pub begins : spelled text ≡ take (suc k) lexemes ++ rest
     pub deep : (200 < slice_index (ends text) k) ⊎ (200 < open_after 0 (take (suc k) lexemes))
 
-  -- the first place at which the lexemes are too deep; up to there they begin a text
+  -- The first position that is too deep. The lexemes up to it begin some text.
   pub record IsTooDeep (lexemes : Kinds) (k : ℕ) : Type 0 where
     pub deep : IsDeep lexemes k
     pub first : (j : ℕ) → j < k → IsDeep lexemes j → ⊥
 
-  -- Syntax is answered here: no place before is too deep
+  -- The error at `k` is a syntax error, and no position before `k` is too deep.
   pub record IsRefusedAsSyntax (lexemes : Kinds) (k : ℕ) : Type 0 where
     pub syntax : IsSyntax spelled lexemes k
     pub shallow : (j : ℕ) → j < k → IsDeep lexemes j → ⊥
 
-  -- the text of these lexemes, where no place is too deep
+  -- The lexemes are this text, and no position is too deep.
   pub record IsText (lexemes : Kinds) (text : Text) : Type 0 where
     pub spells : spelled text ≡ lexemes
     pub shallow : (j : ℕ) → IsDeep lexemes j → ⊥
 
--- ---- what is answered
+-- ---- the result
 
--- the text, or the number of the lexeme that is refused, which is their count at the end
+-- The text, or the index of the lexeme with the error. If the error is at the end, the index is the
+-- number of lexemes.
 pub data Reading (Text : Type 0) : Type 0 where
   text_read : Text → Reading Text
   syntax_at : ℕ → Reading Text

@@ -1,4 +1,5 @@
--- Names that are found to be read back are so at the types of a table.
+-- If the check of a table finds its names readable, then they are readable at the types of the
+-- table.
 use Rattle.std.proofs.Common.{◌≡◌, ℕ, ◌+◌, ◌<◌, ◌≤◌, ⊎_elim, Bool, true, false, List, [], ◌∷◌, length, Some, refl, sym, ap, subst, ◌∙◌, arith, get_or, lt-ltb}
 use Rattle.std.specs.Prelude.{slice_get, find, codes, Contains, unwrap_or}
 use Rattle.std.specs.List.{position, position_or_len}
@@ -56,7 +57,7 @@ cons_head_by name e = subst IsHead (sym ((bytes_eq-Decides name (codes "::")).0 
 pub empty_head_by : (name : List ℕ) → bytes_eq name (codes "[]") ≡ true → IsHead name
 empty_head_by name e = subst IsHead (sym ((bytes_eq-Decides name (codes "[]")).0 e)) empty_is_head
 
--- ---- one name more
+-- ---- one more name
 
 pub more_known : {X : Type 0} (P : ℕ → X → Type 0) (xs : List X) (i : ℕ) → ((j : ℕ) (x : X) → j < i → slice_get xs j ≡ Some x → P j x)
     → ((x : X) → slice_get xs i ≡ Some x → P i x) → (j : ℕ) (x : X) → j < i + 1 → slice_get xs j ≡ Some x → P j x
@@ -81,9 +82,10 @@ pub spelled_more : (table : Tabled) (i : ℕ) → ((j : ℕ) → j < i → IsSpe
 spelled_more table i known this j below =
     ⊎_elim (known j) (λ rest. let same : i ≡ j = omega (arith, below, rest) in subst (λ k. IsSpelled (shape_in table k) (names_in table k)) same this) (cases_lt j i)
 
--- ---- the constructor of a name is the first one of the name and its fields
+-- ---- a constructor is the first one with its name and fields
 
--- where the first that passes a test passes a stronger one too, it is the first that does
+-- If the first element that passes a test passes a stronger test too, then it is the first that
+-- passes the stronger test.
 position_too : {X : Type 0} (p q : X → Bool) (xs : List X) (i : ℕ) (d : X) → ((x : X) → p x ≡ false → q x ≡ false) → position p xs ≡ Some i → q (get_or xs i d) ≡ true → position q xs ≡ Some i
 position_too p q xs i d weaker first passes =
     let f = position-Some p xs i d first in
@@ -103,7 +105,7 @@ constructor_found names tag c at head fields first = record {
       (and_from _ _ ((bytes_eq-Decides c.name c.name).1 refl) (same_names_refl c.fields)));
 }
 
--- ---- at types in place of their numbers
+-- ---- types in place of their numbers
 
 kept : {T U : Type 0} (f : T → U) (s : ShapeOf T) (names : Names) → IsSpelled s names → IsSpelled (with_parts f s) names
 kept f shapes.AnyInt names h = h

@@ -1,4 +1,4 @@
--- Tables of types whose names are read back, by their numbers.
+-- Tables of types with readable names.
 use Rattle.std.specs.Prelude.{ℕ, ◌≡◌, ◌≢◌, ◌<◌, Bool, List, [], length, Some, slice_get}
 use Rattle.std.specs.Str.{bytes_eq}
 use Rattle.om_lex.specs.declared.lexeme.Keyword.{Keyword}
@@ -31,7 +31,7 @@ AreConstructorNames names =
     (tag : ℕ) (constr : ConstrNames) → slice_get names.constructors tag ≡ Some constr
     → IsConstructorName names tag constr
 
--- the names are read back, and there is no tag
+-- The names are readable, and there are no tags.
 abbrev pub IsSpelled : {T : Type 0} → ShapeOf T → Names → Type 0
 IsSpelled (shapes.Poly tags) names = names.tags ≡ []
 IsSpelled shape names = IsReadable shape names
@@ -40,7 +40,7 @@ abbrev pub AreSpelled : Tabled → Type 0
 AreSpelled table =
     (i : ℕ) → i < length table.nodes → IsSpelled (shape_in table i) (names_in table i)
 
--- so they are read back at the types of which the table was made
+-- If the names in a table are readable, then they are readable at the types of the table.
 abbrev pub SpelledAreReadable : Type 0
 SpelledAreReadable =
     (decls : List Decl) (t : Ty) (table : Tabled) → IsTypeTable decls t table

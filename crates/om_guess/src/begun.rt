@@ -1,4 +1,4 @@
-//! What a part of a text begins with, at its type.
+//! The beginning of a part of a text, parsed at the part's type.
 
 use crate::open::Open;
 use crate::scan::{after, double, front, integer, name_len, plain_len, string};
@@ -11,7 +11,8 @@ use om_types::names::{ConstrNames, Names};
 use om_types::shape::{Constr, ShapeOf};
 use std::alloc::Global;
 
-/// A value, the block whose parts are to come, if it is one, and what follows in the text.
+/// A value; its block with the parts to come, if it is a block with parts; and the rest of the
+/// text.
 #[derive(Clone, Copy)]
 pub struct Begun<'a, 't> {
     pub value: Val,
@@ -19,7 +20,7 @@ pub struct Begun<'a, 't> {
     pub rest: &'t [u8],
 }
 
-/// A value without parts.
+/// Returns a value without parts.
 #[inline(always)]
 fn whole<'a, 't>(value: Val, rest: &'t [u8]) -> Option<Begun<'a, 't>> {
     Some(Begun {
@@ -29,14 +30,14 @@ fn whole<'a, 't>(value: Val, rest: &'t [u8]) -> Option<Begun<'a, 't>> {
     })
 }
 
-/// An integer.
+/// Parses an integer.
 #[inline(always)]
 fn begin_integer<'a, 't>(text: &'t [u8]) -> Option<Begun<'a, 't>> {
     let (z, rest) = integer(text);
     whole(Val::Int(z), rest)
 }
 
-/// `()`, `false` or `true`.
+/// Parses `()`, `false` or `true`.
 fn begin_below<'a, 't>(many: u64, text: &'t [u8]) -> Option<Begun<'a, 't>> {
     if many == 1 {
         return whole(Val::Int(0), after(text, 2));
@@ -50,7 +51,7 @@ fn begin_below<'a, 't>(many: u64, text: &'t [u8]) -> Option<Begun<'a, 't>> {
     }
 }
 
-/// A string of these bytes.
+/// Adds a string of these bytes to the heap. Returns `Memory` if it has 2^56 bytes or more.
 #[inline(always)]
 fn add_string(heap: &mut Heap, bytes: &[u8]) -> Result<Val, Memory> {
     if bytes.len() >= 1 << 56 {
@@ -59,7 +60,7 @@ fn add_string(heap: &mut Heap, bytes: &[u8]) -> Result<Val, Memory> {
     Ok(Val::Ref(heap.add_bytes_of(bytes)?))
 }
 
-/// A string that has escapes.
+/// Parses a string with escapes.
 fn begin_escaped<'a, 't>(
     alloc: Global,
     heap: &mut Heap,
@@ -72,7 +73,7 @@ fn begin_escaped<'a, 't>(
     Ok(whole(value, rest))
 }
 
-/// The string whose quote stands before the text.
+/// Parses a string whose opening quote is right before `text`.
 #[inline(always)]
 fn begin_string<'a, 't>(
     alloc: Global,
@@ -89,7 +90,7 @@ fn begin_string<'a, 't>(
     }
 }
 
-/// The double whose `$` stands before the text.
+/// Parses a double whose `$` is right before `text`.
 #[inline(always)]
 fn begin_double<'a, 't>(heap: &mut Heap, text: &'t [u8]) -> Result<Option<Begun<'a, 't>>, Memory> {
     let (bits, rest) = double(text);
@@ -97,7 +98,7 @@ fn begin_double<'a, 't>(heap: &mut Heap, text: &'t [u8]) -> Result<Option<Begun<
     Ok(whole(value, rest))
 }
 
-/// A block, before its first part.
+/// Adds a block to the heap, before its first part is parsed.
 #[inline(always)]
 fn begin_block<'a, 't>(
     heap: &mut Heap,
@@ -123,13 +124,13 @@ fn begin_block<'a, 't>(
     }))
 }
 
-/// Whether a constructor has the name, and names of fields or none.
+/// Returns true if the constructor has this name and, depending on `plain`, no field names or some.
 #[inline(always)]
 fn is_named(constr: &ConstrNames, name: &[u8], plain: bool) -> bool {
     constr.name.as_slice() == name && constr.fields.as_slice().is_empty() == plain
 }
 
-/// A constructor with arguments, whose name stands before the text.
+/// Parses a constructor with arguments, whose name is right before `text`.
 #[inline(always)]
 fn begin_carrying<'a, 't>(
     heap: &mut Heap,
@@ -150,7 +151,7 @@ fn begin_carrying<'a, 't>(
     begin_block(heap, tag, types, all[tag].fields.as_slice(), after(text, 1))
 }
 
-/// A constructor without arguments.
+/// Parses a constructor without arguments.
 #[inline(always)]
 fn begin_constant<'a, 't>(names: &Names, name: &[u8], rest: &'t [u8]) -> Option<Begun<'a, 't>> {
     let place = names
@@ -164,7 +165,7 @@ fn begin_constant<'a, 't>(names: &Names, name: &[u8], rest: &'t [u8]) -> Option<
     }
 }
 
-/// A constructor.
+/// Parses a constructor.
 #[inline(always)]
 fn begin_constructor<'a, 't>(
     heap: &mut Heap,
@@ -182,7 +183,7 @@ fn begin_constructor<'a, 't>(
     }
 }
 
-/// What a part begins with, at the type of this number.
+/// Parses the beginning of a part at the type with this number.
 #[inline(always)]
 pub fn begin<'a, 't>(
     alloc: Global,

@@ -1,4 +1,4 @@
-//! The value that a text is if `show` put it.
+//! Parses the text of a value as `show` writes it, without checking it.
 
 ghost use Rattle.std.specs.Prelude.{length, IfOk, IfSome, IsTrue};
 ghost use Rattle.om_model.specs.Graph.{IsValue};
@@ -12,15 +12,16 @@ use om_model::value::Val;
 use om_type_table::TypeTable;
 use std::alloc::Global;
 
-/// Few values have more words than a third of the bytes of their texts.
+/// The number of bytes of text for each word of memory that `guess` reserves. Few values need more
+/// words.
 const BYTES_A_WORD: u64 = 3;
 
-/// Blocks that are one inside the other, and of which parts are still to come, take much memory,
-/// also where their text is put again: where they are more than these, nothing is guessed. A block
-/// whose last part has begun is none of them, so that a list may be of any length.
+/// The maximal number of nested blocks with parts to come. These blocks take much memory, also when
+/// their text is printed again. Beyond this number, `guess` returns nothing. A block whose last
+/// part has begun does not count, so lists may have any length.
 const MOST_OPEN: usize = 10_000;
 
-/// Whether it is a value of the heap.
+/// Returns true if `v` is a valid value of the heap.
 #[inline(always)]
 fn is_value(heap: &Heap, v: Val) -> bool
     ensures { IsTrue result → IsValue (length heap.now) v }
@@ -32,7 +33,7 @@ fn is_value(heap: &Heap, v: Val) -> bool
     }
 }
 
-/// Puts a value into a field, and answers whether there is such a field.
+/// Writes a value into a field. Returns false if the field does not exist or the value is invalid.
 #[inline(always)]
 fn put_field(heap: &mut Heap, block: u64, i: u64, v: Val) -> bool {
     if block >= heap.count() || !is_value(heap, v) {
@@ -47,8 +48,9 @@ fn put_field(heap: &mut Heap, block: u64, i: u64, v: Val) -> bool {
     }
 }
 
-/// Goes on after a part of the innermost block has begun, which may be a block, and answers what
-/// follows. At the last part the end of the block is one of what is in that part.
+/// Continues after a part of the innermost block has begun, which may be a block itself. Returns
+/// the rest of the text. After the last part, the end of the outer block counts as one of the ends
+/// of the inner block.
 #[inline(always)]
 fn go_on<'a, 't>(
     opens: &mut Vec<Open<'a>>,
@@ -69,7 +71,7 @@ fn go_on<'a, 't>(
     Ok(begun.rest)
 }
 
-/// Reads the next part of the innermost block, and answers what follows.
+/// Parses the next part of the innermost block. Returns the rest of the text.
 #[inline(always)]
 fn read_part<'a, 't>(
     alloc: Global,
@@ -98,7 +100,7 @@ fn read_part<'a, 't>(
     Ok(Some(rest))
 }
 
-/// Reads the parts of a block and all that is in them, and answers whether the text ends there.
+/// Parses the parts of a block with everything inside them. Returns true if the text ends there.
 fn read_parts<'a>(
     alloc: Global,
     heap: &mut Heap,
@@ -121,7 +123,7 @@ fn read_parts<'a>(
     Ok(opens.is_empty() && rest.is_empty())
 }
 
-/// Reads all that is in a value that has begun, and answers whether the text ends there.
+/// Parses everything inside a value that has begun. Returns true if the text ends there.
 fn read_rest<'a>(
     alloc: Global,
     heap: &mut Heap,
@@ -137,8 +139,9 @@ fn read_rest<'a>(
     }
 }
 
-/// A guess at the value that a text is at the type of number 0, with its objects in a heap of which
-/// the memory is used again. There is none where the text is written otherwise than `show` does.
+/// Returns a guess at the value with this text at the type with number 0. The function reuses the
+/// memory of `heap` for the objects. Returns `None` if it notices that `show` does not write such a
+/// text.
 pub fn guess(
     alloc: Global,
     heap: &mut Heap,

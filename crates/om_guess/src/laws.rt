@@ -1,8 +1,9 @@
-//! The law, as a contract. The function does nothing: what it ensures is the law.
+//! The law, as the contract of a lemma function. The function has no effect.
 
 ghost use Rattle.om_guess.specs.Spelled.{SpelledAreReadable};
 
-/// Names that are found to be read back are so at the types of which the table was made.
+/// If the check of a table finds its names readable, then they are readable at the types of the
+/// table.
 pub fn spelled_are_readable()
     ensures { SpelledAreReadable }
 {}

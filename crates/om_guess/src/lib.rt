@@ -1,6 +1,7 @@
-//! A guess at what a text is: the value that it is if `show` put it. Of the guess nothing is
-//! promised but that it is a value. Its own text, put again, tells whether it was right, where the
-//! names of its types are read back.
+//! Guesses the value with a given text, by a fast parser for texts that `show` writes. The
+//! contracts promise only that the guess is a valid value. To decide whether the guess is right,
+//! the caller prints it and compares the texts (`has_text`). The comparison is conclusive if the
+//! names of the types are readable (`is_spelled`, law `SpelledAreReadable`).
 #![tactic(auto)]
 
 mod begun;

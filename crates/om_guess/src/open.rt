@@ -1,10 +1,10 @@
-//! Blocks whose parts are to come.
+//! Blocks with parts to come.
 
 use crate::scan::{after, between};
 use om_model::list::List;
 
-/// A block by its number, the part that comes next, the types of all parts, the names of the
-/// fields, where they have names, and how many blocks end where it ends.
+/// A block by its number, with the index of the next part, the types of all parts, and the names of
+/// the fields, if they have names. `ends` is the number of blocks that end with this one.
 #[derive(Clone, Copy)]
 pub struct Open<'a> {
     pub block: u64,
@@ -15,7 +15,8 @@ pub struct Open<'a> {
 }
 
 impl<'a> Open<'a> {
-    /// What follows what stands before the next part, if there is the like of it.
+    /// Returns the rest of the text after the separator and the field name that come before the
+    /// next part. Returns `None` if there is no separator.
     #[inline(always)]
     pub fn after_before<'t>(&self, text: &'t [u8]) -> Option<&'t [u8]> {
         let rest = if self.next == 0 { text } else { between(text)? };
@@ -25,13 +26,13 @@ impl<'a> Open<'a> {
         }
     }
 
-    /// Whether the next part is the last one.
+    /// Returns true if the next part is the last one.
     #[inline(always)]
     pub fn is_at_last(&self) -> bool {
         self.next.saturating_add(1) >= self.types.len()
     }
 
-    /// The block when that part has begun.
+    /// Returns the block after the next part has begun.
     #[inline(always)]
     pub fn advanced(self) -> Open<'a> {
         Open {
@@ -43,7 +44,7 @@ impl<'a> Open<'a> {
         }
     }
 
-    /// The block, which is the last part of one after which so many end.
+    /// Returns the block as the last part of a block with which `ends` blocks end.
     #[inline(always)]
     pub fn within(self, ends: usize) -> Open<'a> {
         Open {

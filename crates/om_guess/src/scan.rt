@@ -1,10 +1,10 @@
-//! What stands at the front of a text, and what follows it. A text that is not written as `show`
-//! does gives something else.
+//! Scanners for the beginning of a text. If `show` does not write such a text, then the results are
+//! meaningless.
 
 use om_model::Memory;
 use std::alloc::Global;
 
-/// What follows so many bytes.
+/// Returns the rest of the text after `count` bytes, or nothing if the text is shorter.
 #[inline(always)]
 pub fn after(text: &[u8], count: usize) -> &[u8] {
     if count > text.len() {
@@ -13,7 +13,7 @@ pub fn after(text: &[u8], count: usize) -> &[u8] {
     &text[count..]
 }
 
-/// So many bytes of the front, or all where they are fewer.
+/// Returns the first `count` bytes, or the whole text if it is shorter.
 #[inline(always)]
 pub fn front(text: &[u8], count: usize) -> &[u8] {
     if count > text.len() {
@@ -22,7 +22,7 @@ pub fn front(text: &[u8], count: usize) -> &[u8] {
     &text[..count]
 }
 
-/// What follows what stands between two parts, if that stands at the front.
+/// Returns the rest of the text after a separator of two parts, if the text begins with one.
 #[inline(always)]
 pub fn between(text: &[u8]) -> Option<&[u8]> {
     match text {
@@ -32,7 +32,7 @@ pub fn between(text: &[u8]) -> Option<&[u8]> {
     }
 }
 
-/// Whether a text ends as that of a block does.
+/// Returns true if the last byte of a text is that of a block's text.
 pub fn ends_block(text: &[u8]) -> bool {
     if text.is_empty() {
         return false;
@@ -41,13 +41,13 @@ pub fn ends_block(text: &[u8]) -> bool {
     end == b')' || end == b'}'
 }
 
-/// How many decimal digits stand at the front.
+/// Returns the number of decimal digits at the beginning.
 #[inline(always)]
 fn digits_len(text: &[u8]) -> usize {
     text.iter().take_while(|b| b.is_ascii_digit()).count()
 }
 
-/// The number that digits are, or the greatest of 64 bits where it is greater.
+/// Returns the number of these digits, or the greatest number of 64 bits if it is too large.
 #[inline(always)]
 fn number_of(digits: &[u8]) -> u64 {
     let mut number: u64 = 0;
@@ -59,13 +59,13 @@ fn number_of(digits: &[u8]) -> u64 {
     number
 }
 
-/// A number as an integer, or 0 where it is too large.
+/// Returns the number as an integer, or 0 if it is too large.
 #[inline(always)]
 fn positive(number: u64) -> i64 {
     if number > 1 << 62 { 0 } else { number as i64 }
 }
 
-/// The same below 0.
+/// Returns the negated number as an integer, or 0 if it is too large.
 #[inline(always)]
 fn negative(number: u64) -> i64 {
     if number > 1 << 62 {
@@ -75,7 +75,7 @@ fn negative(number: u64) -> i64 {
     }
 }
 
-/// The integer at the front.
+/// Parses an integer. Returns it with the rest of the text.
 #[inline(always)]
 pub fn integer(text: &[u8]) -> (i64, &[u8]) {
     if let [b'-', rest @ ..] = text {
@@ -86,7 +86,7 @@ pub fn integer(text: &[u8]) -> (i64, &[u8]) {
     (positive(number_of(front(text, count))), after(text, count))
 }
 
-/// What a hexadecimal digit is.
+/// Returns the value of a hexadecimal digit.
 #[inline(always)]
 fn hexadecimal(digit: u8) -> u64 {
     let low = u64::from(digit & 15);
@@ -97,7 +97,7 @@ fn hexadecimal(digit: u8) -> u64 {
     }
 }
 
-/// The bits of the double whose `$` stands before the text.
+/// Parses a double whose `$` is right before `text`. Returns its bits with the rest of the text.
 #[inline(always)]
 pub fn double(text: &[u8]) -> (u64, &[u8]) {
     let mut bits: u64 = 0;
@@ -107,19 +107,19 @@ pub fn double(text: &[u8]) -> (u64, &[u8]) {
     (bits, after(text, 16))
 }
 
-/// Whether a byte of a string stands for itself.
+/// Returns true if a byte of a string represents itself.
 #[inline(always)]
 fn is_plain(b: u8) -> bool {
     if b == b'"' || b == b'\\' { false } else { true }
 }
 
-/// How many bytes of a string stand for themselves at the front.
+/// Returns the number of bytes at the beginning of a string that represent themselves.
 #[inline(always)]
 pub fn plain_len(text: &[u8]) -> usize {
     text.iter().take_while(|b| is_plain(**b)).count()
 }
 
-/// The byte that three decimal digits are.
+/// Parses the byte with these three decimal digits.
 fn decimal(text: &[u8]) -> Option<(u8, &[u8])> {
     let [a, b, c, rest @ ..] = text else {
         return None;
@@ -131,7 +131,7 @@ fn decimal(text: &[u8]) -> Option<(u8, &[u8])> {
     Some((value as u8, rest))
 }
 
-/// What a backslash and this byte stand for.
+/// Returns the byte that a backslash and this byte represent.
 fn named(b: u8) -> u8 {
     match b {
         b'n' => b'\n',
@@ -142,7 +142,7 @@ fn named(b: u8) -> u8 {
     }
 }
 
-/// The escape at the front, if one stands there.
+/// Parses an escape, if the text begins with one.
 fn escape(text: &[u8]) -> Option<(u8, &[u8])> {
     let [first, second, rest @ ..] = text else {
         return None;
@@ -156,7 +156,7 @@ fn escape(text: &[u8]) -> Option<(u8, &[u8])> {
     Some((named(*second), rest))
 }
 
-/// The string whose quote stands before the text.
+/// Parses a string whose opening quote is right before `text`.
 pub fn string<'t>(alloc: Global, text: &'t [u8]) -> Result<Option<(Vec<u8>, &'t [u8])>, Memory> {
     let mut bytes = Vec::new(alloc);
     let mut rest = text;
@@ -172,7 +172,7 @@ pub fn string<'t>(alloc: Global, text: &'t [u8]) -> Result<Option<(Vec<u8>, &'t 
     Ok(None)
 }
 
-/// Whether a byte may stand in the name of a constructor.
+/// Returns true if a byte may occur in the name of a constructor.
 #[inline(always)]
 fn is_in_name(b: u8) -> bool {
     if b == b'(' || b == b')' || b == b'{' || b == b'}' || b == b',' || b == b';' {
@@ -182,7 +182,7 @@ fn is_in_name(b: u8) -> bool {
     }
 }
 
-/// How many bytes of the name of a constructor stand at the front.
+/// Returns the number of bytes of a constructor's name at the beginning.
 #[inline(always)]
 pub fn name_len(text: &[u8]) -> usize {
     text.iter().take_while(|b| is_in_name(**b)).count()

@@ -1,4 +1,4 @@
-//! Whether the names of types are such that the texts of their values are read back.
+//! Checks whether the names of types are readable: the text of a value can be parsed again.
 
 ghost use Rattle.std.specs.Prelude.{ℕ, List as Seq, ◌≡◌, ◌<◌, Some, IsTrue, codes, length};
 ghost use Rattle.std.specs.Prelude.{slice_get};
@@ -16,21 +16,21 @@ use om_type_table::TypeTable;
 use om_types::names::{ConstrNames, Names};
 use om_types::shape::ShapeOf;
 
-/// Whether a name may begin so in lower case.
+/// Returns true if a lower-case name may begin with this byte.
 fn starts_lower(b: u8) -> bool
     ensures { result ≡ starts_lower b }
 {
     b.is_ascii_lowercase() || b == b'_'
 }
 
-/// Whether a name may go on so.
+/// Returns true if a name may continue with this byte.
 fn is_name_byte(b: u8) -> bool
     ensures { result ≡ is_name_byte b }
 {
     b.is_ascii_alphanumeric() || b == b'_' || b == b'\''
 }
 
-/// Whether a word is none of the keywords.
+/// Returns true if a word is not a keyword.
 fn is_no_keyword(name: &[u8]) -> bool
     ensures { IsTrue result → IsNoKeyword name.now }
 {
@@ -40,14 +40,14 @@ fn is_no_keyword(name: &[u8]) -> bool
         && name != b"mutable".as_slice()
 }
 
-/// Whether a name may go on with these bytes.
+/// Returns true if a name may continue with these bytes.
 fn are_name_bytes(name: &[u8]) -> bool
     ensures { result ≡ list_all is_name_byte name.now }
 {
     name.iter().all(|b| is_name_byte(*b))
 }
 
-/// Whether it is a name in lower case.
+/// Returns true if this is a lower-case name.
 fn is_lower(name: &[u8]) -> bool
     ensures { IsTrue result → IsForm (Lower name.now) }
 {
@@ -63,7 +63,7 @@ fn is_lower(name: &[u8]) -> bool
     false
 }
 
-/// Whether it is a name in upper case.
+/// Returns true if this is an upper-case name.
 fn is_upper(name: &[u8]) -> bool
     ensures { IsTrue result → IsForm (Upper name.now) }
 {
@@ -77,21 +77,21 @@ fn is_upper(name: &[u8]) -> bool
     false
 }
 
-/// Whether it is the name of a list with elements.
+/// Returns true if this is the name `::` of non-empty lists.
 fn is_cons(name: &[u8]) -> bool
     ensures { result ≡ bytes_eq name.now (codes "::") }
 {
     name == b"::".as_slice()
 }
 
-/// Whether it is the name of the list without elements.
+/// Returns true if this is the name `[]` of the empty list.
 fn is_empty_list(name: &[u8]) -> bool
     ensures { result ≡ bytes_eq name.now (codes "[]") }
 {
     name == b"[]".as_slice()
 }
 
-/// Whether it is the name of a constructor, but for `ref`.
+/// Returns true if this is the name of a constructor other than `ref`.
 fn is_head(name: &[u8]) -> bool
     ensures { IsTrue result → IsHead name.now }
 {
@@ -104,35 +104,35 @@ fn is_head(name: &[u8]) -> bool
     is_empty_list(name)
 }
 
-/// Whether they are names in lower case.
+/// Returns true if these are lower-case names.
 fn are_fields(fields: &[List<u8>]) -> bool
     ensures { IsTrue result → AreFieldNames fields.now }
 {
     fields.iter().all(|field| is_lower(field.as_slice()))
 }
 
-/// The place of a name.
+/// Returns the index of the first occurrence of a name.
 fn place(all: &[List<u8>], name: &[u8]) -> Option<usize>
     ensures { result ≡ position (bytes_eq name.now) all.now }
 {
     all.iter().position(|other| name == other.as_slice())
 }
 
-/// Whether a constructor has the name.
+/// Returns true if the constructor has this name.
 fn has_name(constr: &ConstrNames, name: &[u8]) -> bool
     ensures { result ≡ has_name name.now constr.now }
 {
     constr.name.as_slice() == name
 }
 
-/// The place of the constructor of a name.
+/// Returns the index of the first constructor with this name.
 fn constructor_place(all: &[ConstrNames], name: &[u8]) -> Option<usize>
     ensures { result ≡ position (has_name name.now) all.now }
 {
     all.iter().position(|constr| has_name(constr, name))
 }
 
-/// Whether a place is this one.
+/// Returns true if the index is `i`.
 fn is_place(found: Option<usize>, i: usize) -> bool
     ensures { IsTrue result → found ≡ Some i }
 {
@@ -142,7 +142,7 @@ fn is_place(found: Option<usize>, i: usize) -> bool
     }
 }
 
-/// Whether constant i is read back.
+/// Returns true if constant `i` is readable.
 fn is_constant(names: &Names, i: usize) -> bool
     requires { i < length names.now.constants }
     ensures { IsTrue result
@@ -153,7 +153,7 @@ fn is_constant(names: &Names, i: usize) -> bool
     is_head(name) && is_place(place(names.constants.as_slice(), name), i)
 }
 
-/// Whether the constructor of this tag, which is this one, is read back.
+/// Returns true if `constr`, the constructor with this tag, is readable.
 fn is_this_constructor(names: &Names, constr: &ConstrNames, tag: usize) -> bool
     ensures { IsTrue result → slice_get names.now.constructors tag ≡ Some constr.now
         → IsConstructorName names.now tag constr.now }
@@ -167,7 +167,7 @@ fn is_this_constructor(names: &Names, constr: &ConstrNames, tag: usize) -> bool
     false
 }
 
-/// Whether the constructor of this tag is read back.
+/// Returns true if the constructor with this tag is readable.
 fn is_constructor(names: &Names, tag: usize) -> bool
     ensures { IsTrue result
         → (constr : ConstrNames) → slice_get names.now.constructors tag ≡ Some constr
@@ -179,7 +179,7 @@ fn is_constructor(names: &Names, tag: usize) -> bool
     }
 }
 
-/// Whether all constants are read back.
+/// Returns true if all constants are readable.
 fn are_constants(names: &Names) -> bool
     ensures { IsTrue result → AreConstantNames names.now }
 {
@@ -191,7 +191,7 @@ fn are_constants(names: &Names) -> bool
     true
 }
 
-/// Whether all other constructors are read back.
+/// Returns true if all other constructors are readable.
 fn are_constructors(names: &Names) -> bool
     ensures { IsTrue result → AreConstructorNames names.now }
 {
@@ -203,7 +203,7 @@ fn are_constructors(names: &Names) -> bool
     true
 }
 
-/// Whether the names of a type of this shape are read back.
+/// Returns true if the names of a type with this representation are readable.
 #[tactic(auto, using(crate::proofs::SpelledLemmas::sum_names))]
 fn is_spelled_at(shape: &ShapeOf<usize>, names: &Names) -> bool
     ensures { IsTrue result → IsSpelled shape.now names.now }
@@ -223,7 +223,7 @@ fn is_spelled_at(shape: &ShapeOf<usize>, names: &Names) -> bool
     }
 }
 
-/// Whether the names of all types of a table are read back, and none has tags.
+/// Returns true if the names of all types of a table are readable and no type has tags.
 pub fn is_spelled(table: &TypeTable) -> bool
     ensures { IsTrue result → AreSpelled table.now }
 {

@@ -1,4 +1,4 @@
-//! Whether a text is that of a value.
+//! Compares a text with that of a value.
 
 ghost use Rattle.std.specs.Prelude.{◌≡◌, IfOk, IsTrue};
 ghost use Rattle.om_types.specs.Table.{table_shapes};
@@ -13,7 +13,7 @@ use om_print::is_shown;
 use om_type_table::TypeTable;
 use std::alloc::Global;
 
-/// Whether the text of a value at the type of number 0 is this one.
+/// Returns true if this is the text of a value at the type with number 0.
 pub fn has_text(
     alloc: Global,
     value: &Rooted<'_>,

@@ -1,4 +1,4 @@
--- Where the tags that are written stand apart, those of all brackets do.
+-- If the tags that are written have no conflicts, then the tags of all brackets have none.
 use Rattle.std.proofs.Common.{◌≡◌, ◌≢◌, ℕ, zero, suc, ◌+◌, ◌<◌, ⊎_elim, Bool, true, false, cond, not, List, [], ◌∷◌, ◌++◌, Option, Some, None, length, get_or, refl, sym, ap, subst, ◌∙◌, arith}
 use Rattle.std.specs.Prelude.{slice_get, filter, find, option_map, Contains, All, IfSome}
 use Rattle.std.specs.List.{AllByRecursion}
@@ -57,7 +57,7 @@ closed_instance value (including t a) e =
     let both = and_parts (is_closed t) (is_closed a) e in
     ap (λ w. including w (instance value a)) (closed_instance value t both.0) ∙ ap (including t) (closed_instance value a both.1)
 
--- ---- what holds of each tag
+-- ---- properties of each tag
 
 pub each_more : (P Q : TagOf Ty → Type 0) → ((x : TagOf Ty) → P x → Q x) → (t : Ty) → EachTag P t → EachTag Q t
 each_more P Q to (variable x) all = tt
@@ -284,7 +284,7 @@ module _ (decls : List Decl) (types : List Ty) (items : List Item) where
           AllByRecursion-Contains (IsListed types items) (tags_in (head decls (type_at types k))) x
           (head_bring (IsListed types items) (λ x p. p.closed) decls body (type_at types k) (each k below)) among
 
--- ---- one type after another
+-- ---- one type at a time
 
 push_grows : {X : Type 0} (old new : List X) (x : X) → new ≡ old ++ x ∷ [] → Grows old new
 push_grows old new x is = record { added = x ∷ []; kept = is }
@@ -292,7 +292,7 @@ push_grows old new x is = record { added = x ∷ []; kept = is }
 read_type : (types : List Ty) (n : ℕ) (t : Ty) → slice_get types n ≡ Some t → type_at types n ≡ t
 read_type types n t is = get_or_from_slice_get types n t tuple is
 
--- what is told of one of them
+-- The entry of one of the first types.
 pub told_true : (types : List Ty) (told : List Bool) (n : ℕ) → TellsClosed types told → n < length told → get_or told n false ≡ true → is_closed (type_at types n) ≡ true
 told_true types told n tells below read =
     sym (get_or_from_slice_get told n (is_closed (type_at types n)) false (tells n below)) ∙ read
@@ -315,7 +315,7 @@ listed_next types old new n grown each here j below = ⊎_elim
     apart)
     (cases_order j n)
 
--- a type that is no tag more
+-- A type that ends in no tag adds nothing to the list.
 other_next : (types : List Ty) (items : List Item) (n : ℕ) → AreListed types items n → EachTag (IsListed types items) (type_at types n) → AreListed types items (n + 1)
 other_next types items n each here = listed_next types items items n (Grows-none items) each here
 
@@ -367,7 +367,7 @@ tag_of_listed types old new n w a name at below inside is closed each =
           (ap (λ (t : Option Ty). record { name = name; argument = Some t }) (slice_get-get_or types a tuple inside)) closed,
     ))
 
--- ---- one declaration after another
+-- ---- one declaration at a time
 
 body_kept : (old new : List Ty) → Grows old new → (d : Decl) → HasBody old d → HasBody new d
 body_kept old new grown d has t is = let found = has t is in (found.0, there_kept old new found.0 t grown found.1)

@@ -1,4 +1,4 @@
--- The first rule that is broken, where rules are broken alike.
+-- The first violation, for equivalent notions of a broken rule.
 use Rattle.std.proofs.Common.{ℕ, ◌<◌, ◌≤◌, ◌≡◌, List, Option, Some, None, refl, sym, subst, arith}
 use Rattle.std.specs.Prelude.{◌↔◌}
 use Rattle.om_types.specs.Scope.{Rule, turn, twice, unknown_name, arity, unbound_variable, cyclic, irregular}
@@ -8,7 +8,7 @@ use Rattle.om_head_rules.specs.declared.broken.HeadBreak.{HeadBreak}
 use Rattle.om_head_rules.specs.declared.broken.HeadBreak.TheVariants as breaks
 use Rattle.om_head_rules.specs.Broken.{rule_of_break, place_of_break, NamesAre, IsFirstOfHeads}
 
--- what holds of the rules that ask for heads
+-- A predicate of the rules that depend on heads holds if it holds for the four rules.
 pub of_late :
     (P : Rule → Type 0) → P not_variant → P tag_clash → P hash_clash → P float_in_group → (rule : Rule)
     → 7 ≤ turn rule → P rule
@@ -40,7 +40,7 @@ named_alike H G (breaks.FloatInGroup k) to named = tt
 
 module _ (P Q : Rule → ℕ → Type 0) (H G : ℕ → List ℕ → List ℕ → Type 0)
     (to : (k : ℕ) (one other : List ℕ) → H k one other → G k one other) where
-  -- where the rules up to this one are broken alike
+  -- If the rules up to this one are broken equivalently, then the first violation is the same.
   pub first_alike :
       (b : HeadBreak)
       → ((rule : Rule) → 7 ≤ turn rule → turn rule ≤ turn (rule_of_break b) → (k : ℕ) → P rule k ↔ Q rule k)
@@ -54,7 +54,7 @@ module _ (P Q : Rule → ℕ → Type 0) (H G : ℕ → List ℕ → List ℕ �
         named_alike H G b to first.3,
       )
 
-  -- where all are
+  -- If all these rules are broken equivalently, then the first violation is the same.
   pub all_alike :
       (found : Option HeadBreak) → ((rule : Rule) → 7 ≤ turn rule → (k : ℕ) → P rule k ↔ Q rule k)
       → IsFirstOfHeads P H found → IsFirstOfHeads Q G found
@@ -62,7 +62,7 @@ module _ (P Q : Rule → ℕ → Type 0) (H G : ℕ → List ℕ → List ℕ �
   all_alike (Some b) alike first = first_alike b (λ rule late until. alike rule late) first
 
 module _ (Q : Rule → ℕ → Type 0) (G : ℕ → List ℕ → List ℕ → Type 0) where
-  -- a rule that is broken, and none before it
+  -- If a rule is broken and no earlier one is, then its violation is the first.
   pub found_first :
       (b : HeadBreak) (rule : Rule) → rule_of_break b ≡ rule → IsLeast (Q rule) (Some (place_of_break b))
       → ((other : Rule) → 7 ≤ turn other → turn other < turn rule → (j : ℕ) → ¬ Q other j)

@@ -1,4 +1,4 @@
--- Records that lie flat through their own group, one declaration after another.
+-- Records that are flat through their own group, one declaration at a time.
 use Rattle.std.proofs.Common.{ℕ, ◌<◌, ◌≤◌, ◌+◌, ◌≡◌, ◌∙◌, ⊎_elim, inr, Bool, true, List, Option, Some, length, get_or, refl, sym, ap, subst, arith}
 use Rattle.std.specs.Prelude.{slice_get, Contains, IsTrue, ◌↔◌}
 use Rattle.std.proofs.lemmas.Option.{same_Some, slice_get_read, slice_get-get_or, slice_get_within}
@@ -16,7 +16,7 @@ use Rattle.om_scope.proofs.LeastLemmas.{least_same, least_more, least_if, Before
 use Rattle.om_scope.proofs.FileLemmas.{decl_at, name_placed}
 use Rattle.om_head_rules.specs.Rules.{FlatAt, SomeFlat}
 
--- a record whose fields are all float
+-- A record whose fields all expand to `float`.
 pub record_flat :
     (decls : List Decl) (group : ℕ) (body : Body) (fields lent : List Field) (are some : Bool)
     → body ≡ bodies.Record fields → lent ≡ fields → are ≡ true
@@ -43,7 +43,7 @@ module _ (decls : List Decl) (names : List Placed) where
       let same_p : at.1 ≡ p = same_Some at.1 p (sym at.3 ∙ p_is) in
       (ap (λ (q : Placed). q.0) (sym same_p) ∙ at.4, subst (λ (e : Decl). IsFlatThroughGroup decls e.group e.body) same_d at.5))
 
-  -- the next turn of the loop over declarations
+  -- The invariant after one more iteration of the loop over declarations.
   pub more_flat :
       (i : ℕ) (d : Decl) (p : Placed) (test : Bool) (place : ℕ) (best found next : Option ℕ)
       → length decls ≡ length names → i < length decls → d ≡ get_or decls i d → p ≡ get_or names i p
@@ -66,7 +66,7 @@ module _ (decls : List Decl) (names : List Placed) where
   all_flat i best le ge least = let e : i ≡ length decls = omega arith in
       subst (λ n. IsLeast (Before (FlatAt decls names) n) best) e least
 
--- some declaration of a file lies so
+-- Some declaration of a file is such a record if and only if the file breaks the rule.
 flat_in_file :
     (all : List DeclPlaces) (k : ℕ)
     → SomeFlat (decls_of all) (declared_names all) k ↔ BreaksInFile all float_in_group k

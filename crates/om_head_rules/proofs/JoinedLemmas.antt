@@ -1,4 +1,4 @@
--- The first rule on brackets, from what each rule finds.
+-- The first violation of a rule on brackets, from the results for each rule.
 use Rattle.std.proofs.Common.{ℕ, ◌<◌, ◌≤◌, ◌≡◌, ◌∙◌, List, Option, Some, None, length, refl, sym, ap, subst, arith}
 use Rattle.std.specs.Prelude.{slice_get, Contains}
 use Rattle.std.proofs.lemmas.List.Elements.{All-contains}
@@ -33,7 +33,7 @@ use Rattle.om_layout.proofs.NearerLemmas.{type_kept}
 -- ---- tags
 
 module _ (tagged : List (List Item)) where
-  -- nothing that is no rule on tags is broken
+  -- No rule other than those on tags is broken.
   before_clash : (other : Rule) → 7 ≤ turn other → turn other < 8 → (j : ℕ) → ¬ TagsBreak tagged other j
   before_clash = of_late (λ r. turn r < 8 → (j : ℕ) → ¬ TagsBreak tagged r j)
       (λ less j never. never) (λ less. absurd (omega arith)) (λ less. absurd (omega arith)) (λ less j never. never)
@@ -97,7 +97,7 @@ module _ (decls : List Decl) (types : List Ty) (brackets : List (List NumberedIt
       all_alike (TagsBreak tagged) (BracketsBreak decls all) (CollideAmong tagged) (BracketsHash decls all)
       (names_alike new decls tagged all here) found (tags_alike new decls tagged all here (variant_least None none)) first
 
-  -- ---- tags that stand apart
+  -- ---- tags without conflicts
 
   item_within :
       (bracket : List NumberedItem) → AreWithin types bracket → (i place : ℕ) (t : Ty)
@@ -138,7 +138,7 @@ module _ (decls : List Decl) (types : List Ty) (brackets : List (List NumberedIt
       hash (items, among, (i, j, one, other, has, before, unlike, same)) =
           (pair_apart within apart items among k i j one other has).hashes unlike same
 
--- of the types that were there before
+-- If the tags of all types have no conflicts, then the tags of the earlier types have none.
 pub apart_before :
     (decls : List Decl) (old new : List Ty) → Grows old new → StandApart decls new → StandApart decls old
 apart_before decls old new grown apart i j one other in_i in_j one_there other_there =

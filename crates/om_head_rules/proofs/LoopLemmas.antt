@@ -1,4 +1,4 @@
--- Brackets one after another.
+-- Loops over brackets.
 use Rattle.std.proofs.Common.{ℕ, ◌<◌, ◌≤◌, ◌+◌, ◌≡◌, ◌∙◌, ◌++◌, ◌⊎◌, ⊎_elim, List, [], ◌∷◌, Option, Some, None, length, get_or, map, take, sym, ap, subst}
 use Rattle.std.specs.Prelude.{Contains, All, IfSome}
 use Rattle.std.proofs.lemmas.List.{map-append, take_more, take_all}
@@ -8,7 +8,7 @@ use Rattle.om_brackets.specs.declared.spellings.Collision.{Collision}
 use Rattle.om_brackets.specs.Collisions.{IsCollision}
 use Rattle.om_head_rules.specs.Rules.{CollideAmong}
 
--- ---- tags of one hash
+-- ---- tags with the same hash
 
 module _ (brackets : List (List Item)) where
   names_among :
@@ -20,7 +20,7 @@ module _ (brackets : List (List Item)) where
   abbrev pub AreNamedAmong : Option Collision → Type 0
   AreNamedAmong found = IfSome found (λ c. CollideAmong brackets c.place c.one.now c.other.now)
 
-  -- the next turn of the loop over brackets
+  -- The invariant after one more iteration of the loop over brackets.
   pub more_names :
       (i : ℕ) (items : List Item) (best found next : Option Collision) → i < length brackets
       → items ≡ get_or brackets i items → (next ≡ best) ⊎ (next ≡ found) → AreNamedAmong best
@@ -32,7 +32,7 @@ module _ (brackets : List (List Item)) where
 
 -- ---- lists of results
 
--- the next turn of a loop that makes a list
+-- The invariant after one more iteration of a loop that builds a list.
 pub maps_more :
     {X Y Z W : Type 0} (f : W → Z) (h : Y → Z) (g : X → Y) (out : List W) (next : List W) (xs : List X) (k : ℕ)
     (x e : X) (w : W) → k < length xs → x ≡ get_or xs k e → next ≡ out ++ w ∷ [] → f w ≡ h (g x)
@@ -46,7 +46,7 @@ maps_more {X} {Y} {Z} {W} f h g out next xs k x e w below read next_is here so_f
     ∙ ap (map h) (sym (map-append g (take k xs) (get_or xs k e ∷ [])))
     ∙ ap (λ ys. map h (map g ys)) (sym (take_more xs k e below))
 
--- ---- what holds of each
+-- ---- properties of each element
 
 pub all_more :
     {X : Type 0} (P : X → Type 0) (xs : List X) (k : ℕ) (x : X) → k < length xs → x ≡ get_or xs k x

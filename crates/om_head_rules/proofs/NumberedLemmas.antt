@@ -1,4 +1,4 @@
--- Numbers of items, where types are added, and one item after another.
+-- The numbers of items, after types are added and one item at a time.
 use Rattle.std.proofs.Common.{ℕ, ◌+◌, ◌<◌, ◌≡◌, ◌∙◌, List, [], ◌∷◌, ◌++◌, Some, take, length, get_or, sym, ap, subst, refl, append_assoc, arith, ◌≤◌, Result, IfOk}
 use Rattle.std.specs.Prelude.{slice_get}
 use Rattle.std.specs.List.{AllZip}
@@ -23,7 +23,7 @@ use Rattle.om_head_rules.specs.declared.item.NumberedItem.{NumberedItem}
 use Rattle.om_head_rules.specs.Numbered.{IsNumbered, AreNumbered, AreAllNumbered}
 use Rattle.om_model.proofs.Lists.{AllZip-push}
 
--- ---- two lists, place by place
+-- ---- two lists, element by element
 
 zip_weaker :
     {A B : Type 0} (R S : A → B → Type 0) (weaker : (a : A) (b : B) → R a b → S a b) (xs : List A) (ys : List B)
@@ -33,7 +33,7 @@ zip_weaker R S weaker [] (b ∷ ys) zip = absurd zip
 zip_weaker R S weaker (a ∷ xs) [] zip = absurd zip
 zip_weaker R S weaker (a ∷ xs) (b ∷ ys) zip = (weaker a b zip.0, zip_weaker R S weaker xs ys zip.1)
 
--- ---- numbers stay
+-- ---- numbers remain valid
 
 item_kept :
     (types new : List Ty) (i : NumberedItem) (item : PlacedItem) → Grows types new → IsNumbered types i item
@@ -54,9 +54,9 @@ brackets_kept types new brackets all grown are =
     zip_weaker (AreNumbered types) (AreNumbered new) (λ items told is. items_kept types new items told grown is)
     brackets all are
 
--- ---- one more
+-- ---- one more element
 
--- the next turn of the loop over a bracket's items
+-- The invariant after one more iteration of the loop over a bracket's items.
 pub items_turn :
     (types new tree : List Ty) (out next : List NumberedItem) (items : List BracketItem) (k : ℕ) (e : BracketItem)
     (i : NumberedItem) → Grows types new → k < length items → next ≡ out ++ i ∷ []
@@ -73,7 +73,7 @@ items_turn types new tree out next items k e i grown below next_is here so_far =
     (AllZip-push (IsNumbered new) out told i (item_told tree (get_or items k e))
     (items_kept types new out told grown so_far) here))
 
--- the next turn of the loop over a type's brackets
+-- The invariant after one more iteration of the loop over a type's brackets.
 pub brackets_turn :
     (types new tree : List Ty) (out next : List (List NumberedItem)) (brackets : List (List BracketItem)) (k : ℕ)
     (inside e : List BracketItem) (items : List NumberedItem) (all : List (List PlacedItem)) → Grows types new
@@ -167,7 +167,7 @@ module _ (types : List Ty) (all : List Node) (ordered : AreOrdered all) (numbers
           itself (nodes.TagOf w x a) is = absurd (no_tag_of w x a is)
           itself (nodes.Including w u) is = absurd (no_including w u is)
 
--- no node, no item
+-- If the node does not exist, then there is no item.
 pub none_item : (all : List Node) (n : ℕ) → length all ≤ n → tuple ≡ item_of (type_at (types_of all) n)
 none_item all n past =
     let long = types_of-length all in
@@ -184,7 +184,7 @@ pub held_there :
     → IfOk r (λ i. slice_get new i ≡ Some t)
 held_there r old new t held = IfOk-weaker r _ _ (λ i h. h.there) held
 
--- ---- the whole of a list
+-- ---- a whole list
 
 pub all_items :
     (types tree : List Ty) (out : List NumberedItem) (items : List BracketItem) (k : ℕ) → length items ≤ k

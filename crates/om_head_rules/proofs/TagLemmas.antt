@@ -1,4 +1,4 @@
--- Brackets with their tags by numbers break the rules on tags as those that are written do.
+-- Brackets of numbered items break the rules on tags if and only if the brackets of the text do.
 use Rattle.std.proofs.Common.{ℕ, ◌+◌, ◌<◌, ◌≤◌, ◌≡◌, ◌∙◌, ◌++◌, List, [], ◌∷◌, Option, Some, None, length, get_or, map, take, refl, sym, ap, subst}
 use Rattle.std.specs.Prelude.{slice_get, option_map, Contains, ◌↔◌}
 use Rattle.std.proofs.lemmas.List.Elements.{All-get_or}
@@ -57,9 +57,9 @@ pub head_tags :
 head_tags types h u is =
     sym (numbers_there (slice_get types) h) ∙ ap tags_there is ∙ written_there (λ (t : Ty). Some t) u
 
--- ---- where types are added
+-- ---- after types are added
 
--- the numbers of what is there
+-- Numbers of existing types remain valid.
 argument_kept :
     (old new : List Ty) → Grows old new → (a : Option ℕ) (t : Option Ty)
     → option_map (slice_get old) a ≡ option_map (λ (u : Ty). Some u) t
@@ -80,7 +80,8 @@ tag_kept old new grown tag written is =
     ∙ ap (λ (n : List ℕ). record { name = n; argument = option_map (λ (u : Ty). Some u) written.argument })
     (ap (λ (t : TagOf (Option Ty)). t.name) is)
 
--- two maps with equal results, where one is replaced
+-- If two maps have equal images and one map is replaced by an equivalent one, then the images
+-- remain equal.
 pub map_kept :
     {X Y Z : Type 0} (f g : X → Z) (h : Y → Z) → ((x : X) (y : Y) → f x ≡ h y → g x ≡ h y)
     → (xs : List X) (ys : List Y) → map f xs ≡ map h ys → map g xs ≡ map h ys
@@ -119,7 +120,7 @@ tagged_kept old new grown decls tagged written is =
     map_kept (map (typed_item old)) (map (typed_item new)) (map (written_item decls))
     (items_of_kept old new grown decls) tagged written is
 
--- ---- one after another
+-- ---- one element at a time
 
 pub more_tagged :
     (decls : List Decl) (old now new : List Ty) (items : List NumberedItem) (k : ℕ) (e : NumberedItem)
@@ -157,7 +158,7 @@ more_brackets decls old now new brackets k items out next tagged grown more with
 
 module _ (types : List Ty) (decls : List Decl) (tagged : List (List Item)) (all : List (List PlacedItem))
     (are : AreTagged types decls tagged all) where
-  -- the bracket that is written
+  -- The bracket of the text for numbered items.
   written_for :
       (items : List Item) → Contains tagged items
       → (placed : List PlacedItem) × Contains all placed × AreItems types decls items placed
@@ -165,7 +166,7 @@ module _ (types : List Ty) (decls : List Decl) (tagged : List (List Item)) (all 
       let found = in_both (map (typed_item types)) (map (written_item decls)) tagged all items are.same among in
       (found.0, found.1, record { distinct = are.distinct; same = sym found.2 })
 
-  -- the bracket by numbers
+  -- The numbered items for a bracket of the text.
   numbered_for :
       (placed : List PlacedItem) → Contains all placed
       → (items : List Item) × Contains tagged items × AreItems types decls items placed

@@ -1,4 +1,4 @@
--- The brackets of a text break the rules that the text breaks.
+-- The brackets of a text break the same rules as the text.
 use Rattle.std.proofs.Common.{ℕ, ◌<◌, ◌≤◌, ◌≡◌, ◌∙◌, inr, ⊎_elim, List, [], ◌∷◌, Option, Some, None, length, get_or, refl, sym, ap, subst, arith}
 use Rattle.std.specs.Prelude.{slice_get, Contains, All, ◌↔◌, option_map, is_some, true, false}
 use Rattle.std.proofs.Common.{true≢false}
@@ -30,7 +30,7 @@ use Rattle.om_head_rules.specs.Rules.{IncludesOther, ItemsBreak, BracketsBreak, 
 use Rattle.om_head_rules.proofs.FirstLemmas.{of_late, first_alike, all_alike, found_first}
 use Rattle.om_head_rules.proofs.FlatLemmas.{flat_alike}
 
--- ---- numbers of items
+-- ---- the numbers of items
 
 number_within : (types : List Ty) (i : NumberedItem) (item : PlacedItem) → IsNumbered types i item → IsWithin types i
 number_within types i item is = slice_get_within types i.number item.1 is.there
@@ -77,9 +77,9 @@ brackets_are types (items ∷ brackets) (placed ∷ told) are =
     ap (λ p. p ∷ brackets_at types brackets) (items_are types items placed are.0)
     ∙ ap (λ ps. placed ∷ ps) (brackets_are types brackets told are.1)
 
--- ---- each item stands alone
+-- ---- brackets with one item
 
--- an item that is told is a bracket that has it alone
+-- Each reported item is a bracket with this item only.
 told_alone :
     (found : List TypeBrackets) (items : List PlacedItem) (i : PlacedItem) → Contains (all_told found) items
     → Contains items i → (u : Ty) × (item_of u ≡ i.1)
@@ -92,7 +92,7 @@ told_alone found items i among inside =
     (type_at of_type n.0.node, ap (λ (p : PlacedItem). p.1) n.2)
 
 module _ (decls : List Decl) where
-  -- it includes a type that is no polymorphic variant, and nothing before it
+  -- The item includes a type that is not a polymorphic variant, and nothing else.
   abbrev Includes : Ty → Type 0
   Includes v = (t : Ty) × (v ≡ including bracket t) × (¬ AreVariants (head decls t))
 
@@ -106,7 +106,7 @@ module _ (decls : List Decl) where
   includes_alone (tag_of w x a) other = absurd other
   includes_alone (including w t) other = (t, refl, other)
 
-  -- one bracket includes another type in either form
+  -- A bracket includes another type in one form if and only if it does in the other form.
   variant_alike :
       (found : List TypeBrackets) (items : List PlacedItem) (k : ℕ) → Contains (all_told found) items
       → ItemsBreak decls items not_variant k
@@ -122,7 +122,7 @@ module _ (decls : List Decl) where
     λ some. ((k, including bracket some.0), some.1, (refl, some.2)),
   )
 
-  -- ---- the brackets among occurrences
+  -- ---- the brackets among the occurrences
 
   module _ (found : List TypeBrackets) (occurrences : List Occurrence) (are : AreBrackets found occurrences) where
     occurs : (items : List PlacedItem) → Contains (all_told found) items → Contains occurrences (bracket_of items)
@@ -159,11 +159,11 @@ module _ (decls : List Decl) where
 -- ---- the brackets of a file
 
 module _ (found : List (List TypeBrackets)) (all : List DeclPlaces) (are : AreFileBrackets found all) where
-  -- the brackets of all types
+  -- The brackets of all types.
   abbrev pub told_all : List (List PlacedItem)
   told_all = flat_map all_told found
 
-  -- the declaration that has these brackets
+  -- The declaration with these brackets.
   decl_for :
       (i : ℕ) (brackets : List TypeBrackets) → slice_get found i ≡ Some brackets
       → (d : DeclPlaces) × Contains all d × AreBrackets brackets d.occurrences
@@ -173,7 +173,7 @@ module _ (found : List (List TypeBrackets)) (all : List DeclPlaces) (are : AreFi
       let d = slice_get_there all i (omega arith) in
       (d.0, slice_get-Contains all i d.0 d.1, are.stand i brackets d.0 is d.1)
 
-  -- the brackets of a declaration
+  -- The brackets of a declaration.
   brackets_for :
       (d : DeclPlaces) → Contains all d
       → (brackets : List TypeBrackets) × Contains found brackets × AreBrackets brackets d.occurrences
@@ -190,7 +190,7 @@ module _ (found : List (List TypeBrackets)) (all : List DeclPlaces) (are : AreFi
         let b = slice_get_there found i below in
         subst (All IsOrdered) (sym (get_or_from_slice_get found i b.0 [] b.1)) (decl_for i b.0 b.1).2.ordered
 
-  -- a rule that brackets break
+  -- A rule that brackets break.
   bracket_rule :
       (rule : Rule)
       → ((d : DeclPlaces) (k : ℕ)
@@ -237,7 +237,7 @@ module _ (found : List (List TypeBrackets)) (all : List DeclPlaces) (are : AreFi
       let d = decl_for at b.0 (slice_get-get_or found at b.0 b.1.1 ∙ ap Some b.1.2) in
       (d.0, d.1, type_names (decls_of all) b.0 d.0.occurrences d.2 k one other (some.0, b.2, some.2))
 
-  -- ---- the first rule
+  -- ---- the first violation
 
   abbrev Told : Option HeadBreak → Type 0
   Told result = IsFirstOfHeads (BracketsBreak (decls_of all) told_all) (BracketsHash (decls_of all) told_all) result
@@ -245,7 +245,7 @@ module _ (found : List (List TypeBrackets)) (all : List DeclPlaces) (are : AreFi
   abbrev pub First : Option HeadBreak → Type 0
   First result = IsFirstOfHeads (BreaksInFile all) (FileHashes all) result
 
-  -- a rule on brackets
+  -- A violation on brackets comes before the rule on records.
   below_float : (b : HeadBreak) → Told (Some b) → turn (rule_of_break b) < 10
   below_float (breaks.NotVariant k) first = omega arith
   below_float (breaks.TagClash k) first = omega arith

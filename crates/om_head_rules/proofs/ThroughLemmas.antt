@@ -1,4 +1,4 @@
--- Abbreviations of a group, along replacements.
+-- Abbreviations of a group, along expansions.
 use Rattle.std.proofs.Common.{ℕ, zero, suc, ◌≡◌, ◌∙◌, List, Option, Some, None, refl, sym, ap, subst}
 use Rattle.std.specs.Prelude.{option_and_then}
 use Rattle.std.proofs.lemmas.Option.{none-some, same_Some}
@@ -11,7 +11,7 @@ use Rattle.om_layout.specs.Way.{IsOfAt, Way, IsNearer}
 use Rattle.om_head_rules.specs.Rules.{IsOwnDecl, IsOwn}
 
 module _ (decls : List Decl) (group : ℕ) where
-  -- an abbreviation of the group is found
+  -- If an abbreviation of the group is found, then the type expands through it.
   own_decl :
       (t : Ty) (o : Option (List ℕ)) → name_of t ≡ o → IsOwnDecl group (option_and_then (declaration_of decls) o)
       → IsThrough decls group t
@@ -39,7 +39,7 @@ module _ (decls : List Decl) (group : ℕ) where
       subst (λ o. IsOwnDecl group (option_and_then (declaration_of decls) o)) (sym is.named)
       (subst (IsOwnDecl group) (sym is.found) (is.abbreviates, is.own))
 
-  -- ---- one replacement
+  -- ---- one expansion
 
   pub through_before : (t u : Ty) → unfolded decls t ≡ Some u → IsThrough decls group u → IsThrough decls group t
   through_before t u is through = record {
@@ -82,7 +82,7 @@ module _ (decls : List Decl) (group : ℕ) where
     pub never_through : unfolded decls t ≡ None → ⊥
     never_through none = never_replaced none through.times through.replaced
 
-  -- ---- a way
+  -- ---- a sequence of expansions
 
   own_at : (o : Option Decl) → IsOwnDecl group o → IsOfAt (Some group) o
   own_at None own = own

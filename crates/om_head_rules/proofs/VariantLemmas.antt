@@ -1,4 +1,4 @@
--- Items that include another type than a polymorphic variant, by numbers and as they are written.
+-- Items that include a type that is not a polymorphic variant, by numbers and as they are written.
 use Rattle.std.proofs.Common.{ℕ, ◌+◌, ◌<◌, ◌≡◌, ◌∙◌, Bool, false, List, [], ◌∷◌, Option, Some, length, get_or, refl, sym, ap, subst}
 use Rattle.std.specs.Prelude.{slice_get, Contains, IsTrue, ◌↔◌}
 use Rattle.std.proofs.lemmas.Bool.{false≢true}
@@ -52,7 +52,7 @@ none_included decls types number node there no_including = (
       (subst (IncludesOther decls) (read_node decls types number (type_of_node types (written_of node)) there) other)),
 )
 
--- ---- where types are added
+-- ---- after types are added
 
 pub items_kept :
     (old new : List Ty) (items : List NumberedItem) → Grows old new → AreWithin old items
@@ -108,7 +108,7 @@ module _ (decls : List Decl) (types : List Ty) where
     ),
   )
 
--- ---- one item after another
+-- ---- one item at a time
 
 pub more_other :
     (decls : List Decl) (old now : List Ty) (items : List NumberedItem) (k : ℕ) (e : NumberedItem)
@@ -126,9 +126,9 @@ more_other decls old now items k e best found next test grown within below so_fa
     (type_kept old now x.number grown (All-get_or (IsWithin old) items k e below within)) says)
     found_is is
 
--- ---- one bracket after another
+-- ---- one bracket at a time
 
--- the items of a bracket that is read
+-- If all brackets are within the store, then the items of the bracket at this index are.
 bracket_at :
     (old : List Ty) (brackets : List (List NumberedItem)) (k : ℕ) (items : List NumberedItem)
     → AreAllWithin old brackets → k < length brackets → items ≡ get_or brackets k items → AreWithin old items

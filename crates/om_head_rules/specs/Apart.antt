@@ -1,4 +1,5 @@
--- Tags that clash in no bracket: each name comes with one argument, and each hash with one name.
+-- Tags without conflicts in any bracket: each name occurs with one argument, and each hash with one
+-- name.
 use Rattle.std.specs.Prelude.{ℕ, ◌<◌, ◌≡◌, ◌≢◌, Bool, ◌&&◌, true, false, List, [], ◌∷◌, Some}
 use Rattle.std.specs.Prelude.{IfSome, length, slice_get, Contains}
 use Rattle.om_polyvar.specs.TagHash.{tag_hash}
@@ -25,14 +26,14 @@ is_closed (tag whole x) = is_closed whole
 is_closed (tag_of whole x argument) = is_closed whole && is_closed argument
 is_closed (including whole included) = is_closed whole && is_closed included
 
--- of each of the first types it is told whether it is so
+-- The list has, for each of the first types, whether it contains no variable.
 abbrev pub TellsClosed : List Ty → List Bool → Type 0
 TellsClosed types told =
     (j : ℕ) → j < length told → slice_get told j ≡ Some (is_closed (type_at types j))
 
 -- ---- the tags that are written
 
--- so is each tag that stands in t outside tag arguments
+-- The predicate holds for each tag in the type outside tag arguments.
 abbrev pub EachTag : (TagOf Ty → Type 0) → Ty → Type 0
 EachTag P (variable x) = Unit {0}
 EachTag P (named name) = Unit {0}
@@ -43,11 +44,12 @@ EachTag P (tag whole x) = EachTag P whole × P (bare_tag x)
 EachTag P (tag_of whole x argument) = EachTag P whole × P (carrying_tag x argument)
 EachTag P (including whole included) = EachTag P whole × EachTag P included
 
--- an item that brings this tag alone
+-- An item with this tag only.
 abbrev pub alone : TagOf ℕ → Item
 alone number = record { place = 0; tags = number ∷ [] }
 
--- The tag holds no variable, and an item brings it alone, with its argument by number.
+-- The tag contains no variable, and there is an item with this tag only, with the number of its
+-- argument.
 pub record IsListed (types : List Ty) (items : List Item) (tag : TagOf Ty) : Type 0 where
   pub index : ℕ
   pub number : TagOf ℕ
@@ -55,19 +57,19 @@ pub record IsListed (types : List Ty) (items : List Item) (tag : TagOf Ty) : Typ
   pub is : tag_with_part (slice_get types) number ≡ tag_with_part (λ (t : Ty). Some t) tag
   pub closed : IfSome tag.argument (λ a. is_closed a ≡ true)
 
--- so are the tags of the first types
+-- The tags of the first types are listed.
 abbrev pub AreListed : List Ty → List Item → ℕ → Type 0
 AreListed types items count =
     (j : ℕ) → j < count → EachTag (IsListed types items) (type_at types j)
 
--- what it abbreviates is one of the types
+-- The type that the declaration abbreviates is one of the types.
 abbrev pub HasBody : List Ty → Decl → Type 0
 HasBody types decl =
     (t : Ty) → abbreviated decl.body ≡ Some t → (i : ℕ) × (slice_get types i ≡ Some t)
 
--- ---- tags that stand apart
+-- ---- tags without conflicts
 
--- no two of these items clash
+-- No two of these items conflict.
 pub record NoneClash (items : List Item) : Type 0 where
   pub arguments : (k : ℕ) → ¬ ClashesIn items k
   pub hashes : (k : ℕ) → ¬ CollidesIn items k
@@ -76,7 +78,7 @@ pub record AreApart (one other : TagOf Ty) : Type 0 where
   pub arguments : one.name ≡ other.name → ¬ (one.argument ≢ other.argument)
   pub hashes : one.name ≢ other.name → ¬ (tag_hash one.name ≡ tag_hash other.name)
 
--- so do all tags that these types bring
+-- No two tags that these types contribute conflict.
 abbrev pub StandApart : List Decl → List Ty → Type 0
 StandApart decls types =
     (i j : ℕ) (one other : TagOf Ty) → i < length types → j < length types

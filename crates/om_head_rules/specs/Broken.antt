@@ -1,4 +1,4 @@
--- Which rule that asks for heads a text breaks first, and where.
+-- The first violation in a text of a rule that depends on heads, and its lexeme.
 use Rattle.std.specs.Prelude.{ℕ, ◌<◌, ◌≤◌, List, Option, Some, None, Contains}
 use Rattle.om_types.specs.declared.decl.Decl.{Decl}
 use Rattle.om_types.specs.Occurrence.{PlacedItem, Occurrence, bracket_of, DeclPlaces}
@@ -20,13 +20,13 @@ place_of_break (breaks.TagClash k) = k
 place_of_break (breaks.HashClash k one other) = k
 place_of_break (breaks.FloatInGroup k) = k
 
--- two tags that are named have one hash at the lexeme
+-- If the violation is a hash collision, then its two names have the same hash at its lexeme.
 abbrev pub NamesAre : (ℕ → List ℕ → List ℕ → Type 0) → HeadBreak → Type 0
 NamesAre Hashes (breaks.HashClash k one other) = Hashes k one other
 NamesAre Hashes b = Unit {0}
 
--- The first of the rules that ask for heads that is broken, with its least lexeme; or none of them
--- is broken.
+-- The first of the rules depending on heads that is broken, with its least lexeme. If there is
+-- none, then none of these rules is broken.
 abbrev pub IsFirstOfHeads :
     (Rule → ℕ → Type 0) → (ℕ → List ℕ → List ℕ → Type 0) → Option HeadBreak → Type 0
 IsFirstOfHeads Breaks Hashes None = (rule : Rule) (k : ℕ) → 7 ≤ turn rule → ¬ Breaks rule k
@@ -37,14 +37,14 @@ IsFirstOfHeads Breaks Hashes (Some b) =
     → 7 ≤ turn other → turn other < turn (rule_of_break b) → ¬ Breaks other j)
     × NamesAre Hashes b
 
--- two tags of these names have one hash, in some bracket
+-- Two tags with these names have the same hash in some bracket.
 abbrev pub TypeHashes :
     List Decl → List Occurrence → ℕ → List ℕ → List ℕ → Type 0
 TypeHashes decls occurrences k one_name other_name =
     (items : List PlacedItem) × Contains occurrences (bracket_of items)
     × NamesHashAt decls items k one_name other_name
 
--- in some bracket of some declaration
+-- Two tags with these names have the same hash in some bracket of some declaration.
 abbrev pub FileHashes : List DeclPlaces → ℕ → List ℕ → List ℕ → Type 0
 FileHashes all k one_name other_name =
     (d : DeclPlaces) × Contains all d

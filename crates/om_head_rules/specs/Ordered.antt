@@ -1,4 +1,4 @@
--- Nodes that name earlier ones: of this there is one proof at most.
+-- The property that nodes refer to earlier nodes only has at most one proof.
 use Rattle.std.specs.Prelude.{ℕ, List}
 use Rattle.std.specs.Coded.{×_prop, Π_prop, Unit-prop, le_prop}
 use Rattle.om_types.specs.declared.ty.Node.{Node}

@@ -1,4 +1,4 @@
--- The rules that ask for heads, over numbered items of brackets and over declarations.
+-- The rules that depend on heads, over numbered items of brackets and over declarations.
 use Rattle.std.specs.Prelude.{ℕ, ◌<◌, ◌≡◌, List, [], Option, Some, None, IsSome, option_and_then}
 use Rattle.std.specs.Prelude.{Contains, IfSome, All, length, map, slice_get}
 use Rattle.om_types.specs.declared.decl.Decl.{Decl}
@@ -24,7 +24,7 @@ use Rattle.om_head_rules.specs.declared.item.NumberedItem.{NumberedItem}
 
 -- ---- numbered items
 
--- the tags of a head, whose parts are numbers
+-- The tags of a head whose parts are numbers.
 abbrev pub tags_of_head : HeadOf ℕ → List (TagOf ℕ)
 tags_of_head (heads.Variants tags) = tags
 tags_of_head other = []
@@ -32,14 +32,14 @@ tags_of_head other = []
 abbrev pub IsWithin : List Ty → NumberedItem → Type 0
 IsWithin types i = i.number < length types
 
--- their numbers are those of types
+-- The numbers of the items are those of types in the store.
 abbrev pub AreWithin : List Ty → List NumberedItem → Type 0
 AreWithin types items = All (IsWithin types) items
 
 abbrev pub AreAllWithin : List Ty → List (List NumberedItem) → Type 0
 AreAllWithin types brackets = All (AreWithin types) brackets
 
--- the item that it stands for
+-- The item that a numbered item represents.
 abbrev pub item_at : List Ty → NumberedItem → PlacedItem
 item_at types i = (i.place, type_at types i.number)
 
@@ -49,18 +49,18 @@ items_at types items = map (item_at types) items
 abbrev pub brackets_at : List Ty → List (List NumberedItem) → List (List PlacedItem)
 brackets_at types brackets = map (items_at types) brackets
 
--- some of these breaks a rule at lexeme k
+-- One of these breaks a rule at lexeme `k`.
 abbrev pub SomeBreaks : {X : Type 0} → List X → (X → ℕ → Type 0) → ℕ → Type 0
 SomeBreaks {X} xs Breaks k = (x : X) × Contains xs x × Breaks x k
 
 -- ---- included types
 
--- it includes a type that is no polymorphic variant
+-- The item includes a type that is not a polymorphic variant.
 abbrev pub IncludesOther : List Decl → Ty → Type 0
 IncludesOther decls (including whole t) = ¬ AreVariants (head decls t)
 IncludesOther decls t = ⊥
 
--- the item at lexeme k does
+-- The item at lexeme `k` includes a type that is not a polymorphic variant.
 abbrev pub IncludesOtherAt : List Decl → List Ty → NumberedItem → ℕ → Type 0
 IncludesOtherAt decls types i k = (i.place ≡ k) × IncludesOther decls (type_at types i.number)
 
@@ -69,7 +69,7 @@ ItemsInclude decls types items k = SomeBreaks items (IncludesOtherAt decls types
 
 -- ---- tags
 
--- The tags of these items are those of the items that are written, each argument by its number
+-- The tags of these items are those of the items of the text, with the number of each argument
 -- among distinct types.
 pub record AreTagged
     (types : List Ty) (decls : List Decl) (tagged : List (List Item)) (all : List (List PlacedItem))
@@ -77,17 +77,18 @@ pub record AreTagged
   pub distinct : AreDistinct types
   pub same : map (map (typed_item types)) tagged ≡ map (map (written_item decls)) all
 
--- two tags of these names have one hash in some bracket
+-- Two tags with these names have the same hash in some bracket.
 abbrev pub CollideAmong : List (List Item) → ℕ → List ℕ → List ℕ → Type 0
 CollideAmong tagged k one other =
     (items : List Item) × Contains tagged items × CollideIn items k one other
 
--- no tags of a bracket have one hash, or these do and none at a lesser place
+-- If `found` is `None`, then no two tags of a bracket have the same hash. Otherwise its tags do,
+-- and no tags do at a lesser lexeme.
 pub record IsLeastAmong (tagged : List (List Item)) (found : Option Collision) : Type 0 where
   pub least : IsLeast (SomeBreaks tagged CollidesIn) (place_of found)
   pub names : IfSome found (λ c. CollideAmong tagged c.place c.one.now c.other.now)
 
--- a bracket breaks a rule on tags at lexeme k, by numbers
+-- A bracket of numbered items breaks a rule on tags at lexeme `k`.
 abbrev pub TagsBreak : List (List Item) → Rule → ℕ → Type 0
 TagsBreak tagged tag_clash k = SomeBreaks tagged ClashesIn k
 TagsBreak tagged hash_clash k = SomeBreaks tagged CollidesIn k
@@ -95,7 +96,7 @@ TagsBreak tagged rule k = ⊥
 
 -- ---- brackets
 
--- an item includes a type that is no polymorphic variant, or tags clash, at lexeme k
+-- At lexeme `k`, an item includes a type that is not a polymorphic variant, or tags conflict.
 abbrev pub ItemsBreak : List Decl → List PlacedItem → Rule → ℕ → Type 0
 ItemsBreak decls items not_variant k =
     (i : PlacedItem) × Contains items i × ((i.0 ≡ k) × IncludesOther decls i.1)
@@ -103,7 +104,7 @@ ItemsBreak decls items tag_clash k = ClashesAt decls items k
 ItemsBreak decls items hash_clash k = HashesAt decls items k
 ItemsBreak decls items rule k = ⊥
 
--- some bracket breaks a rule at lexeme k
+-- Some bracket breaks a rule at lexeme `k`.
 abbrev pub BracketsBreak : List Decl → List (List PlacedItem) → Rule → ℕ → Type 0
 BracketsBreak decls all rule k =
     (items : List PlacedItem) × Contains all items × ItemsBreak decls items rule k
@@ -114,21 +115,21 @@ BracketsHash decls all k one other =
 
 -- ---- records
 
--- an abbreviation of this group is declared
+-- The declaration is an abbreviation of this group.
 abbrev pub IsOwnDecl : ℕ → Option Decl → Type 0
 IsOwnDecl group None = ⊥
 IsOwnDecl group (Some d) = IsSome (abbreviated d.body) × (d.group ≡ group)
 
--- one is at the head of the type
+-- An abbreviation of this group is at the head of the type.
 abbrev pub IsOwn : List Decl → ℕ → Ty → Type 0
 IsOwn decls group t = IsOwnDecl group (option_and_then (declaration_of decls) (name_of t))
 
--- declaration i is a record that lies flat through its own group, and its name is at lexeme k
+-- Declaration `i` is a record that is flat through its own group, and its name is at lexeme `k`.
 abbrev pub FlatAt : List Decl → List Placed → ℕ → ℕ → Type 0
 FlatAt decls names i k =
     (d : Decl) × (p : Placed) × (slice_get decls i ≡ Some d) × (slice_get names i ≡ Some p)
     × (p.0 ≡ k) × IsFlatThroughGroup decls d.group d.body
 
--- some declaration is
+-- Some declaration is a record that is flat through its own group, and its name is at lexeme `k`.
 abbrev pub SomeFlat : List Decl → List Placed → ℕ → Type 0
 SomeFlat decls names k = (i : ℕ) × (i < length decls) × FlatAt decls names i k

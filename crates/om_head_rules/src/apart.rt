@@ -1,5 +1,5 @@
-//! Texts whose tags clash in no bracket, whatever their brackets include: each name is written with
-//! one argument, without variables, and each hash with one name.
+//! A sufficient test that no two tags conflict in any bracket, whatever the brackets include: each
+//! name is written with one argument, which has no variables, and each hash belongs to one name.
 
 ghost use Rattle.std.specs.Prelude.{◌≡◌, ◌+◌, ◌++◌, ◌∷◌, [], length, IfOk, IfSome, OnOk};
 ghost use Rattle.std.specs.Prelude.{IsTrue};
@@ -19,7 +19,7 @@ use om_types::decl::{Body, Decl};
 use om_types::head::TagOf;
 use std::alloc::Global;
 
-/// Whether a type holds no variable, where that is told of those before it.
+/// Returns true if a type contains no variable, given this for the earlier types.
 fn is_closed(t: &Stored<'_>, told: &[bool]) -> bool
     requires before { length told.now ≡ t.now.number }
     requires told { TellsClosed t.now.types.now told.now }
@@ -35,7 +35,7 @@ fn is_closed(t: &Stored<'_>, told: &[bool]) -> bool
     }
 }
 
-/// Of each type whether it holds no variable.
+/// Returns for each type whether it contains no variable.
 fn closed_types(alloc: Global, types: &Types) -> Result<Vec<bool>, Memory>
     ensures told { IfOk result (λ v. TellsClosed types.now v.items) }
     ensures all { IfOk result (λ v. length v.items ≡ length types.now) }
@@ -48,7 +48,7 @@ fn closed_types(alloc: Global, types: &Types) -> Result<Vec<bool>, Memory>
     Ok(told)
 }
 
-/// Adds a tag as an item.
+/// Appends a tag as an item.
 fn put_item(
     alloc: Global,
     items: &mut List<Item>,
@@ -66,7 +66,8 @@ fn put_item(
     Ok(())
 }
 
-/// Adds the tag that a type ends with, and answers whether it holds no variable.
+/// Appends the tag at the end of a type, if there is one. Returns true if the tag contains no
+/// variable.
 fn put_last(
     alloc: Global,
     t: &Stored<'_>,
@@ -92,7 +93,7 @@ fn put_last(
     }
 }
 
-/// The tags of types, each as an item, where none holds a variable.
+/// Returns the tags of the types, each as an item, or `None` if one of them contains a variable.
 fn listed(alloc: Global, types: &Types) -> Result<Option<List<Item>>, Memory>
     ensures { IfOk result
         (λ found. IfSome found (λ items. AreListed types.now items (length types.now))) }
@@ -112,7 +113,7 @@ fn listed(alloc: Global, types: &Types) -> Result<Option<List<Item>>, Memory>
     Ok(Some(items))
 }
 
-/// Whether no two items bring one name with two arguments, or two names with one hash.
+/// Returns true if no two items have one name with two arguments, or two names with one hash.
 fn none_clash(alloc: Global, items: &[Item]) -> Result<bool, Memory>
     ensures { IfOk result (λ none. IsTrue none → NoneClash items.now) }
 {
@@ -125,7 +126,7 @@ fn none_clash(alloc: Global, items: &[Item]) -> Result<bool, Memory>
     }
 }
 
-/// Adds what a declaration abbreviates.
+/// Adds the type that a declaration abbreviates, if it is an abbreviation.
 fn add_body(alloc: Global, types: &mut Types, decl: &Decl) -> Result<(), Memory>
     ensures grown { Grows types.old types.new }
     ensures there { OnOk result (HasBody types.new decl.now) }
@@ -136,7 +137,7 @@ fn add_body(alloc: Global, types: &mut Types, decl: &Decl) -> Result<(), Memory>
     Ok(())
 }
 
-/// Adds what declarations abbreviate.
+/// Adds the types that the declarations abbreviate.
 fn add_bodies(alloc: Global, types: &mut Types, decls: &[Decl]) -> Result<(), Memory>
     ensures grown { Grows types.old types.new }
     ensures there { OnOk result (All (HasBody types.new) decls.now) }
@@ -147,9 +148,10 @@ fn add_bodies(alloc: Global, types: &mut Types, decls: &[Decl]) -> Result<(), Me
     Ok(())
 }
 
-/// Whether no tags that the types bring can clash, by the tags that are written in them and in
-/// declarations. It takes a step for each node and each tag, however many tags brackets include.
-/// Where it answers no, they may stand apart all the same.
+/// Returns true only if no two tags that the types contribute can conflict, by the tags that are
+/// written in the types and in the declarations. It takes one step for each node and each tag,
+/// independent of the number of tags that brackets include. If it returns false, then there may
+/// still be no conflict.
 pub fn stand_apart(
     alloc: Global,
     types: &mut Types,

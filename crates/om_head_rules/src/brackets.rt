@@ -1,4 +1,4 @@
-//! Brackets by the numbers of their items.
+//! Brackets with the type numbers of their items.
 
 ghost use Rattle.std.specs.Prelude.{◌++◌, All, IfOk, OnOk, List as Seq};
 ghost use Rattle.std.specs.List.{flat_map};
@@ -17,7 +17,7 @@ use om_scope::{BracketItem, TypeBrackets};
 use om_store::Types;
 use std::alloc::Global;
 
-/// The items of a bracket.
+/// Returns the items of a bracket.
 fn number_items(
     alloc: Global,
     types: &mut Types,
@@ -37,7 +37,7 @@ fn number_items(
     Ok(all)
 }
 
-/// Adds the brackets of a type.
+/// Appends the brackets of a type.
 fn put_type(
     alloc: Global,
     types: &mut Types,
@@ -58,7 +58,7 @@ fn put_type(
     Ok(())
 }
 
-/// Adds the brackets of types.
+/// Appends the brackets of a list of types.
 fn put_types(
     alloc: Global,
     types: &mut Types,
@@ -77,8 +77,8 @@ fn put_types(
     Ok(())
 }
 
-/// The brackets of types, one after another, each item with the number of the bracket that has it
-/// alone. Each node of these types is added once.
+/// Returns the brackets of a list of types, one after another. Each item has the number of the
+/// bracket with this item only. The function adds each node of these types once.
 pub fn number_brackets(
     alloc: Global,
     types: &mut Types,
@@ -93,7 +93,7 @@ pub fn number_brackets(
     Ok(brackets)
 }
 
-/// The brackets of the types of declarations, in the same way.
+/// Returns the brackets of the types in declarations, in the same form.
 pub fn number_declared(
     alloc: Global,
     types: &mut Types,

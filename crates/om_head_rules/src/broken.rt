@@ -1,16 +1,16 @@
-//! Rules that ask for the heads of types.
+//! The violations of scope rules that depend on the heads of types.
 
 use om_model::list::List;
 
-/// A rule that asks for heads, broken at a lexeme.
+/// The violation of a rule that depends on heads, with its lexeme.
 #[derive(Drop)]
 pub enum HeadBreak {
-    /// What a bracket includes is no polymorphic variant.
+    /// A bracket includes a type that is not a polymorphic variant.
     NotVariant(usize),
-    /// A tag comes from two items with unlike arguments.
+    /// A tag comes from two items with different arguments.
     TagClash(usize),
-    /// Two tags have one hash, and these names.
+    /// Two tags have the same hash: the lexeme and the two names.
     HashClash(usize, List<u8>, List<u8>),
-    /// A record lies flat through an abbreviation of its own group.
+    /// A record is flat through an abbreviation of its own group.
     FloatInGroup(usize),
 }

@@ -1,4 +1,4 @@
-//! Tags of one bracket that clash, over the brackets of a text.
+//! Conflicts between the tags of one bracket, over all brackets of a text.
 
 ghost use Rattle.std.specs.Prelude.{◌≡◌, IfOk};
 ghost use Rattle.om_scope.specs.Least.{IsLeast};
@@ -13,7 +13,8 @@ use om_model::list::List;
 use om_scope::sooner;
 use std::alloc::Global;
 
-/// The least place of a tag that comes with two arguments in one bracket.
+/// Returns the least lexeme of a tag that occurs with two arguments in one bracket, if there is
+/// one.
 fn least_tag_clash(alloc: Global, brackets: &[List<Item>]) -> Result<Option<usize>, Memory>
     ensures { IfOk result (IsLeast (SomeBreaks brackets.now ClashesIn)) }
 {
@@ -24,7 +25,8 @@ fn least_tag_clash(alloc: Global, brackets: &[List<Item>]) -> Result<Option<usiz
     Ok(best)
 }
 
-/// The least place of two tags of one bracket that have one hash, with their names.
+/// Returns the least lexeme of two tags of one bracket with the same hash, and their names. Returns
+/// `None` if there are none.
 fn least_hash_clash<'a>(
     alloc: Global,
     brackets: &'a [List<Item>],
@@ -38,14 +40,14 @@ fn least_hash_clash<'a>(
     Ok(best)
 }
 
-/// The same bytes.
+/// Returns a copy of the bytes.
 fn copied(alloc: Global, name: &[u8]) -> Result<List<u8>, Memory>
     ensures { IfOk result (λ l. l ≡ name.now) }
 {
     Ok(List::of(Vec::from_slice(alloc, name)?))
 }
 
-/// Two tags with one hash, as a rule that is broken.
+/// Returns the violation for two tags with the same hash.
 fn hash_break(alloc: Global, found: Collision<'_>) -> Result<HeadBreak, Memory>
     ensures { IfOk result
         (λ b. b ≡ HeadBreak.HashClash found.entry.place found.entry.one.now found.entry.other.now) }
@@ -55,7 +57,7 @@ fn hash_break(alloc: Global, found: Collision<'_>) -> Result<HeadBreak, Memory>
     Ok(HeadBreak::HashClash(found.place, one, other))
 }
 
-/// The first rule on tags that a bracket breaks, at the least lexeme.
+/// Returns the first rule on tags that a bracket breaks, at the least lexeme, if one is broken.
 pub fn first_of_tags(alloc: Global, tagged: &[List<Item>]) -> Result<Option<HeadBreak>, Memory>
     ensures { IfOk result (IsFirstOfHeads (TagsBreak tagged.now) (CollideAmong tagged.now)) }
 {

@@ -1,4 +1,4 @@
-//! The first rule that asks for heads, of those that a text breaks.
+//! The first violation in a text of a rule that depends on heads.
 
 ghost use Rattle.std.specs.Prelude.{◌≡◌, List as Seq, IfOk, option_map};
 ghost use Rattle.om_types.specs.Accepted.{AreSound};
@@ -23,8 +23,8 @@ use om_store::Types;
 use om_types::decl::Decl;
 use std::alloc::Global;
 
-/// The first rule on brackets that is broken, at the least lexeme. The tags of each bracket are
-/// gathered only where some that are written could clash.
+/// Returns the first rule on brackets that is broken, at the least lexeme. The function gathers the
+/// tags of each bracket only if tags that are written could conflict.
 fn first_of_brackets(
     alloc: Global,
     types: &mut Types,
@@ -45,7 +45,7 @@ fn first_of_brackets(
     first_of_tags(alloc, tagged.as_slice())
 }
 
-/// The rule on records, broken at a place.
+/// Returns the violation of the rule on records, at this lexeme.
 fn float_break(place: Option<usize>) -> Option<HeadBreak>
     ensures { result ≡ option_map (λ k. HeadBreak.FloatInGroup k) place }
 {
@@ -55,7 +55,8 @@ fn float_break(place: Option<usize>) -> Option<HeadBreak>
     }
 }
 
-/// The first of all these rules that a file breaks, with types and the places of names.
+/// Returns the first of these rules that a file breaks, given the types and the lexemes of the
+/// declared names.
 fn first_of_file(
     alloc: Global,
     types: &mut Types,
@@ -77,7 +78,7 @@ fn first_of_file(
     Ok(float_break(place))
 }
 
-/// The first of them that a type breaks.
+/// Returns the first of these rules that a type breaks.
 fn first_of_type(
     alloc: Global,
     types: &mut Types,
@@ -93,7 +94,8 @@ fn first_of_type(
     first_of_brackets(alloc, types, decls, numbered.as_slice())
 }
 
-/// The first rule that asks for heads that the text of a file breaks, at the least lexeme.
+/// Returns the first rule depending on heads that the text of a file breaks, at the least lexeme.
+/// Returns `None` if the text breaks none of these rules.
 pub fn first_head_break(
     alloc: Global,
     decls: &[Decl],
@@ -112,7 +114,8 @@ pub fn first_head_break(
     first_of_file(alloc, &mut types, &environment, names, brackets)
 }
 
-/// The first rule that asks for heads that the text of a type breaks, at the least lexeme.
+/// Returns the first rule depending on heads that the text of a type breaks, at the least lexeme.
+/// Returns `None` if the text breaks none of these rules.
 pub fn first_head_break_in_type(
     alloc: Global,
     decls: &[Decl],

@@ -1,4 +1,4 @@
-//! Records that lie flat through an abbreviation of their own group.
+//! Records that are flat through an abbreviation of their own group.
 
 ghost use Rattle.std.specs.Prelude.{◌≡◌, ◌↔◌, true, length, Contains, IfOk, IsTrue};
 ghost use Rattle.om_types.specs.Nodes.{type_at};
@@ -17,7 +17,7 @@ use om_types::decl::{Body, Decl, Field};
 use om_types::ty::Ty;
 use std::alloc::Global;
 
-/// Whether an abbreviation of this group is at the head of a type.
+/// Returns true if an abbreviation of this group is at the head of a type.
 fn is_own(t: &Stored<'_>, decls: &SoundEnvironment<'_>, group: usize) -> bool
     ensures { IsTrue result ↔ IsOwn decls.now group (type_at t.now.types.now t.now.number) }
 {
@@ -34,7 +34,8 @@ fn is_own(t: &Stored<'_>, decls: &SoundEnvironment<'_>, group: usize) -> bool
     }
 }
 
-/// Whether an abbreviation of this group is among those that are replaced at the head of a type.
+/// Returns true if an abbreviation of this group is among those that are expanded at the head of a
+/// type.
 fn is_through(
     alloc: Global,
     types: &mut Types,
@@ -57,7 +58,7 @@ fn is_through(
     Ok(true)
 }
 
-/// Whether all fields are `float`.
+/// Returns true if all fields expand to `float`.
 fn are_floats(
     alloc: Global,
     types: &mut Types,
@@ -76,7 +77,7 @@ fn are_floats(
     Ok(true)
 }
 
-/// Whether some field is what it is through an abbreviation of this group.
+/// Returns true if the expansion of some field goes through an abbreviation of this group.
 fn some_through(
     alloc: Global,
     types: &mut Types,
@@ -96,7 +97,7 @@ fn some_through(
     Ok(false)
 }
 
-/// Whether a declaration is a record that lies flat through an abbreviation of its own group.
+/// Returns true if a declaration is a record that is flat through an abbreviation of its own group.
 fn is_flat(
     alloc: Global,
     types: &mut Types,
@@ -116,7 +117,8 @@ fn is_flat(
     some_through(alloc, types, decls, decl.group, fields)
 }
 
-/// The least place of the name of such a record.
+/// Returns the least lexeme of the name of a record that is flat through an abbreviation of its own
+/// group, if there is one.
 pub fn least_flat(
     alloc: Global,
     types: &mut Types,

@@ -1,4 +1,4 @@
-//! An item of a bracket by the number of its type.
+//! An item of a bracket, with the number of its type.
 
 ghost use Rattle.std.specs.Prelude.{◌≡◌, ◌<◌, Some, length, slice_get, IfOk};
 ghost use Rattle.om_types.specs.Ty.{bracket, tag, tag_of, including};
@@ -17,13 +17,13 @@ use om_types::ty::Node;
 /// An item of a bracket.
 #[derive(Clone, Copy)]
 pub struct NumberedItem {
-    /// The number of its first lexeme.
+    /// The index of its first lexeme.
     pub place: usize,
-    /// The number of the bracket that has the item alone.
+    /// The number of the bracket with this item only.
     pub number: usize,
 }
 
-/// The number of a bracket with this tag alone.
+/// Returns the number of a bracket with this tag only.
 fn tag_number(types: &mut Types, name: &[u8]) -> Result<usize, Memory>
     ensures grown { Grows types.old types.new }
     ensures ok { IfOk result (λ n. slice_get types.new n ≡ Some (tag bracket name.now)) }
@@ -32,7 +32,7 @@ fn tag_number(types: &mut Types, name: &[u8]) -> Result<usize, Memory>
     types.add_tag(bracket, name)
 }
 
-/// The number of a bracket with this tag and its argument alone.
+/// Returns the number of a bracket with this tag and its argument only.
 fn tag_of_number(types: &mut Types, name: &[u8], argument: usize) -> Result<usize, Memory>
     requires { argument < length types.old }
     ensures grown { Grows types.old types.new }
@@ -43,7 +43,7 @@ fn tag_of_number(types: &mut Types, name: &[u8], argument: usize) -> Result<usiz
     types.add_tag_of(bracket, name, argument)
 }
 
-/// The number of a bracket with this included type alone.
+/// Returns the number of a bracket with this included type only.
 fn including_number(types: &mut Types, included: usize) -> Result<usize, Memory>
     requires { included < length types.old }
     ensures grown { Grows types.old types.new }
@@ -54,7 +54,7 @@ fn including_number(types: &mut Types, included: usize) -> Result<usize, Memory>
     types.add_including(bracket, included)
 }
 
-/// The number of the item that a node adds.
+/// Returns the number of the item that a node adds.
 fn node_number(
     types: &mut Types,
     nodes: &Nodes<'_>,
@@ -75,7 +75,7 @@ fn node_number(
     }
 }
 
-/// The number of the item that a node adds, where it is there.
+/// Returns the number of the item that a node adds, if the node exists.
 fn item_number(
     types: &mut Types,
     nodes: &Nodes<'_>,
@@ -94,7 +94,7 @@ fn item_number(
     }
 }
 
-/// An item with the number of its type.
+/// Returns an item with the number of its type.
 pub fn number_item(
     types: &mut Types,
     nodes: &Nodes<'_>,

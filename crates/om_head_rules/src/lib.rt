@@ -1,5 +1,7 @@
-//! The rules of scope that ask for the heads of types: what brackets include, the tags that come
-//! together in them, and records of floats.
+//! Checks the scope rules that depend on the heads of types: the types that brackets include,
+//! conflicts between tags of a bracket, and flat records. `first_head_break` returns the first
+//! violation in the text of a file, and `first_head_break_in_type` that in the text of a type. The
+//! other scope rules are checked elsewhere.
 #![tactic(auto)]
 
 mod apart;

@@ -5,7 +5,7 @@ ghost use Rattle.om_head_rules.specs.Ordered.{AreOrdered-prop};
 
 use om_types::ty::Node;
 
-/// The nodes of a type, each of which names earlier ones.
+/// The nodes of a type. Each node refers to earlier nodes only.
 #[derive(Clone, Copy)]
 pub struct Nodes<'a> {
     pub all: &'a [Node],

@@ -1,4 +1,4 @@
-//! Items of brackets with the tags that they bring.
+//! The items of brackets, with the tags that they contribute.
 
 ghost use Rattle.std.specs.Prelude.{◌≡◌, map, IfOk, OnOk};
 ghost use Rattle.om_store.specs.Held.{Grows};
@@ -17,7 +17,7 @@ use om_store::Types;
 use om_types::head::{HeadOf, TagOf};
 use std::alloc::Global;
 
-/// The tags of a head. That of anything but a polymorphic variant has none.
+/// Returns the tags of a head. A head other than a polymorphic variant has none.
 fn tags_in(alloc: Global, head: HeadOf<usize>) -> List<TagOf<usize>>
     ensures { result ≡ tags_of_head head }
 {
@@ -27,7 +27,7 @@ fn tags_in(alloc: Global, head: HeadOf<usize>) -> List<TagOf<usize>>
     }
 }
 
-/// The items of a bracket with their tags.
+/// Returns the items of a bracket with their tags.
 fn tagged_items(
     alloc: Global,
     types: &mut Types,
@@ -54,7 +54,7 @@ fn tagged_items(
     Ok(all)
 }
 
-/// The items of brackets with their tags.
+/// Returns the items of several brackets with their tags.
 fn all_tagged(
     alloc: Global,
     types: &mut Types,
@@ -77,7 +77,8 @@ fn all_tagged(
     Ok(all)
 }
 
-/// The items of brackets with their tags, whose arguments are numbers of distinct types.
+/// Returns the items of several brackets with their tags, whose arguments are the numbers of
+/// distinct types.
 pub fn tagged_brackets(
     alloc: Global,
     types: &mut Types,
@@ -91,7 +92,7 @@ pub fn tagged_brackets(
 {
     let mut heads = no_heads(alloc);
     let tagged = all_tagged(alloc, types, decls, &mut heads, brackets)?;
-    // Its contract says that no type stands twice.
+    // The contract of `len` says that the types are distinct.
     let _ = types.len();
     Ok(tagged)
 }

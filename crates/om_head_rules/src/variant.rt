@@ -1,4 +1,4 @@
-//! Brackets that include what is no polymorphic variant.
+//! Brackets that include a type that is not a polymorphic variant.
 
 ghost use Rattle.std.specs.Prelude.{◌<◌, ◌↔◌, length, IfOk, IsTrue};
 ghost use Rattle.om_types.specs.Nodes.{type_at};
@@ -15,7 +15,7 @@ use om_scope::{SoundEnvironment, place_if, sooner};
 use om_store::{TypeNode, Types};
 use std::alloc::Global;
 
-/// Whether an item includes a type that is no polymorphic variant.
+/// Returns true if an item includes a type that is not a polymorphic variant.
 fn includes_other(
     alloc: Global,
     types: &mut Types,
@@ -36,7 +36,8 @@ fn includes_other(
     }
 }
 
-/// The least place of an item of a bracket that includes another type than a polymorphic variant.
+/// Returns the least lexeme of an item of a bracket that includes a type other than a polymorphic
+/// variant, if there is one.
 fn least_other(
     alloc: Global,
     types: &mut Types,
@@ -55,8 +56,8 @@ fn least_other(
     Ok(best)
 }
 
-/// The least place of an item of some bracket that includes another type than a polymorphic
-/// variant.
+/// Returns the least lexeme of an item of any bracket that includes a type other than a polymorphic
+/// variant, if there is one.
 pub fn least_not_variant(
     alloc: Global,
     types: &mut Types,

@@ -1,9 +1,9 @@
--- The objects whose words are counted.
+-- The objects whose sizes can be computed.
 use Rattle.std.specs.Prelude.{◌^◌, ◌<◌, ◌≤◌}
 use Rattle.om_model.specs.declared.code.Measure.{Measure}
 use Rattle.om_model.specs.declared.code.Measure.TheVariants.{Block, Bytes, Double, Doubles, Custom}
 
--- the number is below 2 ^ 60, and a custom has at most eight bytes of data
+-- The number is less than 2 ^ 60, and a custom block has at most eight bytes of data.
 abbrev pub IsCountable : Measure → Type 0
 IsCountable (Block n) = n < 2 ^ 60
 IsCountable (Bytes n) = n < 2 ^ 60

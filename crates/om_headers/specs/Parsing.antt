@@ -1,4 +1,4 @@
--- What the first bytes of a value say of its header (`intern.c`).
+-- Decoding the header at the beginning of a value (`intern.c`).
 use Rattle.std.specs.Prelude.{ℕ, ◌+◌, ◌-◌, ◌<◌, ◌≤◌, ◌≡◌, ◌≢◌, ◌⊎◌, ◌==◌, ◌||◌, nat_lt, List}
 use Rattle.std.specs.Prelude.{length, Result, Ok, Err, if◌then◌else◌}
 use Rattle.om_headers.specs.declared.parsing.HeaderStep.{HeaderStep}
@@ -8,14 +8,14 @@ use Rattle.om_headers.specs.declared.parsing.HeadFault.TheVariants as faults
 use Rattle.om_format.specs.Header.{magic, small_magic, big_magic, compressed_magic, header_length}
 use Rattle.om_format.specs.Header.{head_of}
 
--- what the header states, or how many bytes are missing to its end
+-- The header, or the number of bytes that are missing to its end.
 abbrev pub rest_step : List ℕ → HeaderStep
 rest_step bytes =
     if nat_lt (length bytes) (header_length bytes)
     then steps.More (header_length bytes - length bytes)
     else steps.Head (head_of bytes)
 
--- the magic is judged as soon as it is there
+-- The magic number is checked as soon as it is complete.
 abbrev pub header_step : List ℕ → Result HeaderStep HeadFault
 header_step bytes =
     if nat_lt (length bytes) 4 then Ok (steps.More (4 - length bytes))
@@ -23,12 +23,13 @@ header_step bytes =
     else if (magic bytes == small_magic) || (magic bytes == big_magic) then Ok (rest_step bytes)
     else Err (faults.BadMagic (magic bytes))
 
--- ---- what each answer says
+-- ---- what each result means
 
 abbrev pub HasMagic : List ℕ → Type 0
 HasMagic bytes = (magic bytes ≡ small_magic) ⊎ (magic bytes ≡ big_magic)
 
--- first the magic is wanted, and then the header that it begins
+-- The number of bytes needed: those of the magic number, and then those of the header that it
+-- begins.
 abbrev pub wanted : List ℕ → ℕ
 wanted bytes = if nat_lt (length bytes) 4 then 4 else header_length bytes
 

@@ -1,4 +1,6 @@
-//! The headers of values, and the words that objects take (`intext.h`).
+//! The headers of marshalled values, and the sizes of objects that they state (`intext.h`). `parse`
+//! decodes a header incrementally, `spell` encodes one as the runtime writes it, and `words_of`
+//! computes the size of an object.
 #![tactic(auto)]
 
 mod magic;

@@ -1,4 +1,4 @@
-//! The magic numbers that begin values (`intext.h`).
+//! The magic numbers that begin marshalled values (`intext.h`).
 
 pub const SMALL_MAGIC: u32 = 0x8495_a6be;
 

@@ -1,4 +1,4 @@
-//! The header that the first bytes of a value are.
+//! Decodes the header at the beginning of a value.
 
 ghost use Rattle.std.specs.Prelude.{◌≡◌, ◌≤◌, length, MatchResult};
 ghost use Rattle.om_format.specs.Header.{small_head, big_head};
@@ -8,26 +8,27 @@ use crate::magic::{BIG_MAGIC, COMPRESSED_MAGIC, SMALL_MAGIC};
 use om_model::bytes::big_endian;
 use om_model::header::Head;
 
-/// What the first bytes of a value say of its header: that more of them are missing, or what it
-/// states.
+/// The result of decoding the first bytes of a value: the header, or the number of missing bytes.
 #[derive(Clone, Copy)]
 pub enum HeaderStep {
-    /// How many bytes are missing to the magic's end, or after it to the header's.
+    /// The number of bytes that are missing: up to the end of the magic number if it is incomplete,
+    /// otherwise up to the end of the header.
     More(usize),
-    /// The header is whole.
+    /// The header is complete.
     Head(Head),
 }
 
-/// Why the first four bytes begin no header.
+/// The reason why the first four bytes begin no header.
 #[derive(Clone, Copy)]
 pub enum HeadFault {
-    /// They are no magic.
+    /// The four bytes, which are no magic number.
     BadMagic(u32),
-    /// They are the magic of compressed data.
+    /// The magic number of compressed data.
     Compressed,
 }
 
-/// The step that the first bytes of a value decide (`intern.c`). Bytes may follow the header.
+/// Decodes the header at the beginning of `bytes` (`intern.c`). Bytes may follow the header. The
+/// magic number is checked as soon as it is complete.
 #[tactic(auto, unfolding(om_format::specs::Header::head_of))]
 #[inline(always)]
 pub fn parse(bytes: &[u8]) -> Result<HeaderStep, HeadFault>
@@ -47,7 +48,7 @@ pub fn parse(bytes: &[u8]) -> Result<HeaderStep, HeadFault>
     }
 }
 
-// A small header, whose numbers have four bytes each.
+// Decodes a small header, whose numbers have four bytes each.
 fn small_header(bytes: &[u8]) -> Head
     requires { 20 ≤ length bytes.now }
     ensures { result ≡ small_head bytes.now }
@@ -61,7 +62,8 @@ fn small_header(bytes: &[u8]) -> Head
     }
 }
 
-// A big header, whose numbers have eight bytes each; four bytes before them are read as anything.
+// Decodes a big header, whose numbers have eight bytes each. The four bytes before the numbers are
+// ignored.
 fn big_header(bytes: &[u8]) -> Head
     requires { 32 ≤ length bytes.now }
     ensures { result ≡ big_head bytes.now }

@@ -1,4 +1,4 @@
-//! The header that the runtime writes (`extern.c`).
+//! Encodes a header as the runtime writes it (`extern.c`).
 
 ghost use Rattle.std.specs.Prelude.{◌≡◌, ◌≤◌, ◌∷◌, ◌++◌, [], take, flat_map};
 ghost use Rattle.std.specs.Int.{bytes_high_first};
@@ -8,7 +8,8 @@ ghost use Rattle.om_format.specs.Canonical.{header_spelling};
 use crate::magic::{BIG_MAGIC, SMALL_MAGIC};
 use om_model::header::Head;
 
-/// The bytes of a header, and how many they are. The numbers of one that is not big are below 2^32.
+/// Returns the bytes of a header and their count. If the header is small, its numbers must be less
+/// than 2^32.
 #[tactic(auto, unfolding(om_format::specs::Canonical::header_spelling))]
 pub fn spell(head: Head) -> ([u8; 32], usize)
     requires { FitsSmall head }
@@ -23,7 +24,7 @@ pub fn spell(head: Head) -> ([u8; 32], usize)
     }
 }
 
-// Five numbers of four bytes.
+// Encodes a small header: five numbers of four bytes each.
 fn small(length: u32, objects: u32, w32: u32, w64: u32) -> [u8; 32]
     ensures { take 20 result
         ≡ flat_map (bytes_high_first 4) (0x8495_A6BE ∷ length ∷ objects ∷ w32 ∷ w64 ∷ []) }
@@ -37,7 +38,7 @@ fn small(length: u32, objects: u32, w32: u32, w64: u32) -> [u8; 32]
     bytes
 }
 
-// The magic number, four bytes of 0, and three numbers of eight bytes.
+// Encodes a big header: the magic number, four zero bytes, and three numbers of eight bytes each.
 fn big(length: u64, objects: u64, w64: u64) -> [u8; 32]
     ensures { result
         ≡ flat_map (bytes_high_first 4) (0x8495_A6BF ∷ 0 ∷ [])

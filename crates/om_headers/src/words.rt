@@ -1,4 +1,4 @@
-//! The words of objects.
+//! Sizes of objects.
 
 ghost use Rattle.std.specs.Prelude.{◌≡◌};
 ghost use Rattle.om_format.specs.Words.{words32, words64};
@@ -6,7 +6,8 @@ ghost use Rattle.om_headers.specs.Counting.{IsCountable};
 
 use om_model::code::Measure;
 
-/// The words that the object takes with its header word, on 32 and on 64 bits (`extern.c`).
+/// Returns the size of an object in words, including its header word: on a 32-bit and on a 64-bit
+/// platform (`extern.c`).
 pub fn words_of(measure: Measure) -> (u64, u64)
     requires { IsCountable measure }
     ensures { result ≡ (words32 measure, words64 measure) }

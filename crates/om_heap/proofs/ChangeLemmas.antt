@@ -1,4 +1,5 @@
--- Lemmas on a heap's fields as they are read, and after an object was appended or changed, or objects were dropped.
+-- Lemmas on the fields of a `Heap`: reading them, and their state after an object is appended or
+-- changed, or after objects are removed.
 use Rattle.std.proofs.Common.{◌≡◌, ℕ, suc, ◌+◌, ◌-◌, ◌/◌, ◌%◌, ◌^◌, ◌<◌, ◌≤◌, List, [], ◌∷◌, ◌++◌, length, get_or, set, take, drop, map, sym, ap, ap₂, subst, ◌∙◌, arith, length-set, length-take-le, take-append-drop, take_at, append-nil, append_assoc, take_all}
 use Rattle.std.specs.Prelude.{All, pos}
 use Rattle.std.specs.List.{range_with_len}
@@ -20,7 +21,7 @@ use Rattle.om_heap.proofs.CodeLemmas.{length-code, length-encode, code-more, enc
 use Rattle.om_heap.proofs.StoredLemmas.{Holds, held, seen, stored, length-places_of, get_or-places_of, tag_small, header_in}
 use Rattle.om_heap.proofs.NewLemmas.{IsNew, words-fields, body-fields}
 
--- lists over the first numbers that agree at each
+-- If two functions agree on the first `n` numbers, then their lists of values are equal.
 pub map_range_same : (f g : ℕ → ℕ) (n : ℕ) → ((k : ℕ) → k < n → f k ≡ g k) → map f (range_with_len 0 n) ≡ map g (range_with_len 0 n)
 map_range_same f g n same =
     map_same f g (range_with_len 0 n) (All-from_get_or (λ k. f k ≡ g k) (range_with_len 0 n) 0 (λ i inside.
@@ -28,7 +29,7 @@ map_range_same f g n same =
     let here : i ≡ get_or (range_with_len 0 n) i 0 = omega (arith, get_or-range_with_len 0 n i 0 few) in
     subst (λ (k : ℕ). f k ≡ g k) here (same i few)))
 
--- one more object
+-- The invariant after one more object.
 pub IsHeap-append : (graph : List Obj) (new : Obj) → IsObject (length graph) new → IsSmall new → heap_words graph + object_words new < 2 ^ 60 → IsHeap graph → IsHeap (graph ++ new ∷ [])
 IsHeap-append graph new valid small room heap =
     let more : length graph ≤ length (graph ++ new ∷ []) = omega (arith, length_push graph new) in
@@ -56,14 +57,14 @@ module _ (words places : List ℕ) (graph : List Obj) (holds : Holds words place
   pub object_small : (k : ℕ) → k < length graph → IsSmall (object_at graph k)
   object_small k inside = holds.heap.small k (objects.I32 (pos 0)) inside
 
-  -- the words of an object are inside
+  -- The words of an object are within the arena.
   pub object_inside : (k : ℕ) → k < length graph → place graph k + object_words (object_at graph k) ≤ length words
   object_inside k inside = omega (arith, many_words, place_inside graph k holds.heap.is_graph inside)
 
   header_at : (k : ℕ) → k < length graph → get_or words (place graph k) 0 ≡ header (tag_of (object_at graph k)) (length (body_with (place graph) (object_at graph k)))
   header_at k inside = ap (λ (ws : List ℕ). get_or ws (place graph k) 0) holds.encoded ∙ header_in graph k inside (object_valid k inside)
 
-  -- the words of object k, whose header is at place p
+  -- The words of object `k`, whose header is at offset `p`.
   module _ (k p : ℕ) (inside : k < length graph) (at : p ≡ place graph k) where
     header_read : get_or words p 0 ≡ header (tag_of (object_at graph k)) (length (body_with (place graph) (object_at graph k)))
     header_read = ap (λ (p : ℕ). get_or words p 0) at ∙ header_at k inside
@@ -91,7 +92,7 @@ module _ (words places : List ℕ) (graph : List Obj) (holds : Holds words place
         ∙ ap (λ (ws : List ℕ). take (length (body_with (place graph) (object_at graph k))) (drop (place graph k + 1) ws)) holds.encoded
         ∙ body_in graph k inside
 
-  -- all words of object k
+  -- All words of object `k`.
   pub code_at : (k : ℕ) → k < length graph → take (object_words (object_at graph k)) (drop (place graph k) words) ≡ code_with (place graph) (object_at graph k)
   code_at k inside =
       let at : place graph k ≡ place graph k + 0 = omega arith in
@@ -100,17 +101,17 @@ module _ (words places : List ℕ) (graph : List Obj) (holds : Holds words place
       ∙ words_in graph k inside 0 (object_words (object_at graph k)) (omega arith)
       ∙ take_all (object_words (object_at graph k)) (code_with (place graph) (object_at graph k)) (omega arith)
 
-  -- word j of object k
+  -- Word `j` of object `k`.
   pub word_at : (k j : ℕ) → k < length graph → j < object_words (object_at graph k) → get_or words (place graph k + j) 0 ≡ get_or (code_with (place graph) (object_at graph k)) j 0
   word_at k j inside few = ap (λ (ws : List ℕ). get_or ws (place graph k + j) 0) holds.encoded ∙ word_in graph k inside j few
 
-  -- word i after the header
+  -- Word `i` after the header.
   pub body_word : (k i p : ℕ) → k < length graph → i + 1 < object_words (object_at graph k) → p ≡ place graph k → get_or words (p + 1 + i) 0 ≡ get_or (body_with (place graph) (object_at graph k)) i 0
   body_word k i p inside few at =
       let here : p + 1 + i ≡ place graph k + suc i = omega arith in
       ap (λ (p : ℕ). get_or words p 0) here ∙ word_at k (suc i) inside (omega arith)
 
-  -- the word of field i
+  -- The word of field `i`.
   pub field_word : (k i p w : ℕ) → k < length graph → i < length (fields_of (object_at graph k)) → p ≡ place graph k → w ≡ get_or words (p + 1 + i) 0
       → w ≡ word_with (place graph) (get_or (fields_of (object_at graph k)) i (vals.Int (pos 0)))
   field_word k i p w inside few at read =
@@ -119,17 +120,17 @@ module _ (words places : List ℕ) (graph : List Obj) (holds : Holds words place
       ∙ ap (λ (ws : List ℕ). get_or ws i 0) (body-fields (place graph) (object_at graph k) (omega arith))
       ∙ get_or-map (word_with (place graph)) (fields_of (object_at graph k)) i (vals.Int (pos 0)) 0 few
 
-  -- the place of that word is inside
+  -- The offset of this word is within the arena.
   pub word_inside : (k i p : ℕ) → k < length graph → i + 1 < object_words (object_at graph k) → p ≡ place graph k → p + 1 + i < length words
   word_inside k i p inside few at = omega (arith, object_inside k inside)
 
-  -- the places are before the end
+  -- All header offsets are within the arena.
   pub places_below : All (λ p. p < length words) places
   places_below k d here =
       let inside : k < length graph = omega (arith, many_places) in
       omega (arith, place_at k d inside, object_inside k inside, two_words (length graph) (object_at graph k) (object_valid k inside))
 
-  -- one more object, whose words are at the end
+  -- One more object, whose words are at the end.
   pub appended : (words' places' : List ℕ) (new : Obj) → IsObject (length graph) new → IsSmall new → length words + object_words new < 2 ^ 60
       → words' ≡ words ++ code_with (place graph) new → places' ≡ places ++ length words ∷ [] → Holds words' places' (graph ++ new ∷ [])
   unfolding places_of
@@ -148,7 +149,7 @@ module _ (words places : List ℕ) (graph : List Obj) (holds : Holds words place
             ∙ sym (ap (λ (n : ℕ). map (place graph') (range_with_len 0 n)) (length_push graph new) ∙ map-range_with_len_more (place graph') 0 (length graph) (length graph) (omega arith));
       }
 
-  -- word j of object o changed
+  -- Word `j` of object `o` is replaced.
   pub changed : (words' : List ℕ) (o j w : ℕ) (new : Obj) → o < length graph → Replaces (length graph) (object_at graph o) new
       → code_with (place graph) new ≡ set (code_with (place graph) (object_at graph o)) j w → j < object_words (object_at graph o)
       → words' ≡ set words (place graph o + j) w → Holds words' places (set graph o new)
@@ -166,7 +167,7 @@ module _ (words places : List ℕ) (graph : List Obj) (holds : Holds words place
             ∙ ap (λ (n : ℕ). map (place (set graph o new)) (range_with_len 0 n)) (sym (length-set graph o new));
       }
 
-  -- the objects from number n on dropped
+  -- The objects from number `n` on are removed.
   pub dropped : (n : ℕ) → n ≤ length graph → IsGraph (take n graph) → Holds (take (place graph n) words) (take n places) (take n graph)
   unfolding places_of
   dropped n few closed =
@@ -186,7 +187,7 @@ module _ (words places : List ℕ) (graph : List Obj) (holds : Holds words place
             ∙ ap (λ (m : ℕ). map (place (take n graph)) (range_with_len 0 m)) (sym many);
       }
 
--- the fields after a call that appends an object: its header, and then its words
+-- The fields after a call that appends an object: its header, and then its words.
 module _ (words places : List ℕ) (graph : List Obj) (is_stored : IsStored words places) (view : decode words places ≡ graph) where
   pub made_code : (begun words' places' code : List ℕ) (new : Obj) → IsObject (length graph) new → IsSmall new → length words + object_words new < 2 ^ 60
       → begun ≡ words → words' ≡ begun ++ code → code ≡ code_with (place graph) new → places' ≡ places ++ length words ∷ []
@@ -206,7 +207,7 @@ module _ (words places : List ℕ) (graph : List Obj) (is_stored : IsStored word
       made_code begun words' places' (h ∷ body) new is_new.valid is_new.small (omega (arith, is_new.words)) begin
       (end ∙ ap (λ (xs : List ℕ). xs ++ body) middle ∙ append_assoc begun (h ∷ []) body) code place_is
 
--- the fields after a call that changes word j of object o
+-- The fields after a call that replaces word `j` of object `o`.
 module _ (words places : List ℕ) (graph : List Obj) (is_stored : IsStored words places) (view : decode words places ≡ graph) where
   pub remade : (words' : List ℕ) (o i p w : ℕ) (new : Obj) → o < length graph → Replaces (length graph) (object_at graph o) new
       → code_with (place graph) new ≡ set (code_with (place graph) (object_at graph o)) (suc i) w → i + 1 < object_words (object_at graph o) → p ≡ place graph o

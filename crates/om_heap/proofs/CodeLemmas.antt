@@ -1,4 +1,4 @@
--- Lemmas on the words of a graph: their parts, one object changed, and objects appended or dropped.
+-- Lemmas on the words of a graph: its parts, one object replaced, and objects appended or removed.
 use Rattle.std.proofs.Common.{◌≡◌, ℕ, zero, suc, ◌+◌, ◌-◌, ◌*◌, ◌<◌, ◌≤◌, List, [], ◌∷◌, ◌++◌, length, get_or, set, take, drop, refl, sym, ap, ap₂, ◌∙◌, arith, length-append, length-drop, take-append-drop, take_all}
 use Rattle.std.specs.Prelude.{All, flat_map, pos}
 use Rattle.std.proofs.lemmas.List.{length-map, drop_more, drop-drop, drop_at, drop-append-le, take-append-le, set-append_left, set-append_right}
@@ -17,7 +17,7 @@ use Rattle.om_heap.proofs.PlaceLemmas.{place_is, place-append, place-set}
 use Rattle.om_heap.proofs.WordLemmas.{map_same}
 use Rattle.om_heap.proofs.StringLemmas.{length-string_words}
 
--- an object's words are as many as are counted
+-- The number of an object's words is its size.
 pub length-code : (at : ℕ → ℕ) (object : Obj) → length (code_with at object) ≡ object_words object
 length-code at (objects.Block tag values) = omega (arith, length-map values (word_with at))
 length-code at (objects.Bytes bytes) = omega (arith, length-string_words bytes)
@@ -39,7 +39,8 @@ length-encode graph = length-codes (place graph) graph
 pub length-front : (graph : List Obj) (o : ℕ) → length (flat_map (code_with (place graph)) (take o graph)) ≡ place graph o
 length-front graph o = length-codes (place graph) (take o graph) ∙ sym (place_is graph o)
 
--- only the places of the objects that it may refer to matter
+-- If the offsets of the first `n` objects agree, then the words of values and objects over them
+-- agree.
 module _ (at at' : ℕ → ℕ) (n : ℕ) (same : (k : ℕ) → k < n → at k ≡ at' k) where
   pub word-same : (v : Val) → IsValue n v → word_with at v ≡ word_with at' v
   word-same (vals.Int z) valid = refl
@@ -63,7 +64,7 @@ module _ (at at' : ℕ → ℕ) (n : ℕ) (same : (k : ℕ) → k < n → at k �
   codes-same (x ∷ graph) valid =
       ap₂ (λ xs ys. xs ++ ys) (code-same x (All-head (IsObject n) x graph valid)) (codes-same graph (All-tail (IsObject n) x graph valid))
 
--- more objects after a graph
+-- More objects after a graph.
 module _ (graph more : List Obj) where
   pub code-more : (object : Obj) → IsObject (length graph) object → code_with (place (graph ++ more)) object ≡ code_with (place graph) object
   code-more object valid = code-same (place (graph ++ more)) (place graph) (length graph) (λ k inside. place-append graph more k (omega arith)) object valid
@@ -74,7 +75,7 @@ module _ (graph more : List Obj) where
       flat_map-append (code_with (place (graph ++ more))) graph more
       ∙ ap (λ (ws : List ℕ). ws ++ flat_map (code_with (place (graph ++ more))) more) (codes-same (place (graph ++ more)) (place graph) (length graph) (λ k inside. place-append graph more k (omega arith)) graph valid)
 
--- the words of object o
+-- The words of object `o`.
 module _ (graph : List Obj) (o : ℕ) (inside : o < length graph) where
   abbrev object : Obj
   object = object_at graph o
@@ -91,7 +92,7 @@ module _ (graph : List Obj) (o : ℕ) (inside : o < length graph) where
       ap (flat_map (code_with (place graph))) (sym (take-append-drop o graph) ∙ ap (λ (xs : List Obj). take o graph ++ xs) (drop_more graph o (objects.I32 (pos 0)) inside))
       ∙ flat_map-append (code_with (place graph)) (take o graph) (object ∷ drop (o + 1) graph)
 
-  -- those from word j on
+  -- The words of object `o` from word `j` on.
   pub words_from : (j : ℕ) → j ≤ object_words object → drop (place graph o + j) (encode graph) ≡ drop j code ++ after
   words_from j few =
       ap (drop (place graph o + j)) split
@@ -115,7 +116,7 @@ module _ (graph : List Obj) (o : ℕ) (inside : o < length graph) where
       words_in 1 (length (body_with (place graph) object)) (omega (arith, length-code (place graph) object))
       ∙ take_all (length (body_with (place graph) object)) (body_with (place graph) object) (omega arith)
 
--- an object's words with word j changed
+-- The words of a graph if word `j` of one object is replaced.
 pub flat_map-set : {X : Type 0} (f : X → List ℕ) (xs : List X) (o j w : ℕ) (y d : X) → o < length xs → f y ≡ set (f (get_or xs o d)) j w → j < length (f (get_or xs o d))
     → flat_map f (set xs o y) ≡ set (flat_map f xs) (length (flat_map f (take o xs)) + j) w
 flat_map-set f [] o j w y d inside changed few = absurd (omega arith)

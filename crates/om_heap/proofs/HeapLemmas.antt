@@ -1,4 +1,4 @@
--- Lemmas on graphs: more objects, one object replaced, and objects dropped from the end.
+-- Lemmas on graphs: more objects, one object replaced, and objects removed from the end.
 use Rattle.std.proofs.Common.{◌≡◌, ℕ, ◌+◌, ◌^◌, ◌<◌, ◌≤◌, List, length, set, take, refl, sym, ap, subst, arith, length-set}
 use Rattle.std.specs.Prelude.{All, pos}
 use Rattle.std.proofs.lemmas.List.Elements.{All-set, All-take, All-weaker}
@@ -10,7 +10,7 @@ use Rattle.om_model.specs.declared.value.Obj.TheVariants as objects
 use Rattle.om_model.specs.Graph.{IsValue, IsObject, IsGraph}
 use Rattle.om_heap.specs.Heap.{object_at, with_field, with_byte, with_double, object_words, heap_words, IsSmall, IsHeap}
 
--- what is valid among n objects is so among more
+-- If a value is valid among `m` objects, then it is valid among more.
 pub IsValue-more : (m n : ℕ) (v : Val) → m ≤ n → IsValue m v → IsValue n v
 IsValue-more m n (vals.Int z) more valid = valid
 IsValue-more m n (vals.Atom tag) more valid = valid
@@ -21,7 +21,7 @@ IsObject-more m n (objects.Block tag values) more valid =
     (valid.0, valid.1, All-weaker (IsValue m) (IsValue n) (λ v h. IsValue-more m n v more h) values valid.2)
 IsObject-more m n object more valid = valid
 
--- an object that is valid where the old one was, and takes as many words
+-- An object that can replace another: it is valid and has as many words.
 pub record Replaces (n : ℕ) (old new : Obj) : Type 0 where
   pub valid : IsObject n new
   pub words : object_words new ≡ object_words old
@@ -59,7 +59,7 @@ module _ (graph : List Obj) (o : ℕ) (new : Obj) (in_range : o < length graph) 
     words = subst (λ k. k < 2 ^ 60) (sym heap_words-set) heap.words;
   }
 
--- a heap's front, where no object of it refers past its end
+-- A prefix of a heap is a heap if its objects do not refer beyond its end.
 pub IsHeap-take : (n : ℕ) (graph : List Obj) → IsGraph (take n graph) → IsHeap graph → IsHeap (take n graph)
 IsHeap-take n graph closed heap = record {
   is_graph = closed;

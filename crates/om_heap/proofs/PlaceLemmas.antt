@@ -1,4 +1,4 @@
--- Lemmas on the places of headers: they grow, and tell the objects apart.
+-- Lemmas on the offsets of headers: they increase, and distinct objects have distinct offsets.
 use Rattle.std.proofs.Common.{◌≡◌, ℕ, zero, suc, ◌+◌, ◌<◌, ◌≤◌, List, [], ◌∷◌, ◌++◌, length, set, take, refl, ap, subst, inl, inr, arith, take-take, take_all}
 use Rattle.std.specs.Prelude.{pos}
 use Rattle.std.proofs.lemmas.List.{take-append-le}
@@ -13,12 +13,12 @@ pub place_is : (graph : List Obj) (k : ℕ) → place graph k ≡ heap_words (ta
 unfolding place
 place_is graph k = refl
 
--- the first objects have the same places among more
+-- If objects are appended, then earlier objects keep their offsets.
 pub place-append : (graph more : List Obj) (k : ℕ) → k ≤ length graph → place (graph ++ more) k ≡ place graph k
 unfolding place
 place-append graph more k inside = ap heap_words (take-append-le k graph more inside)
 
--- after all objects
+-- The offset after all objects.
 pub place-all : (graph : List Obj) → place graph (length graph) ≡ heap_words graph
 unfolding place
 place-all graph = ap heap_words (take_all (length graph) graph (omega arith))
@@ -31,7 +31,7 @@ pub place-next : (graph : List Obj) (k : ℕ) → k < length graph → place gra
 unfolding place
 place-next graph k inside = sum_by_more object_words graph k (objects.I32 (pos 0)) inside
 
--- with an object of as many words in place of another
+-- If an object is replaced by one with as many words, then all offsets stay the same.
 pub place-set : (graph : List Obj) (o k : ℕ) (new : Obj) → object_words new ≡ object_words (object_at graph o) → place (set graph o new) k ≡ place graph k
 unfolding place
 place-set [] o k new same = refl
@@ -41,7 +41,7 @@ place-set (x ∷ graph) (suc o) zero new same = refl
 place-set (x ∷ graph) (suc o) (suc k) new same =
     omega (arith, sum_by-cons object_words x (take k (set graph o new)), sum_by-cons object_words x (take k graph), place-set graph o k new same)
 
--- an object has two words or more
+-- Each object has at least two words.
 pub two_words : (n : ℕ) (object : Obj) → IsObject n object → 2 ≤ object_words object
 two_words n (objects.Block tag values) valid = omega (arith, valid.1)
 two_words n (objects.Bytes bytes) valid = omega arith
@@ -59,7 +59,7 @@ pub place_grows : (graph : List Obj) (k m : ℕ) → IsGraph graph → k < m →
 place_grows graph k m valid before inside =
     omega (arith, place-next graph k inside, two_words (length graph) (object_at graph k) (valid k (objects.I32 (pos 0)) inside), place_le graph (k + 1) m (omega arith))
 
--- the places and the keys tell the objects apart
+-- If two objects have the same offset or the same key, then they are the same object.
 pub same_from_place : (graph : List Obj) (k m : ℕ) → IsGraph graph → k < length graph → m < length graph → place graph k ≡ place graph m → k ≡ m
 same_from_place graph k m valid k_inside m_inside same = elim (cases_order k m) [
   | inl e ↦ e
@@ -69,6 +69,6 @@ same_from_place graph k m valid k_inside m_inside same = elim (cases_order k m) 
   ]
 ]
 
--- each header is inside
+-- Each object is within the arena.
 pub place_inside : (graph : List Obj) (k : ℕ) → IsGraph graph → k < length graph → place graph k + object_words (object_at graph k) ≤ heap_words graph
 place_inside graph k valid inside = omega (arith, place-next graph k inside, place_le graph (k + 1) (length graph) (omega arith), place-all graph)

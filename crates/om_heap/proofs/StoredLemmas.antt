@@ -1,4 +1,4 @@
--- Lemmas on a heap's fields: the words of a graph tell the graph.
+-- Lemmas on the fields of a `Heap`: the words of a graph determine the graph.
 use Rattle.std.proofs.Common.{◌≡◌, ℕ, ◌+◌, ◌/◌, ◌%◌, ◌<◌, ◌≤◌, eqb, cond, ℤ, pos, negsuc, List, [], length, get_or, take, drop, map, refl, sym, ap, ap₂, subst, ◌∙◌, arith, eq-eqb, ne_eqb}
 use Rattle.std.specs.List.{position_or_len}
 use Rattle.std.proofs.lemmas.Bool.{cond-false}
@@ -17,7 +17,7 @@ use Rattle.om_heap.proofs.WordLemmas.{map_back, value_back, signed_back}
 use Rattle.om_heap.proofs.StringLemmas.{bytes_back}
 use Rattle.om_heap.proofs.CodeLemmas.{word_in, body_in}
 
--- the places in the list of places
+-- The list of header offsets and its elements.
 pub length-places_of : (graph : List Obj) → length (places_of graph) ≡ length graph
 unfolding places_of
 length-places_of graph = length-map-range_with_len (place graph) 0 (length graph)
@@ -46,7 +46,7 @@ pub wider : (z : ℤ) → IsSigned 31 z → IsSigned 63 z
 wider (pos n) small = omega arith
 wider (negsuc n) small = omega arith
 
--- a tag up to 243 is none of the others
+-- A tag up to 243 differs from the tags of strings, doubles and custom blocks.
 pub other_tags : {X : Type 0} (tag : ℕ) (a b c d e : X) → tag ≤ 243 → cond (eqb tag 252) a (cond (eqb tag 253) b (cond (eqb tag 254) c (cond (eqb tag 255) d e))) ≡ e
 other_tags tag a b c d e small =
     cond-false (eqb tag 252) _ _ (ne_eqb tag 252 (λ h. omega arith))
@@ -54,7 +54,7 @@ other_tags tag a b c d e small =
     ∙ cond-false (eqb tag 254) _ _ (ne_eqb tag 254 (λ h. omega arith))
     ∙ cond-false (eqb tag 255) _ _ (ne_eqb tag 255 (λ h. omega arith))
 
--- an object's tag and words tell it
+-- The tag and the words determine an object.
 module _ (graph : List Obj) (valid : IsGraph graph) where
   pub object_back : (object : Obj) → IsObject (length graph) object → object_from (places_of graph) (tag_of object) (body_with (place graph) object) ≡ object
   object_back (objects.Block tag values) fits =
@@ -68,7 +68,7 @@ module _ (graph : List Obj) (valid : IsGraph graph) where
   object_back (objects.I64 z) fits = ap objects.I64 (signed_back z fits)
   object_back (objects.Native z) fits = ap objects.Native (signed_back z fits)
 
--- the header of object o
+-- The header of object `o`.
 module _ (graph : List Obj) (o : ℕ) (inside : o < length graph) (valid : IsObject (length graph) (object_at graph o)) where
   pub header_in : get_or (encode graph) (place graph o) 0 ≡ header (tag_of (object_at graph o)) (length (body_with (place graph) (object_at graph o)))
   header_in =
@@ -95,7 +95,7 @@ decode-encode graph valid =
     ∙ object_back graph valid (object_at graph k) fits
     ∙ get_or_default graph k (objects.I32 (pos 0)) d inside)
 
--- words and places that are those of this graph
+-- The words and the offsets encode this graph.
 pub record Holds (words places : List ℕ) (graph : List Obj) : Type 0 where
   pub heap : IsHeap graph
   pub encoded : words ≡ encode graph

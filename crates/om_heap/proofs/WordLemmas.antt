@@ -1,4 +1,4 @@
--- Lemmas on the words of values: they are undone by what reads them.
+-- Lemmas on the words of values: decoding inverts encoding.
 use Rattle.std.proofs.Common.{◌≡◌, ℕ, ◌+◌, ◌-◌, ◌*◌, ◌/◌, ◌%◌, ◌^◌, ◌<◌, ◌≤◌, eqb, ℤ, pos, negsuc, List, [], ◌∷◌, map, refl, ap, ap₂, ◌∙◌, arith, lt-ltb, le-ltb, eq-eqb, ne_eqb}
 use Rattle.std.specs.Prelude.{All}
 use Rattle.std.specs.List.{position_or_len}
@@ -11,7 +11,7 @@ use Rattle.om_heap.specs.Heap.{integer_word, word_with}
 use Rattle.om_heap.specs.Stored.{signed_from, integer_from, value_from}
 use Rattle.om_heap.specs.Words.{signed_word}
 
--- lists that are made alike from each element
+-- If two functions agree on each element of a list, then the mapped lists are equal.
 pub map_same : {X Y : Type 0} (f g : X → Y) (xs : List X) → All (λ x. f x ≡ g x) xs → map f xs ≡ map g xs
 map_same f g [] same = refl
 map_same {X = X} f g (x ∷ xs) same = ap₂ (λ y ys. y ∷ ys) (All-head (λ (x : X). f x ≡ g x) x xs same) (map_same f g xs (All-tail (λ (x : X). f x ≡ g x) x xs same))
@@ -37,7 +37,7 @@ signed_back (negsuc n) small =
     let same : 2 ^ 64 - 1 - (2 ^ 64 - 1 - n) ≡ n = omega arith in
     cond-false _ _ _ (le-ltb (2 ^ 64 - 1 - n) (2 ^ 63) high) ∙ ap negsuc same
 
--- an integer's word is odd
+-- The word of an integer is odd.
 pub integer_odd : (z : ℤ) → IsInteger z → integer_word z % 2 ≡ 1
 integer_odd (pos n) small = omega arith
 integer_odd (negsuc n) small = omega arith

@@ -1,4 +1,4 @@
--- A value of a heap: of this there is one proof at most.
+-- Being a value of a heap is a proposition: it has at most one proof.
 use Rattle.std.specs.Prelude.{ℕ, pos, negsuc}
 use Rattle.std.specs.Coded.{le_prop}
 use Rattle.om_model.specs.Graph.{IsValue}

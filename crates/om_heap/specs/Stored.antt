@@ -1,4 +1,4 @@
--- A heap's words and places as a graph, and back.
+-- The encoding of a graph as words and header offsets, and its inverse.
 use Rattle.std.specs.Prelude.{ℕ, ◌+◌, ◌-◌, ◌*◌, ◌/◌, ◌%◌, ◌^◌, ◌≡◌, List, length, map, take, drop}
 use Rattle.std.specs.Prelude.{flat_map, slice_index, ℤ, pos, negsuc, nat_lt, ◌==◌, if◌then◌else◌}
 use Rattle.std.specs.List.{range_with_len, position_or_len}
@@ -13,14 +13,14 @@ use Rattle.om_heap.specs.declared.kind.Kind.TheVariants as kinds
 use Rattle.om_heap.specs.Heap.{place, custom_object, IsHeap}
 use Rattle.om_heap.specs.Words.{code_with, byte_in}
 
--- all words of a graph, and where its headers are
+-- All words of a graph, and the offsets of its headers.
 unfoldable pub encode : List Obj → List ℕ
 encode graph = flat_map (code_with (place graph)) graph
 
 unfoldable pub places_of : List Obj → List ℕ
 places_of graph = map (place graph) (range_with_len 0 (length graph))
 
--- back: an integer, the value of a word, the bytes of words, a custom
+-- Decoding: an integer, the value of a word, the bytes of words, a custom block.
 abbrev pub integer_from : ℕ → ℤ
 integer_from word =
     if nat_lt word (2 ^ 63) then pos (word / 2) else negsuc ((2 ^ 64 - 1 - word) / 2)
@@ -46,7 +46,7 @@ custom_from id word =
     else (if id == 2 then customs.I64 (signed_from word)
     else customs.Native (signed_from word))
 
--- the object with this tag and these words
+-- The object with this tag and these words.
 abbrev pub object_from : List ℕ → ℕ → List ℕ → Obj
 object_from places tag body =
     if tag == 252 then objects.Bytes (bytes_from body)
@@ -55,7 +55,7 @@ object_from places tag body =
     else (if tag == 255 then custom_object (custom_from (slice_index body 0) (slice_index body 1))
     else objects.Block tag (map (value_from places) body))))
 
--- what it is, and how large
+-- The kind and the size of the object with this tag and these words.
 abbrev pub kind_from : ℕ → List ℕ → Kind
 kind_from tag body =
     if tag == 252 then kinds.Bytes (string_length body)
@@ -64,7 +64,7 @@ kind_from tag body =
     else (if tag == 255 then kinds.Custom (custom_from (slice_index body 0) (slice_index body 1))
     else kinds.Block tag (length body))))
 
--- the object whose header is at place p
+-- The object whose header is at offset `p`.
 abbrev pub object_in : List ℕ → List ℕ → ℕ → Obj
 object_in words places p =
     object_from places (slice_index words p % 1024)
@@ -73,7 +73,7 @@ object_in words places p =
 unfoldable pub decode : List ℕ → List ℕ → List Obj
 decode words places = map (object_in words places) places
 
--- the words and the places of one graph
+-- The words and the offsets encode one graph.
 pub record IsStored (words places : List ℕ) : Type 0 where
   pub heap : IsHeap (decode words places)
   pub encoded : words ≡ encode (decode words places)

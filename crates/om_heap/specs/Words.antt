@@ -1,4 +1,4 @@
--- The words of an object: a header, which tells tag and size, and then its body (`mlvalues.h`).
+-- The words of an object: a header with tag and size, and then the body (`mlvalues.h`).
 use Rattle.std.specs.Prelude.{ℕ, ◌+◌, ◌-◌, ◌*◌, ◌/◌, ◌%◌, ◌^◌, List, [], ◌∷◌, ◌++◌, length, map}
 use Rattle.std.specs.Prelude.{take, drop, replicate, slice_index, ℤ, pos, negsuc}
 use Rattle.std.specs.List.{range_with_len}
@@ -9,16 +9,17 @@ use Rattle.om_model.specs.declared.code.Custom.{Custom}
 use Rattle.om_model.specs.declared.code.Custom.TheVariants as customs
 use Rattle.om_heap.specs.Heap.{place, word_with, object_words}
 
--- an integer of 64 bits in two's complement
+-- The word of an integer of 64 bits in two's complement.
 abbrev pub signed_word : ℤ → ℕ
 signed_word (pos n) = n
 signed_word (negsuc n) = 2 ^ 64 - 1 - n
 
--- the bytes of a string, filled up to whole words; the last byte tells by how many zeros
+-- The bytes of a string, padded to whole words. The last byte is the number of zero bytes before
+-- it.
 abbrev pub padded : List ℕ → List ℕ
 padded bytes = bytes ++ (replicate (7 - length bytes % 8) 0 ++ (7 - length bytes % 8) ∷ [])
 
--- eight bytes as a word, the least significant first, and back
+-- Eight bytes as a word, least significant byte first, and the inverse.
 unfoldable pub word_of_bytes : List ℕ → ℕ
 word_of_bytes bytes = from_le_bytes w64 bytes
 
@@ -31,13 +32,13 @@ word_at bytes j = word_of_bytes (take 8 (drop (8 * j) bytes))
 unfoldable pub string_words : List ℕ → List ℕ
 string_words bytes = map (word_at (padded bytes)) (range_with_len 0 (length bytes / 8 + 1))
 
--- which custom it is, and its data
+-- The words of a custom block: a number for its kind, and its data.
 abbrev pub custom_words : Custom → List ℕ
 custom_words (customs.I32 z) = 1 ∷ signed_word z ∷ []
 custom_words (customs.I64 z) = 2 ∷ signed_word z ∷ []
 custom_words (customs.Native z) = 3 ∷ signed_word z ∷ []
 
--- the tag in the header, and the words after it, where headers have these places
+-- The tag in the header; the words after the header, given the offsets of headers.
 abbrev pub tag_of : Obj → ℕ
 tag_of (objects.Block tag values) = tag
 tag_of (objects.Bytes bytes) = 252
@@ -64,10 +65,10 @@ abbrev pub code_with : (ℕ → ℕ) → Obj → List ℕ
 code_with places object =
     header (tag_of object) (length (body_with places object)) ∷ body_with places object
 
--- the header of an object
+-- The header of an object.
 abbrev pub header_of : Obj → ℕ
 header_of object = header (tag_of object) (object_words object - 1)
 
--- byte i of a string in words
+-- Byte `i` of a string in words.
 abbrev pub byte_in : List ℕ → ℕ → ℕ
 byte_in words i = slice_index (bytes_of_word (slice_index words (i / 8))) (i % 8)

@@ -1,4 +1,4 @@
-//! The heap: the words of all objects in one region, and the places of their headers.
+//! The heap: the 64-bit words of all objects in one arena, and the offsets of their headers.
 
 ghost use Rattle.std.specs.Prelude.{◌≡◌, ℕ, ◌+◌, ◌*◌, ◌/◌, ◌<◌, ◌≤◌, ◌^◌, List, [], length, map};
 ghost use Rattle.std.specs.Prelude.{take, All, vec_len, replicate, pos};
@@ -29,10 +29,12 @@ use om_words::region::Region;
 use std::alloc::Global;
 use std::marker::Model;
 
-/// A graph, which contracts see as the list of its objects.
+/// A graph of objects. Contracts see the list of its objects, and an object's number is its index
+/// in this list.
 ///
-/// A call that appends answers the object's number, or `Memory` with all as before. It does so too
-/// where the objects would have 2^60 words or more together, counted as on 64 bits.
+/// A call that appends an object returns its number. If there is not enough memory, the call
+/// returns `Memory` and changes nothing. It also returns `Memory` if the objects would have 2^60 or
+/// more words in total, counted as on a 64-bit platform.
 #[derive(Drop)]
 pub struct Heap {
     region: Region,
@@ -53,7 +55,7 @@ impl Model for Heap {
 }
 
 impl Heap {
-    /// The heap without objects.
+    /// Returns an empty heap.
     pub fn new(alloc: Global) -> Heap
         ensures { result ≡ [] }
     {
@@ -63,7 +65,7 @@ impl Heap {
         }
     }
 
-    /// How many objects there are. It also tells what holds of each heap.
+    /// Returns the number of objects. Its contract also states the invariant of each heap.
     pub fn count(&self) -> u64
         ensures count { result ≡ length self.now }
         ensures heap { IsHeap self.now }
@@ -71,21 +73,21 @@ impl Heap {
         self.places.len() as u64
     }
 
-    /// How many words the objects have together.
+    /// Returns the number of 64-bit words of all objects, including headers.
     pub fn words(&self) -> u64
         ensures { result ≡ heap_words self.now }
     {
         self.region.len() as u64
     }
 
-    /// Takes memory for so many more words at once, where there is so much.
+    /// Reserves memory for `words` more words, if there is enough memory.
     pub fn make_room(&mut self, words: u64)
         ensures { self.new ≡ self.old }
     {
         let _room = self.region.reserve(words as usize);
     }
 
-    /// Appends a block whose fields are 0.
+    /// Appends a block with `size` fields, all of which are the integer 0.
     #[inline(always)]
     pub fn add_block(&mut self, tag: u8, size: u64) -> Result<u64, Memory>
         requires tag { tag ≤ 243 }
@@ -101,8 +103,8 @@ impl Heap {
         Ok(number)
     }
 
-    /// Appends a block whose fields are 0, if no memory is needed for it: the word that refers to
-    /// it.
+    /// Appends a block whose fields are the integer 0, if no allocation is needed. Returns the word
+    /// of a reference to it, or `None`.
     #[inline(always)]
     pub fn add_block_in_room(&mut self, tag: u8, size: u64) -> Option<u64>
         requires tag { tag ≤ 243 }
@@ -121,7 +123,8 @@ impl Heap {
         Some(8 * place)
     }
 
-    /// Appends a string of these bytes, if no memory is needed for it: the word that refers to it.
+    /// Appends a string with these bytes, if no allocation is needed. Returns the word of a
+    /// reference to it, or `None`.
     #[inline(always)]
     pub fn add_bytes_in_room(&mut self, content: &[u8]) -> Option<u64>
         requires small { words64 (measures.Bytes (length content.now)) < 2 ^ 54 }
@@ -137,7 +140,8 @@ impl Heap {
         Some(8 * place)
     }
 
-    /// Appends a double, by its bits, if no memory is needed for it: the word that refers to it.
+    /// Appends a double with these bits, if no allocation is needed. Returns the word of a
+    /// reference to it, or `None`.
     #[inline(always)]
     pub fn add_double_in_room(&mut self, bits: u64) -> Option<u64>
         ensures { AppendsInRoom self.old self.new (objects.Double bits) result }
@@ -151,7 +155,7 @@ impl Heap {
         Some(8 * place)
     }
 
-    /// Appends a block of these words of values.
+    /// Appends a block with fields that are given as words.
     pub fn add_block_of(&mut self, tag: u8, words: &[u64]) -> Result<u64, Memory>
         requires tag { tag ≤ 243 }
         requires nonempty { 0 < length words.now }
@@ -169,7 +173,7 @@ impl Heap {
         Ok(number)
     }
 
-    /// Appends a string of zero bytes.
+    /// Appends a string of `len` zero bytes.
     pub fn add_bytes(&mut self, len: u64) -> Result<u64, Memory>
         requires small { words64 (measures.Bytes len) < 2 ^ 54 }
         ensures { Appends self.old self.new (objects.Bytes (replicate len 0)) result }
@@ -181,7 +185,7 @@ impl Heap {
         Ok(number)
     }
 
-    /// Appends a string of these bytes.
+    /// Appends a string with these bytes.
     #[inline(always)]
     pub fn add_bytes_of(&mut self, content: &[u8]) -> Result<u64, Memory>
         requires small { words64 (measures.Bytes (length content.now)) < 2 ^ 54 }
@@ -194,7 +198,7 @@ impl Heap {
         Ok(number)
     }
 
-    /// Appends a double, by its bits.
+    /// Appends a double with these bits.
     #[inline(always)]
     pub fn add_double(&mut self, bits: u64) -> Result<u64, Memory>
         ensures { Appends self.old self.new (objects.Double bits) result }
@@ -205,7 +209,7 @@ impl Heap {
         Ok(number)
     }
 
-    /// Appends an array of doubles of zero bits.
+    /// Appends an array of `len` doubles whose bits are 0.
     pub fn add_doubles(&mut self, len: u64) -> Result<u64, Memory>
         requires nonempty { 0 < len }
         requires small { words64 (measures.Doubles len) < 2 ^ 54 }
@@ -217,7 +221,7 @@ impl Heap {
         Ok(number)
     }
 
-    /// Appends an array of these doubles, by their bits.
+    /// Appends an array of doubles with these bits.
     pub fn add_doubles_of(&mut self, all: Vec<u64>) -> Result<u64, Memory>
         requires nonempty { 0 < vec_len all }
         requires small { words64 (measures.Doubles (vec_len all)) < 2 ^ 54 }
@@ -230,7 +234,7 @@ impl Heap {
         Ok(number)
     }
 
-    /// Appends a custom.
+    /// Appends a custom block.
     pub fn add_custom(&mut self, c: Custom) -> Result<u64, Memory>
         ensures { Appends self.old self.new (custom_object c) result }
     {
@@ -240,7 +244,7 @@ impl Heap {
         Ok(number)
     }
 
-    /// Appends an object equal to object o.
+    /// Appends a copy of object `o`.
     pub fn copy_object(&mut self, o: u64) -> Result<u64, Memory>
         requires { o < length self.old }
         ensures { Appends self.old self.new (object_at self.old o) result }
@@ -252,7 +256,7 @@ impl Heap {
         Ok(number)
     }
 
-    /// Which object it is, and how large.
+    /// Returns the kind and the size of an object.
     pub fn kind(&self, o: u64) -> Kind
         requires { o < length self.now }
         ensures kind { result ≡ kind_of (object_at self.now o) }
@@ -261,7 +265,7 @@ impl Heap {
         self.kind_at(self.word(Val::Ref(o)))
     }
 
-    /// Field i of a block.
+    /// Returns field `i` of a block.
     pub fn field(&self, o: u64, i: u64) -> Val
         requires { i < length (fields_of (object_at self.now o)) }
         ensures field { result ≡ field_at self.now o i }
@@ -271,7 +275,7 @@ impl Heap {
         self.value_of(self.region.get(at))
     }
 
-    /// The words of a block's fields, lent.
+    /// Returns the fields of a block as words.
     pub fn fields(&self, o: u64) -> &[u64]
         requires { IsBlock (object_at self.now o) }
         ensures words { result.now ≡ map (word_of self.now) (fields_of (object_at self.now o)) }
@@ -280,7 +284,7 @@ impl Heap {
         self.fields_at(self.word(Val::Ref(o)))
     }
 
-    /// The value of a word.
+    /// Decodes a word to the value that it represents.
     pub fn value_of(&self, word: u64) -> Val
         requires { IsFieldWord self.now word }
         ensures word { word ≡ word_of self.now result }
@@ -295,7 +299,7 @@ impl Heap {
         }
     }
 
-    /// The number of the object that a reference's word names.
+    /// Returns the number of the object to which the word refers.
     pub fn number(&self, word: u64) -> u64
         requires { IsReferenceWord self.now word }
         ensures in_range { result < length self.now }
@@ -304,7 +308,8 @@ impl Heap {
         self.places.number(word / 8) as u64
     }
 
-    /// A number for tables: two references have one key exactly where they name one object.
+    /// Returns a number that serves as an index of tables. Two references have the same key if and
+    /// only if they refer to the same object.
     pub fn key(&self, word: u64) -> usize
         requires { IsReferenceWord self.now word }
         ensures { (k : ℕ) → k < length self.now → word ≡ word_of self.now (vals.Ref k)
@@ -313,14 +318,14 @@ impl Heap {
         (word / 16) as usize
     }
 
-    /// Each key is less.
+    /// Returns a number that is greater than every key.
     pub fn keys(&self) -> usize
         ensures { (k : ℕ) → k < length self.now → key_of self.now k < result }
     {
         self.region.len() / 2
     }
 
-    /// The word of a value.
+    /// Returns the word that represents a value.
     #[inline(always)]
     pub fn word(&self, v: Val) -> u64
         requires { IsValue (length self.now) v }
@@ -333,8 +338,8 @@ impl Heap {
         }
     }
 
-    /// The header of the object that a reference's word names: 1024 times how many words come after
-    /// it, and the tag.
+    /// Returns the header of the object to which the word refers: 1024 times the number of words
+    /// after the header, plus the tag.
     pub fn header_at(&self, word: u64) -> u64
         requires { IsReferenceWord self.now word }
         ensures { ForNamed self.now word (λ object. result ≡ header_of object) }
@@ -342,7 +347,7 @@ impl Heap {
         self.region.get((word / 8) as usize)
     }
 
-    /// Which object a reference's word names, and how large it is.
+    /// Returns the kind and the size of the object to which the word refers.
     pub fn kind_at(&self, word: u64) -> Kind
         requires { IsReferenceWord self.now word }
         ensures { ForNamed self.now word (λ object. result ≡ kind_of object) }
@@ -351,7 +356,7 @@ impl Heap {
         kind_of_words(self.region.get(at) % 1024, body_in(&self.region, at))
     }
 
-    /// The words of the fields of the block that a reference's word names, lent.
+    /// Returns the fields of the block to which the word refers, as words.
     pub fn fields_at(&self, word: u64) -> &[u64]
         requires { (k : ℕ) × (k < length self.now) × (word ≡ word_of self.now (vals.Ref k))
             × IsBlock (object_at self.now k) }
@@ -362,7 +367,7 @@ impl Heap {
         body_in(&self.region, (word / 8) as usize)
     }
 
-    /// The words after the header of the object that a reference's word names, lent.
+    /// Returns the words after the header of the object to which the word refers.
     pub fn body_at(&self, word: u64) -> &[u64]
         requires { IsReferenceWord self.now word }
         ensures words { ForNamed self.now word (λ object. result.now ≡ body_of self.now object) }
@@ -371,8 +376,8 @@ impl Heap {
         body_in(&self.region, (word / 8) as usize)
     }
 
-    /// Puts v into field i of a block. A reference may name any object, also one that is still
-    /// being filled.
+    /// Writes `v` to field `i` of a block. A reference may refer to any object of the heap, even to
+    /// one that is not completely filled yet.
     #[inline(always)]
     pub fn set(&mut self, o: u64, i: u64, v: Val)
         requires place { i < length (fields_of (object_at self.old o)) }
@@ -382,7 +387,7 @@ impl Heap {
         self.set_word(o, i, self.word(v));
     }
 
-    /// Puts the value of this word into field i of a block.
+    /// Writes the value that `word` represents to field `i` of a block.
     #[inline(always)]
     pub fn set_word(&mut self, o: u64, i: u64, word: u64)
         requires place { i < length (fields_of (object_at self.old o)) }
@@ -394,7 +399,8 @@ impl Heap {
         self.region.set(at, word);
     }
 
-    /// Puts the value of this word into field i of the block that a reference's word names.
+    /// Writes the value that `word` represents to field `i` of the block to which the word `block`
+    /// refers.
     #[inline(always)]
     pub fn set_word_at(&mut self, block: u64, i: u64, word: u64)
         requires place { (k : ℕ) × (k < length self.old) × (block ≡ word_of self.old (vals.Ref k))
@@ -407,7 +413,7 @@ impl Heap {
         self.region.set((block / 8) as usize + 1 + i as usize, word);
     }
 
-    /// Byte i of a string.
+    /// Returns byte `i` of a string.
     pub fn byte(&self, o: u64, i: u64) -> u8
         requires { i < length (bytes_of (object_at self.now o)) }
         ensures { result ≡ byte_at self.now o i }
@@ -416,7 +422,7 @@ impl Heap {
         self.region.get(at).to_le_bytes()[i as usize % 8]
     }
 
-    /// Puts b into byte i of a string.
+    /// Writes `b` to byte `i` of a string.
     pub fn fill_byte(&mut self, o: u64, i: u64, b: u8)
         requires { i < length (bytes_of (object_at self.old o)) }
         ensures { self.new ≡ set_byte self.old o i b }
@@ -426,7 +432,7 @@ impl Heap {
         self.region.set(at, filled);
     }
 
-    /// Double i of an array, by its bits. One double has place 0 alone.
+    /// Returns the bits of double `i` of an array. A single double has only index 0.
     pub fn double(&self, o: u64, i: u64) -> u64
         requires { i < length (doubles_of (object_at self.now o)) }
         ensures { result ≡ double_at self.now o i }
@@ -435,7 +441,7 @@ impl Heap {
         self.region.get(at)
     }
 
-    /// Puts bits into double i of an array, or into one double.
+    /// Writes `bits` to double `i` of an array, or to a single double.
     pub fn fill_double(&mut self, o: u64, i: u64, bits: u64)
         requires { i < length (doubles_of (object_at self.old o)) }
         ensures { self.new ≡ set_double self.old o i bits }
@@ -444,7 +450,7 @@ impl Heap {
         self.region.set(at, bits);
     }
 
-    /// Drops the objects from number `count` on. No object that stays may refer to one of them.
+    /// Removes the objects from number `count` on. The remaining objects must not refer to them.
     pub fn truncate(&mut self, count: u64)
         requires in_range { count ≤ length self.old }
         requires closed { IsGraph (take count self.old) }
@@ -457,14 +463,14 @@ impl Heap {
         }
     }
 
-    /// Drops all objects. Their memory stays for those to come.
+    /// Removes all objects. Their memory is kept for new objects.
     pub fn clear(&mut self)
         ensures { self.new ≡ [] }
     {
         self.truncate(0);
     }
 
-    /// Where the header of object o is.
+    /// Returns the offset of the header of object `o`, in words.
     #[inline(always)]
     fn place(&self, o: u64) -> usize
         requires { o < length self.now }

@@ -2,8 +2,8 @@
 
 use om_model::code::Custom;
 
-/// Which object it is, and how large: of a block the tag and the number of fields, of the others
-/// that of their bytes or doubles.
+/// The kind and the size of an object: the tag and the number of fields of a block, the number of
+/// bytes of a string, or the number of doubles of an array.
 #[derive(Clone, Copy, Debug, PartialEq, Eq)]
 pub enum Kind {
     Block(u8, u64),

@@ -1,4 +1,4 @@
-//! A heap that is lent, with what of it is meant: one of its values, or one of its objects.
+//! A borrowed heap together with one of its values or objects.
 
 ghost use Rattle.std.specs.Prelude.{◌<◌, length};
 ghost use Rattle.om_model.specs.Graph.{IsValue};
@@ -7,8 +7,8 @@ ghost use Rattle.om_heap.specs.Lent.{IsValue-prop};
 use crate::heap::Heap;
 use om_model::value::Val;
 
-/// A value of a heap: an integer, an atom, or one of its objects. Most often it is the value that
-/// was read, whose objects the heap has.
+/// A value of a heap: an integer, an atom, or one of its objects. It is usually the value that was
+/// read, whose objects the heap has.
 #[derive(Clone, Copy)]
 pub struct Rooted<'a> {
     pub heap: &'a Heap,

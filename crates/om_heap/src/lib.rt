@@ -1,4 +1,7 @@
-//! A heap: the objects of a graph, which are appended, filled and read by their numbers.
+//! A heap that stores the objects of a value as a graph. Callers append, fill and read objects by
+//! their numbers. Each object takes as many 64-bit words as OCaml's runtime counts for it on a
+//! 64-bit platform (`extern.c`). Contracts see a `Heap` as a list of objects, and each heap
+//! satisfies `IsHeap`.
 #![tactic(auto)]
 
 mod heap;

@@ -1,4 +1,4 @@
-//! Objects as words of the region.
+//! Objects as words of the arena.
 
 ghost use Rattle.std.specs.Prelude.{◌≡◌, ◌+◌, ◌/◌, ◌<◌, ◌≤◌, ◌^◌, [], ◌∷◌, ◌++◌, length, take};
 ghost use Rattle.std.specs.Prelude.{drop, replicate, All, MatchResult, MatchBool, OnOk};
@@ -12,7 +12,8 @@ use om_model::code::Custom;
 use om_places::places::Places;
 use om_words::region::Region;
 
-/// Makes room for an object of so many words, and notes its place: the end of the region.
+/// Makes room for an object of `words` words, and records the end of the arena as the offset of its
+/// header. Returns the object's number.
 #[inline(always)]
 pub fn begin(region: &mut Region, places: &mut Places, words: u64) -> Result<u64, Memory>
     requires { All (λ p. p < length region.old.words) places.old }
@@ -31,7 +32,7 @@ pub fn begin(region: &mut Region, places: &mut Places, words: u64) -> Result<u64
     Ok(number)
 }
 
-/// The same where no memory is needed for it.
+/// Does what `begin` does if no allocation is needed. Otherwise returns false and changes nothing.
 #[inline(always)]
 pub fn begin_in_room(region: &Region, places: &mut Places, words: u64) -> bool
     requires { All (λ p. p < length region.now.words) places.old }
@@ -43,13 +44,13 @@ pub fn begin_in_room(region: &Region, places: &mut Places, words: u64) -> bool
     region.has_room(words as usize) && places.push_in_room(region.len() as u64)
 }
 
-/// Appends the fields of a new block, which are 0.
+/// Appends the fields of a new block, which are the integer 0.
 #[inline(always)]
 pub fn append_fields(region: &mut Region, size: usize)
     requires { size ≤ region.old.spare }
     ensures { region.new.words ≡ region.old.words ++ replicate size 1 }
 {
-    // The first few need no loop.
+    // Small blocks need no loop.
     match size {
         0 => {}
         1 => region.append_reserved(1),
@@ -72,7 +73,7 @@ pub fn append_fields(region: &mut Region, size: usize)
     }
 }
 
-/// Appends the words of a custom.
+/// Appends the words of a custom block.
 pub fn append_custom(region: &mut Region, c: Custom)
     requires { 2 ≤ region.old.spare }
     ensures { region.new.words ≡ region.old.words ++ custom_words c }
@@ -86,7 +87,7 @@ pub fn append_custom(region: &mut Region, c: Custom)
     region.append_reserved(word);
 }
 
-/// Appends n words of the region's own, from one place on.
+/// Appends a copy of the `n` words of the arena from index `from` on.
 pub fn append_copy(region: &mut Region, from: usize, n: usize)
     requires inside { from + n ≤ length region.old.words }
     requires small { from + n < 2 ^ 60 }
@@ -99,7 +100,7 @@ pub fn append_copy(region: &mut Region, from: usize, n: usize)
     }
 }
 
-/// The words after the header at this place, lent.
+/// Returns the words after the header at this offset.
 pub fn body_in(region: &Region, at: usize) -> &[u64]
     requires small { length region.now.words < 2 ^ 60 }
     requires inside { at + 1 + slice_index region.now.words at / 1024 ≤ length region.now.words }

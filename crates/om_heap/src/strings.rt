@@ -1,5 +1,5 @@
-//! Strings as words: eight bytes each, the least significant first, and the last tells how many
-//! zeros end it.
+//! Strings as words: eight bytes each, least significant byte first. The last byte of the last word
+//! is the number of zero bytes before it that pad the string.
 
 ghost use Rattle.std.specs.Prelude.{◌≡◌, ◌+◌, ◌-◌, ◌*◌, ◌/◌, ◌%◌, ◌^◌, ◌<◌, ◌≤◌, [], ◌∷◌, ◌++◌};
 ghost use Rattle.std.specs.Prelude.{length, take, drop, replicate, slice_set};
@@ -31,7 +31,7 @@ pub fn append_zeros(region: &mut Region, len: usize)
     region.append_reserved(last_word(&zeros[..len % 8]));
 }
 
-/// Word j of the whole ones.
+/// Returns word `j` of the words that are filled with bytes of the string.
 #[inline(always)]
 fn whole_word(content: &[u8], j: usize) -> u64
     requires { j < length content.now / 8 }
@@ -42,8 +42,8 @@ fn whole_word(content: &[u8], j: usize) -> u64
     u64::from_le_bytes(bytes)
 }
 
-/// The last word, of the bytes that are left. Each number of them has code of its own, since a loop
-/// would be compiled to a call that copies memory.
+/// Returns the last word, which contains the remaining bytes. Each number of remaining bytes has
+/// code of its own, because a loop would be compiled to a call that copies memory.
 #[tactic(auto, unfolding(crate::specs::Words::word_of_bytes))]
 #[inline(always)]
 fn last_word(rest: &[u8]) -> u64
@@ -66,7 +66,7 @@ fn last_word(rest: &[u8]) -> u64
     }
 }
 
-/// How many bytes the string of these words has.
+/// Returns the length in bytes of the string in these words.
 pub fn string_len(words: &[u64]) -> u64
     requires some { 0 < length words.now }
     requires few { length words.now < 2 ^ 54 }
@@ -77,7 +77,7 @@ pub fn string_len(words: &[u64]) -> u64
     (bytes as u64 - 1).saturating_sub(u64::from(zeros))
 }
 
-/// Byte i of these words.
+/// Returns byte `i` of these words.
 #[tactic(auto, unfolding(crate::specs::Words::word_of_bytes, crate::specs::Words::bytes_of_word))]
 pub fn byte_of(words: &[u64], i: usize) -> u8
     requires { i / 8 < length words.now }
@@ -86,7 +86,7 @@ pub fn byte_of(words: &[u64], i: usize) -> u8
     words[i / 8].to_le_bytes()[i % 8]
 }
 
-/// The word with another byte k.
+/// Returns the word with byte `k` replaced.
 #[tactic(auto, unfolding(crate::specs::Words::word_of_bytes, crate::specs::Words::bytes_of_word))]
 pub fn with_byte(word: u64, k: usize, b: u8) -> u64
     requires { k < 8 }

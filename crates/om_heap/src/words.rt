@@ -1,4 +1,4 @@
-//! Headers, integers and customs as words.
+//! Headers, integers and custom blocks as words.
 
 ghost use Rattle.std.specs.Prelude.{◌≡◌, ◌^◌, ◌<◌, length, slice_index};
 ghost use Rattle.om_model.specs.Graph.{IsInteger, IsSigned};
@@ -18,7 +18,7 @@ pub const DOUBLES: u64 = 254;
 
 pub const CUSTOM: u64 = 255;
 
-/// The header of an object with this tag and so many words.
+/// Returns the header of an object with this tag and with `size` words after the header.
 #[inline(always)]
 pub fn header_word(tag: u64, size: u64) -> u64
     requires tag { tag < 1024 }
@@ -28,7 +28,7 @@ pub fn header_word(tag: u64, size: u64) -> u64
     size * 1024 + tag
 }
 
-/// The word of an integer of 63 bits.
+/// Returns the word of an integer of 63 bits.
 #[inline(always)]
 pub fn word_of_integer(z: i64) -> u64
     requires { IsInteger z }
@@ -41,7 +41,7 @@ pub fn word_of_integer(z: i64) -> u64
     }
 }
 
-/// The integer of an odd word.
+/// Returns the integer that an odd word represents.
 pub fn integer_of_word(word: u64) -> i64
     ensures { result ≡ integer_from word }
 {
@@ -52,7 +52,7 @@ pub fn integer_of_word(word: u64) -> i64
     }
 }
 
-/// An integer in two's complement.
+/// Returns the word of an integer in two's complement.
 pub fn word_of_signed(z: i64) -> u64
     ensures { result ≡ signed_word z }
 {
@@ -63,7 +63,7 @@ pub fn word_of_signed(z: i64) -> u64
     }
 }
 
-/// The integer that a word is in two's complement.
+/// Returns the integer that a word represents in two's complement.
 pub fn signed_of_word(word: u64) -> i64
     ensures { result ≡ signed_from word }
 {
@@ -74,7 +74,7 @@ pub fn signed_of_word(word: u64) -> i64
     }
 }
 
-/// What the object with this tag and these words is.
+/// Returns the kind and the size of the object with this tag and these words.
 pub fn kind_of_words(tag: u64, words: &[u64]) -> Kind
     requires some { 0 < length words.now }
     requires few { length words.now < 2 ^ 54 }
@@ -93,7 +93,7 @@ pub fn kind_of_words(tag: u64, words: &[u64]) -> Kind
     }
 }
 
-/// The custom of these two words.
+/// Returns the custom block with these two words.
 fn custom_of_words(words: &[u64]) -> Custom
     requires two { length words.now ≡ 2 }
     requires fits { slice_index words.now 0 ≡ 1

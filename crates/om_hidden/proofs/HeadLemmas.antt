@@ -1,4 +1,5 @@
--- Where declared types are hidden, the head of a type is what it was, with `_` for a hidden one.
+-- If declared types are hidden, then the head of a type stays the same, except that a hidden type
+-- becomes `_`.
 use Rattle.std.proofs.Common.{ℕ, zero, suc, ◌<◌, ◌≤◌, ◌≡◌, ◌∙◌, ◌*◌, ◌^◌, List, [], ◌∷◌}
 use Rattle.std.proofs.Common.{Bool, true, false, cond, Option, Some, None, refl, ap, subst, sym, arith}
 use Rattle.std.specs.Prelude.{option_map, codes}
@@ -38,7 +39,8 @@ module _ (hides : List ℕ → Bool) where
 
   -- ---- heads
 
-  -- what of a head is the same at `_` and at a datatype is the same where it is hidden
+  -- If a function of heads gives the same result for `_` and for datatypes, then hiding does not
+  -- change its result.
   pub same_hidden : {X : Type 0} (f : HeadOf Ty → X)
       → ((n : List ℕ) (ts : List Ty) → f any_head ≡ f (heads.Datatype n ts))
       → (h : HeadOf Ty) → f (hidden h) ≡ f h
@@ -48,7 +50,7 @@ module _ (hides : List ℕ → Bool) where
     by false = refl
   same_hidden f same h = refl
 
-  -- no hidden name is at the head
+  -- The head is no hidden name.
   abbrev IsShown : HeadOf Ty → Type 0
   IsShown (heads.Datatype n ts) = hides n ≡ false
   IsShown h = Unit {0}
@@ -85,7 +87,7 @@ module _ (hides : List ℕ → Bool) where
   plain_shown f (tag_of t x a) shown = tags_shown (plain_head f t) (carrying_tag x a ∷ [])
   plain_shown f (including t a) shown = tags_shown (plain_head f t) (tags_in (f a))
 
-  -- a new name stays at the head
+  -- A name that is not predeclared stays at the head.
   plain_name : (f : Ty → HeadOf Ty) (t : Ty) (n : List ℕ) → name_of t ≡ Some n → predeclared n ≡ None
       → plain_head f t ≡ heads.Datatype n (parts t)
   plain_name f (named m) n named' new =
@@ -122,7 +124,7 @@ module _ (hides : List ℕ → Bool) where
     declared_if n test is =
         found_changed decls n ∙ ap (λ b. option_map (changed b) (declaration_of decls n)) is
 
-    -- what is not hidden is declared as it was
+    -- If a name is not hidden, then its declaration stays the same.
     pub shown_declared : (n : List ℕ) → hides n ≡ false → declaration_of less n ≡ declaration_of decls n
     shown_declared n shown = declared_if n false shown ∙ option_map_id (declaration_of decls n)
 
@@ -151,7 +153,7 @@ module _ (hides : List ℕ → Bool) where
           ∙ ap (λ found. abbreviated_at found (parts t)) data_type.declared
           ∙ ap (option_map (instance_of data_type.decl (parts t))) data_type.no_abbreviation
 
-      -- `_` stays itself
+      -- `_` unfolds to no other type.
       any_unfolded : unfolded less (named (codes "_")) ≡ None
       any_unfolded =
           ap (λ found. abbreviated_at found []) (found_changed decls (codes "_"))
@@ -197,7 +199,7 @@ module _ (hides : List ℕ → Bool) where
             (same_hidden tags_in (λ n ts. refl) (head decls a))
 
         module _ (t : Ty) (below : weight t < suc k) where
-          -- an abbreviation at the head is the one that was there
+          -- An abbreviation at the head unfolds as before.
           same_next : IsNameShown (name_of t) → (next : Option Ty) → unfolded decls t ≡ next
               → head_by (head_within less k) t next ≡ hidden (head decls t)
           same_next shown (Some u) is =
@@ -213,7 +215,7 @@ module _ (hides : List ℕ → Bool) where
               ap (head_by (head_within less k) t) (shown_unfolded t shown)
               ∙ same_next shown (unfolded decls t) refl
 
-          -- a hidden name is replaced by `_`
+          -- A hidden name is replaced by `_`.
           hidden_next : (n : List ℕ) → name_of t ≡ Some n → hides n ≡ true
               → head_within less (suc k) t ≡ hidden (head decls t)
           hidden_next n named' is =

@@ -1,4 +1,5 @@
--- Where declared types are hidden, the shape of a type is what it was, but for `_` and arrays of it.
+-- If declared types are hidden, then the shape of a type stays the same, except for `_` and arrays
+-- of `_`.
 use Rattle.std.proofs.Common.{ℕ, ◌≡◌, ◌∙◌, List, [], ◌∷◌, Bool, true, false, cond}
 use Rattle.std.proofs.Common.{Option, Some, None, refl, ap, subst, sym}
 use Rattle.std.specs.Prelude.{Contains, IsSome, IsTrue, slice_get, option_and_then, ◌&&◌}
@@ -31,12 +32,12 @@ use Rattle.om_hidden.specs.Weaker.{IsWeaker}
 use Rattle.om_hidden.specs.Hidden.{hide, HidesDatatypes, hidden_head}
 use Rattle.om_hidden.proofs.HeadLemmas.{same_hidden, shown_declared, heads_hidden}
 
--- ---- shapes that ask less
+-- ---- shapes that require less
 
 abbrev Fields : Type 0
 Fields = List (ℕ × Ty)
 
--- what fits the first fits the second, and has no more fields there
+-- If a value matches the first shape, then it matches the second, which has no more fields.
 abbrev AreFewer : Option Fields → Option Fields → Type 0
 AreFewer all few = IsSome all → IsSome few
     × ((i : ℕ) (u : Ty) → Contains (or_none few) (i, u) → Contains (or_none all) (i, u))
@@ -56,7 +57,7 @@ array_object : (t : Ty) (object : Obj)
 array_object t (objects.Block tag values) some = (some, λ i u has. has)
 array_object t object some = never some
 
--- of a value it is so where it is of each object
+-- If the relation holds for integers, atoms and objects, then it holds for each value.
 of_value : (s l : ShapeOf Ty) (graph : List Obj) (v : Val)
     → ((z : _) → AreFewer (fields_of graph (vals.Int z) s) (fields_of graph (vals.Int z) l))
     → ((tag : ℕ) → AreFewer (fields_of graph (vals.Atom tag) s) (fields_of graph (vals.Atom tag) l))
@@ -70,7 +71,7 @@ of_value s l graph (vals.Ref o) int atom each = by (slice_get graph o) where
   by None some = never some
   by (Some object) some = each object some
 
--- the second asks less than the first of what fits the first
+-- The second shape requires less than the first of each value that matches the first.
 record IsLooser (s l : ShapeOf Ty) : Type 0 where
   fewer : (graph : List Obj) (v : Val) → AreFewer (fields_of graph v s) (fields_of graph v l)
   asked : IsTrue (is_asked l) → IsTrue (is_asked s)

@@ -1,4 +1,4 @@
--- The pairs that justify a value over some shapes justify it over weaker ones.
+-- The pairs that justify a value over some shapes justify it over weaker shapes.
 use Rattle.std.proofs.Common.{ℕ, List, Option, Some, None}
 use Rattle.std.specs.Prelude.{IsSomeAnd}
 use Rattle.om_model.specs.declared.value.Val.{Val}

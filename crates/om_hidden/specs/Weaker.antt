@@ -1,4 +1,4 @@
--- Shapes that ask less of the same types (this project's own).
+-- Shapes that require less of values of the same types (this project's own).
 use Rattle.std.specs.Prelude.{ℕ, List, Contains}
 use Rattle.om_model.specs.declared.value.Val.{Val}
 use Rattle.om_model.specs.declared.value.Val.TheVariants as vals
@@ -9,8 +9,9 @@ use Rattle.om_types.specs.Shapes.{Shapes}
 use Rattle.om_types.specs.Table.{Table, table_shapes}
 use Rattle.om_types.specs.Typing.{HasType}
 
--- What fits the strong shapes fits the weak ones, which need no more of it and let it be changed
--- nowhere else; and types that were equal are.
+-- Each value that matches the strong shapes matches the weak shapes. The weak shapes require no
+-- other fields and allow mutation nowhere else. Types that are equal by the strong shapes are equal
+-- by the weak shapes.
 pub record IsWeaker {T : Type 0} (weak strong : Shapes T) : Type 0 where
   pub fits : (graph : List Obj) (v : Val) (t : T) → strong.fits graph v t → weak.fits graph v t
   pub needs :
@@ -21,18 +22,18 @@ pub record IsWeaker {T : Type 0} (weak strong : Shapes T) : Type 0 where
       → weak.mutable graph o t → strong.mutable graph o t
   pub equal : (t u : T) → strong.equal t u → weak.equal t u
 
--- what has a type over the strong shapes has it over the weak ones
+-- Each value with a type over the strong shapes has it over the weak shapes.
 abbrev pub HasMore : {T : Type 0} → Shapes T → Shapes T → Type 0
 HasMore {T} weak strong =
     (graph : List Obj) (v : Val) (t : T) → HasType strong graph v t → HasType weak graph v t
 
--- so it is over any two lists of declarations
+-- This holds for any two lists of declarations.
 abbrev pub WeakerDeclarationsHaveMore : Type 0
 WeakerDeclarationsHaveMore =
     (weak strong : List Decl) → IsWeaker (declared_shapes weak) (declared_shapes strong)
     → HasMore (declared_shapes weak) (declared_shapes strong)
 
--- and over any two tables, by numbers
+-- This holds for any two tables, by numbers.
 abbrev pub WeakerTablesHaveMore : Type 0
 WeakerTablesHaveMore =
     (weak strong : Table) → IsWeaker (table_shapes weak) (table_shapes strong)

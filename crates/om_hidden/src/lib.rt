@@ -1,5 +1,6 @@
-//! Hiding a type everywhere weakens: what a value has, it has also where `_` stands in the place of
-//! declared types. The functions do nothing: what each ensures is the law.
+//! Proves that hiding a declared type everywhere weakens the check: a value keeps its type if
+//! wildcards (`_`) replace declared types. The functions are lemma functions: they do nothing, and
+//! their contracts state the theorems.
 #![tactic(auto)]
 
 mod laws;

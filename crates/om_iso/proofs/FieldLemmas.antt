@@ -1,4 +1,4 @@
--- Fields that are met one after another, and contents that are compared.
+-- Fields that are compared one after another, and the comparison of contents.
 use Rattle.std.proofs.Common.{ℕ, zero, suc, ◌≡◌, ◌≢◌, ◌+◌, ◌<◌, ◌≤◌, ◌∙◌, Bool, true, false, List, [], ◌∷◌, ◌++◌, length, map, take, get_or, set, refl, sym, ap, subst, arith, add-one, append-nil}
 use Rattle.std.specs.Prelude.{MatchBool, Result, Ok, Err}
 use Rattle.std.specs.List.{AllZip}
@@ -36,14 +36,14 @@ same_content xs ys n left right each = ext_get_or 0 xs ys (sym left ∙ right) (
 
 -- ---- fields
 
--- the first i + 1 are the first i and one more
+-- If the first `i` fields are related, and field `i` is, then the first `i + 1` fields are.
 more_fields : {X : Type 0} (R : X → X → Type 0) (xs ys : List X) (i : ℕ) (d e : X) → i < length xs → i < length ys → AllZip R (take i xs) (take i ys) → R (get_or xs i d) (get_or ys i e) → AllZip R (take (suc i) xs) (take (suc i) ys)
 more_fields R [] ys i d e less less' all one = absurd (omega arith)
 more_fields R (x ∷ xs) [] i d e less less' all one = absurd (omega arith)
 more_fields R (x ∷ xs) (y ∷ ys) zero d e less less' all one = (one, tt)
 more_fields R (x ∷ xs) (y ∷ ys) (suc i) d e less less' all one = (all.0, more_fields R xs ys i d e (omega arith) (omega arith) all.1 one)
 
--- of all fields the first i, and field i
+-- If all fields are related, then the first `i` fields are, and field `i` is.
 pub some_fields : {X : Type 0} (R : X → X → Type 0) (xs ys : List X) (i : ℕ) (d e : X) → i < length xs → i < length ys → AllZip R xs ys → AllZip R (take i xs) (take i ys) × R (get_or xs i d) (get_or ys i e)
 some_fields R [] ys i d e less less' all = absurd (omega arith)
 some_fields R (x ∷ xs) [] i d e less less' all = absurd (omega arith)
@@ -56,7 +56,7 @@ fewer_fields R (x ∷ xs) [] i d e less less' all = absurd (omega arith)
 fewer_fields R (x ∷ xs) (y ∷ ys) zero d e less less' all = (tt, all.0)
 fewer_fields R (x ∷ xs) (y ∷ ys) (suc i) d e less less' all = let r = fewer_fields R xs ys i d e (omega arith) (omega arith) all.1 in ((all.0, r.0), r.1)
 
--- the fields of two blocks are alike
+-- The fields of two blocks agree.
 abbrev pub AlikeFields : List Val → List Val → List (ℕ × ℕ) → Type 0
 AlikeFields vs ws pairs = AllZip (AreAlike pairs) vs ws
 
@@ -86,7 +86,7 @@ fields_all old new vs ws i past past' met =
 
 -- ---- objects
 
--- objects that are alike are of one kind
+-- If two objects agree, then they have the same kind.
 alike_kinds : (pairs : List (ℕ × ℕ)) (a b : Obj) → AreAlikeObjects pairs a b → kind_of a ≡ kind_of b
 alike_kinds pairs (objects.Block tag values) (objects.Block tag' values') alike =
     ap (λ t. kinds.Block t (length values)) alike.0 ∙ ap (λ n. kinds.Block tag' n) (AllZip-length (AreAlike pairs) values values' alike.1)
@@ -110,7 +110,7 @@ Meets-same old new A B (Ok true) to from met = record {
 Meets-same old new A B (Ok false) to from cannot = λ all one_to_one among alike. cannot all one_to_one among (from all alike)
 Meets-same old new A B (Err memory) to from met = met
 
--- what needs no pairs
+-- A test that needs no pairs.
 abbrev IsTested : Bool → Type 0 → Type 0
 IsTested r P = MatchBool r P (P → ⊥)
 
@@ -118,7 +118,7 @@ meets_tested : (old : List (ℕ × ℕ)) (P : Type 0) (r : Bool) → IsTested r 
 meets_tested old P true holds = record { kept = ([], sym (append-nil old)); alike_now = holds; needed = λ all one_to_one among alike. among }
 meets_tested old P false fails = λ all one_to_one among alike. fails alike
 
--- blocks
+-- Case: blocks.
 pub blocks_meet : (old new : List (ℕ × ℕ)) (a b : Obj) (tag : ℕ) (r : Result Bool Memory) → a ≡ objects.Block tag (fields_of a) → b ≡ objects.Block tag (fields_of b) → Meets old new (AlikeFields (fields_of a) (fields_of b)) r → Meets old new (λ all. AreAlikeObjects all a b) r
 blocks_meet old new a b tag r is is' met =
     Meets-same old new (AlikeFields (fields_of a) (fields_of b)) (λ all. AreAlikeObjects all a b) r
@@ -126,7 +126,7 @@ blocks_meet old new a b tag r is is' met =
     (λ all alike. (let both : AreAlikeObjects all (objects.Block tag (fields_of a)) (objects.Block tag (fields_of b)) = subst (λ y. AreAlikeObjects all (objects.Block tag (fields_of a)) y) is' (subst (λ x. AreAlikeObjects all x b) is alike) in both.1))
     met
 
--- objects without fields
+-- Case: objects without fields.
 leaf_meet : (old : List (ℕ × ℕ)) (a b x : Obj) (r : Bool) → a ≡ x → ((all : List (ℕ × ℕ)) → AreAlikeObjects all x b → x ≡ b) → ((all : List (ℕ × ℕ)) → x ≡ b → AreAlikeObjects all x b) → IsTested r (x ≡ b) → Meets old old (λ all. AreAlikeObjects all a b) (Ok r)
 leaf_meet old a b x r is from to tested =
     Meets-same old old (λ _. x ≡ b) (λ all. AreAlikeObjects all a b) (Ok r)
@@ -166,7 +166,7 @@ customs_meet old a b (customs.I32 z) is is' = leaf_meet old a b (objects.I32 z) 
 customs_meet old a b (customs.I64 z) is is' = leaf_meet old a b (objects.I64 z) true is (λ all e. e) (λ all e. e) (sym is')
 customs_meet old a b (customs.Native z) is is' = leaf_meet old a b (objects.Native z) true is (λ all e. e) (λ all e. e) (sym is')
 
--- two objects of one kind
+-- Two objects of the same kind.
 pub both_of_kind : (k l m : Kind) (a b : Obj) (r : Bool) → IsOfKind k a → IsOfKind l b → MatchBool r (k ≡ l) (k ≢ l) → r ≡ true → k ≡ m → IsOfKind m a × IsOfKind m b
 both_of_kind k l m a b r of_a of_b test yes' is =
     let same : k ≡ l = subst (λ t. MatchBool t (k ≡ l) (k ≢ l)) yes' test in

@@ -12,7 +12,7 @@ use Rattle.om_iso.specs.Paired.{left_of, right_of, IsNew, IsIndex}
 use Rattle.om_iso.specs.Meeting.{AreOneToOne, AreMet, CannotMeet}
 use Rattle.om_canonical.proofs.ListLemmas.{slice_get_push, slice_get_push_cases}
 
--- ---- what an index says
+-- ---- consequences of an index
 
 pub new_at_zero : (table keys : List ℕ) (k : ℕ) → IsIndex table keys → get_or table k 0 ≡ 0 → IsNew keys k
 new_at_zero table keys k index at_zero i is = let e = index.found i k is in omega arith
@@ -65,7 +65,7 @@ IsIndex-push table keys k index less new = record {
       omega (arith, length-set table k (length keys + 1), length_push keys k, index.room);
 }
 
--- ---- the pairs
+-- ---- pairs
 
 pub pair_contained : (pairs : List (ℕ × ℕ)) (k l : ℕ) → Contains pairs (k, l) → (i : ℕ) × (slice_get pairs i ≡ Some (k, l))
 pair_contained pairs k l among = (among.0, slice_get-get_or pairs among.0 (k, l) among.1 ∙ ap Some among.2)
@@ -76,7 +76,7 @@ left_key pairs i k l is = slice_get-map left_of pairs i ∙ ap (option_map left_
 pub right_key : (pairs : List (ℕ × ℕ)) (i k l : ℕ) → slice_get pairs i ≡ Some (k, l) → slice_get (map right_of pairs) i ≡ Some l
 right_key pairs i k l is = slice_get-map right_of pairs i ∙ ap (option_map right_of) is
 
--- the pair of a key
+-- The pair of a key.
 pair_of_left : (pairs : List (ℕ × ℕ)) (i k : ℕ) → slice_get (map left_of pairs) i ≡ Some k → (l : ℕ) × (slice_get pairs i ≡ Some (k, l))
 pair_of_left [] i k is = absurd (none-some k is)
 pair_of_left (p ∷ pairs) zero k is = let e : p.0 ≡ k = same_Some p.0 k is in (p.1, ap (λ (n : ℕ). let q : ℕ × ℕ = (n, p.1) in Some q) e)
@@ -108,9 +108,9 @@ one_to_one_of left right pairs by_left by_right k l m n first second =
           (same_place pairs b.0 k l m n (rw place at a.1) b.1).0,
     )
 
--- ---- meeting two objects
+-- ---- pairing two objects
 
--- where both have one place they are a pair
+-- If both objects have the same position, then they are a pair.
 pub met_already : (left right : List ℕ) (pairs : List (ℕ × ℕ)) (k l : ℕ) → IsIndex left (map left_of pairs) → IsIndex right (map right_of pairs) → get_or left k 0 ≡ get_or right l 0 → get_or left k 0 ≢ 0 → AreMet pairs pairs (λ all. Contains all (k, l))
 met_already left right pairs k l by_left by_right same some =
     let there = by_place (get_or left k 0) refl same some in record {
@@ -126,7 +126,7 @@ met_already left right pairs k l by_left by_right same some =
           let same = same_place pairs i k a.0 b.0 l a.1 b.1 in
           slice_get-Contains pairs i (k, l) (rw same.1 at a.1)
 
--- where they have none they become one
+-- If neither object has a pair, then they become one.
 pub met_anew : (pairs : List (ℕ × ℕ)) (k l : ℕ) → AreMet pairs (pairs ++ (k, l) ∷ []) (λ all. Contains all (k, l))
 met_anew pairs k l = record {
   kept = ((k, l) ∷ [], refl);
@@ -137,7 +137,7 @@ met_anew pairs k l = record {
       (Contains-push_cases pairs (k, l) (m, n) has);
 }
 
--- where they have different places no pairs can have both
+-- If the two positions differ, then no one-to-one pairing contains the pair.
 pub cannot_meet : (left right : List ℕ) (pairs : List (ℕ × ℕ)) (k l : ℕ) → IsIndex left (map left_of pairs) → IsIndex right (map right_of pairs) → get_or left k 0 ≢ get_or right l 0 → CannotMeet pairs (λ all. Contains all (k, l))
 cannot_meet left right pairs k l by_left by_right differ all one_to_one among alike =
     by_places (get_or left k 0) (get_or right l 0) refl refl where
@@ -152,7 +152,7 @@ cannot_meet left right pairs k l by_left by_right differ all one_to_one among al
           let same : p.0 ≡ k = (one_to_one p.0 l k l (among p.0 l (slice_get-Contains pairs j (p.0, l) p.1)) alike).1 refl in
           differ (by_left.found j k (left_key pairs j k l (rw same at p.1)) ∙ sym at_l)
 
--- the numbers of a pair are in range
+-- The numbers of each pair are in range.
 pub pairs_in_range : (left right : List ℕ) (pairs : List (ℕ × ℕ)) → IsIndex left (map left_of pairs) → IsIndex right (map right_of pairs) → (k l : ℕ) → Contains pairs (k, l) → (k < length left) × (l < length right)
 pairs_in_range left right pairs by_left by_right k l among =
     let at = pair_contained pairs k l among in (

@@ -1,4 +1,4 @@
--- One meeting after another.
+-- Two comparison steps, one after the other.
 use Rattle.std.proofs.Common.{ℕ, ◌∙◌, List, ◌++◌, ap, append_assoc}
 use Rattle.om_iso.specs.Meeting.{AreAmong, StandInFront, AreMet, CannotMeet}
 use Rattle.std.specs.Prelude.{Contains}
@@ -11,7 +11,7 @@ front-then a b c first second = (first.0 ++ second.0, second.1 ∙ ap (λ x. x +
 pub among_front : (old new : List (ℕ × ℕ)) → StandInFront old new → AreAmong old new
 among_front old new front k l among = subst (λ all. Contains all (k, l)) (sym front.1) (Contains-append_left old front.0 (k, l) among)
 
--- a second meeting after a first: what is asked of both
+-- A second step after a first: the hypotheses on both.
 pub met_then : (old mid new : List (ℕ × ℕ)) (A B C : List (ℕ × ℕ) → Type 0) → ((all : List (ℕ × ℕ)) → C all → A all × B all) → (A mid → AreAmong mid new → B new → C new) → AreMet old mid A → AreMet mid new B → AreMet old new C
 met_then old mid new A B C parts join first second = record {
   kept = front-then old mid new first.kept second.kept;

@@ -1,4 +1,4 @@
--- The comparison of two values, object by object.
+-- The comparison of two values object by object.
 use Rattle.std.proofs.Common.{ℕ, ◌≡◌, ◌+◌, ◌<◌, ◌≤◌, ◌∙◌, ◌⊎◌, inl, inr, List, [], length, get_or, Some, sym, ap, subst, arith, pos}
 use Rattle.std.specs.Prelude.{slice_get, Contains}
 use Rattle.std.proofs.lemmas.Bool.{cases_lt}
@@ -16,7 +16,7 @@ use Rattle.om_iso.proofs.IndexLemmas.{pair_contained}
 use Rattle.om_iso.proofs.MeetingLemmas.{among_front}
 use Rattle.om_canonical.proofs.IsoLemmas.{AreAlike-more, AreAlikeObjects-more, objects_of_pair, alike_at}
 
--- the objects of a pair of a pairing are alike
+-- If a pairing contains a pair, then the objects of that pair agree.
 pair_alike : (g h : List Obj) (all : List (ℕ × ℕ)) (k l : ℕ) → IsPairing g h all → Contains all (k, l) → AreAlikeObjects all (object_at g k) (object_at h l)
 pair_alike g h all k l pairing among =
     let o = objects_of_pair g h all k l pairing among in
@@ -24,7 +24,7 @@ pair_alike g h all k l pairing among =
     let right : o.right ≡ object_at h l = same_Some o.right (object_at h l) (sym o.right_is ∙ slice_get-get_or h l (objects.I32 (pos 0)) (slice_get_within h l o.right o.right_is)) in
     subst (λ x. AreAlikeObjects all x (object_at h l)) left (subst (λ y. AreAlikeObjects all o.left y) right o.alike)
 
--- at first
+-- The state before the first pair.
 pub so_far_first : (g h : List Obj) (v w : Val) (pairs : List (ℕ × ℕ)) → AreMet [] pairs (λ all. AreAlike all v w) → IsSoFar g v h w pairs 0
 so_far_first g h v w pairs met = record {
   root = met.alike_now;
@@ -45,7 +45,7 @@ done_more g h v w old new n k l far at_n front alike i p q (inr past) below is =
     let same : ◌≡◌ {A = ℕ × ℕ} (k, l) (p, q) = same_Some (k, l) (p, q) (sym moved ∙ ap (slice_get new) (sym here) ∙ is) in
     subst (λ (r : ℕ × ℕ). AreAlikeObjects new (object_at g r.0) (object_at h r.1)) same alike
 
--- one pair more
+-- The state after one more pair.
 pub so_far_more : (g h : List Obj) (v w : Val) (old new : List (ℕ × ℕ)) (n k l : ℕ) → IsSoFar g v h w old n → slice_get old n ≡ Some (k, l) → AreMet old new (λ all. AreAlikeObjects all (object_at g k) (object_at h l)) → IsSoFar g v h w new (n + 1)
 so_far_more g h v w old new n k l far at_n met = record {
   root = AreAlike-more old new v w (among_front old new met.kept) far.root;
@@ -55,7 +55,7 @@ so_far_more g h v w old new n k l far at_n met = record {
       met.needed all pairing.one_to_one among (pair_alike g h all k l pairing (among k l (slice_get-Contains old n (k, l) at_n)));
 }
 
--- the values are not the same where a pair cannot be alike
+-- If the objects of a pair cannot agree, then the values are not isomorphic.
 pub not_same : (g h : List Obj) (v w : Val) (old : List (ℕ × ℕ)) (n k l : ℕ) → IsSoFar g v h w old n → slice_get old n ≡ Some (k, l) → CannotMeet old (λ all. AreAlikeObjects all (object_at g k) (object_at h l)) → Iso g v h w → ⊥
 not_same g h v w old n k l far at_n cannot (all, pairing, alike) =
     let among = far.needed all pairing alike in
@@ -64,7 +64,7 @@ not_same g h v w old n k l far at_n cannot (all, pairing, alike) =
 pub not_same_first : (g h : List Obj) (v w : Val) → CannotMeet [] (λ all. AreAlike all v w) → Iso g v h w → ⊥
 not_same_first g h v w cannot (all, pairing, alike) = cannot all pairing.one_to_one (λ k l none. absurd (Contains-none (k, l) none)) alike
 
--- and are where all pairs are
+-- If the objects of all pairs agree, then the values are isomorphic.
 pub all_same : (g h : List Obj) (v w : Val) (pairs : List (ℕ × ℕ)) (n : ℕ) → AreOneToOne pairs → ((k l : ℕ) → Contains pairs (k, l) → (k < length g) × (l < length h)) → length pairs ≤ n → IsSoFar g v h w pairs n → Iso g v h w
 all_same g h v w pairs n one_to_one there all_done far = (
   pairs,

@@ -1,4 +1,4 @@
--- What is known of two values while their objects are compared.
+-- The state of the comparison of two values: what is known after some pairs.
 use Rattle.std.specs.Prelude.{ℕ, ◌<◌, ◌≡◌, List, Some, slice_get}
 use Rattle.om_model.specs.declared.value.Val.{Val}
 use Rattle.om_model.specs.declared.value.Obj.{Obj}
@@ -6,8 +6,8 @@ use Rattle.om_format.specs.Iso.{AreAlike, AreAlikeObjects, IsPairing}
 use Rattle.om_heap.specs.Heap.{object_at}
 use Rattle.om_iso.specs.Meeting.{AreAmong}
 
--- the values are alike under the pairs, and so are the objects of the first n pairs; and pairs that
--- make the two values the same have all of these
+-- The values agree under the pairs, and the objects of the first `n` pairs agree. Each pairing that
+-- makes the two values isomorphic contains all these pairs.
 pub record IsSoFar (g : List Obj) (v : Val) (h : List Obj) (w : Val) (pairs : List (ℕ × ℕ)) (n : ℕ)
     : Type 0 where
   pub root : AreAlike pairs v w

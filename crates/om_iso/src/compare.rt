@@ -1,4 +1,4 @@
-//! The comparison of two values, object by object.
+//! Compares two values object by object.
 
 ghost use Rattle.std.specs.Prelude.{◌≡◌, ◌<◌, ◌↔◌, [], length, IfOk, IsTrue};
 ghost use Rattle.std.specs.List.{AllZip};
@@ -14,9 +14,10 @@ use om_model::Memory;
 use om_model::value::Val;
 use std::alloc::Global;
 
-/// Whether two values are the same: some pairs of objects, no object twice on one side, take the
-/// one root to the other, and each object to one alike. Doubles are compared by their bits. Each
-/// object is compared once.
+/// Returns true if the two values are isomorphic: a one-to-one pairing of objects takes one root to
+/// the other, and the objects of each pair agree. Compares doubles by their bits. Compares each
+/// pair of objects once, so shared and cyclic values need no repeated work. Fails with `Memory` if
+/// memory runs out.
 pub fn same(alloc: Global, left: &Heap, v: Val, right: &Heap, w: Val) -> Result<bool, Memory>
     requires left { IsValue (length left.now) v }
     requires right { IsValue (length right.now) w }
@@ -26,7 +27,7 @@ pub fn same(alloc: Global, left: &Heap, v: Val, right: &Heap, w: Val) -> Result<
     same_from(&mut pairing, left, v, right, w)
 }
 
-// Whether two values are the same, from no pairs on.
+// Compares two values, starting with an empty pairing.
 fn same_from(
     pairing: &mut Pairing,
     left: &Heap,
@@ -55,7 +56,7 @@ fn same_from(
     Ok(true)
 }
 
-// Pairs what two objects refer to, and answers whether they are alike then.
+// Pairs the objects to which objects `k` and `l` refer. Returns true if the two objects then agree.
 fn meet_contents(
     pairing: &mut Pairing,
     left: &Heap,
@@ -86,7 +87,8 @@ fn meet_contents(
     }
 }
 
-// Pairs what the fields of two blocks of n fields refer to.
+// Pairs the objects to which the fields of two blocks with `n` fields refer. Returns true if the
+// fields then agree.
 fn meet_fields(
     pairing: &mut Pairing,
     left: &Heap,

@@ -1,18 +1,19 @@
-//! Whether two objects have equal kinds, and equal contents.
+//! Tests whether two objects have equal kinds and equal contents.
 
 ghost use Rattle.std.specs.Prelude.{◌≡◌, ◌≢◌, length, MatchBool};
 ghost use Rattle.om_heap.specs.Heap.{object_at, bytes_of, doubles_of};
 
 use om_heap::{Heap, Kind};
 
-/// Whether two objects are of one kind and size; of customs also whether they are equal.
+/// Returns true if two objects have the same kind and size. The kind of a custom includes its
+/// value, so customs must also be equal.
 pub fn same_kind(left: Kind, right: Kind) -> bool
     ensures { MatchBool result (left ≡ right) (left ≢ right) }
 {
     left == right
 }
 
-/// Whether two strings of n bytes are equal.
+/// Returns true if two strings of `n` bytes are equal.
 pub fn same_bytes(left: &Heap, k: u64, right: &Heap, l: u64, n: u64) -> bool
     requires left { n ≡ length (bytes_of (object_at left.now k)) }
     requires right { n ≡ length (bytes_of (object_at right.now l)) }
@@ -28,7 +29,8 @@ pub fn same_bytes(left: &Heap, k: u64, right: &Heap, l: u64, n: u64) -> bool
     true
 }
 
-/// Whether two arrays of n doubles are equal, bit by bit. One double has place 0 alone.
+/// Returns true if two arrays of `n` doubles are equal bit by bit. A single double counts as an
+/// array with index 0 only.
 pub fn same_doubles(left: &Heap, k: u64, right: &Heap, l: u64, n: u64) -> bool
     requires left { n ≡ length (doubles_of (object_at left.now k)) }
     requires right { n ≡ length (doubles_of (object_at right.now l)) }

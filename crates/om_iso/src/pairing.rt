@@ -1,4 +1,4 @@
-//! Pairs of objects that have to be the same.
+//! Pairs of objects that must agree.
 
 ghost use Rattle.std.specs.Prelude.{◌≡◌, ◌<◌, ◌≤◌, ◌++◌, ◌∷◌, [], length, map, slice_get, IfOk};
 ghost use Rattle.std.specs.Prelude.{OnOk, Contains};
@@ -12,12 +12,12 @@ use om_model::value::Val;
 use std::alloc::Global;
 use std::marker::Model;
 
-/// Pairs of numbers of the objects of two graphs, no number twice on one side. Contracts see the
-/// pairs in their order, and how many objects each graph has.
+/// A one-to-one pairing of the objects of two graphs: no number occurs twice on one side. Its model
+/// is the list of pairs in their order, with the number of objects of each graph.
 #[derive(Drop)]
 pub struct Pairing {
     pairs: Vec<(u64, u64)>,
-    // of each number the place of its pair, counted from 1, or 0
+    // The entry of each object is the position of its pair, counted from 1, or 0 if it has no pair.
     left: Vec<u64>,
     right: Vec<u64>,
 }
@@ -39,7 +39,8 @@ impl Model for Pairing {
 }
 
 impl Pairing {
-    /// No pairs, of graphs of so many objects.
+    /// Creates an empty pairing for graphs of `lefts` and `rights` objects. Fails with `Memory` if
+    /// memory runs out.
     pub fn new(alloc: Global, lefts: u64, rights: u64) -> Result<Pairing, Memory>
         ensures empty { IfOk result (λ p. p.pairs ≡ []) }
         ensures lefts { IfOk result (λ p. p.lefts ≡ lefts) }
@@ -52,7 +53,8 @@ impl Pairing {
         })
     }
 
-    /// How many pairs there are. It also tells what holds of all of them.
+    /// Returns the number of pairs. The contract also states that the pairing is one-to-one and
+    /// that its numbers are in range.
     pub fn len(&self) -> usize
         ensures len { result ≡ length self.now.pairs }
         ensures few { result ≤ self.now.lefts }
@@ -62,7 +64,7 @@ impl Pairing {
         self.pairs.len()
     }
 
-    /// Pair i.
+    /// Returns pair `i`.
     pub fn pair(&self, i: usize) -> (u64, u64)
         requires { i < length self.now.pairs }
         ensures pair { slice_get self.now.pairs i ≡ Some result }
@@ -72,7 +74,8 @@ impl Pairing {
         self.pairs[i]
     }
 
-    /// Pairs two objects, where no pair has one of them, and answers whether they are paired now.
+    /// Pairs two objects if neither has a pair yet. Returns true if they are paired with each other
+    /// now, and false if one of them has another pair. Fails with `Memory` if memory runs out.
     pub fn meet_objects(&mut self, left: u64, right: u64) -> Result<bool, Memory>
         requires left { left < self.old.lefts }
         requires right { right < self.old.rights }
@@ -91,7 +94,7 @@ impl Pairing {
         Ok(true)
     }
 
-    // One more pair, of two objects that no pair has.
+    // Adds a pair of two objects that have no pair yet.
     fn add(&mut self, left: u64, right: u64) -> Result<(), Memory>
         requires left { left < self.old.lefts }
         requires right { right < self.old.rights }
@@ -108,7 +111,8 @@ impl Pairing {
         Ok(())
     }
 
-    /// Pairs the objects of two references. Integers and atoms are alike where they are equal.
+    /// Compares two values of fields. Pairs the objects of two references as `meet_objects` does.
+    /// Integers and atoms agree if they are equal. Returns true if the values agree now.
     pub fn meet_values(&mut self, left: Val, right: Val) -> Result<bool, Memory>
         requires left { IsValue self.old.lefts left }
         requires right { IsValue self.old.rights right }

@@ -23,12 +23,12 @@ use Rattle.om_equal.proofs.RankedLemmas.{are_ranked}
 use Rattle.om_layout.specs.Plain.{IsBracketed}
 use Rattle.om_layout.specs.Tags.{has_bracket, items, tags_of_item, with_item, with_items}
 
--- ---- joining
+-- ---- joining tags
 
 abbrev pub is_new : List (TagOf Ty) → TagOf Ty → Bool
 is_new tags item = not (has_tag tags item.name)
 
--- what passes two tests, one after the other
+-- Filtering by two tests, one after the other.
 module _ {X : Type 0} (p q r : X → Bool) (same : (x : X) → r x ≡ cond (p x) (q x) false) where
   tested : (z : X) (kept both : List X) (a c : Bool) → c ≡ cond a (q z) false → filter q kept ≡ both
       → filter q (cond a (z ∷ kept) kept) ≡ cond c (z ∷ both) both
@@ -40,7 +40,7 @@ module _ {X : Type 0} (p q r : X → Bool) (same : (x : X) → r x ≡ cond (p x
   filter-filter [] = refl
   filter-filter (z ∷ zs) = tested z (filter p zs) (filter r zs) (p z) (r z) (same z) (filter-filter zs)
 
--- a name that is not there is among the new tags where it is among all
+-- If a name is not among the tags, then it is among the new tags if and only if it is among all.
 module _ (tags : List (TagOf Ty)) (name : List ℕ) (absent : has_tag tags name ≡ false) where
   among_new : (item : TagOf Ty) (kept all : List (TagOf Ty)) (there same : Bool)
       → (same ≡ true → there ≡ false) → bytes_eq item.name name ≡ same → has_tag kept name ≡ has_tag all name
@@ -76,7 +76,7 @@ joined-joined tags more last =
     (filter-filter (is_new more) (is_new tags) (is_new (joined tags more)) (is_new-joined tags more) last)
     ∙ sym (append_assoc tags (filter (is_new tags) more) (filter (is_new (joined tags more)) last))
 
--- ---- tags that are there
+-- ---- tags that are already there
 
 and_turned : (a b : Bool) → cond a b false ≡ cond b a false
 and_turned true true = refl
@@ -108,7 +108,7 @@ none_new_after front (item ∷ more) =
     ∙ ap (λ ts. filter (is_new ts) more) (sym (append_assoc front (item ∷ []) more))
     ∙ none_new_after (front ++ item ∷ []) more
 
--- what was joined is there
+-- Tags that were joined are there.
 pub joined_there : (tags more : List (TagOf Ty)) → filter (is_new (joined tags more)) more ≡ []
 joined_there tags more =
     sym (filter-filter (is_new more) (is_new tags) (is_new (joined tags more)) (is_new-joined tags more) more)
@@ -171,7 +171,7 @@ module _ (head : Ty → HeadOf Ty) where
   takes_no_tags (including t a) more is =
       ap (λ h. with_tags h more) (takes_no_tags t (tags_in (head a)) is)
 
-  -- items that are added to something else
+  -- Items that are not added to a bracket.
   pub plain_head-no_bracket : (t : Ty) → IsBracketed t → has_bracket t ≡ false → plain_head head t ≡ heads.Absent
   plain_head-no_bracket bracket bracketed is = absurd (true≢false is)
   plain_head-no_bracket (tag t x) bracketed is = takes_no_tags t (bare_tag x ∷ []) is
@@ -187,7 +187,7 @@ module _ (head : Ty → HeadOf Ty) where
   none_in (heads.Variants tags) is = cc
   none_in heads.Absent is = refl
 
-  -- the tags of a type, joined to others, item by item
+  -- The tags of a type can be joined to others item by item.
   pub joined-plain : (out : List (TagOf Ty)) (t : Ty) → has_bracket t ≡ true
       → joined out (tags_in (plain_head head t)) ≡ with_items head out (items t)
   joined-plain out t is =

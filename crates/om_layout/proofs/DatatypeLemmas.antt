@@ -1,4 +1,4 @@
--- The fields and blocks of declared types at arguments, by numbers.
+-- The fields and blocks of declared types with arguments, over type indices.
 use Rattle.std.proofs.Common.{ℕ, ◌+◌, ◌<◌, ◌≡◌, ◌∙◌, Bool, false, List, [], ◌∷◌, ◌++◌, length, map, take, Option, Some, None, refl, sym, ap, subst, All}
 use Rattle.std.specs.Prelude.{slice_get}
 use Rattle.std.specs.List.{filter_map}
@@ -23,14 +23,14 @@ use Rattle.om_layout.specs.Layout.{instance_at, IsShapeAt, HasBlocks, HasBlock}
 use Rattle.om_layout.proofs.LoopLemmas.{filtered_some, filtered_none}
 use Rattle.om_layout.proofs.LayoutLemmas.{numbers_found, product_at}
 
--- ---- arguments that stay
+-- ---- arguments do not change
 
 module _ (old now : List Ty) (grown : Grows old now) (decl : Decl) (arguments : List ℕ) (among : All (λ i. i < length old) arguments) where
   pub instance_kept : instance_at now decl arguments ≡ instance_at old decl arguments
   instance_kept =
       ap (λ (ts : List Ty). λ (t : Ty). instance_of decl ts t) (types_at-kept old now grown.added arguments grown.kept among)
 
-  -- ---- one instance more
+  -- ---- one more instance
   module _ (ts : List Ty) (numbers : List ℕ) (has : HasNumbers now (map (instance_at old decl arguments) ts) numbers)
       (new : List Ty) (t : Ty) (i : ℕ) (held : Holds now new (instance (argument_at now decl.parameters arguments) t) i) where
     at : type_at new i ≡ instance_at old decl arguments t
@@ -49,7 +49,7 @@ module _ (old now : List Ty) (grown : Grows old now) (decl : Decl) (arguments : 
       };
     }
 
--- a record that does not lie flat
+-- A record that is not flat.
 pub boxed_record :
     (decls : List Decl) (types : List Ty) (inst : Ty → Ty) (fields : List Field) (numbers : List ℕ) → is_flat decls fields ≡ false
     → HasNumbers types (map inst (types_of_fields fields)) numbers
@@ -102,7 +102,7 @@ module _ (types new : List Ty) (grown : Grows types new) where
             ∙ sym (more b refl);
       }
 
-  -- a constructor more
+  -- One more constructor.
   module _ {X : Type 0} (f : X → Option (Constr Ty)) (xs : List X) (k : ℕ) (x : X) (at : slice_get xs k ≡ Some x)
       (found : List (Constr ℕ)) (has : HasBlocks types (filter_map f (take k xs)) found) where
     pub block_more : (block : Constr ℕ) → HasBlock new (f x) (Some block) → HasBlocks new (filter_map f (take (k + 1) xs)) (found ++ block ∷ [])

@@ -1,4 +1,4 @@
--- Tags that were found before, added one after another.
+-- Tags that were found before, added in order.
 use Rattle.std.proofs.Common.{ℕ, zero, suc, ◌+◌, ◌<◌, ◌≡◌, ◌∙◌, Bool, true, false, cond, List, [], ◌∷◌, ◌++◌, length, map, take, get_or, Option, Some, None, refl, sym, ap, subst, All, arith, length-append}
 use Rattle.std.specs.Prelude.{not, ◌||◌, fold, filter, option_map, slice_get, IfSome}
 use Rattle.std.specs.Str.{bytes_eq}
@@ -32,9 +32,9 @@ use Rattle.om_layout.proofs.GatherLemmas.{joined-tag, settled_more, numbers_kept
 use Rattle.om_layout.proofs.LayoutLemmas.{head_found, head_kept, head_within as parts_within, tags_agree, tags_twice}
 use Rattle.om_layout.proofs.NearerLemmas.{type_kept}
 
--- ---- one after another they are joined
+-- ---- adding in order joins the tags
 
--- the next of a list
+-- The next tag of a list.
 pub one_tag_more : (f : ℕ → ℕ) (first more : List (TagOf ℕ)) (k : ℕ) (item : TagOf ℕ) → k < length more → item ≡ get_or more k item
     → with_tag (with_tags first (map (tag_with_part f) (take k more))) item.name (option_map f item.argument)
     ≡ with_tags first (map (tag_with_part f) (take (k + 1) more))
@@ -51,7 +51,7 @@ one_joined all item = joined all (item ∷ [])
 abbrev each_joined : List (TagOf Ty) → List (TagOf Ty) → List (TagOf Ty)
 each_joined tags more = fold one_joined tags more
 
--- they may be joined to others one after another
+-- The tags can be joined to others one at a time.
 abbrev JoinSingly : List (TagOf Ty) → Type 0
 JoinSingly more = (tags : List (TagOf Ty)) → each_joined tags more ≡ joined tags more
 
@@ -61,7 +61,7 @@ none_singly tags = sym (append-nil tags)
 one_singly : (item : TagOf Ty) → JoinSingly (item ∷ [])
 one_singly item tags = refl
 
--- a name that is there stays
+-- A name that is present stays present.
 has_tag-more : (tags more : List (TagOf Ty)) (name : List ℕ) → has_tag tags name ≡ true → has_tag (joined tags more) name ≡ true
 has_tag-more tags more name is =
     list_any-append (λ (other : TagOf Ty). bytes_eq other.name name) tags (filter (is_new tags) more)
@@ -72,7 +72,7 @@ not_new true b c is there = refl
 not_new false true c is there = cc
 not_new false false c is there = cc
 
--- and one that is joined is there
+-- A name that is joined is present.
 has_tag-joined : (tags more : List (TagOf Ty)) (item : TagOf Ty) → has_tag more item.name ≡ true → has_tag (joined tags more) item.name ≡ true
 has_tag-joined tags more item is =
     not_new (has_tag (joined tags more) item.name) (has_tag more item.name) (is_new tags item) (is_new-joined tags more item) is
@@ -81,7 +81,7 @@ there_joined : (all : List (TagOf Ty)) (item : TagOf Ty) → has_tag all item.na
 there_joined all item is =
     ap (λ b. all ++ cond (not b) (item ∷ []) []) is ∙ append-nil all
 
--- those that are left out were there
+-- Tags that are left out were present.
 module _ (tags : List (TagOf Ty)) where
   abbrev Has : List (TagOf Ty) → Type 0
   Has all = (item : TagOf Ty) → has_tag tags item.name ≡ true → has_tag all item.name ≡ true
@@ -154,7 +154,7 @@ head_singly : (decls : List Decl) (t : Ty) → JoinSingly (tags_in (head decls t
 unfolding head
 head_singly decls t = within_singly decls (enough decls t) t
 
--- by numbers
+-- Over type indices.
 module _ (types : List Ty) where
   joined_tags : (more tags : List (TagOf ℕ)) → each_joined (tags_at types tags) (tags_at types more) ≡ tags_at types (with_tags tags more)
   joined_tags [] tags = refl
@@ -170,7 +170,7 @@ module _ (types : List Ty) where
       (tag_pushed types tags first (has_name tags item.name) item.name item.argument (All-head (IsTagWithin types) item more later))
       (All-tail (IsTagWithin types) item more later)
 
--- ---- what was found
+-- ---- heads that were found
 
 abbrev tags_there : HeadOf (Option Ty) → List (TagOf (Option Ty))
 tags_there (heads.Variants tags) = tags
@@ -184,7 +184,7 @@ written_there f (heads.Tuple parts) = refl
 written_there f (heads.Variants tags) = refl
 written_there f heads.Absent = refl
 
--- tags by numbers, as a head
+-- Tags over type indices, as a head.
 as_head : (decls : List Decl) (types : List Ty) (t : Ty) (tags : List (TagOf ℕ)) → AreTagsOf decls types t tags
     → head_with_parts (slice_get types) (heads.Variants tags)
     ≡ head_with_parts (λ (u : Ty). Some u) (heads.Variants (tags_in (head decls t)))
@@ -215,7 +215,7 @@ found_kept decls types by_place numbers found new grown was = record {
 }
 
 module _ (types : List Ty) (numbers : List ℕ) (within : All (λ i. i < length types) numbers) where
-  -- a part that is among the types is one, by its number
+  -- If a part is among the types, then it has a type index.
   place_in : (by_place : Bool) (q : ℕ) → q < length (part_types by_place types numbers) → IsPlace by_place numbers q
   place_in true q below = omega (arith, below, length-map numbers (type_at types))
   place_in false q below = tt
@@ -236,7 +236,7 @@ module _ (types : List Ty) (numbers : List ℕ) (within : All (λ i. i < length 
       (slice_get-Contains numbers q (get_or numbers q 0) (slice_get-get_or numbers q 0 inside))
   number_within false q below = below
 
--- what is so of the parts is so of the tags' arguments
+-- If a property holds for the parts, then it holds for the arguments of the tags.
 module _ (P : ℕ → Type 0) where
   argument_holds : (argument : Option ℕ) (rest : List ℕ) → All P (listed_if argument ++ rest) → IfSome argument P × All P rest
   argument_holds None rest all = (tt, all)
@@ -320,7 +320,7 @@ module _ (decls : List Decl) (types : List Ty) (by_place : Bool) (numbers : List
         left = subst (λ (ts : List (TagOf Ty)). AreLeft decls types ts rest all) same was.left.1;
       }
 
--- the tags of a head
+-- The tags of a head.
 pub tags_of_head : (decls : List Decl) (types : List Ty) (t : Ty) (tags : List (TagOf ℕ))
     → IsHeadOf decls types t (heads.Variants tags) → AreTagsOf decls types t tags
 tags_of_head decls types t tags is = ap tags_there is ∙ written_there (λ (u : Ty). Some u) (head decls t)

@@ -1,4 +1,4 @@
--- The tags of a bracket by numbers, gathered item by item.
+-- The tags of a bracket over type indices, gathered item by item.
 use Rattle.std.proofs.Common.{ℕ, suc, ◌+◌, ◌<◌, ◌≤◌, ◌≡◌, ◌∙◌, Bool, true, false, cond, List, [], ◌∷◌, ◌++◌, length, map, reverse, Option, Some, None, refl, sym, ap, subst, All, length-append, arith}
 use Rattle.std.specs.Prelude.{not, ◌||◌, slice_get, option_map, IfSome}
 use Rattle.std.specs.Str.{bytes_eq}
@@ -34,7 +34,7 @@ use Rattle.om_layout.specs.Work.{work, written_work}
 use Rattle.om_layout.specs.Steps.{BringsNone, IsSettled, IsSure, AreSettled, AreLeft, AreGathered, AreAll, IsStepWithin, item_work, steps_work}
 use Rattle.om_layout.proofs.BracketLemmas.{none_new_more, joined_none, joined-plain, joined-no_bracket, head_of_bracket, head_of_no_bracket}
 
--- ---- a tag more
+-- ---- one more tag
 
 module _ (f : ℕ → Ty) where
   pub has_tag-named : (tags : List (TagOf ℕ)) (name : List ℕ) → has_tag (map (tag_with_part f) tags) name ≡ has_name tags name
@@ -55,7 +55,7 @@ module _ (f : ℕ → Ty) where
       (has_tag-named tags name)
       ∙ more_or_not (has_name tags name) tags (record { name = name; argument = argument })
 
--- ---- types that grow
+-- ---- growing type stores
 
 module _ (types added : List Ty) where
   argument_kept : (argument : Option ℕ) → IfSome argument (λ i. i < length types)
@@ -90,7 +90,7 @@ tags_within_more : (types added : List Ty) (tags : List (TagOf ℕ)) → All (Is
 tags_within_more types added tags within k d below =
     tag_within_more types added _ (within k d below)
 
--- a tag more, or none
+-- One more tag, or none.
 pub tag_pushed :
     (types : List Ty) (found : List (TagOf ℕ)) → All (IsTagWithin types) found → (there : Bool) (name : List ℕ) (argument : Option ℕ)
     → IfSome argument (λ i. i < length types)
@@ -99,7 +99,7 @@ tag_pushed types found all true name argument within = all
 tag_pushed types found all false name argument within =
     All-push (IsTagWithin types) found (record { name = name; argument = argument }) all within
 
--- ---- steps, of types that grow
+-- ---- steps in growing type stores
 
 module _ (decls : List Decl) (types added : List Ty) where
   left_kept : (rest : List Step) (tags all : List (TagOf Ty)) → AreLeft decls types tags rest all
@@ -145,7 +145,7 @@ item_positive w (tag t x) = omega arith
 item_positive w (tag_of t x a) = omega arith
 item_positive w (including t a) = omega arith
 
--- ---- what is gathered, of types that grow
+-- ---- gathered tags in growing type stores
 
 module _ (decls : List Decl) (old new : List Ty) (grown : Grows old new) (found : List (TagOf ℕ)) (settled : List ℕ)
     (waiting : List Step) (all : List (TagOf Ty)) where
@@ -171,7 +171,7 @@ module _ (decls : List Decl) (old new : List Ty) (grown : Grows old new) (found 
 -- ---- one step
 
 module _ (decls : List Decl) (types : List Ty) (found : List (TagOf ℕ)) (settled : List ℕ) (rest : List Step) (all : List (TagOf Ty)) where
-  -- the same is left
+  -- The same tags remain to be gathered.
   pub left_by : (waiting : List Step) → AreGathered decls types found settled waiting all
       → (AreLeft decls types (tags_at types found) waiting all → AreLeft decls types (tags_at types found) rest all)
       → AreGathered decls types found settled rest all
@@ -271,7 +271,7 @@ module _ (decls : List Decl) (sound : AreSound decls) (types : List Ty) (n : ℕ
       subst (λ (ts : List (TagOf Ty)). AreLeft decls types ts rest all)
       (joined_none tags (tags_in (head decls (type_at types n))) none) left.1
 
-  -- another type of the same head
+  -- Another type with the same head.
   pub include_next : (next : ℕ) → next < length types → head decls (type_at types next) ≡ head decls (type_at types n)
       → AreLeft decls types tags (steps.Included next ∷ rest) all
   include_next next within same = (
@@ -294,7 +294,7 @@ module _ (decls : List Decl) (sound : AreSound decls) (types : List Ty) (n : ℕ
         subst (λ (ts : List (TagOf Ty)). AreLeft decls types ts rest all)
         (ap (joined tags) written ∙ joined-plain (head decls) tags (type_at types n) is) left.1
 
--- ---- items that are put on top
+-- ---- items pushed on top
 
 pub last_item : (t w : Ty) → before_item t ≡ Some w → items t ≡ items w ++ t ∷ []
 last_item (tag t x) w is = ap (λ u. items u ++ tag t x ∷ []) (same_Some t w is)
@@ -340,7 +340,7 @@ push_left decls types tags all at w rest within before left = (
       ∙ fold-append (with_item (head decls)) tags (items w) (type_at types at ∷ [])) left,
 )
 
--- what is no item brings nothing
+-- If a type is not an item, then it has no tags.
 pub tags_of_item-none :
     (head : Ty → HeadOf Ty) (types : List Ty) (node : TypeNode) → ((x : ℕ) (y : Bor (List ℕ)) → node ≡ lent.Tag x y → ⊥)
     → ((x : ℕ) (y : Bor (List ℕ)) (z : ℕ) → node ≡ lent.TagOf x y z → ⊥) → ((x y : ℕ) → node ≡ lent.Including x y → ⊥)
@@ -375,7 +375,7 @@ nothing_left decls types found settled waiting all none gathered = record {
   are = subst (λ (ss : List Step). AreLeft decls types (tags_at types found) ss all) none gathered.left;
 }
 
--- the first step that waits
+-- The first pending step.
 pub step_within :
     (decls : List Decl) (types : List Ty) (tags all : List (TagOf Ty)) (step : Step) (rest : List Step)
     → AreLeft decls types tags (step ∷ rest) all → IsStepWithin decls types step
@@ -409,7 +409,7 @@ module _ (decls : List Decl) (sound : AreSound decls) (types : List Ty) (t : Ty)
   nothing_gathered is =
       ap (head_with_parts (λ (u : Ty). Some u)) (sym (head_of_no_bracket decls sound t bracketed is))
 
--- ---- a head that is no bracket's
+-- ---- a head that is not a bracket
 
 pub plain_is_head :
     (decls : List Decl) (sound : AreSound decls) (types : List Ty) (t : Ty) (number : ℕ) (h : HeadOf ℕ)

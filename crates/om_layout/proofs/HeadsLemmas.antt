@@ -1,4 +1,4 @@
--- The head of a bracket that includes one type alone.
+-- The head of a bracket whose only item includes a type.
 use Rattle.std.proofs.Common.{ℕ, ◌≡◌, ◌∙◌, List, [], ◌∷◌, map, Some, refl, ap}
 use Rattle.std.specs.Prelude.{not, filter}
 use Rattle.om_types.specs.declared.decl.Decl.{Decl}

@@ -1,4 +1,4 @@
--- Heads and shapes by numbers.
+-- Heads and shapes over type indices.
 use Rattle.std.proofs.Common.{ℕ, ◌<◌, ◌≡◌, ◌∙◌, Bool, List, [], ◌∷◌, ◌++◌, length, map, Option, Some, None, refl, sym, ap, All, unwrap_or}
 use Rattle.std.specs.Prelude.{slice_get, option_map}
 use Rattle.std.proofs.lemmas.List.{map-id}
@@ -100,9 +100,9 @@ head_itself (heads.Tuple ts) = ap (λ us. heads.Tuple us) (map-id ts)
 head_itself (heads.Variants tags) = ap (λ all. heads.Variants all) (tags_themselves tags)
 head_itself heads.Absent = refl
 
--- ---- heads by numbers
+-- ---- heads over type indices
 
--- numbers that have types
+-- Indices that have types.
 pub below_found : (types : List Ty) (ns : List ℕ) (ts : List Ty) → map (slice_get types) ns ≡ map (λ (t : Ty). Some t) ts
     → All (λ i. i < length types) ns
 below_found types [] ts same = All-nil (λ i. i < length types)
@@ -126,7 +126,7 @@ or_tuple o = unwrap_or o tuple
 
 module _ (types : List Ty) (h : HeadOf ℕ) (all : HeadOf Ty)
     (is : head_with_parts (slice_get types) h ≡ head_with_parts (λ (t : Ty). Some t) all) where
-  -- the types of the parts
+  -- The types of the parts.
   pub head_found : head_of_types types h ≡ all
   head_found =
       let same : (λ (i : ℕ). type_at types i) ≡ (λ (i : ℕ). or_tuple (slice_get types i)) =
@@ -137,13 +137,13 @@ module _ (types : List Ty) (h : HeadOf ℕ) (all : HeadOf Ty)
       ∙ head_twice some or_tuple all
       ∙ head_itself all
 
-  -- the parts are there
+  -- The parts are type indices.
   pub head_within : All (λ i. i < length types) (parts_of h)
   head_within =
       below_found types (parts_of h) (parts_of all)
       (sym (parts_of-map (slice_get types) h) ∙ ap (λ (g : HeadOf (Option Ty)). parts_of g) is ∙ parts_of-map some all)
 
-  -- they stay, where types are added
+  -- If types are appended, then the parts stay the same.
   pub head_kept : (new : List Ty) → Grows types new → head_with_parts (slice_get new) h ≡ head_with_parts (λ (t : Ty). Some t) all
   head_kept new grown =
       heads_agree (slice_get new) (slice_get types) h
@@ -169,7 +169,7 @@ pub product_at :
     → IsShapeAt types (shapes.Product mutable all) (shapes.Product mutable numbers)
 product_at types all numbers mutable has = ap (λ ts. shapes.Product mutable ts) (numbers_found types all numbers has)
 
--- tags by their hashes
+-- Tags with their hashes.
 abbrev with_argument : List ℕ → Option (Option Ty) → PolyTag (Option Ty)
 with_argument name o = record { hash = tag_hash name; arg = o }
 

@@ -1,4 +1,4 @@
--- What a loop has made of the elements that it has passed.
+-- The results of a loop for the elements that it has processed.
 use Rattle.std.proofs.Common.{ℕ, suc, ◌+◌, ◌≡◌, ◌∙◌, Bool, true, false, List, [], ◌∷◌, ◌++◌, take, drop, Option, Some, None, refl, sym, ap, arith}
 use Rattle.std.specs.Prelude.{slice_get, ◌&&◌}
 use Rattle.std.specs.List.{list_all, filter_map}
@@ -54,7 +54,7 @@ module _ {X : Type 0} (xs : List X) (k : ℕ) (x : X) (is : slice_get xs k ≡ S
       none None unsome = refl
       none (Some y) unsome = absurd (unsome y refl)
 
-  -- ---- tests of all
+  -- ---- tests of all elements
 
   module _ (p : X → Bool) where
     tested : list_all p (drop k xs) ≡ (p x && list_all p (drop (k + 1) xs))

@@ -1,4 +1,4 @@
--- The next type of a walk along replacements.
+-- The next type in a sequence of expansions.
 use Rattle.std.proofs.Common.{ℕ, suc, ◌<◌, ◌≡◌, ◌∙◌, List, length, Option, Some, None, sym, ap, subst, arith}
 use Rattle.std.specs.Prelude.{MatchOption}
 use Rattle.std.proofs.lemmas.Option.{get_or_from_slice_get, slice_get_within}
@@ -26,7 +26,7 @@ module _ (decls : List Decl) where
   abbrev NextOf : Option ℕ → List Ty → Ty → Option ℕ → Type 0
   NextOf group types t next = MatchOption next (unfolded decls t ≡ None) (IsNearer decls group types t)
 
-  -- one replacement
+  -- One expansion.
   module _ (group : Option ℕ) where
     pub once_is :
         (old new : List Ty) (t : Ty) (next : Option ℕ) → MatchOption next (IsLeft decls old new t) (IsReplaced decls old new t)
@@ -39,7 +39,7 @@ module _ (decls : List Decl) where
       within = slice_get_within new n replaced.next replaced.holds.there;
     }
 
-    -- replacements that are known
+    -- Known expansions.
     pub passed_is :
         (types : List Ty) (number n : ℕ) → number < length types → n < number
         → EachPasses decls group (type_at types number) (type_at types n) → IsNearer decls group types (type_at types number) n
@@ -47,7 +47,7 @@ module _ (decls : List Decl) where
         let once = passes_once decls group (type_at types number) (type_at types n) passes in
         record { first = once.1.0; is = once.1.2; leads = (once.0, once.1.3); within = omega (arith, within, less) }
 
-    -- the same, of types that grew before
+    -- Known expansions, after the type store has grown.
     pub later_is :
         (old mid new : List Ty) (number : ℕ) (next : Option ℕ) → Grows old mid → number < length old
         → NextOf group new (type_at mid number) next → NextOf group new (type_at old number) next
@@ -55,7 +55,7 @@ module _ (decls : List Decl) where
         subst (λ (t : Ty). NextOf group new t next) (type_kept old mid number grown within) is
 
     module _ (sound : AreSound decls) where
-      -- ---- a turn of the walk
+      -- ---- one iteration
 
       pub nearer_head : (types : List Ty) (t : Ty) (n : ℕ) → IsNearer decls group types t n → head decls (type_at types n) ≡ head decls t
       nearer_head types t n nearer =

@@ -17,7 +17,7 @@ use Rattle.om_types.specs.Head.{plain_head, with_part, with_tags, head_meant}
 use Rattle.om_types.specs.Table.{head_with_parts}
 use Rattle.om_layout.specs.Plain.{root_of, IsBracketed, IsPlainHead, meant_with, head_of_root}
 
--- a head with these parts more
+-- A head with these additional parts.
 abbrev with_all : HeadOf Ty → List Ty → HeadOf Ty
 with_all h ts = fold with_part h ts
 
@@ -78,7 +78,7 @@ no_parts (tag t x) none = refl
 no_parts (tag_of t x u) none = refl
 no_parts (including t u) none = refl
 
--- a root has no parts
+-- A root has no parts.
 never_part : (u v t : Ty) → part u v ≡ root_of t → ⊥
 never_part u v (variable x) is = cc
 never_part u v (named x) is = cc
@@ -93,7 +93,7 @@ module _ (types : List Ty) (t : Ty) (numbers : List ℕ) (are : map (type_at typ
   these : map (slice_get types) numbers ≡ map (λ (u : Ty). Some u) (parts t)
   these = numbered types numbers below ∙ ap (map (λ (u : Ty). Some u)) are
 
-  -- what follows from the root alone
+  -- Consequences of the root alone.
   from_root : (root : Ty) → root_of t ≡ root → (h : HeadOf Ty) → ((head : Ty → HeadOf Ty) → with_all (plain_head head root) (parts t) ≡ h)
       → (g : HeadOf ℕ) → head_with_parts (slice_get types) g ≡ head_with_parts (λ (u : Ty). Some u) h
       → IsPlainHead types t g
@@ -111,7 +111,7 @@ module _ (types : List Ty) (t : Ty) (numbers : List ℕ) (are : map (type_at typ
       (λ head. ap (λ o. with_all (head_meant o name) (parts t)) meant ∙ name_parts name [] (parts t))
       (heads.Datatype name numbers) (ap (heads.Datatype name) these)
 
-  -- parts of what takes none
+  -- Parts of a root that takes none.
   absent_parts : (root u : Ty) (us : List Ty) → root_of t ≡ root → parts t ≡ u ∷ us → ((head : Ty → HeadOf Ty) → with_part (plain_head head root) u ≡ heads.Absent) → IsPlainHead types t heads.Absent
   absent_parts root u us is some none =
       from_root root is heads.Absent
@@ -121,7 +121,7 @@ module _ (types : List Ty) (t : Ty) (numbers : List ℕ) (are : map (type_at typ
   bracket_alone : (root : Ty) → root_of t ≡ root → parts t ≡ [] → IsBracketed root → IsBracketed t
   bracket_alone root is none bracketed = subst IsBracketed (sym is ∙ no_parts t none) bracketed
 
-  -- the head that the root and the numbers give
+  -- The head from the root and the indices of the parts.
   pub plain_by_root :
       (root : Node) → type_of_node types root ≡ root_of t
       → MatchOption (head_of_root root numbers) (IsBracketed t) (IsPlainHead types t)

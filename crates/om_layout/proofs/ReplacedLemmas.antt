@@ -1,4 +1,4 @@
--- Replacements at the head leave it.
+-- Expansions at the head do not change the head.
 use Rattle.std.proofs.Common.{ℕ, zero, suc, ◌≡◌, ◌∙◌, List, Option, Some, None, refl, ap}
 use Rattle.std.specs.Prelude.{option_and_then}
 use Rattle.std.proofs.lemmas.Option.{none-some, same_Some}
@@ -6,7 +6,7 @@ use Rattle.om_types.specs.declared.decl.Decl.{Decl}
 use Rattle.om_types.specs.Ty.{Ty}
 use Rattle.om_types.specs.Declarations.{unfolded, unfolded_times}
 
--- u is t after some replacements at its head
+-- The type u is t after some expansions at its head.
 pub record ComesTo (decls : List Decl) (t u : Ty) : Type 0 where
   pub times : ℕ
   pub replaced : unfolded_times decls times t ≡ Some u

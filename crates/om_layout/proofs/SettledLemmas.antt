@@ -1,4 +1,4 @@
--- Abbreviations whose tags are all there, at any arguments.
+-- Abbreviations whose tags are all gathered, for any arguments.
 use Rattle.std.proofs.Common.{ℕ, suc, ◌+◌, ◌<◌, ◌≤◌, ◌≡◌, ◌∙◌, nat_eq, Bool, true, false, cond, List, [], ◌∷◌, ◌++◌, length, Option, Some, None, refl, sym, ap, subst, arith}
 use Rattle.std.specs.Prelude.{slice_get, not, filter, IfSome, IsSome}
 use Rattle.std.specs.List.{list_any}
@@ -27,7 +27,7 @@ use Rattle.om_layout.specs.Steps.{AreThere, BringsNone, EachBringsNone, EachItem
 use Rattle.om_layout.proofs.BracketLemmas.{is_new, none_kept, joined_there}
 use Rattle.om_layout.proofs.WayLemmas.{name_instance, instance_itself, unfolded_is, bare_next, way_head, way_work}
 
--- ---- tags that are there
+-- ---- tags that are already gathered
 
 pub tag_there : (tags : List (TagOf Ty)) (item : TagOf Ty) → has_tag tags item.name ≡ true → AreThere tags (item ∷ [])
 tag_there tags item is = ap (λ b. cond (not b) (item ∷ []) []) is
@@ -49,7 +49,7 @@ has_same (including t a) w is = ap has_bracket (same_Some t w is)
 has_same t w is = absurd (none-some w is)
 
 module _ (decls : List Decl) (tags : List (TagOf Ty)) where
-  -- all tags of the bracket as it is written are there, whatever stands for its variables
+  -- All tags of the bracket as it is written are gathered, whatever replaces its variables.
   abbrev pub EachWrittenThere : Ty → Type 0
   EachWrittenThere t =
       (value : List ℕ → Ty) → AreThere tags (tags_in (plain_head (head decls) (instance value t)))
@@ -135,7 +135,7 @@ module _ (decls : List Decl) (tags : List (TagOf Ty)) where
         (way_head decls None sound way.0 (instance value t) (instance value u) way.1)
         ∙ each value
 
-    -- the abbreviation of a type whose tags are all there
+    -- If all tags of the type of an abbreviation are gathered, then the abbreviation is settled.
     pub settles : (k : ℕ) (d : Decl) (body : Ty) → slice_get decls k ≡ Some d
         → d.body ≡ bodies.Abbreviation body → EachBringsNone decls tags body → IsSettled decls tags k
     settles k d body there is each t at =
@@ -154,7 +154,7 @@ module _ (decls : List Decl) (sound : AreSound decls) where
   body_at (Some body) is = (body, refl)
   body_at None is = absurd (false≢true is)
 
-  -- all types of the abbreviation have one head
+  -- All types with this abbreviation at the head have the same head.
   one_head : (d : ℕ) → IsBare decls d → (t u : Ty) → IsAbbreviation decls t d → IsAbbreviation decls u d
       → head decls t ≡ head decls u
   one_head d bare t u at other =
@@ -164,7 +164,7 @@ module _ (decls : List Decl) (sound : AreSound decls) where
       ∙ sym (head_again decls sound.rank (are_ranked decls sound) u body.0
       (bare_next decls None d u body.0 at.decl bare other at.there body.1))
 
-  -- once the tags of a type with the head of t were joined
+  -- If the tags of a type with the head of t were joined, then the abbreviation of t is settled.
   pub sure_joined : (t u : Ty) (decl : Option ℕ) (tags : List (TagOf Ty)) → IfSome decl (IsAbbreviation decls t)
       → head decls u ≡ head decls t → IfSome decl (IsSure decls (joined tags (tags_in (head decls u))))
   sure_joined t u None tags is same = tt
@@ -173,7 +173,7 @@ module _ (decls : List Decl) (sound : AreSound decls) where
       (one_head d bare other t at is ∙ sym same)
       ∙ joined_there tags (tags_in (head decls u))
 
--- ---- how much is to be done
+-- ---- termination measure
 
 pub led_work : (decls : List Decl) → AreSound decls → (t u : Ty) → EachLeads decls None t u → work decls u ≤ work decls t
 led_work decls sound t u leads =

@@ -25,7 +25,7 @@ parts-step types at whole added found all is so_far =
     ∙ ap (λ t. parts t ++ map (type_at types) (reverse found)) (sym is)
     ∙ so_far
 
--- a node that adds no part
+-- A node that adds no part.
 pub parts-end :
     (types : List Ty) (node : TypeNode) → ((whole added : ℕ) → node ≡ lent.Part whole added → ⊥)
     → parts (type_of_node types (written_of node)) ≡ []

@@ -1,4 +1,4 @@
--- Shapes over numbers, as shapes over types.
+-- Shapes over indices, as shapes over types.
 use Rattle.std.proofs.Common.{ℕ, ◌<◌, ◌≡◌, ◌∙◌, List, [], ◌∷◌, ◌++◌, length, map, Option, Some, None, refl, sym, ap, All, unwrap_or}
 use Rattle.std.specs.Prelude.{slice_get, option_map, IfSome}
 use Rattle.std.specs.List.{flat_map}
@@ -81,7 +81,7 @@ module _ (types : List Ty) (found : ShapeOf ℕ) (all : ShapeOf Ty) (is : IsShap
       below_found types (named_in found) (named_in all)
       (sym (named_in-map (slice_get types) found) ∙ ap (λ (s : ShapeOf (Option Ty)). named_in s) is ∙ named_in-map some all)
 
--- ---- the numbers of its parts
+-- ---- the type indices of the parts
 
 module _ {X : Type 0} (P : X → Type 0) where
   both_parts : (xs ys : List X) → All P (xs ++ ys) → All P xs × All P ys

@@ -1,4 +1,4 @@
--- Ways of replacements at the head, of types and of their instances.
+-- Sequences of expansions at the head, of types and of their instances.
 use Rattle.std.proofs.Common.{ℕ, zero, suc, ◌<◌, ◌≤◌, ◌≡◌, ◌∙◌, true, false, cond, List, [], ◌∷◌, ◌++◌, length, map, Option, Some, refl, sym, ap, subst, arith}
 use Rattle.std.proofs.lemmas.List.Quantifiers.{position-Some}
 use Rattle.std.specs.Prelude.{option_and_then, get_or, option_map, position, slice_get}
@@ -56,7 +56,7 @@ argument_first (p ∷ ps) (t ∷ ts) x (suc i) a below is before there =
     ap (λ b. cond b t (argument_for ps ts x)) (before 0 (omega arith))
     ∙ argument_first ps ts x i a (omega arith) is (λ k less. before (suc k) (omega arith)) there
 
--- the argument for a parameter
+-- The argument for a parameter.
 pub argument_placed :
     (parameters : List (List ℕ)) (ts : List Ty) (x : List ℕ) (i : ℕ) (a : Ty)
     → position (λ (p : List ℕ). bytes_eq p x) parameters ≡ Some i → slice_get ts i ≡ Some a
@@ -66,7 +66,7 @@ argument_placed parameters ts x i a is there =
     argument_first parameters ts x i a at.0 at.1 at.2 there
 
 module _ (decls : List Decl) (group : Option ℕ) where
-  -- ---- ways, one after another
+  -- ---- composition of sequences
 
   way_then : (n : ℕ) (t u v : Ty) → Way decls group n t u → Leads decls group u v → Leads decls group t v
   way_then zero t u v is leads = subst (λ w. Leads decls group w v) (sym is) leads
@@ -98,7 +98,7 @@ module _ (decls : List Decl) (group : Option ℕ) where
       ∙ ap (λ o. abbreviated_at o (parts t)) found
       ∙ ap (option_map (instance (argument_for decl.parameters (parts t)))) is
 
-  -- an abbreviation without parameters stands for its type as it is
+  -- An abbreviation without parameters expands to its type unchanged.
   module _ (d : ℕ) where
     pub is_bare : (decl : Decl) → slice_get decls d ≡ Some decl → decl.parameters ≡ [] → IsBare decls d
     is_bare decl there none other at =
@@ -118,7 +118,7 @@ module _ (decls : List Decl) (group : Option ℕ) where
   not_at t decl name named' found apart at =
       apart (subst (IsOfAt group) found (subst (λ o. IsOfAt group (option_and_then (declaration_of decls) o)) named' at)).1
 
-  -- an abbreviation whose type comes to a parameter
+  -- An abbreviation whose type expands to a parameter.
   pub comes_to_argument :
       (decl : Decl) (body end : Ty) (i : ℕ) → abbreviated decl.body ≡ Some body → EachLeads decls group body end
       → IsArgument decl group end i → ComesToArgument decls group decl i
@@ -136,14 +136,14 @@ module _ (decls : List Decl) (group : Option ℕ) where
         ),
       )
 
-  -- ---- the next type of a walk
+  -- ---- the next type in a sequence
 
   pub passes_once : (t a : Ty) → EachPasses decls group t a → Passes decls group t a
   passes_once t a passes =
       subst (λ u. Passes decls group u a) (instance_itself t)
       (subst (λ u. Passes decls group (instance (λ x. variable x) t) u) (instance_itself a) (passes (λ x. variable x)))
 
-  -- ---- heads, and what is left to do
+  -- ---- heads and the measure
 
   pub comes_more : (n : ℕ) (t u v : Ty) → ComesTo decls t u → Way decls group n u v → ComesTo decls t v
   comes_more zero t u v comes is = subst (ComesTo decls t) is comes

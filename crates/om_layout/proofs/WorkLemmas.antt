@@ -1,4 +1,4 @@
--- How much is to be done for a head: each replacement and each item lowers it.
+-- A termination measure for heads. Each expansion and each item decreases it.
 use Rattle.std.proofs.Common.{ℕ, zero, suc, ◌+◌, ◌<◌, ◌≤◌, ◌≡◌, ◌∙◌, List, Option, Some, None}
 use Rattle.std.proofs.Common.{refl, ap, arith}
 use Rattle.om_types.specs.declared.decl.Decl.{Decl}
@@ -62,14 +62,14 @@ module _ (decls : List Decl) (rank : List ℕ → ℕ) (ranked : AreRanked decls
       (λ a less. settled (weight t) (enough decls a) a less (bound decls rank ranked a)) t (omega arith)
 
 module _ (decls : List Decl) (sound : AreSound decls) where
-  -- a replacement is two steps
+  -- An expansion decreases the measure by two.
   pub work_again : (t u : Ty) → unfolded decls t ≡ Some u → work decls t ≡ suc (suc (work decls u))
   work_again t u is = again decls sound.rank (are_ranked decls sound) t u is
 
   pub work_plain : (t : Ty) → unfolded decls t ≡ None → work decls t ≡ written_work (work decls) t
   work_plain t is = plain decls sound.rank (are_ranked decls sound) t is
 
-  -- what is written is a part of it
+  -- The measure of the written items is at most the whole measure.
   pub written_least : (t : Ty) → written_work (work decls) t ≤ work decls t
   written_least (variable x) = omega arith
   written_least (named n) = omega arith

@@ -1,5 +1,5 @@
--- Heads that were found before, with their parts by the numbers of types, or by the places of
--- these.
+-- Heads that were found before. A part of a head is a type index, or a position in the list of type
+-- indices.
 use Rattle.std.specs.Prelude.{ℕ, ◌<◌, ◌≡◌, Bool, true, false, List, length, map, get_or, All, Some}
 use Rattle.std.specs.Prelude.{slice_get}
 use Rattle.om_types.specs.declared.decl.Decl.{Decl}
@@ -11,28 +11,29 @@ use Rattle.om_types.specs.Nodes.{type_at}
 use Rattle.om_types.specs.Head.{head, tags_in}
 use Rattle.om_types.specs.Table.{tag_with_part}
 
--- the number of a part, which is given by its place among the numbers, or by its number
+-- The type index of a part, which is given by its position among the indices or directly by its
+-- index.
 abbrev pub part_number : Bool → List ℕ → ℕ → ℕ
 part_number true numbers q = get_or numbers q 0
 part_number false numbers q = q
 
--- it has a number
+-- The part has a type index.
 abbrev pub IsPlace : Bool → List ℕ → ℕ → Type 0
 IsPlace true numbers q = q < length numbers
 IsPlace false numbers q = Unit {0}
 
--- the types that parts are given in
+-- The types to which parts refer.
 abbrev pub part_types : Bool → List Ty → List ℕ → List Ty
 part_types true types numbers = map (type_at types) numbers
 part_types false types numbers = types
 
--- by numbers they are the tags of the type
+-- These tags, with type indices as arguments, are the tags of the type.
 abbrev pub AreTagsOf : List Decl → List Ty → Ty → List (TagOf ℕ) → Type 0
 AreTagsOf decls types t tags =
     map (tag_with_part (slice_get types)) tags
     ≡ map (tag_with_part (λ (u : Ty). Some u)) (tags_in (head decls t))
 
--- The numbers are those of types, and the first of these have the heads.
+-- The numbers are type indices, and the first types with these indices have the heads found.
 pub record AreFound (decls : List Decl) (types : List Ty) (by_place : Bool) (numbers : List ℕ)
     (found : List (HeadOf ℕ)) : Type 0 where
   pub within : All (λ i. i < length types) numbers

@@ -1,4 +1,4 @@
--- The shape and the names of a type, by numbers.
+-- The shape and the names of a type, by type index.
 use Rattle.std.specs.Prelude.{ℕ, ◌<◌, ◌≡◌, List, [], ◌∷◌, length, map, All, Option, Some, None}
 use Rattle.std.specs.Prelude.{slice_get}
 use Rattle.om_types.specs.declared.decl.Predeclared.TheVariants as bases
@@ -24,50 +24,50 @@ use Rattle.om_layout.specs.declared.layout.Layout.{Layout}
 
 -- ---- parts
 
--- the head whose parts are the types of these numbers
+-- The head with types instead of indices.
 abbrev pub head_of_types : List Ty → HeadOf ℕ → HeadOf Ty
 head_of_types types at = head_with_parts (type_at types) at
 
--- a type of a declaration at the arguments with these numbers
+-- A type of a declaration, with the types at these indices as arguments.
 abbrev pub instance_at : List Ty → Decl → List ℕ → Ty → Ty
 instance_at types decl arguments t = instance_of decl (map (type_at types) arguments) t
 
 -- ---- shapes
 
--- by numbers it is this shape
+-- The shape over indices is this shape over types.
 abbrev pub IsShapeAt : List Ty → ShapeOf Ty → ShapeOf ℕ → Type 0
 IsShapeAt types all found = with_parts (slice_get types) found ≡ with_parts Some all
 
--- The blocks by numbers are these blocks.
+-- The blocks over indices are these blocks over types.
 pub record HasBlocks (types : List Ty) (all : List (Constr Ty)) (found : List (Constr ℕ))
     : Type 0 where
   pub within : All (λ (block : Constr ℕ). All (λ i. i < length types) block.fields) found
   pub are : map (constr_with (type_at types)) found ≡ all
 
--- the block by numbers is this block, where there is one
+-- The optional block over indices is this optional block over types.
 abbrev pub HasBlock : List Ty → Option (Constr Ty) → Option (Constr ℕ) → Type 0
 HasBlock types (Some block) (Some found) = HasBlocks types (block ∷ []) (found ∷ [])
 HasBlock types None None = Unit {0}
 HasBlock types block found = ⊥
 
--- arrays of what has this head
+-- The shape of arrays whose elements have this head.
 abbrev pub array_at : {T U : Type 0} → HeadOf T → U → ShapeOf U
 array_at (heads.Variable name) element = shapes.ArrayOfVariable
 array_at (heads.Predeclared bases.Float parts) element = shapes.FloatArray
 array_at (heads.Predeclared bases.Any parts) element = shapes.ArrayOfAnything element
 array_at other element = shapes.ArrayOf element
 
--- the tag by its hash
+-- The tag with its hash instead of its name.
 abbrev pub hashed : {T : Type 0} → TagOf T → PolyTag T
 hashed tag = record { hash = tag_hash tag.name; arg = tag.argument }
 
--- the tag's name with its hash
+-- The name of the tag with its hash.
 abbrev pub named : {T : Type 0} → TagOf T → TagName
 named tag = record { name = tag.name; hash = tag_hash tag.name }
 
--- ---- both
+-- ---- heads and shapes together
 
--- What a type looks like: its head and its shape, by numbers.
+-- The head and the shape of a type, over type indices.
 pub record IsLayoutOf (decls : List Decl) (types : List Ty) (t : Ty) (layout : Layout)
     : Type 0 where
   pub head : head_with_parts (slice_get types) layout.head ≡ head_with_parts Some (head decls t)
@@ -75,7 +75,7 @@ pub record IsLayoutOf (decls : List Decl) (types : List Ty) (t : Ty) (layout : L
 
 -- ---- names
 
--- the names of each type that has this head by numbers
+-- The names of each type with this head over indices.
 abbrev pub AreNamesAt : List Decl → HeadOf ℕ → Names → Type 0
 AreNamesAt decls at names =
     (types : List Ty) (t : Ty)

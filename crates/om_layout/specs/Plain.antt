@@ -1,4 +1,4 @@
--- Heads that are read off a type as it is written.
+-- Heads that follow from a type as it is written.
 use Rattle.std.specs.Prelude.{ℕ, ◌≡◌, List, [], ◌∷◌, Option, Some, None, slice_get}
 use Rattle.om_types.specs.declared.decl.Predeclared.{Predeclared}
 use Rattle.om_types.specs.declared.head.HeadOf.{HeadOf}
@@ -10,12 +10,12 @@ use Rattle.om_types.specs.Ty.{Ty, bracket, part, tag, tag_of, including}
 use Rattle.om_types.specs.Head.{plain_head}
 use Rattle.om_types.specs.Table.{head_with_parts}
 
--- the type without its arguments or components
+-- The type without its arguments or components.
 abbrev pub root_of : Ty → Ty
 root_of (part whole added) = root_of whole
 root_of t = t
 
--- a bracket, with or without tags
+-- The type is a bracket, with or without tags.
 abbrev pub IsBracketed : Ty → Type 0
 IsBracketed bracket = Unit {0}
 IsBracketed (tag whole name) = Unit {0}
@@ -23,19 +23,20 @@ IsBracketed (tag_of whole name argument) = Unit {0}
 IsBracketed (including whole included) = Unit {0}
 IsBracketed t = ⊥
 
--- by numbers it is the head of the type as it is written, whatever is included elsewhere
+-- The head over indices is the head of the type as it is written. It does not depend on the heads
+-- of included types.
 abbrev pub IsPlainHead : List Ty → Ty → HeadOf ℕ → Type 0
 IsPlainHead types t h =
     (head : Ty → HeadOf Ty)
     → head_with_parts (slice_get types) h ≡ head_with_parts Some (plain_head head t)
 
--- ---- from the root and the numbers of the parts
+-- ---- from the root and the indices of the parts
 
 abbrev pub meant_with : Option Predeclared → List ℕ → List ℕ → HeadOf ℕ
 meant_with (Some base) name numbers = heads.Predeclared base numbers
 meant_with None name numbers = heads.Datatype name numbers
 
--- None for a bracket; only names and tuples have parts
+-- The result is `None` for a bracket. Only names and tuples have parts.
 abbrev pub head_of_root : Node → List ℕ → Option (HeadOf ℕ)
 head_of_root (nodes.Named name) numbers = Some (meant_with (predeclared name) name numbers)
 head_of_root nodes.Tuple numbers = Some (heads.Tuple numbers)

@@ -1,4 +1,4 @@
--- What waits while the tags of a bracket are gathered, the next step first.
+-- The pending steps while the tags of a bracket are gathered. The next step comes first.
 use Rattle.std.specs.Prelude.{ℕ, suc, ◌+◌, ◌<◌, ◌≡◌, not, List, [], ◌∷◌, Option, Some, None, filter}
 use Rattle.std.specs.Prelude.{length, All, sum_by}
 use Rattle.om_types.specs.declared.decl.Decl.{Decl}
@@ -12,55 +12,55 @@ use Rattle.om_layout.specs.Tags.{tags_of_item, with_item, tags_at, IsTagWithin}
 use Rattle.om_layout.specs.Way.{IsAbbreviation, IsBare}
 use Rattle.om_layout.specs.Work.{work}
 
--- its number is that of a type, or of a declaration
+-- The number of the step is the index of a type or of a declaration.
 abbrev pub IsStepWithin : List Decl → List Ty → Step → Type 0
 IsStepWithin decls types (steps.Item i) = i < length types
 IsStepWithin decls types (steps.Included n) = n < length types
 IsStepWithin decls types (steps.Settle d) = d < length decls
 
--- ---- tags that are there
+-- ---- tags that are already gathered
 
--- these add nothing
+-- The tags `more` add nothing to `tags`.
 abbrev pub AreThere : List (TagOf Ty) → List (TagOf Ty) → Type 0
 AreThere tags more = filter (λ (tag : TagOf Ty). not (has_tag tags tag.name)) more ≡ []
 
--- all tags of t are there
+-- All tags of the type t are already gathered.
 abbrev pub BringsNone : List Decl → List (TagOf Ty) → Ty → Type 0
 BringsNone decls tags t = AreThere tags (tags_in (head decls t))
 
--- so it is whatever stands for its variables
+-- All tags of t are already gathered, whatever replaces its variables.
 abbrev pub EachBringsNone : List Decl → List (TagOf Ty) → Ty → Type 0
 EachBringsNone decls tags t = (value : List ℕ → Ty) → BringsNone decls tags (instance value t)
 
--- so it is of what the last item of t brings
+-- The tags of the last item of t are already gathered, whatever replaces its variables.
 abbrev pub EachItemBringsNone : List Decl → List (TagOf Ty) → Ty → Type 0
 EachItemBringsNone decls tags t =
     (value : List ℕ → Ty) → AreThere tags (tags_of_item (head decls) (instance value t))
 
--- so it is of the types with these numbers
+-- The tags of the types with these indices are already gathered, whatever replaces their variables.
 abbrev pub AreEachThere : List Decl → List Ty → List (TagOf Ty) → List ℕ → Type 0
 AreEachThere decls types tags numbers =
     All (λ n. EachBringsNone decls tags (type_at types n)) numbers
 
--- all tags of each type with this abbreviation at its head are there
+-- The tags of each type with this abbreviation at its head are already gathered.
 abbrev pub IsSettled : List Decl → List (TagOf Ty) → ℕ → Type 0
 IsSettled decls tags d = (t : Ty) → IsAbbreviation decls t d → BringsNone decls tags t
 
--- there is an abbreviation, and so it is
+-- There is an abbreviation, and it is settled.
 abbrev pub IsSettledAt : List Decl → List (TagOf Ty) → Option ℕ → Type 0
 IsSettledAt decls tags None = ⊥
 IsSettledAt decls tags (Some d) = IsSettled decls tags d
 
--- it is so where it has no parameters
+-- If the abbreviation has no parameters, then it is settled.
 abbrev pub IsSure : List Decl → List (TagOf Ty) → ℕ → Type 0
 IsSure decls tags d = IsBare decls d → IsSettled decls tags d
 
 abbrev pub AreSettled : List Decl → List (TagOf Ty) → List ℕ → Type 0
 AreSettled decls tags settled = All (IsSettled decls tags) settled
 
--- ---- what waits
+-- ---- pending steps
 
--- these tags, and then those of what waits, are all
+-- These tags, and then those of the pending steps, are all tags.
 abbrev pub AreLeft : List Decl → List Ty → List (TagOf Ty) → List Step → List (TagOf Ty) → Type 0
 AreLeft decls types tags [] all = tags ≡ all
 AreLeft decls types tags (steps.Item i ∷ rest) all =
@@ -72,7 +72,8 @@ AreLeft decls types tags (steps.Included n ∷ rest) all =
 AreLeft decls types tags (steps.Settle d ∷ rest) all =
     (d < length decls) × IsSure decls tags d × AreLeft decls types tags rest all
 
--- The tags found and those that are left are all, and the tags of what is settled were found.
+-- The tags found and those of the pending steps are all tags. The tags of settled abbreviations
+-- were found.
 pub record AreGathered (decls : List Decl) (types : List Ty) (found : List (TagOf ℕ))
     (settled : List ℕ) (waiting : List Step)
     (all : List (TagOf Ty)) : Type 0 where
@@ -80,12 +81,12 @@ pub record AreGathered (decls : List Decl) (types : List Ty) (found : List (TagO
   pub brought : AreSettled decls (tags_at types found) settled
   pub left : AreLeft decls types (tags_at types found) waiting all
 
--- these are all, by the numbers of types
+-- The tags found, over type indices, are all tags.
 pub record AreAll (types : List Ty) (found : List (TagOf ℕ)) (all : List (TagOf Ty)) : Type 0 where
   pub found_within : All (IsTagWithin types) found
   pub are : tags_at types found ≡ all
 
--- ---- how much is to be done
+-- ---- termination measure
 
 abbrev pub item_work : (Ty → ℕ) → Ty → ℕ
 item_work w (including whole included) = suc (suc (w included))

@@ -1,4 +1,4 @@
--- The tags of a bracket, item by item, and by numbers.
+-- The tags of a bracket, item by item, and over type indices.
 use Rattle.std.specs.Prelude.{ℕ, ◌<◌, ◌≡◌, Bool, true, false, List, [], ◌∷◌, ◌++◌, Option, Some}
 use Rattle.std.specs.Prelude.{None, length, map, fold, IfSome, if◌then◌else◌, slice_get}
 use Rattle.std.specs.List.{list_any}
@@ -14,7 +14,7 @@ use Rattle.om_types.specs.Table.{tag_with_part, head_with_parts}
 
 -- ---- items
 
--- items are added to a bracket, and to nothing else
+-- The items of the type are added to a bracket. Items may only be added to a bracket.
 abbrev pub has_bracket : Ty → Bool
 has_bracket bracket = true
 has_bracket (tag whole name) = has_bracket whole
@@ -22,21 +22,21 @@ has_bracket (tag_of whole name argument) = has_bracket whole
 has_bracket (including whole included) = has_bracket whole
 has_bracket t = false
 
--- the items of a bracket from the left, each as the type that ends with it
+-- The items of a bracket from the left. Each is given by the type that ends with it.
 abbrev pub items : Ty → List Ty
 items (tag whole name) = items whole ++ tag whole name ∷ []
 items (tag_of whole name argument) = items whole ++ tag_of whole name argument ∷ []
 items (including whole included) = items whole ++ including whole included ∷ []
 items t = []
 
--- the bracket before its last item
+-- The bracket without its last item.
 abbrev pub before_item : Ty → Option Ty
 before_item (tag whole name) = Some whole
 before_item (tag_of whole name argument) = Some whole
 before_item (including whole included) = Some whole
 before_item t = None
 
--- the tags that the last item brings
+-- The tags of the last item.
 abbrev pub tags_of_item : (Ty → HeadOf Ty) → Ty → List (TagOf Ty)
 tags_of_item head (tag whole name) = bare_tag name ∷ []
 tags_of_item head (tag_of whole name argument) = carrying_tag name argument ∷ []
@@ -49,28 +49,28 @@ with_item head tags t = joined tags (tags_of_item head t)
 abbrev pub with_items : (Ty → HeadOf Ty) → List (TagOf Ty) → List Ty → List (TagOf Ty)
 with_items head tags ts = fold (with_item head) tags ts
 
--- ---- by numbers
+-- ---- over type indices
 
 abbrev pub tags_at : List Ty → List (TagOf ℕ) → List (TagOf Ty)
 tags_at types tags = map (tag_with_part (type_at types)) tags
 
--- its argument is the number of a type
+-- The argument of the tag is a type index.
 abbrev pub IsTagWithin : List Ty → TagOf ℕ → Type 0
 IsTagWithin types item = IfSome item.argument (λ i. i < length types)
 
 abbrev pub has_name : List (TagOf ℕ) → List ℕ → Bool
 has_name tags name = list_any (λ (other : TagOf ℕ). bytes_eq other.name name) tags
 
--- of a tag that comes twice the first stays
+-- If a tag occurs twice, the first one stays.
 abbrev pub with_tag : List (TagOf ℕ) → List ℕ → Option ℕ → List (TagOf ℕ)
 with_tag tags name argument =
     if has_name tags name then tags else tags ++ record { name = name; argument = argument } ∷ []
 
--- these one after another
+-- Adds tags in order.
 abbrev pub with_tags : List (TagOf ℕ) → List (TagOf ℕ) → List (TagOf ℕ)
 with_tags tags more = fold (λ all (tag : TagOf ℕ). with_tag all tag.name tag.argument) tags more
 
--- the tags of a map's entries
+-- The tags of the entries of a map.
 abbrev pub tag_of_entry : Vec ℕ × Option ℕ → TagOf ℕ
 tag_of_entry entry = record { name = entry.0.items; argument = entry.1 }
 
@@ -79,7 +79,7 @@ tags_of_entries entries = map tag_of_entry entries
 
 -- ---- heads
 
--- by numbers it is the head of the type
+-- The head over indices is the head of the type.
 abbrev pub IsHeadOf : List Decl → List Ty → Ty → HeadOf ℕ → Type 0
 IsHeadOf decls types t h =
     head_with_parts (slice_get types) h ≡ head_with_parts Some (head decls t)

@@ -1,4 +1,4 @@
--- Replacements at the head, by numbers.
+-- Expansions at the head, by type index.
 use Rattle.std.specs.Prelude.{ℕ, ◌≡◌, ◌<◌, List, length, Some, None}
 use Rattle.om_types.specs.declared.decl.Decl.{Decl}
 use Rattle.om_types.specs.Ty.{Ty}
@@ -7,18 +7,18 @@ use Rattle.om_types.specs.Declarations.{unfolded}
 use Rattle.om_types.specs.Head.{head}
 use Rattle.om_store.specs.Held.{Holds}
 
--- the type has been replaced once, and the new one has this number
+-- The type was expanded once at its head, and the result has this index.
 pub record IsReplaced (decls : List Decl) (old new : List Ty) (t : Ty) (number : ℕ) : Type 0 where
   pub next : Ty
   pub is : unfolded decls t ≡ Some next
   pub holds : Holds old new next number
 
--- there is nothing to replace, and nothing was added
+-- There is nothing to expand, and nothing was appended.
 pub record IsLeft (decls : List Decl) (old new : List Ty) (t : Ty) : Type 0 where
   pub none : unfolded decls t ≡ None
   pub same : new ≡ old
 
--- The type with this number has the head of t, and no abbreviation at it.
+-- The type with this index has the head of t, and no abbreviation is at its head.
 pub record HasHeadOf (decls : List Decl) (types : List Ty) (t : Ty) (number : ℕ) : Type 0 where
   pub within : number < length types
   pub head : head decls (type_at types number) ≡ head decls t

@@ -1,18 +1,19 @@
--- How much is to be done for a head: each replacement and each item lowers it.
+-- A termination measure for heads. Each expansion and each item decreases it.
 use Rattle.std.specs.Prelude.{ℕ, zero, suc, ◌+◌, List, Option, Some, None}
 use Rattle.om_types.specs.declared.decl.Decl.{Decl}
 use Rattle.om_types.specs.Ty.{Ty, tag, tag_of, including}
 use Rattle.om_types.specs.Declarations.{unfolded}
 use Rattle.om_types.specs.Head.{enough}
 
--- one for each item, and for what is included one more and all that is to be done there
+-- Each item counts one. An item that includes a type counts one more, plus the measure of this
+-- type.
 abbrev pub written_work : (Ty → ℕ) → Ty → ℕ
 written_work w (tag whole x) = suc (written_work w whole)
 written_work w (tag_of whole x argument) = suc (written_work w whole)
 written_work w (including whole included) = suc (suc (written_work w whole + w included))
 written_work w t = 0
 
--- two for a replacement
+-- Each expansion counts two.
 abbrev pub work_by : (Ty → ℕ) → Ty → Option Ty → ℕ
 work_by w t (Some u) = suc (suc (w u))
 work_by w t None = written_work w t

@@ -1,4 +1,5 @@
-//! The head of a bracket: its tags, with those of what it includes.
+//! Computes the head of a bracket (a polymorphic variant type): its tags, including those of the
+//! types that it includes.
 
 ghost use Rattle.std.specs.Prelude.{ℕ, ◌≡◌, ◌<◌, ◌≤◌, ◌+◌, suc, ◌∷◌, [], None, List, length};
 ghost use Rattle.std.specs.Prelude.{reverse, IfOk, IfSome, OnOk, option_map};
@@ -33,11 +34,13 @@ use om_store::{TypeNode, Types};
 use om_types::head::{HeadOf, TagOf};
 use std::alloc::Global;
 
-/// Tags by their names, in the order in which they came, with the numbers of their arguments.
+/// Tags by name, in insertion order. Each has the index of its argument type, if it has an
+/// argument.
 pub(crate) type Tags = IndexMap<Vec<u8>, Option<usize>>;
 
-/// What waits: an item of a bracket, by the type that ends with it; an included type; or an
-/// abbreviation whose tags were gathered, by the number of its declaration.
+/// A pending step. `Item` is an item of a bracket, given by the type that ends with this item.
+/// `Included` is an included type. `Settle` is the declaration index of an abbreviation whose tags
+/// have been gathered.
 #[derive(Clone, Copy)]
 pub(crate) enum Step {
     Item(usize),
@@ -45,10 +48,10 @@ pub(crate) enum Step {
     Settle(usize),
 }
 
-/// The head of a type that is a bracket with or without items. It takes a step for each item, and
-/// for each item of what is included, once for each abbreviation that is included, whatever its
-/// arguments, or for each of their tags where these were found. It may add types at the end, before
-/// `Memory` too.
+/// Returns the head of a bracket with or without items. Takes one step for each item, and one for
+/// each item of an included type. An included abbreviation is visited once, whatever its arguments.
+/// If the tags of an included type were found before, it takes one step for each of these tags. May
+/// append types to `types`, even if it returns `Memory`.
 pub fn bracket_head(
     alloc: Global,
     types: &mut Types,
@@ -74,7 +77,7 @@ pub fn bracket_head(
     Ok(HeadOf::Variants(List::of(listed(alloc, tags)?)))
 }
 
-/// Takes all steps.
+/// Takes all pending steps.
 fn gather_all(
     alloc: Global,
     types: &mut Types,
@@ -113,7 +116,7 @@ fn gather_all(
     Ok(())
 }
 
-/// Takes a step.
+/// Takes one step.
 fn gather(
     alloc: Global,
     types: &mut Types,
@@ -154,7 +157,7 @@ fn gather(
     }
 }
 
-/// Adds the tag of an item, or has what it includes wait.
+/// Adds the tag of an item, or pushes the type that the item includes.
 fn gather_item(
     alloc: Global,
     types: &Types,
@@ -185,8 +188,8 @@ fn gather_item(
     }
 }
 
-/// Has the items of an included type wait, or what it is after replacements at its head, unless its
-/// abbreviation is settled.
+/// Pushes the items of an included type. If an abbreviation is at its head, pushes the type after
+/// expansions at the head instead. If this abbreviation is settled, pushes nothing.
 fn include(
     alloc: Global,
     types: &mut Types,
@@ -231,7 +234,8 @@ fn include(
     }
 }
 
-/// Has a type wait after a replacement, and below it the abbreviation that was replaced.
+/// Pushes the type after an expansion, and below it the step that settles the expanded
+/// abbreviation.
 fn push_next(decl: Option<usize>, next: usize, waiting: &mut Vec<Step>) -> Result<(), Memory>
     ensures left { OnOk result
         ((decls : List Declaration) (types : List Ty) (tags all : List (Tag Ty))
@@ -258,7 +262,7 @@ fn push_next(decl: Option<usize>, next: usize, waiting: &mut Vec<Step>) -> Resul
     }
 }
 
-/// Has the items of an included bracket wait.
+/// Pushes the items of an included bracket.
 fn put_items(types: &Types, bracket: usize, waiting: &mut Vec<Step>) -> Result<(), Memory>
     requires { bracket < length types.now }
     ensures left { OnOk result
@@ -284,7 +288,7 @@ fn put_items(types: &Types, bracket: usize, waiting: &mut Vec<Step>) -> Result<(
     push_items(&t, waiting)
 }
 
-/// Adds a tag, unless its name is there.
+/// Adds a tag, unless a tag with this name exists.
 pub(crate) fn add_tag(
     alloc: Global,
     tags: &mut Tags,
@@ -303,7 +307,7 @@ pub(crate) fn add_tag(
     Ok(())
 }
 
-/// The tags in a list.
+/// Returns the tags as a list.
 fn listed(alloc: Global, tags: Tags) -> Result<Vec<TagOf<usize>>, Memory>
     ensures { IfOk result (λ v. v.items ≡ tags_of_entries tags.entries) }
 {
@@ -317,7 +321,7 @@ fn listed(alloc: Global, tags: Tags) -> Result<Vec<TagOf<usize>>, Memory>
     Ok(found)
 }
 
-/// Whether a bracket is what items are added to.
+/// Returns true if the items of the type are added to a bracket.
 pub(crate) fn has_bracket(t: &Stored<'_>) -> bool
     ensures { result ≡ has_bracket (type_at t.now.types.now t.now.number) }
 {
@@ -332,7 +336,7 @@ pub(crate) fn has_bracket(t: &Stored<'_>) -> bool
     }
 }
 
-/// Has the items of a bracket wait, the first one on top.
+/// Pushes the items of a bracket. The first item is on top.
 fn push_items(t: &Stored<'_>, waiting: &mut Vec<Step>) -> Result<(), Memory>
     ensures left { OnOk result
         ((decls : List Declaration) (tags all : List (Tag Ty))
@@ -355,7 +359,7 @@ fn push_items(t: &Stored<'_>, waiting: &mut Vec<Step>) -> Result<(), Memory>
     Ok(())
 }
 
-/// The bracket before its last item.
+/// Returns the bracket without its last item.
 pub(crate) fn before_item(t: &Stored<'_>) -> Option<usize>
     ensures is { option_map (type_at t.now.types.now) result
         ≡ before_item (type_at t.now.types.now t.now.number) }

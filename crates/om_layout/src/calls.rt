@@ -1,4 +1,4 @@
-//! Shapes, expansions and flat records of types as they are written.
+//! Shapes, expansions and flat float records for types given as trees.
 
 ghost use Rattle.std.specs.Prelude.{◌≡◌, IfOk};
 ghost use Rattle.om_types.specs.Declarations.{IsExpanded};
@@ -16,7 +16,7 @@ use om_types::shape::ShapeOf;
 use om_types::ty::Ty;
 use std::alloc::Global;
 
-/// What the values of a type look like.
+/// Returns the shape of a type, which describes the representation of its values.
 pub fn shape(alloc: Global, decls: &SoundEnvironment<'_>, t: &Ty) -> Result<ShapeOf<Ty>, Memory>
     ensures { IfOk result (λ found. found ≡ shape decls.now t.now) }
 {
@@ -26,7 +26,7 @@ pub fn shape(alloc: Global, decls: &SoundEnvironment<'_>, t: &Ty) -> Result<Shap
     trees_of_shape(alloc, &types, &layout.shape)
 }
 
-/// The type with the abbreviations at its head replaced until none is there.
+/// Returns the type with the abbreviations at its head expanded until none is left.
 pub fn expand(alloc: Global, decls: &SoundEnvironment<'_>, t: &Ty) -> Result<Ty, Memory>
     ensures { IfOk result (IsExpanded decls.now t.now) }
 {
@@ -36,7 +36,7 @@ pub fn expand(alloc: Global, decls: &SoundEnvironment<'_>, t: &Ty) -> Result<Ty,
     types.tree(alloc, end)
 }
 
-/// Whether a declaration is a record that lies flat, as doubles.
+/// Returns true if a declaration is a record whose values are stored as one array of doubles.
 pub fn flat_float(alloc: Global, decls: &SoundEnvironment<'_>, decl: &Decl) -> Result<bool, Memory>
     ensures { IfOk result (λ flat. flat ≡ is_flat_body decls.now decl.now.body) }
 {

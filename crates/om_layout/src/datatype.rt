@@ -1,4 +1,4 @@
-//! The shapes of declared records and variants, by numbers.
+//! Computes the shapes of declared records and variants, by type index.
 
 ghost use Rattle.std.specs.Prelude.{◌≡◌, ◌<◌, length, map, All, IfOk};
 ghost use Rattle.om_types.specs.Shape.{body_shape, is_flat, any_mutable, is_constant, constants_in};
@@ -17,8 +17,8 @@ use om_types::shape::{Constr, ShapeOf};
 use om_types::ty::Ty;
 use std::alloc::Global;
 
-/// The shape of a declared type at these arguments. It may add types at the end, before `Memory`
-/// too.
+/// Returns the shape of a declared type with these arguments. May append types to `types`, even if
+/// it returns `Memory`.
 pub(crate) fn datatype_shape(
     alloc: Global,
     types: &mut Types,
@@ -51,7 +51,7 @@ pub(crate) fn datatype_shape(
     }
 }
 
-/// Whether the declared types of all fields are `float`.
+/// Returns true if the declared types of all fields are `float`.
 pub(crate) fn is_flat(
     alloc: Global,
     types: &mut Types,
@@ -69,7 +69,7 @@ pub(crate) fn is_flat(
     Ok(true)
 }
 
-/// The blocks of the constructors with arguments.
+/// Returns the blocks of the constructors with arguments.
 fn blocks(
     alloc: Global,
     types: &mut Types,
@@ -92,7 +92,7 @@ fn blocks(
     Ok(found)
 }
 
-/// The block of a constructor with arguments.
+/// Returns the block of a constructor, or `None` if it has no arguments.
 fn block_of(
     alloc: Global,
     types: &mut Types,
@@ -125,7 +125,7 @@ fn block_of(
     }
 }
 
-/// The numbers of the types of fields, at these arguments.
+/// Returns the indices of the types of fields, with these arguments for the parameters.
 fn instances_of_fields(
     alloc: Global,
     types: &mut Types,
@@ -148,7 +148,7 @@ fn instances_of_fields(
     Ok(numbers)
 }
 
-/// The numbers of types, at these arguments.
+/// Returns the indices of types, with these arguments for the parameters.
 fn instances(
     alloc: Global,
     types: &mut Types,
@@ -170,14 +170,14 @@ fn instances(
     Ok(numbers)
 }
 
-/// Whether a field can be changed.
+/// Returns true if some field is mutable.
 fn any_mutable(fields: &[Field]) -> bool
     ensures { result ≡ any_mutable fields.now }
 {
     fields.iter().any(|field| field.mutable)
 }
 
-/// How many constructors are constants.
+/// Returns the number of constant constructors.
 fn constants_in(constructors: &[Constructor]) -> u64
     ensures { result ≡ constants_in constructors.now }
 {
@@ -190,7 +190,7 @@ fn constants_in(constructors: &[Constructor]) -> u64
     count
 }
 
-/// Whether a constructor has no arguments.
+/// Returns true if a constructor has no arguments.
 pub(crate) fn is_constant(arguments: &Arguments) -> bool
     ensures { result ≡ is_constant arguments.now }
 {

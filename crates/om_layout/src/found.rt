@@ -14,8 +14,8 @@ use om_model::Memory;
 use om_types::head::{HeadOf, TagOf};
 use std::alloc::Global;
 
-/// The heads of the first of the types with these numbers. Their parts are given by the places of
-/// the parts' numbers among these, or by their numbers.
+/// The heads of the first of the types with the indices `met`. If `by_place` is true, a part of a
+/// head is a position in `met`. Otherwise it is a type index.
 #[derive(Clone, Copy)]
 pub struct Found<'a> {
     pub by_place: bool,
@@ -23,8 +23,9 @@ pub struct Found<'a> {
     pub heads: &'a [HeadOf<usize>],
 }
 
-/// The tags of a type, where its head was found and has at least twice as many as are there so far:
-/// all that are ever added at once are at most twice as many as there are at the end.
+/// Returns the tags of a type if its head was found and has at least twice as many tags as
+/// `so_far`. Because of this condition, all tags added in this way are at most twice the final
+/// number of tags.
 pub(crate) fn found_tags<'a>(
     found: &Found<'a>,
     number: usize,
@@ -44,7 +45,7 @@ pub(crate) fn found_tags<'a>(
     }
 }
 
-/// Adds tags that were found, with the numbers of their arguments.
+/// Adds tags that were found before, with the type indices of their arguments.
 pub(crate) fn add_found(
     alloc: Global,
     tags: &mut Tags,
@@ -66,7 +67,7 @@ pub(crate) fn add_found(
     Ok(())
 }
 
-/// The number of a part, where there is one.
+/// Returns the type index of a part, if there is a part.
 fn number_at(found: &Found<'_>, part: Option<usize>) -> Option<usize>
     requires { IfSome part (IsPlace found.now.by_place found.now.met.now.keys) }
     ensures { result ≡ option_map (part_number found.now.by_place found.now.met.now.keys) part }

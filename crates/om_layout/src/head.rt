@@ -1,4 +1,4 @@
-//! The head of a type, by numbers.
+//! Computes the head of a type, by type index.
 
 ghost use Rattle.std.specs.Prelude.{◌<◌, length, IfOk};
 ghost use Rattle.om_types.specs.Nodes.{type_at};
@@ -18,8 +18,8 @@ use om_store::Types;
 use om_types::head::HeadOf;
 use std::alloc::Global;
 
-/// The head of a type: abbreviations at it are replaced, and the tags of included types stand in
-/// their places. It may add types at the end, before `Memory` too.
+/// Returns the head of a type. Abbreviations at the head are expanded, and included types are
+/// replaced by their tags. May append types to `types`, even if it returns `Memory`.
 pub fn head_of(
     alloc: Global,
     types: &mut Types,
@@ -39,7 +39,7 @@ pub fn head_of(
     head_with(alloc, types, decls, &none, number)
 }
 
-/// The same, where heads were found before.
+/// Returns the head of a type like `head_of`, and uses heads that were found before.
 pub(crate) fn head_with(
     alloc: Global,
     types: &mut Types,

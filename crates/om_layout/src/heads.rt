@@ -1,4 +1,4 @@
-//! Heads of brackets with one item, which are remembered for the types that these include.
+//! Remembers the heads of included types, as found for brackets with one item.
 
 ghost use Rattle.std.specs.Prelude.{◌≡◌, ◌<◌, length, IfOk, OnOk, List};
 ghost use Rattle.om_types.specs.declared.decl.Decl.{Decl as Declaration};
@@ -18,14 +18,14 @@ use om_store::{TypeNode, Types};
 use om_types::head::{HeadOf, TagOf};
 use std::alloc::Global;
 
-/// Heads of types that were included, and the numbers of these types.
+/// Heads of included types, with the indices of these types.
 #[derive(Drop)]
 pub struct Heads {
     met: IndexSet<usize>,
     heads: Vec<HeadOf<usize>>,
 }
 
-/// No heads.
+/// Makes an empty collection of heads.
 pub fn no_heads(alloc: Global) -> Heads
     ensures { (decls : List Declaration) (types : List Ty) → AreHeads decls types result }
 {
@@ -35,8 +35,8 @@ pub fn no_heads(alloc: Global) -> Heads
     }
 }
 
-/// The head of a type, as `head_of` answers it. Where the type is a bracket that includes another
-/// alone, it is remembered as the other one's head.
+/// Returns the head of a type like `head_of`. If the type is a bracket whose only item includes
+/// another type, remembers the head as that of the other type.
 pub fn item_head(
     alloc: Global,
     types: &mut Types,
@@ -60,7 +60,7 @@ pub fn item_head(
     Ok(head)
 }
 
-/// Remembers the head of an item as that of the type that it includes, where it includes one.
+/// Remembers the head of an item as the head of the type that it includes, if it includes one.
 fn keep(
     alloc: Global,
     types: &Types,
@@ -110,7 +110,7 @@ fn remember(
     Ok(())
 }
 
-/// The same tags.
+/// Copies the tags.
 fn copied(alloc: Global, tags: &[TagOf<usize>]) -> Result<Vec<TagOf<usize>>, Memory>
     ensures { IfOk result (λ v. v.items ≡ tags.now) }
 {

@@ -1,4 +1,4 @@
-//! What kind of type a type is, once abbreviations at its head are replaced.
+//! Classifies a type after the abbreviations at its head are expanded.
 
 ghost use Rattle.std.specs.Prelude.{◌≡◌, ◌<◌, ◌↔◌, IsTrue, length, IfOk};
 ghost use Rattle.om_types.specs.Nodes.{type_at};
@@ -20,7 +20,8 @@ use om_types::decl::Predeclared;
 use om_types::ty::Ty;
 use std::alloc::Global;
 
-/// Whether a type is a polymorphic variant. It may add types at the end, before `Memory` too.
+/// Returns true if a type is a polymorphic variant. May append types to `types`, even if it returns
+/// `Memory`.
 pub fn is_polymorphic_variant(
     alloc: Global,
     types: &mut Types,
@@ -37,7 +38,7 @@ pub fn is_polymorphic_variant(
     Ok(has_bracket(&Stored { types, number: at }))
 }
 
-/// Whether a type is `float`. It may add types at the end, before `Memory` too.
+/// Returns true if a type is `float`. May append types to `types`, even if it returns `Memory`.
 pub fn is_float(
     alloc: Global,
     types: &mut Types,
@@ -56,7 +57,7 @@ pub fn is_float(
     }
 }
 
-/// Whether a name is that of `float`.
+/// Returns true if the name is that of `float`.
 fn is_float_name(name: &[u8]) -> bool
     ensures { result ≡ is_float_name name.now }
 {

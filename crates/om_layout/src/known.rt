@@ -1,4 +1,4 @@
-//! Abbreviations that come to one of their arguments, each found once.
+//! Finds the abbreviations that expand to one of their arguments. Each is found once.
 
 ghost use Rattle.std.specs.Prelude.{ℕ, ◌≡◌, ◌<◌, List, Option, Some, None, length, nat_eq};
 ghost use Rattle.std.specs.Prelude.{position, option_map, slice_get, IfOk, IfSome, OnOk, IsTrue};
@@ -21,18 +21,18 @@ use om_store::{TypeNode, Types};
 use om_types::decl::{Body, Decl};
 use std::alloc::Global;
 
-/// What is known of abbreviations, by the numbers of their declarations: the argument that each
-/// comes to, where it comes to one.
+/// What is known of abbreviations, by declaration index: the position of the argument to which the
+/// abbreviation expands, or `None` if none is known.
 pub type Known = IndexMap<usize, Option<usize>>;
 
-/// Nothing is known.
+/// Makes an empty map: nothing is known.
 pub fn none_known(alloc: Global) -> Known
     ensures { (decls : List Declaration) (group : Option ℕ) → AreKnown decls group result }
 {
     IndexMap::new(alloc)
 }
 
-/// The number of the declaration of the abbreviation at the head of a type.
+/// Returns the declaration index of the abbreviation at the head of a type.
 pub(crate) fn abbreviation(t: &Stored<'_>, decls: &SoundEnvironment<'_>) -> Option<usize>
     ensures { IfSome result (IsAbbreviation decls.now (type_at t.now.types.now t.now.number)) }
 {
@@ -44,7 +44,7 @@ pub(crate) fn abbreviation(t: &Stored<'_>, decls: &SoundEnvironment<'_>) -> Opti
     }
 }
 
-/// The argument that an abbreviation is known to come to.
+/// Returns the argument to which an abbreviation is known to expand.
 fn known_argument(known: &Known, decl: usize) -> Option<usize>
     ensures { IfSome result (λ i. get nat_eq known.now decl ≡ Some (Some i)) }
 {
@@ -54,7 +54,7 @@ fn known_argument(known: &Known, decl: usize) -> Option<usize>
     }
 }
 
-/// The part of this number from the left.
+/// Returns part `i` of a type, counted from the left.
 fn part(alloc: Global, t: &Stored<'_>, i: usize) -> Result<Option<usize>, Memory>
     ensures is { IfOk result
         (λ part. option_map (type_at t.now.types.now) part
@@ -65,14 +65,14 @@ fn part(alloc: Global, t: &Stored<'_>, i: usize) -> Result<Option<usize>, Memory
     Ok(nth(parts.as_slice(), i))
 }
 
-/// The number at a place.
+/// Returns the number at an index.
 fn nth(numbers: &[usize], i: usize) -> Option<usize>
     ensures { result ≡ slice_get numbers.now i }
 {
     numbers.get(i).copied()
 }
 
-/// The argument that the abbreviation at the head of a type is known to come to.
+/// Returns the argument to which the abbreviation at the head of a type is known to expand.
 pub(crate) fn known_part(
     alloc: Global,
     t: &Stored<'_>,
@@ -95,7 +95,8 @@ pub(crate) fn known_part(
     }
 }
 
-/// The argument that a type comes to by what is known.
+/// Returns the type that a type reaches if each abbreviation at its head is replaced by its known
+/// argument.
 pub(crate) fn known_end(
     alloc: Global,
     t: &Stored<'_>,
@@ -116,7 +117,7 @@ pub(crate) fn known_end(
     Ok(at)
 }
 
-/// Whether a declaration is of this group, where one is given.
+/// Returns true if there is a group and the declaration belongs to it.
 fn is_of(group: Option<usize>, decl: &Decl) -> bool
     ensures { IsTrue result ↔ IsOf group decl.now }
 {
@@ -126,7 +127,8 @@ fn is_of(group: Option<usize>, decl: &Decl) -> bool
     }
 }
 
-/// The number of the parameter that a type is, unless the declaration is of the group.
+/// Returns the index of the parameter if the type is a parameter of the declaration. Returns `None`
+/// if the declaration belongs to the group.
 fn argument(t: &Stored<'_>, decl: &Decl, group: Option<usize>) -> Option<usize>
     ensures { IfSome result (IsArgument decl.now group (type_at t.now.types.now t.now.number)) }
 {
@@ -139,7 +141,7 @@ fn argument(t: &Stored<'_>, decl: &Decl, group: Option<usize>) -> Option<usize>
     }
 }
 
-/// The place of a parameter.
+/// Returns the index of a parameter.
 fn place(decl: &Decl, name: &[u8]) -> Option<usize>
     ensures { result ≡ position (λ (p : List ℕ). bytes_eq p name.now) decl.now.parameters }
 {
@@ -149,8 +151,8 @@ fn place(decl: &Decl, name: &[u8]) -> Option<usize>
         .position(|parameter| parameter.as_slice() == name)
 }
 
-/// Finds the argument that an abbreviation comes to, or answers another abbreviation that is to be
-/// looked at first.
+/// Finds the argument to which an abbreviation expands. If another abbreviation must be inspected
+/// first, returns that one.
 fn look(
     alloc: Global,
     types: &mut Types,
@@ -188,7 +190,7 @@ fn look(
     Ok(None)
 }
 
-/// The abbreviation, if it was not looked at.
+/// Marks the abbreviation as inspected. Returns it if it was not inspected before.
 fn first_look(known: &mut Known, decl: usize) -> Result<Option<usize>, Memory>
     ensures known { OnOk result
         ((decls : List Declaration) (group : Option ℕ) → decl < length decls
@@ -203,8 +205,9 @@ fn first_look(known: &mut Known, decl: usize) -> Result<Option<usize>, Memory>
     Ok(Some(decl))
 }
 
-/// Finds the argument that an abbreviation comes to, and before it those that the abbreviations at
-/// the head of its type come to. Each is looked at once, and again after each that it waits for.
+/// Finds the argument to which an abbreviation expands. First does so for the abbreviations at the
+/// head of its type. Each abbreviation is inspected once, and again after each one that it depends
+/// on.
 pub(crate) fn look_at(
     alloc: Global,
     types: &mut Types,

@@ -1,4 +1,4 @@
-//! What the values of a type look like, by numbers.
+//! Computes the representation of the values of a type, by type index.
 
 ghost use Rattle.std.specs.Prelude.{◌≡◌, ◌<◌, length, map, All, IfOk};
 ghost use Rattle.om_types.specs.Nodes.{type_at};
@@ -22,14 +22,15 @@ use om_types::head::{HeadOf, TagOf};
 use om_types::shape::{PolyTag, ShapeOf};
 use std::alloc::Global;
 
-/// What a type looks like: its head and its shape, by numbers.
+/// The head and the shape of a type. Their parts are type indices.
 #[derive(Drop)]
 pub struct Layout {
     pub head: HeadOf<usize>,
     pub shape: ShapeOf<usize>,
 }
 
-/// What a type looks like. It may add types at the end, before `Memory` too.
+/// Returns the head and the shape of a type. May append types to `types`, even if it returns
+/// `Memory`.
 pub fn layout_of(
     alloc: Global,
     types: &mut Types,
@@ -49,7 +50,8 @@ pub fn layout_of(
     layout_with(alloc, types, decls, &none, number)
 }
 
-/// The same, where heads were found before.
+/// Returns the head and the shape of a type like `layout_of`, and uses heads that were found
+/// before.
 pub fn layout_with(
     alloc: Global,
     types: &mut Types,
@@ -68,7 +70,7 @@ pub fn layout_with(
     Ok(Layout { head, shape })
 }
 
-/// The shape of a type with this head.
+/// Returns the shape of a type with this head.
 fn shape_at(
     alloc: Global,
     types: &mut Types,
@@ -97,7 +99,7 @@ fn shape_at(
     }
 }
 
-/// The tags by their hashes.
+/// Returns the tags with their hashes instead of their names.
 fn hashed(alloc: Global, tags: &[TagOf<usize>]) -> Result<Vec<PolyTag<usize>>, Memory>
     ensures { IfOk result (λ v. v.items ≡ map hashed tags.now) }
 {

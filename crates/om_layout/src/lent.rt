@@ -1,10 +1,10 @@
-//! A type of a store that is lent.
+//! A type of a borrowed type store.
 
 ghost use Rattle.std.specs.Prelude.{◌<◌, length};
 
 use om_store::Types;
 
-/// A type of a store, by its number.
+/// A type of a store, given by its index.
 #[derive(Clone, Copy)]
 pub struct Stored<'a> {
     pub types: &'a Types,

@@ -1,4 +1,6 @@
-//! What declared types come to: heads, shapes and names, by numbers.
+//! Computes, for types over declarations, their heads, their shapes and the names of their
+//! constructors, fields and tags. Types are stored in a table and referred to by index. The results
+//! equal the definitions `head`, `shape` and `names_of` over the declarations.
 #![tactic(auto)]
 
 mod bracket;

@@ -1,4 +1,4 @@
-//! The names of a type's constructors, fields or tags.
+//! Collects the names of the constructors, fields or tags of a type.
 
 ghost use Rattle.std.specs.Prelude.{◌≡◌, ◌++◌, ◌∷◌, [], List, map, IfOk, OnOk};
 ghost use Rattle.std.specs.List.{filter_map};
@@ -17,7 +17,7 @@ use om_types::head::{HeadOf, TagOf};
 use om_types::names::{ConstrNames, Names, TagName};
 use std::alloc::Global;
 
-/// The names of a type with this head.
+/// Returns the names of a type with this head.
 pub fn names_at(
     alloc: Global,
     decls: &SoundEnvironment<'_>,
@@ -28,7 +28,7 @@ pub fn names_at(
     names_by_head(alloc, decls, at)
 }
 
-/// The names that a head has, whatever its parts.
+/// Returns the names of a head, which do not depend on its parts.
 fn names_by_head(
     alloc: Global,
     decls: &SoundEnvironment<'_>,
@@ -52,7 +52,7 @@ fn names_by_head(
     }
 }
 
-/// No names.
+/// Returns an empty set of names.
 fn no_names(alloc: Global) -> Names
     ensures { result ≡ no_names }
 {
@@ -64,7 +64,7 @@ fn no_names(alloc: Global) -> Names
     }
 }
 
-/// The names of a predeclared type.
+/// Returns the names of a predeclared type.
 fn names_of_predeclared(alloc: Global, base: Predeclared) -> Result<Names, Memory>
     ensures { IfOk result (λ names. names ≡ predeclared_type_names base) }
 {
@@ -86,7 +86,7 @@ fn put_predeclared(alloc: Global, names: &mut Names, base: Predeclared) -> Resul
     }
 }
 
-/// Adds a constant, and a constructor with arguments.
+/// Adds a constant constructor, and a constructor with arguments.
 fn put_both(alloc: Global, names: &mut Names, constant: &[u8], constr: &[u8]) -> Result<(), Memory>
     ensures { OnOk result
         (names.new
@@ -111,7 +111,7 @@ fn put_constr(alloc: Global, names: &mut Names, constr: &[u8]) -> Result<(), Mem
     Ok(())
 }
 
-/// A constructor with arguments and without an inline record.
+/// Returns the names of a constructor with arguments and without an inline record.
 fn plain_constr(alloc: Global, name: &[u8]) -> Result<ConstrNames, Memory>
     ensures { IfOk result (λ names. names ≡ plain_constr name.now) }
 {
@@ -121,7 +121,7 @@ fn plain_constr(alloc: Global, name: &[u8]) -> Result<ConstrNames, Memory>
     })
 }
 
-/// The names of a declaration.
+/// Returns the names of a declaration.
 fn names_of_body(alloc: Global, body: &Body) -> Result<Names, Memory>
     ensures { IfOk result (λ names. names ≡ body_names body.now) }
 {
@@ -138,7 +138,7 @@ fn names_of_body(alloc: Global, body: &Body) -> Result<Names, Memory>
     Ok(names)
 }
 
-/// The names of fields.
+/// Returns the names of fields.
 fn field_names(alloc: Global, fields: &[Field]) -> Result<Vec<List<u8>>, Memory>
     ensures { IfOk result (λ v. v.items ≡ field_names fields.now) }
 {
@@ -149,7 +149,7 @@ fn field_names(alloc: Global, fields: &[Field]) -> Result<Vec<List<u8>>, Memory>
     Ok(names)
 }
 
-/// The names of constant constructors.
+/// Returns the names of the constant constructors.
 fn constant_names(alloc: Global, constructors: &[Constructor]) -> Result<Vec<List<u8>>, Memory>
     ensures { IfOk result (λ v. v.items ≡ filter_map constant_name constructors.now) }
 {
@@ -162,7 +162,7 @@ fn constant_names(alloc: Global, constructors: &[Constructor]) -> Result<Vec<Lis
     Ok(names)
 }
 
-/// The name of a constant constructor.
+/// Returns the name of a constructor if it is constant.
 fn constant_name(alloc: Global, constructor: &Constructor) -> Result<Option<List<u8>>, Memory>
     ensures { IfOk result (λ name. name ≡ constant_name constructor.now) }
 {
@@ -173,7 +173,7 @@ fn constant_name(alloc: Global, constructor: &Constructor) -> Result<Option<List
     }
 }
 
-/// The names of constructors with arguments.
+/// Returns the names of the constructors with arguments.
 fn names_of_constrs(alloc: Global, constructors: &[Constructor]) -> Result<Vec<ConstrNames>, Memory>
     ensures { IfOk result (λ v. v.items ≡ filter_map constr_names constructors.now) }
 {
@@ -186,8 +186,8 @@ fn names_of_constrs(alloc: Global, constructors: &[Constructor]) -> Result<Vec<C
     Ok(names)
 }
 
-/// The name of a constructor with arguments, and those of its fields, where it has an inline
-/// record.
+/// Returns the name of a constructor if it has arguments, and the field names of its inline record
+/// if it has one.
 fn constr_names(alloc: Global, constructor: &Constructor) -> Result<Option<ConstrNames>, Memory>
     ensures { IfOk result (λ names. names ≡ constr_names constructor.now) }
 {
@@ -200,7 +200,7 @@ fn constr_names(alloc: Global, constructor: &Constructor) -> Result<Option<Const
     Ok(Some(ConstrNames { name, fields }))
 }
 
-/// The names of tags with their hashes.
+/// Returns the names of tags with their hashes.
 fn tag_names(alloc: Global, tags: &[TagOf<usize>]) -> Result<Vec<TagName>, Memory>
     ensures { IfOk result (λ v. v.items ≡ map named tags.now) }
 {
@@ -215,7 +215,7 @@ fn tag_names(alloc: Global, tags: &[TagOf<usize>]) -> Result<Vec<TagName>, Memor
     Ok(names)
 }
 
-/// The same bytes.
+/// Copies the bytes.
 fn text(alloc: Global, bytes: &[u8]) -> Result<List<u8>, Memory>
     ensures { IfOk result (λ l. l ≡ bytes.now) }
 {

@@ -1,4 +1,4 @@
-//! The head of a type without a bracket or an abbreviation at it.
+//! Computes the head of a type that has no bracket or abbreviation at its head.
 
 ghost use Rattle.std.specs.Prelude.{◌≡◌, IfOk, MatchOption};
 ghost use Rattle.om_types.specs.Nodes.{type_at};
@@ -14,7 +14,7 @@ use om_store::TypeNode;
 use om_types::head::HeadOf;
 use std::alloc::Global;
 
-/// The head of a type as it is written, unless that is a bracket.
+/// Returns the head of a type as it is written, or `None` if the type is a bracket.
 pub fn plain(alloc: Global, t: &Stored<'_>) -> Result<Option<HeadOf<usize>>, Memory>
     ensures { IfOk result
         (λ h. MatchOption h (IsBracketed (type_at t.now.types.now t.now.number))
@@ -24,7 +24,7 @@ pub fn plain(alloc: Global, t: &Stored<'_>) -> Result<Option<HeadOf<usize>>, Mem
     of_root(alloc, t.types.node(root(t)), found)
 }
 
-/// The head of a type from its root and its parts.
+/// Returns the head of a type from its root and its parts.
 fn of_root(
     alloc: Global,
     root: TypeNode<'_>,
@@ -55,7 +55,7 @@ fn of_root(
     }
 }
 
-/// The same bytes.
+/// Copies the bytes.
 fn copied(alloc: Global, name: &[u8]) -> Result<List<u8>, Memory>
     ensures { IfOk result (λ l. l ≡ name.now) }
 {

@@ -1,4 +1,4 @@
-//! The shapes of predeclared types, by numbers.
+//! Computes the shapes of predeclared types, by type index.
 
 ghost use Rattle.std.specs.Prelude.{◌≡◌, ◌<◌, [], ◌∷◌, false, List, length, map, All, IfOk};
 ghost use Rattle.om_types.specs.Ty.{Ty};
@@ -18,7 +18,8 @@ use om_types::head::HeadOf;
 use om_types::shape::{Constr, ShapeOf};
 use std::alloc::Global;
 
-/// The shape of a predeclared type. It may add types at the end, before `Memory` too.
+/// Returns the shape of a predeclared type. May append types to `types`, even if it returns
+/// `Memory`.
 pub(crate) fn predeclared_shape(
     alloc: Global,
     types: &mut Types,
@@ -39,7 +40,7 @@ pub(crate) fn predeclared_shape(
     }
 }
 
-/// The shape of a predeclared type without arguments.
+/// Returns the shape of a predeclared type without arguments.
 fn alone(base: Predeclared) -> ShapeOf<usize>
     ensures { (decls : List Decl) (types : List Ty)
         → IsShapeAt types (predeclared_shape decls base []) result }
@@ -63,7 +64,7 @@ fn alone(base: Predeclared) -> ShapeOf<usize>
     }
 }
 
-/// The shape of a predeclared type with one argument.
+/// Returns the shape of a predeclared type with one argument.
 fn of_one(
     alloc: Global,
     types: &mut Types,
@@ -88,7 +89,7 @@ fn of_one(
     }
 }
 
-/// The shape of lists of these.
+/// Returns the shape of lists with elements of type `part`.
 fn list_shape(alloc: Global, types: &mut Types, part: usize) -> Result<ShapeOf<usize>, Memory>
     requires { part < length types.old }
     ensures ok { IfOk result
@@ -103,7 +104,7 @@ fn list_shape(alloc: Global, types: &mut Types, part: usize) -> Result<ShapeOf<u
     one_block(alloc, 1, false, vec![in alloc; part, whole]?)
 }
 
-/// So many constants, and one kind of block.
+/// Returns a shape with `constants` constants and one kind of block.
 fn one_block(
     alloc: Global,
     constants: u64,
@@ -118,7 +119,7 @@ fn one_block(
     Ok(ShapeOf::Sum(constants, List::of(blocks)))
 }
 
-/// Arrays of what has this head.
+/// Returns the shape of arrays whose elements have this head.
 fn array_at(at: &HeadOf<usize>, element: usize) -> ShapeOf<usize>
     ensures { result ≡ array_at at.now element }
 {

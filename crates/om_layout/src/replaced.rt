@@ -1,4 +1,4 @@
-//! Abbreviations at the head of a type, replaced.
+//! Expands abbreviations at the head of a type.
 
 ghost use Rattle.std.specs.Prelude.{ℕ, ◌≡◌, ◌<◌, Option, None, length, IfOk, IfSome, OnErr, OnOk};
 ghost use Rattle.std.specs.Prelude.{MatchOption};
@@ -17,8 +17,8 @@ use om_store::Types;
 use om_types::decl::Body;
 use std::alloc::Global;
 
-/// The type after one replacement at its head, where an abbreviation is there. It takes a step for
-/// each node of the abbreviation's type and each part.
+/// Returns the type after one expansion at its head, or `None` if no abbreviation is there. Takes
+/// one step for each node of the type of the abbreviation and for each part.
 pub fn unfolded(
     alloc: Global,
     types: &mut Types,
@@ -52,8 +52,8 @@ pub fn unfolded(
     Ok(Some(next))
 }
 
-/// The type after the replacements that this abbreviation at its head is known to begin, or after
-/// one.
+/// Returns the argument to which the abbreviation at the head is known to expand. If none is known,
+/// returns the type after one expansion.
 fn passed(
     alloc: Global,
     types: &mut Types,
@@ -74,8 +74,8 @@ fn passed(
     }
 }
 
-/// The type after one replacement at its head, where this abbreviation without parameters is. It
-/// takes a step for each node of the abbreviation's type.
+/// Returns the type after one expansion at its head, which is this abbreviation without parameters.
+/// Takes one step for each node of the type of the abbreviation.
 fn bare_unfolded(
     alloc: Global,
     types: &mut Types,
@@ -99,8 +99,8 @@ fn bare_unfolded(
     Ok(Some(next))
 }
 
-/// The type after one or more replacements at its head, where an abbreviation is there. Those after
-/// the first are at no abbreviation of the group.
+/// Returns the type after one or more expansions at its head, or `None` if no abbreviation is
+/// there. Each expansion after the first is of an abbreviation outside the group.
 pub fn nearer(
     alloc: Global,
     types: &mut Types,
@@ -121,8 +121,8 @@ pub fn nearer(
     nearer_from(alloc, types, decls, group, known, number, decl)
 }
 
-/// The same, where the abbreviation at the head was looked for. One without parameters is replaced
-/// once, since it comes to none of its arguments.
+/// Returns the same result as `nearer`, given the abbreviation at the head. An abbreviation without
+/// parameters is expanded once, because it does not expand to an argument.
 pub(crate) fn nearer_from(
     alloc: Global,
     types: &mut Types,
@@ -151,9 +151,10 @@ pub(crate) fn nearer_from(
     passed(alloc, types, decls, known, number)
 }
 
-/// The type after all replacements at its head. An abbreviation that comes to one of its arguments
-/// is passed at one step, so that each other one is replaced once at most before the head is that
-/// of an argument. It may add types at the end, before `Memory` too.
+/// Returns the type after all expansions at its head. An abbreviation that expands to one of its
+/// arguments is skipped in one step. Therefore each other abbreviation is expanded at most once
+/// before the head is that of an argument. May append types to `types`, even if it returns
+/// `Memory`.
 pub fn expanded(
     alloc: Global,
     types: &mut Types,

@@ -1,4 +1,4 @@
-//! Abbreviations whose tags are all there, at any arguments.
+//! Settled abbreviations: all their tags are already gathered, for any arguments.
 
 ghost use Rattle.std.specs.Prelude.{◌<◌, ◌≤◌, ◌+◌, None, List, length, All, IfOk, OnOk, IsTrue};
 ghost use Rattle.om_types.specs.declared.decl.Decl.{Decl as Declaration};
@@ -23,10 +23,11 @@ use om_store::{TypeNode, Types};
 use om_types::decl::Body;
 use std::alloc::Global;
 
-/// Abbreviations, by the numbers of their declarations, whose tags are all there, at any arguments.
+/// Declaration indices of the settled abbreviations. All tags of a settled abbreviation are already
+/// gathered, for any arguments.
 pub(crate) type Settled = IndexSet<usize>;
 
-/// Whether an abbreviation is settled.
+/// Returns true if there is an abbreviation and it is settled.
 pub(crate) fn is_settled(settled: &Settled, decl: Option<usize>) -> bool
     ensures { IsTrue result → (decls : List Declaration) (tags : List (Tag Ty))
         → AreSettled decls tags settled.now.keys → IsSettledAt decls tags decl }
@@ -37,8 +38,9 @@ pub(crate) fn is_settled(settled: &Settled, decl: Option<usize>) -> bool
     }
 }
 
-/// Settles an abbreviation, if all its tags are there at any arguments: where it has no parameters,
-/// they are, since it waited until those of one of its types were gathered.
+/// Settles an abbreviation if all its tags are gathered for any arguments. This holds for an
+/// abbreviation without parameters, because its step comes after the tags of one of its types are
+/// gathered.
 pub(crate) fn settle(
     alloc: Global,
     types: &mut Types,
@@ -63,7 +65,7 @@ pub(crate) fn settle(
     settle_if_there(alloc, types, decls, known, tags, settled, decl)
 }
 
-/// Settles an abbreviation, if all its tags are there at any arguments. It takes a step for each
+/// Settles an abbreviation if all its tags are gathered for any arguments. Takes one step for each
 /// node of its type.
 fn settle_if_there(
     alloc: Global,
@@ -100,7 +102,7 @@ fn settle_if_there(
     Ok(())
 }
 
-/// Whether all tags of a type are there, whatever stands for its variables.
+/// Returns true if all tags of a type are gathered, whatever replaces its variables.
 fn are_there(
     alloc: Global,
     t: &Stored<'_>,
@@ -136,7 +138,8 @@ fn are_there(
     Ok(true)
 }
 
-/// Whether all tags of a type are there, once those of what waits are.
+/// Returns true if all tags of a type are gathered, provided that the tags of the pending types
+/// are.
 fn is_there(
     alloc: Global,
     t: &Stored<'_>,
@@ -171,7 +174,8 @@ fn is_there(
     }
 }
 
-/// Whether all items of a bracket are there, once what waits is. No other type's are.
+/// Returns true if the type is a bracket and all its items are gathered, provided that the tags of
+/// the pending types are.
 fn items_are_there(t: &Stored<'_>, tags: &Tags, waiting: &mut Vec<usize>) -> Result<bool, Memory>
     requires within { All (λ n. n < length t.now.types.now) waiting.old.items }
     ensures there { let there = tags_at t.now.types.now (tags_of_entries tags.now.entries) in
@@ -198,7 +202,8 @@ fn items_are_there(t: &Stored<'_>, tags: &Tags, waiting: &mut Vec<usize>) -> Res
     Ok(has_bracket(&Stored { types, number: at }))
 }
 
-/// Whether the tag of an item is there, or all of what it includes, once what waits is.
+/// Returns true if the tag of an item is gathered. For an included type, pushes that type and
+/// returns true.
 fn item_is_there(
     types: &Types,
     tags: &Tags,

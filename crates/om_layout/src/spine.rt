@@ -10,7 +10,7 @@ use om_model::Memory;
 use om_store::TypeNode;
 use std::alloc::Global;
 
-/// The number of a type without its arguments or components.
+/// Returns the index of the type without its arguments or components.
 pub fn root(t: &Stored<'_>) -> usize
     ensures is { type_at t.now.types.now result ≡ root_of (type_at t.now.types.now t.now.number) }
     ensures below { result ≤ t.now.number }
@@ -22,7 +22,7 @@ pub fn root(t: &Stored<'_>) -> usize
     at
 }
 
-/// The name that the parts of a type are arguments of.
+/// Returns the name whose arguments are the parts of the type.
 pub fn name<'a>(t: &Stored<'a>) -> Option<&'a [u8]>
     ensures { option_copied result ≡ name_of (type_at t.now.types.now t.now.number) }
 {
@@ -36,7 +36,7 @@ pub fn name<'a>(t: &Stored<'a>) -> Option<&'a [u8]>
     }
 }
 
-/// The numbers of the arguments or components.
+/// Returns the indices of the arguments or components.
 pub fn parts(alloc: Global, t: &Stored<'_>) -> Result<Vec<usize>, Memory>
     ensures are { IfOk result
         (λ v. map (type_at t.now.types.now) v.items

@@ -1,4 +1,4 @@
-//! Shapes over types as they are written, from shapes over numbers.
+//! Converts shapes over type indices to shapes over types given as trees.
 
 ghost use Rattle.std.specs.Prelude.{◌≡◌, ◌<◌, length, map, All, IfOk, IfSome};
 ghost use Rattle.om_types.specs.Nodes.{type_at};
@@ -12,7 +12,7 @@ use om_types::shape::{Constr, PolyTag, ShapeOf};
 use om_types::ty::Ty;
 use std::alloc::Global;
 
-/// The shape with the types of its numbers.
+/// Returns the shape with types instead of indices.
 pub(crate) fn trees_of_shape(
     alloc: Global,
     types: &Types,
@@ -53,7 +53,7 @@ pub(crate) fn trees_of_shape(
     }
 }
 
-/// The blocks with the types of their numbers.
+/// Returns the blocks with types instead of indices.
 fn trees_of_blocks(
     alloc: Global,
     types: &Types,
@@ -73,7 +73,7 @@ fn trees_of_blocks(
     Ok(found)
 }
 
-/// The tags with the types of their numbers.
+/// Returns the tags with types instead of indices.
 fn trees_of_tags(
     alloc: Global,
     types: &Types,
@@ -96,7 +96,7 @@ fn trees_of_tags(
     Ok(found)
 }
 
-/// The types of these numbers.
+/// Returns the types with these indices.
 fn trees(alloc: Global, types: &Types, numbers: &[usize]) -> Result<Vec<Ty>, Memory>
     requires { All (λ i. i < length types.now) numbers.now }
     ensures { IfOk result (λ v. v.items ≡ map (type_at types.now) numbers.now) }

@@ -1,4 +1,4 @@
--- An object's text by what kind it is.
+-- The text of an object by its kind.
 use Rattle.std.proofs.Common.{ℕ, ◌≡◌, ◌++◌, sym, ap, subst}
 use Rattle.std.specs.Prelude.{codes}
 use Rattle.std.proofs.lemmas.List.{append-nil}

@@ -1,4 +1,4 @@
--- Bytes that stand for themselves, and those that do not, behind what was put.
+-- Lemmas about appending bytes with and without escapes.
 use Rattle.std.proofs.Common.{true, ℕ, zero, suc, refl, ◌+◌, ◌-◌, ◌<◌, ◌≤◌, ◌≡◌, ◌==◌, ◌∙◌, ⊎_elim, List, [], ◌∷◌, ◌++◌, length, take, drop, get_or, sym, ap, append_assoc, arith, length-drop, get_or-drop}
 use Rattle.std.specs.List.{flat_map, slice_range}
 use Rattle.std.proofs.lemmas.Bool.Decides.{eqb_tells}
@@ -33,7 +33,7 @@ module _ (f : ℕ → List ℕ) (xs old text : List ℕ) (start i : ℕ) (less :
       ∙ ap (λ t. t ++ f (get_or xs i 0)) (is_led ∙ put)
       ∙ next
 
--- bytes each of which stands for itself
+-- Bytes that all need no escape.
 pub all_plain : (f : ℕ → List ℕ) (xs : List ℕ) → ((j : ℕ) → j < length xs → f (get_or xs j 0) ≡ get_or xs j 0 ∷ []) → flat_map f xs ≡ xs
 all_plain f [] plain = refl
 all_plain f (x ∷ xs) plain =

@@ -1,4 +1,4 @@
--- What stands before a part.
+-- The text before a part.
 use Rattle.std.proofs.Common.{ℕ, zero, suc, ◌≡◌, ◌==◌, ⊎_elim, cond, [], ◌++◌, refl, sym, ap, arith}
 use Rattle.std.specs.Prelude.{if◌then◌else◌}
 use Rattle.std.proofs.lemmas.Bool.Decides.{eqb_tells}

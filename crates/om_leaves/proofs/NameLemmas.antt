@@ -1,4 +1,4 @@
--- A name of four to eight bytes is put as its first four bytes and its last four.
+-- A name of four to eight bytes is written as its first four and its last four bytes.
 use Rattle.std.proofs.Common.{ℕ, ◌+◌, ◌-◌, ◌≤◌, ◌≡◌, ◌∙◌, List, [], ◌∷◌, ◌++◌, length, take, get_or, refl, ap, append_assoc, arith}
 use Rattle.std.proofs.Math.Seq.{take-append-add}
 

@@ -1,4 +1,4 @@
--- The bytes of a string, from the words that have them.
+-- The bytes of a string, from its words.
 use Rattle.std.proofs.Common.{ℕ, zero, suc, ◌+◌, ◌-◌, ◌*◌, ◌/◌, ◌%◌, ◌<◌, ◌≤◌, ◌≡◌, ◌∙◌, inl, inr, List, [], ◌∷◌, ◌++◌, length, map, take, drop, get_or, replicate, refl, sym, ap, subst, append_assoc, arith}
 use Rattle.std.proofs.Common.{length-drop, length-take-le, take_all}
 use Rattle.std.specs.Int.{w64, to_le_bytes}
@@ -20,7 +20,7 @@ use Rattle.om_heap.proofs.StringLemmas.{length-padded, padded_bytes, length-stri
 abbrev bytes_in : ℕ → List ℕ
 bytes_in word = to_le_bytes w64 word
 
--- ---- so many of the bytes of words
+-- ---- the first bytes of words
 
 eight : (word : ℕ) → length (bytes_in word) ≡ 8
 eight word = refl
@@ -41,7 +41,7 @@ take_words words len less = by_parts words (len / 8) (len % 8) len less (omega a
       ∙ ap (λ t. bytes_in w ++ t) (by_parts ws j k (8 * j + k) (omega arith) few refl)
       ∙ sym (append_assoc (bytes_in w) (flat_map bytes_in (take j ws)) (take k (bytes_in (get_or ws j 0))))
 
--- ---- back
+-- ---- from bytes to words
 
 word_back : (bytes : List ℕ) → length bytes ≡ 8 → AreBytes bytes → bytes_in (word_of_bytes bytes) ≡ bytes
 unfolding word_of_bytes
@@ -76,7 +76,7 @@ string_back bytes valid =
     ∙ take-append-le (length bytes) bytes ending (omega arith)
     ∙ take_all (length bytes) bytes (omega arith)
 
--- ---- as code reads them
+-- ---- as the code reads them
 
 pub words_put : (f : ℕ → List ℕ) (words : List ℕ) (len j : ℕ) (old start last all : List ℕ) → len / 8 < length words → j ≡ len / 8
     → last ≡ take (len % 8) (bytes_in (get_or words (len / 8) 0)) → start ≡ old ++ flat_map f (flat_map bytes_in (take j words)) → all ≡ start ++ flat_map f last
@@ -89,7 +89,7 @@ words_put f words len j old start last all less whole is_last is_start is_all =
     ∙ append_assoc old (flat_map f front) (flat_map f end)
     ∙ ap (λ t. old ++ t) (sym (flat_map-append f front end) ∙ ap (flat_map f) (sym (take_words words len less)))
 
--- the words of a string, and how many bytes they have
+-- The words of a string, and its length in bytes.
 pub record AreWords (bytes words : List ℕ) (len : ℕ) : Type 0 where
   pub reach : len / 8 < length words
   pub are : take len (flat_map bytes_in words) ≡ bytes

@@ -1,5 +1,5 @@
--- The lines of a graph as it is, whatever its types: one for the root, and one for each object by
--- its number.
+-- The lines of an untyped graph: one for the root, and one for each object in the order of their
+-- numbers.
 use Rattle.std.specs.Prelude.{ℕ, List, ◌++◌, codes, decimal}
 use Rattle.std.specs.List.{flat_map}
 use Rattle.std.specs.Fmt.{signed_decimal}
@@ -14,7 +14,7 @@ use Rattle.om_heap.specs.declared.kind.Kind.TheVariants as kinds
 use Rattle.om_heap.specs.Heap.{fields_of, bytes_of, doubles_of}
 use Rattle.om_leaves.specs.Leaves.{string_text, float_text}
 
--- a reference by the object's number
+-- A reference is printed as the object's number.
 abbrev pub value_text : Val → List ℕ
 value_text (vals.Int z) = signed_decimal z
 value_text (vals.Atom tag) = codes "@" ++ decimal tag
@@ -42,7 +42,7 @@ root_line root = codes "root " ++ value_text root ++ codes "\n"
 abbrev pub object_line : ℕ → Obj → List ℕ
 object_line o object = codes "#" ++ decimal o ++ object_text object ++ codes "\n"
 
--- ---- the same by what kind an object is
+-- ---- the same, by the kind of an object
 
 abbrev pub custom_text : Custom → List ℕ
 custom_text (customs.I32 z) = codes " int32 " ++ signed_decimal z

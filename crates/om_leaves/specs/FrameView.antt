@@ -1,4 +1,4 @@
--- What a frame over lent names stands for.
+-- The frame that a frame over borrowed names represents.
 use Rattle.std.specs.Prelude.{[], ◌++◌, codes}
 use Rattle.om_leaves.specs.Frames.{Frame, named_frame, listed, array_frame}
 use Rattle.om_leaves.specs.declared.frame.Frame.{Frame as Lent}

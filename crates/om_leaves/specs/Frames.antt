@@ -1,5 +1,5 @@
--- What stands around the parts of a value and between them, by the names and the shape of its type;
--- and the texts of values without parts.
+-- The text around and between the parts of a value, by the names and the representation of its
+-- type, and the texts of values without parts.
 use Rattle.std.specs.Prelude.{ℕ, ℤ, pos, negsuc, zero, suc, Bool, List, [], ◌∷◌, ◌++◌, map}
 use Rattle.std.specs.Prelude.{slice_get, find, codes}
 use Rattle.std.specs.Prelude.{Option, Some, None, option_map, unwrap_or}
@@ -17,12 +17,12 @@ use Rattle.om_types.specs.Fitting.{is_number}
 use Rattle.om_leaves.specs.Leaves.{string_text, float_text, below_text, int32_text, int64_text}
 use Rattle.om_leaves.specs.Leaves.{native_text}
 
--- ---- parts in a row
+-- ---- lists of parts
 
--- what stands before the parts, before each of them, between two of them, and after them
+-- The text before the parts, before each of them, between two of them, and after them.
 pub record Frame : Type 0 where
   pub opening : List ℕ
-  -- before part i, where there is one
+  -- The text before part `i`, if there is one.
   pub labels : List (List ℕ)
   pub between : List ℕ
   pub closing : List ℕ
@@ -39,7 +39,8 @@ fields_frame name fields = record {
   closing = codes "}";
 }
 
--- a name alone is that of a tuple's or a constructor's parts; names of fields make a record
+-- Without names of fields, the parts are those of a tuple or of a constructor. With names of
+-- fields, they are those of a record.
 abbrev pub named_frame : List ℕ → List (List ℕ) → Frame
 named_frame name [] = listed name
 named_frame name (field ∷ fields) = fields_frame name (field ∷ fields)
@@ -57,7 +58,7 @@ constr_frame (Some names) = named_frame names.name names.fields
 abbrev pub is_hash : ℤ → TagName → Bool
 is_hash z tag = is_number tag.hash z
 
--- the tag of this hash, with its backquote
+-- The tag with this hash, with its backquote.
 abbrev pub tag_text : Names → ℤ → List ℕ
 tag_text names z =
     codes "`"
@@ -67,12 +68,12 @@ abbrev pub natural : ℤ → ℕ
 natural (pos n) = n
 natural (negsuc n) = 0
 
--- the integer in field 0
+-- The integer in field 0.
 abbrev pub tag_of_values : List Val → ℤ
 tag_of_values (vals.Int z ∷ values) = z
 tag_of_values values = pos 0
 
--- what stands for a value of which nothing is asked
+-- The text of a value at a wildcard type.
 abbrev pub hidden_text : List ℕ
 hidden_text = codes "_"
 
@@ -86,12 +87,12 @@ module _ {T : Type 0} where
   int_text (shapes.Poly tags) names z = tag_text names z
   int_text shape names z = signed_decimal z
 
-  -- a double in one object; in an array of which nothing is asked it is hidden
+  -- A double in an array. In an array of wildcard elements it is hidden.
   abbrev pub double_text : ShapeOf T → ℕ → List ℕ
   double_text (shapes.ArrayOfAnything t) bits = hidden_text
   double_text shape bits = float_text bits
 
-  -- ---- what stands around a block's parts
+  -- ---- the frame of a block
 
   abbrev pub frame_of : ShapeOf T → Names → ℕ → List Val → Frame
   frame_of (shapes.Sum constants blocks) names tag values =
@@ -104,12 +105,12 @@ module _ {T : Type 0} where
   doubles_frame (shapes.FlatFloats mutable n) names = named_frame [] names.fields
   doubles_frame shape names = array_frame
 
--- ---- a row of parts
+-- ---- a list of parts
 
 abbrev pub label_at : Frame → ℕ → List ℕ
 label_at frame i = unwrap_or (slice_get frame.labels i) []
 
--- what stands before part i
+-- The text before part `i`.
 abbrev pub before_part : Frame → ℕ → List ℕ
 before_part frame zero = label_at frame zero
 before_part frame (suc i) = frame.between ++ label_at frame (suc i)
@@ -118,7 +119,7 @@ abbrev pub row_from : Frame → ℕ → List (List ℕ) → List ℕ
 row_from frame i [] = []
 row_from frame i (part ∷ parts) = before_part frame i ++ part ++ row_from frame (suc i) parts
 
--- a row of texts
+-- The text of a list of parts.
 abbrev pub row_text : Frame → List (List ℕ) → List ℕ
 row_text frame parts = frame.opening ++ row_from frame 0 parts ++ frame.closing
 

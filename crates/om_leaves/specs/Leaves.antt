@@ -1,5 +1,5 @@
--- The texts of values that have no parts, as literals of OCaml's reference manual have them. A
--- double is a `$` and the digits of its bits, which is this project's own.
+-- The texts of values that have no parts, as literals of OCaml's reference manual. A double is a
+-- `$` and the digits of its bits, a notation of this project.
 use Rattle.std.specs.Prelude.{ℕ, ℤ, ◌+◌, ◌/◌, ◌%◌, ◌&&◌, ◌||◌, ◌==◌, nat_le, if◌then◌else◌, Option}
 use Rattle.std.specs.Prelude.{Some, None, List, [], ◌∷◌, ◌++◌, codes}
 use Rattle.std.specs.List.{flat_map}
@@ -9,7 +9,7 @@ use Rattle.hex.specs.Hex.{encode_lower}
 
 -- ---- characters: 39 is a quote, 34 a double quote, 92 a backslash
 
--- n, t, b and r stand for line feed, tab, backspace and carriage return
+-- The letters n, t, b and r denote line feed, tab, backspace and carriage return.
 abbrev pub letter_of : ℕ → Option ℕ
 letter_of b =
     if b == 10 then Some 110
@@ -20,8 +20,7 @@ letter_of b =
 abbrev pub three_digits : ℕ → List ℕ
 three_digits b = (48 + b / 100) ∷ (48 + b / 10 % 10) ∷ (48 + b % 10) ∷ []
 
--- a byte that has no letter: as it is where it can be printed, and else a backslash and three
--- digits
+-- A byte without a letter: itself if it is printable, otherwise a backslash and three digits.
 abbrev pub plain_or_digits : ℕ → List ℕ
 plain_or_digits b = if nat_le 32 b && nat_le b 126 then b ∷ [] else 92 ∷ three_digits b
 
@@ -29,7 +28,7 @@ abbrev pub letter_or : ℕ → Option ℕ → List ℕ
 letter_or b None = plain_or_digits b
 letter_or b (Some letter) = 92 ∷ letter ∷ []
 
--- a byte between quotes of this kind
+-- A byte between quotes of this kind.
 abbrev pub escaped : ℕ → ℕ → List ℕ
 escaped quote b = if b == 92 || b == quote then 92 ∷ b ∷ [] else letter_or b (letter_of b)
 
@@ -50,11 +49,11 @@ int64_text z = signed_decimal z ++ codes "L"
 abbrev pub native_text : ℤ → List ℕ
 native_text z = signed_decimal z ++ codes "n"
 
--- sixteen hexadecimal digits in lower case
+-- Sixteen hexadecimal digits in lower case.
 abbrev pub float_text : ℕ → List ℕ
 float_text bits = codes "$" ++ encode_lower (to_be_bytes w64 bits)
 
--- an integer of `unit`, `bool` or `char`, which have 1, 2 and 256 values
+-- A value of `unit`, `bool` or `char`, which have 1, 2 and 256 values.
 abbrev pub below_text : ℕ → ℕ → List ℕ
 below_text many n =
     if many == 1 then codes "()"

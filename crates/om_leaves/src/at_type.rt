@@ -1,4 +1,5 @@
-//! The texts of values without parts, by the shape and the names of their type.
+//! The texts of values without parts, by the representation (`ShapeOf`) and the names of their
+//! type.
 
 ghost use Rattle.std.specs.Prelude.{◌≡◌, ◌<◌, ◌++◌, map, IsTrue, OnOk, unwrap_or, slice_get, []};
 ghost use Rattle.om_types.specs.Fitting.{fits_int, is_below};
@@ -19,7 +20,7 @@ use om_model::list::List;
 use om_types::names::Names;
 use om_types::shape::ShapeOf;
 
-/// Puts an integer that fits the shape.
+/// Appends the text of an integer that matches the type's representation.
 #[inline(always)]
 pub fn put_int_at(
     text: &mut Vec<u8>,
@@ -38,8 +39,8 @@ pub fn put_int_at(
     }
 }
 
-/// Puts an integer below so many. No type has more than 256 of them: one past that has no text, and
-/// is refused.
+/// Appends the text of an integer below `many`. No type has more than 256 such values. A greater
+/// integer has no text and gives an error.
 fn put_int_below(text: &mut Vec<u8>, many: u64, z: i64) -> Result<(), Memory>
     requires { IsTrue (is_below many z) }
     ensures { OnOk result (text.new.items ≡ text.old.items ++ below_text many (natural z)) }
@@ -50,7 +51,7 @@ fn put_int_below(text: &mut Vec<u8>, many: u64, z: i64) -> Result<(), Memory>
     }
 }
 
-/// Puts the name of a constant constructor, if there is one.
+/// Appends the name of a constant constructor, if there is one.
 #[inline(always)]
 fn put_constant(text: &mut Vec<u8>, many: u64, z: i64, constants: &[List<u8>]) -> Result<(), Memory>
     requires { IsTrue (is_below many z) }
@@ -63,7 +64,7 @@ fn put_constant(text: &mut Vec<u8>, many: u64, z: i64, constants: &[List<u8>]) -
     put_name(text, constants[z as usize].as_slice())
 }
 
-/// Puts the tag of this hash.
+/// Appends the tag with this hash.
 fn put_tag(text: &mut Vec<u8>, hash: i64, names: &Names) -> Result<(), Memory>
     ensures { OnOk result (text.new.items ≡ text.old.items ++ tag_text names.now hash) }
 {
@@ -71,7 +72,8 @@ fn put_tag(text: &mut Vec<u8>, hash: i64, names: &Names) -> Result<(), Memory>
     put(text, name_of_tag(names.tags.as_slice(), hash))
 }
 
-/// Puts the object without parts that a reference's word names, and nothing for a block.
+/// Appends the text of the object that a reference's word denotes, if the object has no parts.
+/// Appends nothing for a block.
 #[inline(always)]
 pub fn put_object_at(
     text: &mut Vec<u8>,
@@ -99,7 +101,7 @@ pub fn put_object_at(
     }
 }
 
-/// Puts doubles in a frame.
+/// Appends the text of an array of doubles with its frame.
 fn put_doubles_at(
     text: &mut Vec<u8>,
     doubles: &[u64],
@@ -116,7 +118,7 @@ fn put_doubles_at(
     frame.put_closing(text)
 }
 
-/// Puts the doubles, and what stands before each.
+/// Appends the doubles, each with the text before it.
 fn put_double_parts(
     text: &mut Vec<u8>,
     doubles: &[u64],
@@ -135,7 +137,7 @@ fn put_double_parts(
     Ok(())
 }
 
-/// Puts a double of an object, which is hidden in an array of which nothing is asked.
+/// Appends a double of an array. In an array of wildcard elements, appends `_`.
 fn put_double(text: &mut Vec<u8>, shape: &ShapeOf<usize>, bits: u64) -> Result<(), Memory>
     ensures { OnOk result (text.new.items ≡ text.old.items ++ double_text shape.now bits) }
 {
@@ -145,7 +147,7 @@ fn put_double(text: &mut Vec<u8>, shape: &ShapeOf<usize>, bits: u64) -> Result<(
     }
 }
 
-/// Puts a custom, which has one text at each type.
+/// Appends the text of a custom block, which is the same at each type.
 fn put_custom_at(
     text: &mut Vec<u8>,
     custom: Custom,

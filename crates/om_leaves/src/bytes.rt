@@ -1,10 +1,10 @@
-//! Bytes at the end of a text.
+//! Appends bytes to a text.
 
 ghost use Rattle.std.specs.Prelude.{◌≡◌, ◌+◌, ◌≤◌, ◌++◌, length, OnOk, vec_len, vec_capacity};
 
 use om_model::Memory;
 
-/// Puts bytes.
+/// Appends bytes.
 #[inline(always)]
 pub fn put(text: &mut Vec<u8>, bytes: &[u8]) -> Result<(), Memory>
     ensures { OnOk result (text.new.items ≡ text.old.items ++ bytes.now) }
@@ -12,7 +12,7 @@ pub fn put(text: &mut Vec<u8>, bytes: &[u8]) -> Result<(), Memory>
     Ok(text.extend_from_slice(bytes)?)
 }
 
-/// Puts a few bytes for which there is room, one by one.
+/// Appends a few bytes one by one. The memory must be reserved.
 #[inline(always)]
 pub fn put_reserved(text: &mut Vec<u8>, bytes: &[u8])
     requires { vec_len text.old + length bytes.now ≤ vec_capacity text.old }
@@ -25,8 +25,8 @@ pub fn put_reserved(text: &mut Vec<u8>, bytes: &[u8])
     }
 }
 
-/// Puts a name for which there is room. One of four to eight bytes is put as its first four and its
-/// last four.
+/// Appends a name. The memory must be reserved. A name of four to eight bytes is written as its
+/// first four and its last four bytes.
 #[inline(always)]
 pub fn put_name_reserved(text: &mut Vec<u8>, name: &[u8])
     requires { vec_len text.old + length name.now ≤ vec_capacity text.old }
@@ -48,7 +48,7 @@ pub fn put_name_reserved(text: &mut Vec<u8>, name: &[u8])
     );
 }
 
-/// Puts a name.
+/// Appends a name.
 #[inline(always)]
 pub fn put_name(text: &mut Vec<u8>, name: &[u8]) -> Result<(), Memory>
     ensures { OnOk result (text.new.items ≡ text.old.items ++ name.now) }
@@ -58,7 +58,7 @@ pub fn put_name(text: &mut Vec<u8>, name: &[u8]) -> Result<(), Memory>
     Ok(())
 }
 
-/// Puts a few bytes, one by one.
+/// Appends a few bytes one by one.
 #[inline(always)]
 pub fn put_few(text: &mut Vec<u8>, bytes: &[u8]) -> Result<(), Memory>
     ensures { OnOk result (text.new.items ≡ text.old.items ++ bytes.now) }

@@ -1,4 +1,4 @@
-//! The lines of a graph as it is, whatever its types.
+//! The lines of an untyped graph.
 
 ghost use Rattle.std.specs.Prelude.{◌≡◌, ◌++◌, length, OnOk, decimal};
 ghost use Rattle.std.specs.List.{flat_map};
@@ -15,7 +15,7 @@ use om_model::Memory;
 use om_model::code::Custom;
 use om_model::value::Val;
 
-/// Puts the line of the root.
+/// Appends the line of the root.
 pub fn put_root_line(text: &mut Vec<u8>, root: Val) -> Result<(), Memory>
     ensures { OnOk result (text.new.items ≡ text.old.items ++ root_line root) }
 {
@@ -24,7 +24,7 @@ pub fn put_root_line(text: &mut Vec<u8>, root: Val) -> Result<(), Memory>
     put(text, b"\n")
 }
 
-/// Puts the line of an object.
+/// Appends the line of an object.
 #[tactic(auto, using(crate::proofs::DumpLemmas::text_by_kind))]
 pub fn put_object_line(text: &mut Vec<u8>, placed: &Placed<'_>) -> Result<(), Memory>
     ensures { OnOk result
@@ -38,7 +38,7 @@ pub fn put_object_line(text: &mut Vec<u8>, placed: &Placed<'_>) -> Result<(), Me
     put(text, b"\n")
 }
 
-/// Puts an object of this kind.
+/// Appends the description of an object of this kind.
 fn put_object(text: &mut Vec<u8>, placed: &Placed<'_>, kind: Kind) -> Result<(), Memory>
     requires kind { IsOfKind kind (object_at placed.now.heap.now placed.now.object) }
     ensures { OnOk result
@@ -137,7 +137,7 @@ fn put_spaced_float(text: &mut Vec<u8>, bits: u64) -> Result<(), Memory>
     put_float(text, bits)
 }
 
-/// Puts a value, a reference by the object's number.
+/// Appends a value. A reference is printed as the object's number.
 fn put_value(text: &mut Vec<u8>, v: Val) -> Result<(), Memory>
     ensures { OnOk result (text.new.items ≡ text.old.items ++ value_text v) }
 {

@@ -1,4 +1,4 @@
-//! Characters and strings.
+//! The texts of characters and strings.
 
 ghost use Rattle.std.specs.Prelude.{◌≡◌, ◌≤◌, ◌∷◌, [], ◌++◌, take, OnOk};
 ghost use Rattle.std.specs.Bool.{OnTrue};
@@ -8,7 +8,7 @@ ghost use Rattle.om_leaves.specs.Leaves.{letter_of, escaped, char_text, string_t
 use crate::bytes::{put, put_reserved};
 use om_model::Memory;
 
-/// The letter that stands for a byte after a backslash.
+/// Returns the letter that denotes a byte after a backslash (OCaml's lexer, `lexer.mll`).
 fn letter_of(byte: u8) -> Option<u8>
     ensures { result ≡ letter_of byte }
 {
@@ -21,7 +21,7 @@ fn letter_of(byte: u8) -> Option<u8>
     }
 }
 
-/// Puts one byte between quotes of this kind.
+/// Appends one byte as it is written between quotes of this kind.
 #[inline(never)]
 fn put_byte(text: &mut Vec<u8>, quote: u8, byte: u8) -> Result<(), Memory>
     ensures { OnOk result (text.new.items ≡ text.old.items ++ escaped quote byte) }
@@ -46,7 +46,7 @@ fn put_byte(text: &mut Vec<u8>, quote: u8, byte: u8) -> Result<(), Memory>
     )
 }
 
-/// Whether a byte stands for itself between quotes of this kind.
+/// Returns true if a byte needs no escape between quotes of this kind.
 #[inline(always)]
 fn is_plain(quote: u8, byte: u8) -> bool
     ensures { OnTrue result (escaped quote byte ≡ byte ∷ []) }
@@ -54,8 +54,8 @@ fn is_plain(quote: u8, byte: u8) -> bool
     32 <= byte && byte <= 126 && byte != b'\\' && byte != quote
 }
 
-/// Puts bytes as they stand between quotes of this kind: those that stand for themselves, run by
-/// run.
+/// Appends bytes as they are written between quotes of this kind. Runs of bytes without escapes are
+/// copied at once.
 #[inline(never)]
 pub fn put_escaped(text: &mut Vec<u8>, quote: u8, bytes: &[u8]) -> Result<(), Memory>
     ensures { OnOk result (text.new.items ≡ text.old.items ++ flat_map (escaped quote) bytes.now) }
@@ -72,7 +72,7 @@ pub fn put_escaped(text: &mut Vec<u8>, quote: u8, bytes: &[u8]) -> Result<(), Me
     put(text, &bytes[start..])
 }
 
-// For each byte 0 if it stands for itself in a string, and else 1.
+// For each byte: 0 if it needs no escape in a string, otherwise 1.
 static OTHERS: [u8; 256] = [
     1, 1, 1, 1, 1, 1, 1, 1, 1, 1, 1, 1, 1, 1, 1, 1, 1, 1, 1, 1, 1, 1, 1, 1, 1, 1, 1, 1, 1, 1, 1, 1,
     0, 0, 1, 0, 0, 0, 0, 0, 0, 0, 0, 0, 0, 0, 0, 0, 0, 0, 0, 0, 0, 0, 0, 0, 0, 0, 0, 0, 0, 0, 0, 0,
@@ -84,7 +84,7 @@ static OTHERS: [u8; 256] = [
     1, 1, 1, 1, 1, 1, 1, 1, 1, 1, 1, 1, 1, 1, 1, 1, 1, 1, 1, 1, 1, 1, 1, 1, 1, 1, 1, 1, 1, 1, 1, 1,
 ];
 
-/// 0 for a byte that stands for itself in a string, and 1 for others.
+/// Returns 0 if a byte needs no escape in a string, otherwise 1.
 #[inline(always)]
 fn other(byte: u8) -> u8
     ensures one { result ≤ 1 }
@@ -93,8 +93,8 @@ fn other(byte: u8) -> u8
     OTHERS[usize::from(byte)]
 }
 
-/// Whether each of the first k bytes of a word stands for itself in a string. All bytes are looked
-/// at, so that no branch is on k.
+/// Returns true if none of the first `k` bytes of a word needs an escape in a string. Always
+/// inspects all bytes, so that no branch depends on `k`.
 #[inline(always)]
 fn are_plain(bytes: &[u8; 8], k: usize) -> bool
     requires { k ≤ 8 }
@@ -108,7 +108,8 @@ fn are_plain(bytes: &[u8; 8], k: usize) -> bool
     others == 0
 }
 
-/// Puts the first k bytes of a word as they stand in a string: at once, if each stands for itself.
+/// Appends the first `k` bytes of a word as they are written in a string. If none needs an escape,
+/// copies them at once.
 #[inline(always)]
 pub fn put_word(text: &mut Vec<u8>, bytes: &[u8; 8], k: usize) -> Result<(), Memory>
     requires { k ≤ 8 }
@@ -125,7 +126,7 @@ pub fn put_word(text: &mut Vec<u8>, bytes: &[u8; 8], k: usize) -> Result<(), Mem
     Ok(())
 }
 
-/// Puts a character.
+/// Appends a character literal.
 pub fn put_char(text: &mut Vec<u8>, byte: u8) -> Result<(), Memory>
     ensures { OnOk result (text.new.items ≡ text.old.items ++ char_text byte) }
 {
@@ -134,7 +135,7 @@ pub fn put_char(text: &mut Vec<u8>, byte: u8) -> Result<(), Memory>
     put(text, b"'")
 }
 
-/// Puts a string.
+/// Appends a string literal.
 pub fn put_string(text: &mut Vec<u8>, bytes: &[u8]) -> Result<(), Memory>
     ensures { OnOk result (text.new.items ≡ text.old.items ++ string_text bytes.now) }
 {

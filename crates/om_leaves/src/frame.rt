@@ -1,4 +1,4 @@
-//! What stands around the parts of a value and between them, over lent names.
+//! The text around and between the parts of a value, over borrowed names.
 
 ghost use Rattle.std.specs.Prelude.{ℕ, List, ◌≡◌, ◌++◌, OnOk, find, option_map};
 ghost use Rattle.std.specs.Prelude.{unwrap_or, slice_get, [], ◌∷◌, ◌==◌, if◌then◌else◌, codes};
@@ -17,12 +17,12 @@ use om_model::value::Val;
 use om_types::names::{ConstrNames, Names, TagName};
 use om_types::shape::ShapeOf;
 
-/// What stands before, between and after parts.
+/// The text before, between and after the parts of a value.
 #[derive(Clone, Copy)]
 pub enum Frame<'a> {
-    /// A constructor's name, and the names of its fields, where they have names.
+    /// A constructor's name, and the names of its fields if they have names.
     Constructor(&'a ConstrNames),
-    /// The names of the fields, where they have names.
+    /// The names of the fields, if they have names.
     Fields(&'a [List<u8>]),
     /// A tag's name without its backquote.
     Tagged(&'a [u8]),
@@ -30,7 +30,7 @@ pub enum Frame<'a> {
 }
 
 impl<'a> Frame<'a> {
-    /// Puts what stands before the parts.
+    /// Appends the text before the parts.
     #[inline(always)]
     pub fn put_opening(&self, text: &mut Vec<u8>) -> Result<(), Memory>
         ensures { OnOk result (text.new.items ≡ text.old.items ++ (frame_in self.now).opening) }
@@ -51,7 +51,7 @@ impl<'a> Frame<'a> {
         }
     }
 
-    /// Puts what stands before part i: what stands between parts, and a label.
+    /// Appends the text before part `i`: the separator, and a label.
     #[inline(always)]
     #[tactic(auto, using(crate::proofs::FrameLemmas::before_is))]
     pub fn put_before(&self, text: &mut Vec<u8>, i: u64) -> Result<(), Memory>
@@ -66,7 +66,7 @@ impl<'a> Frame<'a> {
         }
     }
 
-    /// Puts what stands after the parts.
+    /// Appends the text after the parts.
     #[inline(always)]
     pub fn put_closing(&self, text: &mut Vec<u8>) -> Result<(), Memory>
         ensures { OnOk result (text.new.items ≡ text.old.items ++ (frame_in self.now).closing) }
@@ -80,7 +80,7 @@ impl<'a> Frame<'a> {
     }
 }
 
-/// The byte before fields of these names.
+/// Returns the byte before fields with these names.
 #[inline(always)]
 fn opening(fields: &[List<u8>]) -> u8
     ensures { (name : List ℕ) → (named_frame name fields.now).opening ≡ name ++ result ∷ [] }
@@ -88,7 +88,7 @@ fn opening(fields: &[List<u8>]) -> u8
     if fields.is_empty() { b'(' } else { b'{' }
 }
 
-/// The byte after fields of these names.
+/// Returns the byte after fields with these names.
 #[inline(always)]
 fn closing(fields: &[List<u8>]) -> u8
     ensures { (name : List ℕ) → (named_frame name fields.now).closing ≡ result ∷ [] }
@@ -96,7 +96,7 @@ fn closing(fields: &[List<u8>]) -> u8
     if fields.is_empty() { b')' } else { b'}' }
 }
 
-/// Puts a name and one byte after it.
+/// Appends a name and one byte after it.
 #[inline(always)]
 fn put_ended(text: &mut Vec<u8>, name: &[u8], end: u8) -> Result<(), Memory>
     ensures { OnOk result (text.new.items ≡ text.old.items ++ (name.now ++ end ∷ [])) }
@@ -107,7 +107,7 @@ fn put_ended(text: &mut Vec<u8>, name: &[u8], end: u8) -> Result<(), Memory>
     Ok(())
 }
 
-/// Puts what stands between two parts, before part i.
+/// Appends the separator before part `i`. The first part has none.
 #[inline(always)]
 fn put_between(text: &mut Vec<u8>, between: &[u8], i: u64) -> Result<(), Memory>
     ensures { OnOk result
@@ -119,7 +119,7 @@ fn put_between(text: &mut Vec<u8>, between: &[u8], i: u64) -> Result<(), Memory>
     put_few(text, between)
 }
 
-/// Puts what stands before field i, if these are the names of the fields.
+/// Appends the text before field `i`, given the names of the fields.
 #[inline(always)]
 #[tactic(auto, using(crate::proofs::FrameLemmas::before_is))]
 fn put_before_field(text: &mut Vec<u8>, fields: &[List<u8>], i: u64) -> Result<(), Memory>
@@ -137,7 +137,7 @@ fn put_before_field(text: &mut Vec<u8>, fields: &[List<u8>], i: u64) -> Result<(
     put_field_name(text, fields[i as usize].as_slice(), i)
 }
 
-/// Puts the name of field i, after what stands between two fields.
+/// Appends the separator and the name of field `i`.
 #[inline(always)]
 fn put_field_name(text: &mut Vec<u8>, name: &[u8], i: u64) -> Result<(), Memory>
     ensures { OnOk result
@@ -146,7 +146,7 @@ fn put_field_name(text: &mut Vec<u8>, name: &[u8], i: u64) -> Result<(), Memory>
         ++ ((if i == 0 then [] else codes "; ") ++ (name.now ++ codes " = "))) }
 {
     text.reserve(name.len() + 5)?;
-    // A name of one byte takes no loop, and the length of the text is changed once.
+    // A name of one byte needs no loop, and the length of the text changes only once.
     if name.len() == 1 {
         if i > 0 {
             put_reserved(text, &[b';', b' ', name[0], b' ', b'=', b' ']);
@@ -163,7 +163,7 @@ fn put_field_name(text: &mut Vec<u8>, name: &[u8], i: u64) -> Result<(), Memory>
     Ok(())
 }
 
-/// What stands around an object, which is a block of this tag.
+/// Returns the frame of an object that is a block with this tag.
 #[inline(always)]
 pub fn block_frame<'a>(
     placed: &Placed<'_>,
@@ -185,7 +185,7 @@ pub fn block_frame<'a>(
     }
 }
 
-/// What stands around the parts of a constructor, by the tag of its block.
+/// Returns the frame of a constructor, given the tag of its block.
 #[inline(always)]
 fn constructor_frame(constructors: &[ConstrNames], tag: u8) -> Frame<'_>
     ensures { frame_in result ≡ constr_frame (slice_get constructors.now tag) }
@@ -196,7 +196,7 @@ fn constructor_frame(constructors: &[ConstrNames], tag: u8) -> Frame<'_>
     Frame::Constructor(&constructors[tag as usize])
 }
 
-/// The name of the tag of this hash, if there is one.
+/// Returns the name of the tag with this hash, or an empty name if there is none.
 pub fn name_of_tag(tags: &[TagName], hash: i64) -> &[u8]
     ensures { result.now
         ≡ unwrap_or (option_map (λ (tag : TagName). tag.name) (find (is_hash hash) tags.now)) [] }
@@ -207,7 +207,7 @@ pub fn name_of_tag(tags: &[TagName], hash: i64) -> &[u8]
     }
 }
 
-/// The integer in field 0 of a block, and 0 where there is none.
+/// Returns the integer in field 0 of a block, or 0 if there is none.
 fn first_int(placed: &Placed<'_>) -> i64
     ensures { result
         ≡ tag_of_values (fields_of (object_at placed.now.heap.now placed.now.object)) }
@@ -223,7 +223,7 @@ fn first_int(placed: &Placed<'_>) -> i64
     }
 }
 
-/// What stands around an array of doubles.
+/// Returns the frame of an array of doubles.
 pub fn doubles_frame_of<'a>(shape: &ShapeOf<usize>, names: &'a Names) -> Frame<'a>
     ensures { frame_in result ≡ doubles_frame shape.now names.now }
 {

@@ -1,4 +1,4 @@
-//! Numbers.
+//! The texts of numbers.
 
 ghost use Rattle.std.specs.Prelude.{◌≡◌, ◌≤◌, ◌<◌, ◌++◌, ◌+◌, OnOk, decimal, vec_len, vec_capacity};
 ghost use Rattle.std.specs.Fmt.{signed_decimal};
@@ -10,7 +10,7 @@ use crate::escape::put_char;
 use itoa::Buffer;
 use om_model::Memory;
 
-/// Puts an integer.
+/// Appends an integer in decimal.
 #[inline(always)]
 pub fn put_int(text: &mut Vec<u8>, n: i64) -> Result<(), Memory>
     ensures { OnOk result (text.new.items ≡ text.old.items ++ signed_decimal n) }
@@ -27,7 +27,7 @@ pub fn put_int(text: &mut Vec<u8>, n: i64) -> Result<(), Memory>
     put_long_int(text, n)
 }
 
-/// Puts an integer of any number of digits.
+/// Appends an integer of any length in decimal.
 #[inline(never)]
 fn put_long_int(text: &mut Vec<u8>, n: i64) -> Result<(), Memory>
     ensures { OnOk result (text.new.items ≡ text.old.items ++ signed_decimal n) }
@@ -35,7 +35,7 @@ fn put_long_int(text: &mut Vec<u8>, n: i64) -> Result<(), Memory>
     put(text, Buffer::new().format(n).as_bytes())
 }
 
-/// Puts the digits of a number that has at most eight, for which there is room.
+/// Appends a number of at most eight digits in decimal. Eight bytes must be reserved.
 fn put_eight(text: &mut Vec<u8>, n: u64)
     requires few { n < 100000000 }
     requires room { vec_len text.old + 8 ≤ vec_capacity text.old }
@@ -157,7 +157,7 @@ fn put_digit(text: &mut Vec<u8>, n: u64)
     text.push_reserved(b'0' + n as u8);
 }
 
-/// Puts an integer of 32 bits.
+/// Appends an `int32` literal.
 pub fn put_int32(text: &mut Vec<u8>, n: i32) -> Result<(), Memory>
     ensures { OnOk result (text.new.items ≡ text.old.items ++ int32_text n) }
 {
@@ -165,7 +165,7 @@ pub fn put_int32(text: &mut Vec<u8>, n: i32) -> Result<(), Memory>
     put(text, b"l")
 }
 
-/// Puts an integer of 64 bits.
+/// Appends an `int64` literal.
 pub fn put_int64(text: &mut Vec<u8>, n: i64) -> Result<(), Memory>
     ensures { OnOk result (text.new.items ≡ text.old.items ++ int64_text n) }
 {
@@ -173,7 +173,7 @@ pub fn put_int64(text: &mut Vec<u8>, n: i64) -> Result<(), Memory>
     put(text, b"L")
 }
 
-/// Puts a native integer.
+/// Appends a `nativeint` literal.
 pub fn put_native(text: &mut Vec<u8>, n: i64) -> Result<(), Memory>
     ensures { OnOk result (text.new.items ≡ text.old.items ++ native_text n) }
 {
@@ -181,7 +181,7 @@ pub fn put_native(text: &mut Vec<u8>, n: i64) -> Result<(), Memory>
     put(text, b"n")
 }
 
-/// Puts a double.
+/// Appends a double as `$` and the hexadecimal digits of its bits.
 pub fn put_float(text: &mut Vec<u8>, bits: u64) -> Result<(), Memory>
     ensures { OnOk result (text.new.items ≡ text.old.items ++ float_text bits) }
 {
@@ -191,7 +191,7 @@ pub fn put_float(text: &mut Vec<u8>, bits: u64) -> Result<(), Memory>
     put_few(text, &digits)
 }
 
-/// Puts a value of `char`, `bool` or `unit`, of which there are so many.
+/// Appends a value of `unit`, `bool` or `char`, given the number of values of the type.
 pub fn put_below(text: &mut Vec<u8>, many: u64, value: u8) -> Result<(), Memory>
     ensures { OnOk result (text.new.items ≡ text.old.items ++ below_text many value) }
 {

@@ -1,5 +1,6 @@
-//! Values as text: those that have no parts, what stands around and between parts, and the lines of
-//! a graph as it is.
+//! Prints values that have no parts, the text around and between the parts of other values, and the
+//! lines of an untyped graph. The contracts state each appended text exactly. The order in which
+//! parts are printed, and labels of shared objects, are not part of this crate.
 #![tactic(auto)]
 
 mod at_type;

@@ -1,4 +1,4 @@
-//! Bytes that words have, as a string.
+//! Strings from 64-bit words.
 
 ghost use Rattle.std.specs.Prelude.{◌≡◌, ◌/◌, ◌<◌, ◌++◌, length, take, OnOk};
 ghost use Rattle.std.specs.Int.{w64, to_le_bytes};
@@ -8,7 +8,8 @@ ghost use Rattle.om_leaves.specs.Leaves.{escaped, string_text};
 use crate::escape::put_word;
 use om_model::Memory;
 
-/// Puts so many bytes of these words, the least significant of each first, as a string.
+/// Appends the first `len` bytes of these words as a string literal. The least significant byte of
+/// each word comes first.
 #[inline(always)]
 pub fn put_string_of(text: &mut Vec<u8>, words: &[u64], len: usize) -> Result<(), Memory>
     requires { len / 8 < length words.now }
@@ -21,7 +22,7 @@ pub fn put_string_of(text: &mut Vec<u8>, words: &[u64], len: usize) -> Result<()
     Ok(text.push(b'"')?)
 }
 
-/// Puts the bytes as they stand in a string.
+/// Appends the bytes as they are written in a string.
 #[inline(always)]
 fn put_words(text: &mut Vec<u8>, words: &[u64], len: usize) -> Result<(), Memory>
     requires { len / 8 < length words.now }

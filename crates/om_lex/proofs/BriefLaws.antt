@@ -1,4 +1,4 @@
--- Steps in brief are steps.
+-- The brief steps agree with the full steps.
 use Rattle.std.proofs.Common.{◌≡◌, ℕ, ◌+◌, ◌≤◌, Bool, true, false, ◌&&◌, cond, eqb, List, [], ◌∷◌, ◌++◌, length, get_or, ◌<◌, take, drop, Option, Some, None, Ok, Err, Result, refl, sym, ap, subst, ◌∙◌, arith, inl, inr}
 use Rattle.std.specs.List.{take_while, prefix_len}
 use Rattle.std.proofs.lemmas.Bool.{eqb-true, cases_Bool}
@@ -149,7 +149,7 @@ unfolding step_at lexeme_at form_at symbol_form pair_at pair_symbol single_symbo
 close_step [] = refl
 close_step (b ∷ bs) = refl
 
--- a byte that is one of them, or none
+-- The byte is the one tested, or one of the others.
 one_symbol : (b k : ℕ) (bs : List ℕ) (s j : Symbol) (others : Option Symbol) → step_at (k ∷ bs) ≡ symbol_step j → cond (eqb b k) (Some j) others ≡ Some s
     → (others ≡ Some s → step_at (b ∷ bs) ≡ symbol_step s) → step_at (b ∷ bs) ≡ symbol_step s
 one_symbol b k bs s j others known e next =
@@ -184,9 +184,9 @@ steps_whole (Ok (Gap n)) e is = is
 steps_whole (Ok (Word w)) e is = subst (StepsBrief (Ok (Word w))) (sym is) (refl, inl refl)
 steps_whole (Err f) e is = is
 
--- ---- what was found
+-- ---- found lexemes
 
--- the lexeme that stands there
+-- The whole lexeme at that position.
 pub record Full (w : Found) (e : Result Step LexFault) : Type 0 where
   pub full : Found
   pub is : e ≡ Ok (Word full)

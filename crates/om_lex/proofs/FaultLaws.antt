@@ -1,4 +1,5 @@
--- The fault that is found is the one of the grammar, and what is found is a part or a fault of the grammar.
+-- The lexer finds the fault of the grammar, and whatever it finds is a part or a fault of the
+-- grammar.
 use Rattle.std.proofs.Common.{◌≡◌, ◌≢◌, ℕ, suc, ◌+◌, ◌≤◌, false, ◌&&◌, eqb, List, [], ◌∷◌, ◌++◌, length, drop, Option, Some, None, Result, Ok, Err, refl, sym, ap, subst, ◌∙◌, arith, inl, inr, length-append}
 use Rattle.std.specs.List.{flat_map, AllByRecursion}
 use Rattle.std.proofs.lemmas.Bool.{eqb-true, eqb-false, cases_Bool}
@@ -16,11 +17,11 @@ use Rattle.om_lex.proofs.TakenLaws.{taken-found, none-found, found-none}
 use Rattle.om_lex.proofs.InsideLaws.{closing-inside, inside-closing}
 use Rattle.om_lex.proofs.StepLaws.{part_step, comment_test, no_comment_test, no_comment, comment_regrouped, string_form-at, lexeme-some, lexeme-none, step-lexeme, step-taken, is-in_range, is-too_big, too_big-is}
 
--- the step that is found is this fault, seen from a place
+-- The step yields this fault, with its position counted from `place`.
 abbrev pub StepsTo : ℕ → List ℕ → LexFault → Type 0
 StepsTo place text fault = (found : LexFault) × (step_at text ≡ Err found) × (moved place found ≡ fault)
 
--- ---- the grammar's fault is found
+-- ---- the lexer finds the fault of the grammar
 
 none-is : (text : List ℕ) → StartsNoChar text → char_at 34 text ≡ None
 none-is text free = by_char (char_at 34 text) refl
@@ -29,7 +30,7 @@ none-is text free = by_char (char_at 34 text) refl
     by_char None e = refl
     by_char (Some c) e = let is = char_at-is 34 text c e in absurd (free c (drop (length (char_bytes c)) text) is.0 (sym is.1))
 
--- what is read of a string that stops at the rest
+-- The step at a string that ends at the rest.
 step-string : (text rest : List ℕ) (opens : OpensString text rest) → char_at 34 rest ≡ None → step_at text ≡ word_of (ended_string opens.0 rest)
 unfolding step_at lexeme_at string_at
 step-string text rest opens none =
@@ -75,7 +76,7 @@ step-breaks place text (faults.OpenComment fault) breaks = (faults.OpenComment 0
 step-breaks place text (faults.TooBig fault) breaks = (faults.TooBig 0, step-overlong text breaks.1, ap (λ (n : ℕ). faults.TooBig n) (omega (arith, breaks.0)))
 step-breaks place text faults.Memory breaks = absurd breaks
 
--- ---- what is found is a part or a fault of the grammar
+-- ---- what the lexer finds is a part or a fault of the grammar
 
 pub record IsPartAt (text : List ℕ) (step : Step) : Type 0 where
   pub part : Part
@@ -92,7 +93,7 @@ abbrev pub IsStepAt : List ℕ → Result Step LexFault → Type 0
 IsStepAt text (Ok step) = IsPartAt text step
 IsStepAt text (Err fault) = IsFaultAt text fault
 
--- a comment, or none
+-- A comment, or an unterminated comment.
 step_at-comment : (more : List ℕ) → IsStepAt (40 ∷ 42 ∷ more) (gap_of (closing 0 more))
 step_at-comment more = by_end (closing 0 more) refl
   where
@@ -113,7 +114,7 @@ step_at-comment more = by_end (closing 0 more) refl
           step_is = ap (λ n. steps.Gap n) (omega (arith, end.long, length-append (flat_map cut_bytes end.cuts) (42 ∷ 41 ∷ [])));
         }
 
--- a form that is found, in range or not
+-- A form, in range or not.
 step_at-form : (text : List ℕ) (form : Form) → form_at text ≡ Some form → ((more : List ℕ) → text ≢ 40 ∷ 42 ∷ more) → IsStepAt text (word_of (found_at (Some form)))
 step_at-form text form e free =
     let taken = taken-found text form e free in
@@ -125,7 +126,8 @@ step_at-form text form e free =
 no_char-starts : (text : List ℕ) → char_at 34 text ≡ None → StartsNoChar text
 no_char-starts text none c more is e = let both : None ≡ Some c = sym none ∙ ap (char_at 34) (sym e) ∙ char_at-form 34 c more is in no_value both
 
--- a character of a string is none, at no backslash and no quote
+-- If no character of a string begins here, and the byte is no backslash and no quote, then it is a
+-- line feed.
 none-line : (b : ℕ) (bs : List ℕ) → char_at 34 (b ∷ bs) ≡ None → eqb b 34 ≡ false → eqb b 92 ≡ false → b ≡ 10
 unfolding char_at
 none-line b bs none quote backslash =
@@ -134,7 +136,7 @@ none-line b bs none quote backslash =
       | inr other ↦ let some : Some (Plain b) ≡ None = rw (backslash, quote, other) at none in absurd cc
     ]
 
--- a string that stops before its end
+-- A string without its closing quote.
 string_faults : (bs : List ℕ) (chars : List CharForm) (rest : List ℕ) → OpensString (34 ∷ bs) rest → AllByRecursion (IsCharForm 34) chars → bs ≡ flat_map char_bytes chars ++ rest → char_at 34 rest ≡ None → begins_with 34 rest ≡ false → IsStepAt (34 ∷ bs) (word_of (ended_string chars rest))
 string_faults bs chars [] opens each is none unclosed = record { breaks = λ place. (omega arith, inl opens); inside = omega arith }
 string_faults bs chars (b ∷ after) opens each is none unclosed =

@@ -1,4 +1,4 @@
--- The form that is found is spelled at the front of the text.
+-- The text begins with the bytes of the form that the lexer finds.
 use Rattle.std.proofs.Common.{◌≡◌, ℕ, zero, suc, ◌≤◌, Bool, true, false, cond, eqb, ltb, List, [], ◌∷◌, ◌++◌, length, take, drop, Option, Some, None, refl, sym, ap, subst, ◌∙◌, arith, inl, inr, append_assoc}
 use Rattle.std.specs.List.{list_all, prefix_len, take_while, flat_map, AllByRecursion}
 use Rattle.std.specs.Char.{is_ascii_digit, is_ascii_hexdigit}
@@ -42,7 +42,7 @@ quote_form-begins bs form e = by_character (character_form bs) refl e
 
 -- ---- strings
 
--- what is read of a string begins it
+-- The characters that are read are a prefix of the text.
 abbrev pub AreChars : List ℕ → List CharForm × List ℕ → Type 0
 AreChars text read = AllByRecursion (IsCharForm 34) read.0 × (text ≡ flat_map char_bytes read.0 ++ read.1)
 
@@ -58,7 +58,7 @@ chars_of-are (suc n) text = by_char (chars_of-are n) (char_at 34 text) refl
         let more = others (drop (length (char_bytes c)) text) in
         ((is.0, more.0), is.1 ∙ ap (λ t. char_bytes c ++ t) more.1 ∙ sym (append_assoc (char_bytes c) _ _))
 
--- with room for the whole text, reading stops where no character begins
+-- If there is room for the whole text, then reading ends where no character begins.
 pub chars_of-stop : (n : ℕ) (text : List ℕ) → length text ≤ n → char_at 34 (chars_of n text).1 ≡ None
 unfolding chars_of char_at
 chars_of-stop zero [] le = refl

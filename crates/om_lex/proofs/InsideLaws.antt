@@ -1,4 +1,4 @@
--- The end of a comment is found where its brackets close, and nowhere else.
+-- The lexer finds the end of a comment exactly where its brackets close.
 use Rattle.std.proofs.Common.{◌≡◌, ℕ, zero, suc, pred, ◌+◌, false, ◌&&◌, eqb, List, [], ◌∷◌, ◌++◌, length, Option, Some, None, refl, sym, ap, subst, ◌∙◌, arith, inl, inr}
 use Rattle.std.specs.List.{flat_map}
 use Rattle.std.proofs.lemmas.Bool.{eqb-true, and_parts, or_parts, or_from, cases_Bool}
@@ -12,7 +12,7 @@ use Rattle.om_lex.proofs.CharLaws.{no_value, some_is}
 bracket_of-neither : (a b : ℕ) → is_bracket a b ≡ false → bracket_of a b ≡ Neither
 bracket_of-neither a b e = let apart = or_parts (eqb a 40 && eqb b 42) (eqb a 42 && eqb b 41) e in rw (apart.0, apart.1) refl
 
--- what two bytes are
+-- The kinds of two bytes.
 data Kind (a b : ℕ) : Type 0 where
   is_open : a ≡ 40 → b ≡ 42 → bracket_of a b ≡ Opening → Kind a b
   is_close : a ≡ 42 → b ≡ 41 → bracket_of a b ≡ Closing → Kind a b
@@ -28,13 +28,13 @@ kind_of a b =
       ]
     ]
 
--- ---- the grammar's inside is found
+-- ---- the lexer finds the inside of a comment
 
--- at this depth, these cuts and the end of the comment
+-- The bytes of the units, followed by the end of the comment.
 abbrev pub inside_text : List Cut → List ℕ → List ℕ
 inside_text cuts after = flat_map cut_bytes cuts ++ 42 ∷ 41 ∷ after
 
--- a single byte is gone past
+-- A single byte is skipped.
 closing-other : (depth b : ℕ) (rest : List ℕ) → begins_bracket (b ∷ rest) ≡ false → closing depth (b ∷ rest) ≡ plus 1 (closing depth rest)
 unfolding closing
 closing-other depth b [] e = refl
@@ -49,9 +49,9 @@ closing-inside (Closes ∷ cuts) (suc depth) after nests cut = rw (closing-insid
 closing-inside (Other b ∷ cuts) depth after nests cut =
     closing-other depth b (inside_text cuts after) cut.0 ∙ rw (closing-inside cuts depth after nests cut.1) (ap (λ (n : ℕ). Some n) (omega arith))
 
--- ---- what is found is the grammar's inside
+-- ---- what the lexer finds is the inside of a comment
 
--- so many bytes are cuts that nest from this depth on, and the end
+-- The first `n` bytes are units that are balanced from this depth on, and the end of the comment.
 pub record IsEnd (depth : ℕ) (text : List ℕ) (n : ℕ) : Type 0 where
   pub cuts : List Cut
   pub after : List ℕ
@@ -64,7 +64,7 @@ plus-some : (k n : ℕ) (o : Option ℕ) → plus k o ≡ Some n → (m : ℕ) �
 plus-some k n None e = absurd (no_value e)
 plus-some k n (Some m) e = (m, refl, sym (some_is e))
 
--- one comment deeper, with the same end
+-- One comment deeper, with the same end.
 end-opens : (depth m : ℕ) (bs : List ℕ) → IsEnd (suc depth) bs m → IsEnd depth (40 ∷ 42 ∷ bs) (2 + m)
 end-opens depth m bs end = record {
   cuts = Opens ∷ end.cuts;
@@ -98,7 +98,7 @@ end-other depth m a bs other end = record {
 end-here : (bs : List ℕ) → IsEnd 0 (42 ∷ 41 ∷ bs) 2
 end-here bs = record { cuts = []; after = bs; is = refl; long = refl; nests = refl; cut = tt }
 
--- at a closing bracket
+-- Case: a closing bracket.
 at_close : (depth n : ℕ) (bs : List ℕ) (deeper on : Option ℕ) → ((d m : ℕ) → closing d bs ≡ Some m → IsEnd d bs m) → closing_by Closing depth deeper (closing (pred depth) bs) on ≡ Some n → IsEnd depth (42 ∷ 41 ∷ bs) n
 at_close zero n bs deeper on others e = subst (IsEnd 0 (42 ∷ 41 ∷ bs)) (some_is e) (end-here bs)
 at_close (suc depth) n bs deeper on others e =

@@ -1,4 +1,4 @@
--- The name in lower case at the front of a text, or that there is none.
+-- The lowercase name at the start of a text, or its absence.
 use Rattle.std.proofs.Common.{◌≡◌, ℕ, suc, ◌+◌, ◌<◌, true, false, List, [], ◌∷◌, ◌++◌, length, take, get_or, Option, Some, None, Result, Ok, Err, refl, sym, ap, ◌∙◌, arith, inl, inr}
 use Rattle.std.specs.List.{prefix_len, take_while}
 use Rattle.std.proofs.lemmas.Bool.{true≢false, cases_Bool}
@@ -20,7 +20,7 @@ use Rattle.om_lex.proofs.FaultLaws.{IsStepAt, step_at-is}
 abbrev name_of : Result Step LexFault → List ℕ
 name_of r = lower_name (Some (lexeme_in 0 r).kind)
 
--- ---- no byte of a name in front
+-- ---- the first byte begins no lowercase name
 
 no_form : (b : ℕ) (bs after : List ℕ) (form : Form) → starts_lower b ≡ false → IsForm form → b ∷ bs ≡ form_bytes form ++ after → [] ≡ lower_name (Some (form_kind form))
 no_form b bs after (Lower []) e is same = absurd is.0
@@ -53,7 +53,7 @@ unfolding step_at
 lower_empty [] lt = refl
 lower_empty (b ∷ bs) lt = absurd (omega arith)
 
--- ---- a byte of a name in front
+-- ---- the first byte begins a lowercase name
 
 word_in_range : (name : List ℕ) → in_range (word_form name) ≡ true
 unfolding word_form

@@ -1,4 +1,4 @@
--- The names, tags and variables that are found are spelled so.
+-- The text begins with the bytes of the names, tags and variables that the lexer finds.
 use Rattle.std.proofs.Common.{◌≡◌, ◌≢◌, ℕ, suc, ◌+◌, Bool, true, false, eqb, List, [], ◌∷◌, ◌++◌, drop, Option, Some, None, refl, sym, ap, subst, ◌∙◌, arith, inl, inr, ⊎_elim}
 use Rattle.std.specs.List.{list_all, prefix_len, take_while}
 use Rattle.std.specs.Char.{is_ascii_uppercase, is_ascii_lowercase}
@@ -13,13 +13,13 @@ use Rattle.om_lex.proofs.WordLaws.{keyword_of-some}
 use Rattle.om_lex.proofs.NumberLaws.{prefix_passes}
 use Rattle.om_lex.proofs.CharLaws.{no_value}
 
--- the form is written right, and begins the text
+-- The form is valid, and the text begins with it.
 abbrev pub Begins : List ℕ → Form → Type 0
 Begins text form = IsForm form × ((rest : List ℕ) × (text ≡ form_bytes form ++ rest))
 
 -- ---- classes of bytes
 
--- a byte that passes a test is not one that fails it
+-- If one byte passes a test and another fails it, then the two differ.
 pub apart : (p : ℕ → Bool) (n b : ℕ) → p n ≡ false → p b ≡ true → eqb b n ≡ false
 apart p n b fails passes = ne_eqb b n (λ e. false≢true (sym fails ∙ ap p (sym e) ∙ passes))
 
@@ -45,7 +45,7 @@ take_while-more p (x ∷ xs) ys all =
 take_while-cons : (p : ℕ → Bool) (b : ℕ) (bs : List ℕ) → p b ≡ true → take_while p (b ∷ bs) ≡ b ∷ take_while p bs
 take_while-cons p b bs e = take_while-more p (b ∷ []) bs (and_from _ _ e refl)
 
--- the name at the front, if it may start so
+-- The name at the start of the text, if a name may start with the first byte.
 pub name_at : (starts : ℕ → Bool) (b : ℕ) (bs : List ℕ) → starts b ≡ true → is_name_byte b ≡ true → IsName starts (take_while is_name_byte (b ∷ bs))
 name_at starts b bs first name =
     let run = take_while-cons is_name_byte b bs name in

@@ -1,4 +1,4 @@
--- Parts one after the other, and that a text has one reading.
+-- Sequences of parts, and the uniqueness of the reading of a text.
 use Rattle.std.proofs.Common.{◌≡◌, ◌≢◌, ℕ, ◌+◌, ◌-◌, ◌<◌, ◌≤◌, List, [], ◌∷◌, ◌++◌, length, drop, Some, Result, Ok, Err, refl, sym, ap, subst, ◌∙◌, arith, inl, inr, length-append, append_assoc, ◌⊎◌, zero, suc}
 use Rattle.std.specs.Prelude.{IfOk, IfErr}
 use Rattle.std.specs.Global.{Vec}
@@ -38,7 +38,7 @@ lexemes_of-cons place (Separator b) parts = refl
 lexemes_of-cons place (Comment inside) parts = refl
 lexemes_of-cons place (Word form) parts = refl
 
--- no part is empty
+-- No part is empty.
 form-positive : (form : Form) → IsForm form → 0 < length (form_bytes form)
 unfolding form_at
 form-positive form is = by_bytes (form_bytes form) (form-found form [] is).1
@@ -52,7 +52,7 @@ part-positive (Separator b) after is = omega arith
 part-positive (Comment inside) after is = omega arith
 part-positive (Word form) after is = form-positive form is.0.written
 
--- ---- one part more
+-- ---- one more part
 
 bytes_push : (parts : List Part) (part : Part) (rest : List ℕ) → flat_map part_bytes (parts ++ part ∷ []) ++ rest ≡ flat_map part_bytes parts ++ (part_bytes part ++ rest)
 bytes_push parts part rest = ap (λ t. t ++ rest) (sym (flat_map_more part_bytes [] parts part)) ∙ append_assoc (flat_map part_bytes parts) (part_bytes part) rest
@@ -76,7 +76,7 @@ lexemes_push place (p ∷ parts) part =
 step_len-is : (text : List ℕ) (step : Step) (p : IsPartAt text step) → step_len step ≡ length (part_bytes p.part)
 step_len-is text step p = ap step_len (sym p.step_is) ∙ step_len-part p.part
 
--- a step goes on by at least one byte
+-- A step advances by at least one byte.
 pub reached_further : (text : List ℕ) (at : ℕ) (step : Step) → at ≤ length text → IsPartAt (drop at text) step → (0 < step_len step) × (at + step_len step ≤ length text)
 reached_further text at step le p =
     let len = step_len-is (drop at text) step p in
@@ -107,7 +107,7 @@ pub reached_fault : (text : List ℕ) (at : ℕ) (lexemes : List Lexeme) (fault 
 reached_fault text at lexemes fault r f =
     (r.parts, drop at text, r.are, r.is, subst (λ place. Breaks place (drop at text) (moved at fault)) r.long (f.breaks at))
 
--- the parts up to the end are all of them
+-- The parts up to the end are all parts of the text.
 pub reached_end : (text : List ℕ) (at : ℕ) (lexemes : List Lexeme) → Reached text at lexemes → length text ≤ at → Lexes text lexemes
 reached_end text at lexemes r end =
     let none : drop at text ≡ [] = drop_all at text end in
@@ -115,7 +115,7 @@ reached_end text at lexemes r end =
 
 -- ---- one reading
 
--- no part begins the text
+-- The text begins with no part.
 abbrev Stops : List ℕ → Type 0
 Stops text = (step : Step) → step_at text ≢ Ok step
 
@@ -160,7 +160,7 @@ fault_stops place text fault breaks step e =
     let both : Err at.0 ≡ Ok step = sym at.1 ∙ e in
     absurd cc
 
--- no fault stands at the end
+-- There is no fault at the end of a text.
 no_end_fault : (place : ℕ) (fault : LexFault) → Breaks place [] fault → ⊥
 no_end_fault place (faults.BadByte fault) (inl nothing) = let e = nothing.1.is in absurd cc
 no_end_fault place (faults.BadByte fault) (inr escape) = let e = escape.1.2 in absurd cc
@@ -189,7 +189,7 @@ one_fault text f g x y =
     let found : left.0 ≡ right.0 = cc in
     sym left.2 ∙ ap (λ n. moved n left.0) same.bytes ∙ ap (moved (length (flat_map part_bytes y.0))) found ∙ right.2
 
--- ---- what is answered is the one reading
+-- ---- the result is the one reading
 
 pub answers_list : (text : List ℕ) (r : Result (Vec Lexeme) LexFault) → IfOk r (λ v. Lexes text v.items) → IfErr r (UnlessMemory (Faults text)) → (xs : List Lexeme) → Lexes text xs → Answers {Y = List Lexeme} (λ v. v.items) r (Ok xs)
 answers_list text (Ok v) ok err xs is = ap (λ (l : List Lexeme). Ok l) (one_list text xs v.items is ok)
@@ -207,7 +207,7 @@ answers_fault text (Err (faults.OpenString p)) ok err fault is = ap (λ (f : Lex
 answers_fault text (Err (faults.OpenComment p)) ok err fault is = ap (λ (f : LexFault). Err f) (one_fault text fault (faults.OpenComment p) is err)
 answers_fault text (Err (faults.TooBig p)) ok err fault is = ap (λ (f : LexFault). Err f) (one_fault text fault (faults.TooBig p) is err)
 
--- ---- the loop's steps
+-- ---- the steps of the loop
 
 pub part_here : (text : List ℕ) (at : ℕ) (step : Step) → at < length text → step_at (drop at text) ≡ Ok step → IsPartAt (drop at text) step
 part_here text at step lt e = by_text (drop at text) (omega (arith, length-drop at text)) e
@@ -223,7 +223,7 @@ fault_here text at fault lt e = by_text (drop at text) (omega (arith, length-dro
     by_text [] long e = absurd (omega arith)
     by_text (b ∷ bs) long e = subst (IsStepAt (b ∷ bs)) e (step_at-is b bs)
 
--- the fault of a step, unless it is memory
+-- The fault is the fault of the step, unless memory ran out.
 abbrev pub Told : List ℕ → ℕ → LexFault → Type 0
 Told text at fault = UnlessMemory (λ f. step_at (drop at text) ≡ Err f) fault
 
@@ -259,7 +259,7 @@ goes_down text at len on = omega (arith, on.0, on.1)
 
 -- ---- spans
 
--- spans may begin earlier
+-- The bound before the spans may be smaller.
 spans_earlier : (low from : ℕ) (xs : List Lexeme) (end : ℕ) → low ≤ from → SpansWithin from xs end → SpansWithin low xs end
 spans_earlier low from [] end le spans = omega (arith, spans)
 spans_earlier low from (x ∷ xs) end le spans = (omega (arith, spans.0), spans.1, spans.2)
@@ -281,7 +281,7 @@ spans_of place (Word form ∷ parts) rest are =
     let end : place + len + length (flat_map part_bytes parts) ≡ place + length (form_bytes form ++ flat_map part_bytes parts) = omega (arith, length-append (form_bytes form) (flat_map part_bytes parts)) in
     (omega arith, form-positive form are.0.0.written, subst (SpansWithin (place + len) (lexemes_of (place + len) parts)) end later)
 
--- a text has no more lexemes than bytes
+-- A text has at most as many lexemes as bytes.
 pub few_lexemes : (text : List ℕ) (lexemes : List Lexeme) → Lexes text lexemes → length lexemes ≤ length text
 few_lexemes text lexemes is = omega (arith, ap length is.3, ap length is.2, few 0 _ _ (spans_of 0 is.0 [] is.1))
   where
@@ -297,7 +297,7 @@ spans_within text (Err fault) is = tt
 
 -- ---- each text has an outcome
 
--- parts, and then the end or a fault
+-- Parts, followed by the end or a fault.
 record Read (text : List ℕ) : Type 0 where
   parts : List Part
   rest : List ℕ
@@ -314,7 +314,7 @@ read_more part after is read = record {
   ending = read.ending;
 }
 
--- a text of at most so many bytes
+-- A text of at most `n` bytes.
 read : (n : ℕ) (text : List ℕ) → length text ≤ n → Read text
 read n [] le = record { parts = []; rest = []; are = tt; is = refl; ending = inl refl }
 read zero (b ∷ bs) le = absurd (omega arith)

@@ -1,4 +1,4 @@
--- The step that is found is the part or the fault of the grammar.
+-- The step that the lexer finds is the part or the fault of the grammar.
 use Rattle.std.proofs.Common.{◌≡◌, ◌≢◌, ℕ, ◌+◌, true, false, ◌&&◌, eqb, List, [], ◌∷◌, ◌++◌, length, Some, None, Ok, Err, refl, sym, ap, ◌∙◌, arith, inl, inr, length-append, append_assoc}
 use Rattle.std.specs.List.{flat_map}
 use Rattle.std.proofs.lemmas.Bool.{false≢true, true≢false, ne_eqb, eqb-true, and_parts, or_cases, false_from_ne_true, le-leb, lt-leb, leb-true, leb-false}
@@ -21,7 +21,7 @@ part_step (Word form) = steps.Word (found form)
 
 -- ---- separators and comments begin no form
 
--- no form begins with a byte that begins none alone and none before another byte
+-- If a byte begins no form alone and none before another byte, then it begins no form.
 begins_none : (b : ℕ) → form_at (b ∷ []) ≡ None → ((next : ℕ) (bs : List ℕ) → form_at (b ∷ next ∷ bs) ≡ None) → (bs : List ℕ) → form_at (b ∷ bs) ≡ None
 begins_none b alone before [] = alone
 begins_none b alone before (next ∷ bs) = before next bs
@@ -43,7 +43,7 @@ separator_no_form b bs e =
           ]
     ]
 
--- what the two tests for a comment say
+-- The result of the two tests for a comment.
 pub comment_test : (b : ℕ) (bs : List ℕ) → (eqb b 40 && begins_with 42 bs) ≡ true → (more : List ℕ) × (b ∷ bs ≡ 40 ∷ 42 ∷ more)
 comment_test b bs e =
     let both = and_parts (eqb b 40) (begins_with 42 bs) e in
@@ -60,7 +60,7 @@ no_comment b bs more e is =
     let test : (eqb b 40 && begins_with 42 bs) ≡ true = rw (first, others) refl in
     false≢true (sym e ∙ test)
 
--- ---- a form at the front
+-- ---- a form at the start of a text
 
 pub string_form-at : (bs : List ℕ) (form : Form) → string_form bs ≡ Some form → string_at bs ≡ found_at (Some form)
 unfolding string_form string_at
@@ -83,7 +83,7 @@ pub lexeme-none : (b : ℕ) (bs : List ℕ) → b ≢ 34 → form_at (b ∷ bs) 
 unfolding lexeme_at
 lexeme-none b bs no_string e = rw (ne_eqb b 34 no_string, e) refl
 
--- a step at which no separator and no comment begins
+-- A step that is no separator and no comment.
 pub step-lexeme : (b : ℕ) (bs : List ℕ) → is_separator b ≡ false → (eqb b 40 && begins_with 42 bs) ≡ false → step_at (b ∷ bs) ≡ word_of (lexeme_at (b ∷ bs))
 unfolding step_at
 step-lexeme b bs no_separator no_bracket = rw (no_separator, no_bracket) refl
@@ -91,7 +91,7 @@ step-lexeme b bs no_separator no_bracket = rw (no_separator, no_bracket) refl
 pub no_separator-form : (b : ℕ) (bs : List ℕ) (form : Form) → form_at (b ∷ bs) ≡ Some form → is_separator b ≡ false
 no_separator-form b bs form e = false_from_ne_true _ (λ sep. no_value (sym (separator_no_form b bs sep) ∙ e))
 
--- the step at a form that the grammar takes
+-- The step at a form that is the lexeme of the grammar.
 pub step-taken : (text : List ℕ) (form : Form) (after : List ℕ) → text ≡ form_bytes form ++ after → IsTaken form after → step_at text ≡ word_of (found_at (Some form))
 unfolding form_at
 step-taken text form after is taken = by_text text is (ap form_at is ∙ found-taken form after taken)
@@ -142,7 +142,7 @@ is-too_big (Quoted cs) h = true≢false h
 is-too_big (Double ds) h = true≢false h
 is-too_big (Mark s) h = true≢false h
 
--- ---- the grammar's part is found
+-- ---- the lexer finds the part of the grammar
 
 pub comment_regrouped : (inside : List Cut) (after : List ℕ) → (flat_map cut_bytes inside ++ 42 ∷ 41 ∷ []) ++ after ≡ inside_text inside after
 comment_regrouped inside after = append_assoc (flat_map cut_bytes inside) (42 ∷ 41 ∷ []) after

@@ -1,4 +1,4 @@
--- What is found as a symbol is spelled so.
+-- The text begins with the bytes of the symbol that the lexer finds.
 use Rattle.std.proofs.Common.{◌≡◌, ◌⊎◌, ℕ, Bool, true, false, ◌&&◌, cond, eqb, List, [], ◌∷◌, ◌++◌, length, Option, Some, None, Ok, refl, sym, ap, ◌∙◌, inl, inr, ⊎_elim}
 use Rattle.std.proofs.lemmas.Bool.{eqb-true, and_parts}
 use Rattle.om_lex.specs.declared.lexeme.Symbol.{Symbol}
@@ -8,7 +8,7 @@ use Rattle.om_lex.specs.declared.lexeme.LexemeKind.TheVariants as kinds
 use Rattle.om_lex.specs.declared.found.Found.{Found}
 use Rattle.om_lex.specs.Scan.{pair_symbol, single_symbol, pair_at, symbol_form, found_at}
 
--- one test of a chain
+-- One test in a chain.
 tested : (test : Bool) (x s : Symbol) (others : Option Symbol) → cond test (Some x) others ≡ Some s → ((test ≡ true) × (x ≡ s)) ⊎ (others ≡ Some s)
 tested true x s others e = inl (refl, cc)
 tested false x s others e = inr e
@@ -16,11 +16,11 @@ tested false x s others e = inr e
 none : {s : Symbol} → None ≡ Some s → ⊥
 none e = cc
 
--- one byte is tested
+-- A test of one byte.
 one : (a n : ℕ) (x s : Symbol) (others : Option Symbol) → symbol_text x ≡ n ∷ [] → cond (eqb a n) (Some x) others ≡ Some s → (others ≡ Some s → a ∷ [] ≡ symbol_text s) → a ∷ [] ≡ symbol_text s
 one a n x s others text e next = ⊎_elim (λ h. ap (λ (b : ℕ). b ∷ []) (eqb-true a n h.0) ∙ sym text ∙ ap symbol_text h.1) next (tested (eqb a n) x s others e)
 
--- two bytes are tested
+-- A test of two bytes.
 two : (a b m n : ℕ) (x s : Symbol) (others : Option Symbol) → symbol_text x ≡ m ∷ n ∷ [] → cond (eqb a m && eqb b n) (Some x) others ≡ Some s → (others ≡ Some s → a ∷ b ∷ [] ≡ symbol_text s) → a ∷ b ∷ [] ≡ symbol_text s
 two a b m n x s others text e next =
     ⊎_elim

@@ -1,4 +1,4 @@
--- The form that is found is the one that the grammar takes.
+-- The form that the lexer finds is the lexeme of the grammar.
 use Rattle.std.proofs.Common.{◌≡◌, ◌≢◌, ℕ, List, ◌∷◌, ◌++◌, length, Option, Some, None, refl, sym, ap, subst, ◌∙◌, arith, inl, inr}
 use Rattle.std.proofs.lemmas.Bool.{true≢false, cases_Bool}
 use Rattle.om_lex.specs.Lexeme.{Form, form_bytes, IsForm, is_character, Precedes}
@@ -8,7 +8,7 @@ use Rattle.om_lex.proofs.CharLaws.{some_is}
 use Rattle.om_lex.proofs.FormLaws.{form_at-begins}
 use Rattle.om_lex.proofs.FrontLaws.{Beats, Wins, form-found}
 
--- a form is not beaten by one that it comes before
+-- If a form precedes another, then the other does not beat it.
 not_beaten : (form winner : Form) → Precedes form winner → Beats winner form → ⊥
 not_beaten form winner (inl char) (inl beats) = true≢false (sym char ∙ beats.1)
 not_beaten form winner (inl char) (inr beats) = true≢false (sym char ∙ beats.1)
@@ -24,7 +24,7 @@ comes_first form other (inl same) =
       | inr plain ↦ inr (sym (ap is_character same) ∙ plain, omega (arith, ap (λ f. length (form_bytes f)) same))
     ]
 
--- what the grammar takes is found
+-- The lexer finds the lexeme of the grammar.
 pub found-taken : (form : Form) (after : List ℕ) → IsTaken form after → form_at (form_bytes form ++ after) ≡ Some form
 found-taken form after taken =
     let found = form-found form after taken.written in
@@ -34,7 +34,7 @@ found-taken form after taken =
       | inr beats ↦ absurd (not_beaten form found.0 (taken.first found.0 begins.1.0 begins.0 (sym begins.1.1)) beats)
     ]
 
--- what is found is what the grammar takes, where no comment begins
+-- If no comment begins, then the form that the lexer finds is the lexeme of the grammar.
 pub taken-found : (text : List ℕ) (form : Form) → form_at text ≡ Some form → ((more : List ℕ) → text ≢ 40 ∷ 42 ∷ more)
     → (after : List ℕ) × (text ≡ form_bytes form ++ after) × IsTaken form after
 taken-found text form e no_comment =
@@ -51,14 +51,14 @@ taken-found text form e no_comment =
       },
     )
 
--- where no form is found, none begins the text
+-- If the lexer finds no form, then the text begins with none.
 pub none-found : (text : List ℕ) → form_at text ≡ None → (form : Form) (after : List ℕ) → IsForm form → form_bytes form ++ after ≢ text
 none-found text none form after written is =
     let found = form-found form after written in
     let both : Some found.0 ≡ None = sym found.1 ∙ ap form_at is ∙ none in
     absurd cc
 
--- where none begins the text, no form is found
+-- If the text begins with no form, then the lexer finds none.
 pub found-none : (text : List ℕ) → ((form : Form) (after : List ℕ) → IsForm form → form_bytes form ++ after ≢ text) → form_at text ≡ None
 found-none text free = by_form (form_at text) refl
   where

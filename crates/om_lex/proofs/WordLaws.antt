@@ -11,7 +11,7 @@ use Rattle.om_lex.specs.Lexeme.{keyword_text, is_name_byte}
 use Rattle.om_lex.specs.declared.found.Found.{Found}
 use Rattle.om_lex.specs.Scan.{keyword_of, word_form, found}
 
--- a name that compares equal to a keyword's text
+-- A name that is equal to the text of a keyword.
 one-keyword : (name : List ℕ) (k j : Keyword) (b : Bool) (others : Option Keyword) → bytes_eq name (keyword_text j) ≡ b → cond b (Some j) others ≡ Some k → (name ≡ keyword_text k) ⊎ (others ≡ Some k)
 one-keyword name k j true others same e = inl ((bytes_eq-Decides name (keyword_text j)).0 same ∙ ap keyword_text cc)
 one-keyword name k j false others same e = inr e
@@ -36,7 +36,7 @@ keyword_of-some name k e =
 abbrev pub keyword_found : Keyword → ℕ → Found
 keyword_found k len = record { kind = kinds.Keyword k; len = len }
 
--- a word that is a keyword
+-- A word that is a keyword.
 pub reserved_word : (text : List ℕ) (k : Keyword) (len : ℕ) → len ≡ prefix_len is_name_byte text → keyword_of (take len text) ≡ Some k → found (word_form (take_while is_name_byte text)) ≡ keyword_found k len
 unfolding word_form
 reserved_word text k len is key =

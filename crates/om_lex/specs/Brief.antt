@@ -1,4 +1,5 @@
--- Lexemes without what their names and strings are: a literal's form needs no more of them.
+-- Brief lexemes, which may omit the contents of names and strings. They suffice to recognize the
+-- form of a literal.
 use Rattle.std.specs.Prelude.{◌≡◌, ◌⊎◌, ℕ, ◌+◌, ◌<◌, ◌≤◌, Bool, ◌||◌, ◌==◌, if◌then◌else◌, List, []}
 use Rattle.std.specs.Prelude.{length, codes, Option, Some, None, Result, Ok, Err}
 use Rattle.std.specs.Str.{bytes_eq}
@@ -14,7 +15,7 @@ use Rattle.om_lex.specs.declared.found.Step.TheVariants.{Gap, Word}
 use Rattle.om_lex.specs.Lexemes.{lexeme_from}
 use Rattle.om_lex.specs.LexText.{UnlessMemory}
 
--- the symbols of one byte that begin no longer one and no comment, but for a few
+-- Most of the one-byte symbols with which no longer symbol and no comment begins.
 abbrev pub lone_symbol : ℕ → Option Symbol
 lone_symbol b =
     if b == 44 then Some symbols.Comma
@@ -23,7 +24,7 @@ lone_symbol b =
     else (if b == 123 then Some symbols.OpenBrace
     else (if b == 125 then Some symbols.CloseBrace else None))))
 
--- the names in lower case that begin literals
+-- The lowercase names with which literals begin.
 abbrev pub begins_literal : List ℕ → Bool
 begins_literal x =
     bytes_eq x (codes "true") || bytes_eq x (codes "false") || bytes_eq x (codes "ref")
@@ -37,13 +38,13 @@ brief_kind (kinds.Upper x) = kinds.Upper []
 brief_kind (kinds.Text x) = kinds.Text []
 brief_kind kind = kind
 
--- a kind, whole or in brief
+-- `brief` is the whole kind or the brief kind.
 abbrev pub IsBrief : LexemeKind → LexemeKind → Type 0
 IsBrief kind brief = (brief ≡ kind) ⊎ (brief ≡ brief_kind kind)
 
--- ---- what functions give
+-- ---- the results of the functions
 
--- the expected lexeme, whole or in brief, or the expected fault
+-- The result is the expected lexeme, whole or brief, or the expected fault, unless memory ran out.
 abbrev pub FindsBrief : Result Found LexFault → Result Found LexFault → Type 0
 FindsBrief (Ok w) (Ok full) = (w.len ≡ full.len) × IsBrief full.kind w.kind
 FindsBrief (Ok w) (Err fault) = ⊥
@@ -55,13 +56,13 @@ StepsBrief (Ok (Word w)) (Ok (Word full)) = (w.len ≡ full.len) × IsBrief full
 StepsBrief (Ok (Word w)) expected = ⊥
 StepsBrief (Err fault) expected = UnlessMemory (λ f. expected ≡ Err f) fault
 
--- what was found, with the lexeme as it is at its place
+-- The result with the whole lexeme at its position.
 abbrev pub in_full : List ℕ → Result (Option Lexeme) LexFault → Result (Option Lexeme) LexFault
 in_full text (Ok (Some lexeme)) = Ok (Some (lexeme_from text lexeme.span.first))
 in_full text (Ok None) = Ok None
 in_full text (Err fault) = Err fault
 
--- a lexeme behind a place, which is the one at its own place, whole or in brief
+-- The lexeme begins at `from` or later and is the lexeme at its own position, whole or brief.
 pub record IsBriefNext (text : List ℕ) (from : ℕ) (lexeme : Lexeme) : Type 0 where
   pub onward : from < lexeme.span.first + lexeme.span.len
   pub within : lexeme.span.first + lexeme.span.len ≤ length text

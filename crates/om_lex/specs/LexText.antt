@@ -1,6 +1,6 @@
--- The lexemes of a text, or its first fault. Separators and comments are those of the lexical
--- conventions of OCaml's reference manual, but that nothing inside a comment is looked at; the
--- faults are this project's own.
+-- The lexemes of a text, or its first fault. Separators and comments follow the lexical conventions
+-- of OCaml's reference manual, except that comments may contain anything. The faults are specific
+-- to this project.
 use Rattle.std.specs.Prelude.{◌≡◌, ◌≢◌, ◌⊎◌, ℕ, zero, suc, ◌+◌, ◌<◌, ◌≤◌, Bool, false, ◌&&◌, ◌||◌}
 use Rattle.std.specs.Prelude.{◌==◌, List, [], ◌∷◌, ◌++◌, length, IsTrue, Result, Ok, Err}
 use Rattle.std.specs.List.{flat_map, AllByRecursion}
@@ -10,9 +10,9 @@ use Rattle.om_lex.specs.declared.lexeme.LexFault.TheVariants as faults
 use Rattle.om_lex.specs.Lexeme.{is_separator, CharForm, char_bytes, IsCharForm, Form, form_bytes}
 use Rattle.om_lex.specs.Lexeme.{form_kind, IsForm, IsInRange, IsTooBig, Precedes}
 
--- ---- comments: 40 is `(`, 42 `*`, 41 `)`
+-- ---- comments: 40 is `(`, 42 is `*`, 41 is `)`
 
--- a comment's inside, cut from the left: `(*`, `*)`, or one byte
+-- A unit of the inside of a comment, from left to right: `(*`, `*)`, or a single byte.
 pub data Cut : Type 0 where
   Opens : Cut
   Closes : Cut
@@ -23,7 +23,7 @@ cut_bytes Opens = 40 ∷ 42 ∷ []
 cut_bytes Closes = 42 ∷ 41 ∷ []
 cut_bytes (Other b) = b ∷ []
 
--- `(*` or `*)`
+-- The two bytes are `(*` or `*)`.
 abbrev pub is_bracket : ℕ → ℕ → Bool
 is_bracket a b = (a == 40 && b == 42) || (a == 42 && b == 41)
 
@@ -32,7 +32,7 @@ begins_bracket [] = false
 begins_bracket (a ∷ []) = false
 begins_bracket (a ∷ b ∷ bs) = is_bracket a b
 
--- a single byte is cut off only where neither bracket begins
+-- A single byte is a unit only if neither bracket begins there.
 abbrev pub IsCut : List Cut → List ℕ → Type 0
 IsCut [] after = Unit {0}
 IsCut (Opens ∷ cuts) after = IsCut cuts after
@@ -40,7 +40,7 @@ IsCut (Closes ∷ cuts) after = IsCut cuts after
 IsCut (Other b ∷ cuts) after =
     (begins_bracket (b ∷ (flat_map cut_bytes cuts ++ after)) ≡ false) × IsCut cuts after
 
--- the brackets nest, and close what was open before them
+-- The brackets are balanced, with `depth` brackets open at the start and none at the end.
 abbrev pub Nests : ℕ → List Cut → Type 0
 Nests depth [] = depth ≡ 0
 Nests depth (Opens ∷ cuts) = Nests (suc depth) cuts
@@ -48,21 +48,21 @@ Nests zero (Closes ∷ cuts) = ⊥
 Nests (suc depth) (Closes ∷ cuts) = Nests depth cuts
 Nests depth (Other b ∷ cuts) = Nests depth cuts
 
--- the cuts are the inside of a comment, whose end and the bytes after it follow
+-- The units are the inside of a comment that is followed by its end and the bytes `after`.
 abbrev pub IsInside : List Cut → List ℕ → Type 0
 IsInside cuts after = Nests 0 cuts × IsCut cuts (42 ∷ 41 ∷ after)
 
 -- ---- parts
 
--- The form is the lexeme at the front: `(*` begins no lexeme, and of all forms that begin the text
--- it comes first.
+-- The form is the lexeme at the start of the text. `(*` begins no lexeme. Among all forms with
+-- which the text begins, the lexeme takes precedence.
 pub record IsTaken (form : Form) (after : List ℕ) : Type 0 where
   pub written : IsForm form
   pub no_comment : (more : List ℕ) → form_bytes form ++ after ≢ 40 ∷ 42 ∷ more
   pub first : (other : Form) (more : List ℕ) → IsForm other
       → form_bytes other ++ more ≡ form_bytes form ++ after → Precedes form other
 
--- a separator, a comment, or a lexeme
+-- A part of a text: a separator, a comment, or a lexeme.
 pub data Part : Type 0 where
   Separator : (b : ℕ) → Part
   Comment : (inside : List Cut) → Part
@@ -73,18 +73,18 @@ part_bytes (Separator b) = b ∷ []
 part_bytes (Comment inside) = 40 ∷ 42 ∷ (flat_map cut_bytes inside ++ 42 ∷ 41 ∷ [])
 part_bytes (Word form) = form_bytes form
 
--- the part may stand before these bytes
+-- The part may precede these bytes.
 abbrev pub IsPart : Part → List ℕ → Type 0
 IsPart (Separator b) after = IsTrue (is_separator b)
 IsPart (Comment inside) after = IsInside inside after
 IsPart (Word form) after = IsTaken form after × IsInRange form
 
--- each part may stand before the next ones and these bytes
+-- Each part may precede the parts after it and these bytes.
 abbrev pub AreParts : List Part → List ℕ → Type 0
 AreParts [] rest = Unit {0}
 AreParts (part ∷ parts) rest = IsPart part (flat_map part_bytes parts ++ rest) × AreParts parts rest
 
--- the lexemes among the parts, the first of which begins at a place
+-- The lexemes among the parts. The first part begins at position `place`.
 abbrev pub lexemes_of : ℕ → List Part → List Lexeme
 lexemes_of place [] = []
 lexemes_of place (Word form ∷ parts) =
@@ -95,18 +95,18 @@ lexemes_of place (part ∷ parts) = lexemes_of (place + length (part_bytes part)
 
 -- ---- faults
 
--- a string begins, and goes on with well written characters up to the rest
+-- A string begins, and its characters are valid up to the rest.
 abbrev pub OpensString : List ℕ → List ℕ → Type 0
 OpensString text rest =
     (chars : List CharForm) × AllByRecursion (IsCharForm 34) chars
     × (text ≡ 34 ∷ (flat_map char_bytes chars ++ rest))
 
--- no well written character of a string begins the text
+-- The text does not begin with a valid character of a string.
 abbrev pub StartsNoChar : List ℕ → Type 0
 StartsNoChar text =
     (char : CharForm) (more : List ℕ) → IsCharForm 34 char → char_bytes char ++ more ≢ text
 
--- neither a separator nor a string nor a form begins the text
+-- The text begins with neither a separator nor a string nor a form.
 pub record StartsNothing (text : List ℕ) : Type 0 where
   pub byte : ℕ
   pub others : List ℕ
@@ -115,31 +115,31 @@ pub record StartsNothing (text : List ℕ) : Type 0 where
   pub no_string : byte ≢ 34
   pub no_form : (form : Form) (after : List ℕ) → IsForm form → form_bytes form ++ after ≢ text
 
--- in a string that begins at a place, a backslash begins no escape; the fault is the place of the
--- byte after it
+-- In a string that begins at position `place`, a backslash begins no valid escape. The fault is at
+-- the byte after the backslash.
 abbrev pub IsBadEscape : ℕ → List ℕ → ℕ → Type 0
 IsBadEscape place text fault =
     (after : List ℕ) × OpensString text (92 ∷ after) × StartsNoChar (92 ∷ after)
     × (fault + length after ≡ place + length text)
 
--- a string begins and meets the end or a line feed
+-- A string begins and reaches the end of the text or a line feed.
 abbrev pub IsOpenString : List ℕ → Type 0
 IsOpenString text = OpensString text [] ⊎ ((after : List ℕ) × OpensString text (10 ∷ after))
 
--- a comment begins, and no front of the text is one
+-- A comment begins, and no prefix of the text is a complete comment.
 abbrev pub IsOpenComment : List ℕ → Type 0
 IsOpenComment text =
     ((more : List ℕ) × (text ≡ 40 ∷ 42 ∷ more))
     × ((inside : List Cut) (after : List ℕ) → IsInside inside after
     → part_bytes (Comment inside) ++ after ≢ text)
 
--- the lexeme at the front is an integer that 64 bits do not have
+-- The lexeme at the start of the text is an integer that does not fit in 64 bits.
 abbrev pub IsOverlong : List ℕ → Type 0
 IsOverlong text =
     (form : Form) × (after : List ℕ) × (text ≡ form_bytes form ++ after) × IsTaken form after
     × IsTooBig form
 
--- the fault that stands at the front of a text, which begins at a place
+-- The fault at the start of a text that begins at position `place`.
 abbrev pub Breaks : ℕ → List ℕ → LexFault → Type 0
 Breaks place text (faults.BadByte fault) =
     ((fault ≡ place) × StartsNothing text) ⊎ IsBadEscape place text fault
@@ -150,44 +150,44 @@ Breaks place text faults.Memory = ⊥
 
 -- ---- a text
 
--- the text is parts one after the other, and nothing else, with these lexemes
+-- The text is a sequence of parts, and these are the lexemes among them.
 abbrev pub Lexes : List ℕ → List Lexeme → Type 0
 Lexes text lexemes =
     (parts : List Part) × AreParts parts [] × (text ≡ flat_map part_bytes parts)
     × (lexemes ≡ lexemes_of 0 parts)
 
--- the text is parts one after the other, and then this fault
+-- The text is a sequence of parts followed by this fault.
 abbrev pub Faults : List ℕ → LexFault → Type 0
 Faults text fault =
     (parts : List Part) × (rest : List ℕ) × AreParts parts rest
     × (text ≡ flat_map part_bytes parts ++ rest)
     × Breaks (length (flat_map part_bytes parts)) rest fault
 
--- ---- answers
+-- ---- results
 
 abbrev pub UnlessMemory : (LexFault → Type 0) → LexFault → Type 0
 UnlessMemory P faults.Memory = Unit {0}
 UnlessMemory P fault = P fault
 
--- What a call answered, seen by view, is the expected answer, unless memory ran out.
+-- The result of a call, seen through `view`, is the expected result, unless memory ran out.
 abbrev pub Answers : {X Y : Type 0} → (X → Y) → Result X LexFault → Result Y LexFault → Type 0
 Answers view (Ok x) expected = expected ≡ Ok (view x)
 Answers view (Err fault) expected = UnlessMemory (λ f. expected ≡ Err f) fault
 
--- ---- what a text gives
+-- ---- the outcome of a text
 
--- the text's lexemes, or its fault
+-- The outcome is the lexemes of the text, or its fault.
 abbrev pub Outcome : List ℕ → Result (List Lexeme) LexFault → Type 0
 Outcome text (Ok lexemes) = Lexes text lexemes
 Outcome text (Err fault) = Faults text fault
 
--- a text has an outcome, and no other
+-- The text has exactly one outcome.
 abbrev pub HasOneOutcome : List ℕ → Type 0
 HasOneOutcome text =
     (outcome : Result (List Lexeme) LexFault) × Outcome text outcome
     × ((other : Result (List Lexeme) LexFault) → Outcome text other → other ≡ outcome)
 
--- the spans are not empty and come one after the other, from a place on, and up to another
+-- The spans are nonempty and follow one another from position `from` up to position `end`.
 abbrev pub SpansWithin : ℕ → List Lexeme → ℕ → Type 0
 SpansWithin from [] end = from ≤ end
 SpansWithin from (lexeme ∷ lexemes) end =

@@ -1,6 +1,6 @@
--- How a lexeme is written. Words, characters, strings, integers and symbols follow the lexical
--- conventions of OCaml's reference manual; escapes are those of the same page; `$` and sixteen
--- digits is this project's own.
+-- The concrete syntax of lexemes. Words, characters, strings, integers, symbols and escapes follow
+-- the lexical conventions of OCaml's reference manual. The syntax of doubles, `$` and sixteen
+-- digits, is specific to this project.
 use Rattle.std.specs.Prelude.{◌≡◌, ◌≢◌, ◌⊎◌, ℕ, ℤ, pos, ◌+◌, ◌-◌, ◌*◌, ◌^◌, ◌≤◌, ◌<◌, ◌-ℤ◌, Bool}
 use Rattle.std.specs.Prelude.{true, false, ◌||◌, ◌==◌, if◌then◌else◌, nat_lt, List, [], ◌∷◌, ◌++◌}
 use Rattle.std.specs.Prelude.{length, map, Option, Some, None, IsSome, unwrap_or, IsTrue, codes}
@@ -18,7 +18,7 @@ use Rattle.om_lex.specs.declared.lexeme.LexemeKind.TheVariants as kinds
 
 -- ---- bytes: 95 is `_`, 39 a quote, 34 a double quote, 92 a backslash, 10 a line feed
 
--- space, tab, line feed, form feed, carriage return
+-- Space, tab, line feed, form feed and carriage return.
 abbrev pub is_separator : ℕ → Bool
 is_separator b = b == 32 || b == 9 || b == 10 || b == 12 || b == 13
 
@@ -31,18 +31,18 @@ starts_name b = starts_lower b || is_ascii_uppercase b
 abbrev pub is_name_byte : ℕ → Bool
 is_name_byte b = is_ascii_alphanumeric b || b == 95 || b == 39
 
--- a name: its first byte may start one, and each of its bytes may stand in one
+-- The bytes are a name: a name may start with the first byte, and each byte may occur in a name.
 abbrev pub IsName : (ℕ → Bool) → List ℕ → Type 0
 IsName starts [] = ⊥
 IsName starts (b ∷ bs) = IsTrue (starts b) × IsTrue (list_all is_name_byte (b ∷ bs))
 
 -- ---- numbers
 
--- what a digit of either case stands for: 48 is `0`, 65 `A`, 97 `a`
+-- The value of a digit in lower or upper case. 48 is `0`, 65 is `A`, 97 is `a`.
 abbrev pub value_of_digit : ℕ → ℕ
 value_of_digit b = if nat_lt b 58 then b - 48 else (if nat_lt b 71 then b - 55 else b - 87)
 
--- what digits stand for, the last one of weight 1
+-- The value of a sequence of digits, most significant digit first.
 abbrev pub number_in : ℕ → List ℕ → ℕ
 number_in base [] = 0
 number_in base (d ∷ ds) = value_of_digit d * base ^ length ds + number_in base ds
@@ -51,15 +51,15 @@ abbrev pub signed : Bool → ℕ → ℤ
 signed true n = pos 0 -ℤ pos n
 signed false n = pos n
 
--- the greatest number that 64 bits have on this side of 0
+-- The greatest absolute value that 64 bits can represent with this sign.
 abbrev pub greatest : Bool → ℕ
 greatest true = 2 ^ 63
 greatest false = 2 ^ 63 - 1
 
--- ---- one character, inside quotes
+-- ---- one character inside quotes
 
--- a byte as it is, a backslash and a letter, a backslash and three digits, or a backslash, `x` and
--- two digits
+-- The four forms of a character: a plain byte, a backslash and a letter, a backslash and three
+-- decimal digits, or a backslash, `x` and two hexadecimal digits.
 pub data CharForm : Type 0 where
   Plain : (b : ℕ) → CharForm
   Named : (b : ℕ) → CharForm
@@ -72,7 +72,8 @@ char_bytes (Named b) = 92 ∷ b ∷ []
 char_bytes (Decimal d e f) = 92 ∷ d ∷ e ∷ f ∷ []
 char_bytes (Hexadecimal h l) = 92 ∷ 120 ∷ h ∷ l ∷ []
 
--- backslash, both quotes and space stand for themselves, and n, t, b, r for 10, 9, 8, 13
+-- The byte that a backslash and this byte represent: backslash, both quotes and space represent
+-- themselves, and `n`, `t`, `b`, `r` represent 10, 9, 8, 13.
 abbrev pub named_char : ℕ → Option ℕ
 named_char b =
     if b == 92 || b == 34 || b == 39 || b == 32 then Some b
@@ -87,11 +88,11 @@ char_value (Named b) = unwrap_or (named_char b) 0
 char_value (Decimal d e f) = number_in 10 (d ∷ e ∷ f ∷ [])
 char_value (Hexadecimal h l) = number_in 16 (h ∷ l ∷ [])
 
--- whether a byte of a string stands for itself
+-- Returns true if a byte of a string represents itself.
 abbrev pub is_plain : ℕ → Bool
 is_plain b = if b == 34 || b == 92 || b == 10 then false else true
 
--- a form inside these quotes
+-- The form is valid inside these quotes.
 abbrev pub IsCharForm : ℕ → CharForm → Type 0
 IsCharForm quote (Plain b) = (b ≢ quote) × (b ≢ 92) × (b ≢ 10)
 IsCharForm quote (Named b) = IsSome (named_char b)
@@ -137,7 +138,7 @@ abbrev pub minus_text : Bool → List ℕ
 minus_text true = codes "-"
 minus_text false = []
 
--- a lexeme as it is written
+-- A lexeme as it is written.
 pub data Form : Type 0 where
   Reserved : (keyword : Keyword) → Form
   Lower : (name : List ℕ) → Form
@@ -150,7 +151,7 @@ pub data Form : Type 0 where
   Double : (digits : List ℕ) → Form
   Mark : (symbol : Symbol) → Form
 
--- the bytes that spell it: 96 is a backquote, 36 is `$`
+-- The bytes of a form. 96 is a backquote, 36 is `$`.
 abbrev pub form_bytes : Form → List ℕ
 form_bytes (Reserved k) = keyword_text k
 form_bytes (Lower name) = name
@@ -163,7 +164,7 @@ form_bytes (Quoted chars) = 34 ∷ (flat_map char_bytes chars ++ 34 ∷ [])
 form_bytes (Double digits) = 36 ∷ digits
 form_bytes (Mark s) = symbol_text s
 
--- what it spells
+-- The kind of lexeme that a form denotes.
 abbrev pub form_kind : Form → LexemeKind
 form_kind (Reserved k) = kinds.Keyword k
 form_kind (Lower name) = kinds.Lower name
@@ -178,7 +179,8 @@ form_kind (Quoted chars) = kinds.Text (map char_value chars)
 form_kind (Double digits) = kinds.Double (number_in 16 digits)
 form_kind (Mark s) = kinds.Symbol s
 
--- a name in lower case is no keyword; tags may be keywords, and so may variables
+-- The form is valid. A lowercase name is no keyword; the names of tags and variables may be
+-- keywords.
 abbrev pub IsForm : Form → Type 0
 IsForm (Reserved k) = Unit {0}
 IsForm (Lower name) = IsName starts_lower name × ((k : Keyword) → name ≢ keyword_text k)
@@ -191,7 +193,7 @@ IsForm (Quoted chars) = AllByRecursion (IsCharForm 34) chars
 IsForm (Double digits) = (length digits ≡ 16) × IsTrue (list_all is_ascii_hexdigit digits)
 IsForm (Mark s) = Unit {0}
 
--- an integer that 64 bits have, or another lexeme
+-- The form is an integer that fits in 64 bits, or it is no integer.
 abbrev pub IsInRange : Form → Type 0
 IsInRange (Number minus digits suffix) = number_in 10 digits ≤ greatest minus
 IsInRange form = Unit {0}
@@ -204,8 +206,8 @@ abbrev pub is_character : Form → Bool
 is_character (Character c) = true
 is_character form = false
 
--- Which of two forms that begin one text is taken: a character before all others, and else the
--- longer one.
+-- If a text begins with both forms, then `form` takes precedence over `other`: a character precedes
+-- all other forms, and otherwise the longer form precedes the shorter one.
 abbrev pub Precedes : Form → Form → Type 0
 Precedes form other =
     IsTrue (is_character form)

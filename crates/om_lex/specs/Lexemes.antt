@@ -1,4 +1,4 @@
--- Where the lexemes of a text stand, and the front of a text up to a place.
+-- The positions of the lexemes of a text, and the prefix of a text up to a position.
 use Rattle.std.specs.Prelude.{◌≡◌, ℕ, ◌+◌, ◌<◌, ◌≤◌, List, [], ◌∷◌, ◌++◌, length, drop, Option}
 use Rattle.std.specs.Prelude.{Some, None, Result, Ok, Err, ⊤}
 use Rattle.std.specs.List.{flat_map}
@@ -13,23 +13,24 @@ use Rattle.om_lex.specs.LexText.{Part, part_bytes, AreParts, lexemes_of, Lexes, 
 use Rattle.om_lex.specs.LexText.{UnlessMemory}
 use Rattle.om_lex.specs.Scan.{step_at}
 
--- the lexeme of a step at a place; where there is none, it is a keyword of no length
+-- The lexeme of a step at a position. If the step has no lexeme, then the result is a keyword of
+-- length 0.
 abbrev pub lexeme_in : ℕ → Result Step LexFault → Lexeme
 lexeme_in place (Ok (Word word)) =
     record { kind = word.kind; span = record { first = place; len = word.len } }
 lexeme_in place step =
     record { kind = kinds.Keyword keywords.Type; span = record { first = place; len = 0 } }
 
--- the lexeme at this place of a text
+-- The lexeme at this position of a text.
 abbrev pub lexeme_from : List ℕ → ℕ → Lexeme
 lexeme_from text place = lexeme_in place (step_at (drop place text))
 
--- the name of a lexeme in lower case
+-- The name of a lexeme that is a lowercase name, and the empty name for any other.
 abbrev pub lower_name : Option LexemeKind → List ℕ
 lower_name (Some (kinds.Lower x)) = x
 lower_name kind = []
 
--- the parts up to a place, and their lexemes
+-- The parts up to a position, and the lexemes among them.
 pub record Reached (text : List ℕ) (at : ℕ) (lexemes : List Lexeme) : Type 0 where
   pub parts : List Part
   pub are : AreParts parts (drop at text)
@@ -38,26 +39,28 @@ pub record Reached (text : List ℕ) (at : ℕ) (lexemes : List Lexeme) : Type 0
   pub inside : at ≤ length text
   pub found : lexemes ≡ lexemes_of 0 parts
 
--- after these lexemes comes another one, or none up to the end; or the text has a fault
+-- After the lexemes `front` comes another one, or no lexeme follows up to the end, or the text has
+-- a fault.
 abbrev pub GoesOn : List ℕ → List Lexeme → Result (Option Lexeme) LexFault → Type 0
 GoesOn text front (Ok None) = Reached text (length text) front
 GoesOn text front (Ok (Some lexeme)) =
     Reached text (lexeme.span.first + lexeme.span.len) (front ++ lexeme ∷ [])
 GoesOn text front (Err fault) = UnlessMemory (Faults text) fault
 
--- after the parts with these lexemes comes another part, up to this place, or the text has a fault
+-- After the parts with the lexemes `front` comes another part that ends at position `end`, or the
+-- text has a fault.
 abbrev pub StepsOn : List ℕ → List Lexeme → Result ℕ LexFault → Type 0
 StepsOn text front (Ok end) = (more : List Lexeme) × Reached text end (front ++ more)
 StepsOn text front (Err fault) = UnlessMemory (Faults text) fault
 
--- a lexeme behind a place, which is the one at its own place
+-- The lexeme begins at `from` or later and is the lexeme at its own position.
 pub record IsNext (text : List ℕ) (from : ℕ) (lexeme : Lexeme) : Type 0 where
   pub onward : from < lexeme.span.first + lexeme.span.len
   pub within : lexeme.span.first + lexeme.span.len ≤ length text
   pub behind : from ≤ lexeme.span.first
   pub is : lexeme_from text lexeme.span.first ≡ lexeme
 
--- the text's lexemes begin with these, or it has a fault
+-- The lexemes of the text begin with `front`, or the text has a fault.
 abbrev pub Ends : List ℕ → List Lexeme → Result ⊤ LexFault → Type 0
 Ends text front (Ok done) = (more : List Lexeme) × Lexes text (front ++ more)
 Ends text front (Err fault) = UnlessMemory (Faults text) fault

@@ -1,5 +1,5 @@
--- The form at the front of a text, and the part, found from left to right: what the functions of
--- the crate compute.
+-- The form or part at the start of a text, computed from left to right. The functions of the crate
+-- compute these definitions.
 use Rattle.std.specs.Prelude.{◌≡◌, ℕ, zero, suc, pred, ◌+◌, Bool, true, false, ◌&&◌, ◌||◌, ◌==◌}
 use Rattle.std.specs.Prelude.{nat_lt, nat_le, if◌then◌else◌, List, [], ◌∷◌, ◌++◌, length, take}
 use Rattle.std.specs.Prelude.{drop, Option, Some, None, is_some, Result, Ok, Err}
@@ -72,7 +72,7 @@ decimal_at (d ∷ e ∷ f ∷ rest) =
     then Some (Decimal d e f)
     else None
 
--- after a backslash
+-- The text follows a backslash.
 unfoldable pub escape_at : List ℕ → Option CharForm
 escape_at [] = None
 escape_at (b ∷ bs) =
@@ -84,7 +84,7 @@ char_at quote [] = None
 char_at quote (b ∷ bs) =
     if b == 92 then escape_at bs else (if b == quote || b == 10 then None else Some (Plain b))
 
--- the value of a character, and how many bytes it takes
+-- The value of a character and its length in bytes.
 abbrev pub char_found : Option CharForm → Option (ℕ × ℕ)
 char_found None = None
 char_found (Some c) = Some (char_value c, length (char_bytes c))
@@ -105,7 +105,7 @@ abbrev pub or_form : Option Form → Option Form → Option Form
 or_form None other = other
 or_form (Some form) other = Some form
 
--- after a quote
+-- The text follows a quote.
 unfoldable pub quote_form : List ℕ → Option Form
 quote_form text = or_form (character_form text) (variable_form text)
 
@@ -117,7 +117,7 @@ one_more others text None = ([], text)
 one_more others text (Some c) =
     let more = others (drop (length (char_bytes c)) text) in (c ∷ more.0, more.1)
 
--- at most so many characters of a string, and the bytes after them
+-- At most `n` characters of a string, and the bytes after them.
 unfoldable pub chars_of : ℕ → List ℕ → List CharForm × List ℕ
 chars_of zero text = ([], text)
 chars_of (suc n) text = one_more (chars_of n) text (char_at 34 text)
@@ -125,13 +125,13 @@ chars_of (suc n) text = one_more (chars_of n) text (char_at 34 text)
 abbrev pub closed_string : List CharForm × List ℕ → Option Form
 closed_string read = if begins_with 34 read.1 then Some (Quoted read.0) else None
 
--- the bytes from this place on that stand for themselves are put behind a value
+-- The bytes from position `at` on that represent themselves are appended to a value.
 pub record TakesPlain (text : List ℕ) (at : ℕ) (old : List ℕ) (end : ℕ) (new : List ℕ)
     : Type 0 where
   pub end_is : end ≡ at + prefix_len is_plain (drop at text)
   pub new_is : new ≡ old ++ take (prefix_len is_plain (drop at text)) (drop at text)
 
--- after a double quote
+-- The text follows a double quote.
 unfoldable pub string_form : List ℕ → Option Form
 string_form text = closed_string (chars_of (length text) text)
 
@@ -191,7 +191,7 @@ pair_at a (b ∷ bs) = pair_symbol a b
 unfoldable pub symbol_form : ℕ → List ℕ → Option Form
 symbol_form a bs = or_symbol (pair_at a bs) (single_symbol a)
 
--- ---- the front of a text
+-- ---- the start of a text
 
 unfoldable pub form_at : List ℕ → Option Form
 form_at [] = None
@@ -205,7 +205,7 @@ form_at (b ∷ bs) =
     else (if is_ascii_digit b then number_form false (b ∷ bs)
     else symbol_form b bs))))))
 
--- ---- what the functions answer
+-- ---- the results of the functions
 
 abbrev pub in_range : Form → Bool
 in_range (Number minus digits suffix) = nat_le (number_in 10 digits) (greatest minus)
@@ -241,15 +241,15 @@ abbrev pub bracket_of : ℕ → ℕ → Bracket
 bracket_of a b =
     if a == 40 && b == 42 then Opening else (if a == 42 && b == 41 then Closing else Neither)
 
--- one more bracket or byte, at a depth: what is answered one comment deeper, one further out, and
--- one byte on
+-- The result for one more bracket or byte at a depth, given the results one comment deeper, one
+-- comment further out, and one byte further.
 abbrev pub closing_by : Bracket → ℕ → Option ℕ → Option ℕ → Option ℕ → Option ℕ
 closing_by Opening depth deeper outer on = plus 2 deeper
 closing_by Closing zero deeper outer on = Some 2
 closing_by Closing (suc depth) deeper outer on = plus 2 outer
 closing_by Neither depth deeper outer on = plus 1 on
 
--- how many bytes of the text, at this depth inside a comment, go up to the comment's end
+-- The number of bytes up to the end of the comment, from this depth inside the comment.
 unfoldable pub closing : ℕ → List ℕ → Option ℕ
 closing depth [] = None
 closing depth (a ∷ []) = None
@@ -273,7 +273,7 @@ step_at (b ∷ bs) =
     (if b == 40 && begins_with 42 bs then gap_of (closing 0 (drop 1 bs))
     else word_of (lexeme_at (b ∷ bs)))
 
--- ---- places
+-- ---- positions
 
 abbrev pub place_of : LexFault → ℕ
 place_of (faults.BadByte place) = place
@@ -282,7 +282,7 @@ place_of (faults.OpenComment place) = place
 place_of (faults.TooBig place) = place
 place_of faults.Memory = 0
 
--- a fault of what begins at a place
+-- The fault with its position increased by `by`.
 abbrev pub moved : ℕ → LexFault → LexFault
 moved by (faults.BadByte place) = faults.BadByte (place + by)
 moved by (faults.OpenString place) = faults.OpenString (place + by)

@@ -1,4 +1,4 @@
--- The lexemes that there are in a row, or at the places of a text.
+-- The lexemes of a slice, or the lexemes at the given positions of a text.
 use Rattle.std.specs.Prelude.{List, map}
 use Rattle.om_lex.specs.declared.lexeme.Lexeme.{Lexeme}
 use Rattle.om_lex.specs.declared.lexemes.Source.{Source}

@@ -1,4 +1,5 @@
-//! Lexemes without what their names and strings are.
+//! Brief lexemes: the fast path of the lexer for literals. A brief lexeme may omit the contents of
+//! a name or a string.
 
 ghost use Rattle.std.specs.Prelude.{◌≡◌, ◌<◌, ◌≤◌, List, length, slice_index, Result, IfOk, IfSome};
 ghost use Rattle.std.specs.Prelude.{IsTrue, Ok};
@@ -22,14 +23,14 @@ use crate::words::{copied, keyword_of};
 use om_model::list::List;
 use std::alloc::Global;
 
-/// Whether a name in lower case begins literals.
+/// Returns true if literals begin with this lowercase name.
 fn begins_literal(name: &[u8]) -> bool
     ensures { result ≡ begins_literal name.now }
 {
     name == b"true".as_slice() || name == b"false".as_slice() || name == b"ref".as_slice()
 }
 
-/// A name in lower case where it begins literals, else none.
+/// Copies a lowercase name if literals begin with it. Returns the empty name otherwise.
 fn brief_name(alloc: Global, name: &[u8]) -> Result<List<u8>, LexFault>
     ensures { Answers (λ l. l) result (Ok (brief_name name.now)) }
 {
@@ -40,7 +41,7 @@ fn brief_name(alloc: Global, name: &[u8]) -> Result<List<u8>, LexFault>
     }
 }
 
-/// A name that is no keyword.
+/// Returns the brief lexeme of a name that is no keyword.
 fn brief_cased(alloc: Global, name: &[u8]) -> Result<Found, LexFault>
     requires { 0 < length name.now }
     ensures { FindsBrief result (Ok (found (cased_form name.now))) }
@@ -60,7 +61,7 @@ fn brief_cased(alloc: Global, name: &[u8]) -> Result<Found, LexFault>
     }
 }
 
-/// The name or keyword at the front.
+/// Lexes the name or keyword at the start of the text.
 fn brief_word(alloc: Global, text: &[u8]) -> Result<Found, LexFault>
     requires first { 0 < length text.now }
     requires name { IsTrue (starts_name (slice_index text.now 0)) }
@@ -77,7 +78,7 @@ fn brief_word(alloc: Global, text: &[u8]) -> Result<Found, LexFault>
     }
 }
 
-/// The string whose quote stands before the text.
+/// Lexes the string whose opening quote precedes the text.
 fn brief_string(alloc: Global, text: &[u8]) -> Result<Found, LexFault>
     ensures { FindsBrief result (string_at text.now) }
 {
@@ -101,7 +102,7 @@ fn brief_string(alloc: Global, text: &[u8]) -> Result<Found, LexFault>
     }
 }
 
-/// A lexeme that was found, as a step.
+/// Returns the step for a lexeme.
 #[inline(always)]
 fn word_step(found: Result<Found, LexFault>) -> Result<Step, LexFault>
     ensures { (e : Result Found LexFault) → FindsBrief found e → StepsBrief result (word_of e) }
@@ -112,7 +113,7 @@ fn word_step(found: Result<Found, LexFault>) -> Result<Step, LexFault>
     }
 }
 
-/// The symbol of a byte that begins no longer one.
+/// Returns the symbol of a byte with which no longer symbol begins.
 #[inline(always)]
 fn lone_symbol(byte: u8) -> Option<Symbol>
     ensures { result ≡ lone_symbol byte }
@@ -127,7 +128,8 @@ fn lone_symbol(byte: u8) -> Option<Symbol>
     }
 }
 
-/// The separator, comment or lexeme at the front. What stands most often in literals comes first.
+/// Lexes the separator, comment or lexeme at the start of the text. Tests first for what is most
+/// frequent in literals.
 #[inline(always)]
 fn brief_step(alloc: Global, text: &[u8]) -> Result<Step, LexFault>
     ensures { StepsBrief result (step_at text.now) }
@@ -153,17 +155,18 @@ fn brief_step(alloc: Global, text: &[u8]) -> Result<Step, LexFault>
     step_at(alloc, text)
 }
 
-/// The next lexeme of a text, from this place on, or none where there is no other. Where it is a
-/// name or a string, it may stand without what it is.
+/// Returns the next lexeme of a text from position `from` (in bytes) on, or `None` if no lexeme
+/// follows. The lexeme may omit the contents of a name or a string. Fails with the first fault.
 #[inline(always)]
 pub fn next_brief(alloc: Global, text: &[u8], from: usize) -> Result<Option<Lexeme>, LexFault>
     requires { from ≤ length text.now }
 
-    // It comes after those before the place; or they are all; or the text has a fault.
+    // Either the lexeme is the next one after those before `from`, or there are no more lexemes, or
+    // the text has this fault.
     ensures next { (front : List Lexeme) → Reached text.now from front
         → GoesOn text.now front (in_full text.now result) }
 
-    // It stands behind the place, and is what stands at its own place.
+    // The lexeme begins at `from` or later, and it is the lexeme at its own position.
     ensures place { IfOk result (λ found. IfSome found (IsBriefNext text.now from)) }
 {
     let mut at = from;

@@ -1,4 +1,4 @@
-//! Classes of bytes.
+//! Character classes of bytes.
 
 ghost use Rattle.std.specs.Prelude.{◌≡◌, ◌<◌, IsTrue};
 ghost use Rattle.std.specs.Char.{is_ascii_hexdigit};
@@ -6,7 +6,8 @@ ghost use Rattle.std.specs.List.{prefix_len};
 ghost use Rattle.om_lex.specs.Lexeme.{is_separator, starts_lower, starts_name, is_name_byte};
 ghost use Rattle.om_lex.specs.Lexeme.{value_of_digit, is_plain};
 
-/// Space, tab, line feed, form feed or carriage return.
+/// Returns true for a space, tab, line feed, form feed or carriage return: the blanks of OCaml's
+/// reference manual.
 #[inline(always)]
 pub fn is_separator(b: u8) -> bool
     ensures { result ≡ is_separator b }
@@ -14,7 +15,7 @@ pub fn is_separator(b: u8) -> bool
     b == b' ' || b == b'\t' || b == b'\n' || b == 0x0c || b == b'\r'
 }
 
-/// Whether a name in lower case may begin so.
+/// Returns true if a lowercase name may begin with this byte.
 #[inline(always)]
 pub fn starts_lower(b: u8) -> bool
     ensures { result ≡ starts_lower b }
@@ -22,7 +23,7 @@ pub fn starts_lower(b: u8) -> bool
     b.is_ascii_lowercase() || b == b'_'
 }
 
-/// Whether a name may begin so.
+/// Returns true if a name may begin with this byte.
 #[inline(always)]
 pub fn starts_name(b: u8) -> bool
     ensures { result ≡ starts_name b }
@@ -30,7 +31,7 @@ pub fn starts_name(b: u8) -> bool
     starts_lower(b) || b.is_ascii_uppercase()
 }
 
-/// Whether a name may go on so.
+/// Returns true if a name may contain this byte after its first.
 #[inline(always)]
 pub fn is_name_byte(b: u8) -> bool
     ensures { result ≡ is_name_byte b }
@@ -38,14 +39,14 @@ pub fn is_name_byte(b: u8) -> bool
     b.is_ascii_alphanumeric() || b == b'_' || b == b'\''
 }
 
-/// How many bytes at the front may stand in a name.
+/// Returns the number of leading bytes that may occur in a name.
 pub fn name_len(text: &[u8]) -> usize
     ensures { result ≡ prefix_len is_name_byte text.now }
 {
     text.iter().take_while(|b| is_name_byte(**b)).count()
 }
 
-/// Whether a byte of a string stands for itself.
+/// Returns true if this byte needs no escape in a string and ends no string.
 fn is_plain(b: u8) -> bool
     ensures { result ≡ is_plain b }
 {
@@ -56,14 +57,14 @@ fn is_plain(b: u8) -> bool
     }
 }
 
-/// How many bytes at the front stand for themselves in a string.
+/// Returns the number of leading bytes that represent themselves in a string.
 pub fn plain_len(text: &[u8]) -> usize
     ensures { result ≡ prefix_len is_plain text.now }
 {
     text.iter().take_while(|b| is_plain(**b)).count()
 }
 
-/// What a digit of either case stands for.
+/// Returns the value of a hexadecimal digit in lower or upper case.
 pub fn digit_value(b: u8) -> u8
     requires { IsTrue (is_ascii_hexdigit b) }
     ensures value { result ≡ value_of_digit b }

@@ -1,4 +1,4 @@
-//! Characters and strings.
+//! Character and string literals.
 
 ghost use Rattle.std.specs.Prelude.{◌≡◌, ◌≤◌, ◌+◌, drop, length, IfOk};
 ghost use Rattle.std.specs.List.{prefix_len};
@@ -14,7 +14,7 @@ use crate::words::variable;
 use om_model::list::List;
 use std::alloc::{AllocError, Global};
 
-/// What a backslash and this byte stand for.
+/// Returns the byte that a backslash followed by `b` represents.
 fn named_char(b: u8) -> Option<u8>
     ensures { result ≡ named_char b }
 {
@@ -28,8 +28,8 @@ fn named_char(b: u8) -> Option<u8>
     }
 }
 
-/// Two hexadecimal digits after a backslash and an `x`. This and the next ones also tell the bytes
-/// of the whole escape.
+/// Decodes two hexadecimal digits after a backslash and an `x`. This function and the next ones
+/// return the byte and the length of the whole escape in bytes.
 #[tactic(auto, unfolding(crate::specs::Scan::hexadecimal_at))]
 fn hexadecimal_at(text: &[u8]) -> Option<(u8, usize)>
     ensures { result ≡ char_found (hexadecimal_at text.now) }
@@ -44,7 +44,7 @@ fn hexadecimal_at(text: &[u8]) -> Option<(u8, usize)>
     }
 }
 
-/// Three decimal digits after a backslash.
+/// Decodes three decimal digits after a backslash.
 #[tactic(auto, unfolding(crate::specs::Scan::decimal_at))]
 fn decimal_at(text: &[u8]) -> Option<(u8, usize)>
     ensures { result ≡ char_found (decimal_at text.now) }
@@ -63,7 +63,7 @@ fn decimal_at(text: &[u8]) -> Option<(u8, usize)>
     }
 }
 
-/// The escape whose backslash stands before the text.
+/// Decodes the escape whose backslash precedes the text.
 #[tactic(auto, unfolding(crate::specs::Scan::escape_at))]
 fn escape_at(text: &[u8]) -> Option<(u8, usize)>
     ensures { result ≡ char_found (escape_at text.now) }
@@ -83,8 +83,8 @@ fn escape_at(text: &[u8]) -> Option<(u8, usize)>
     }
 }
 
-/// The character at the front, inside these quotes: what it stands for, and how many bytes it
-/// takes.
+/// Decodes the character at the start of the text, inside quotes `quote`. Returns the byte that it
+/// represents and its length in bytes.
 #[tactic(auto, unfolding(crate::specs::Scan::char_at))]
 pub(crate) fn char_at(quote: u8, text: &[u8]) -> Option<(u8, usize)>
     ensures { result ≡ char_found (char_at quote text.now) }
@@ -101,7 +101,8 @@ pub(crate) fn char_at(quote: u8, text: &[u8]) -> Option<(u8, usize)>
     }
 }
 
-/// The character or variable whose quote stands before the text: a character first.
+/// Lexes the character or type variable whose quote precedes the text. If the text is both, then it
+/// is a character.
 #[tactic(auto, unfolding(crate::specs::Scan::quote_form, crate::specs::Scan::character_form))]
 pub fn quoted(alloc: Global, text: &[u8]) -> Result<Found, LexFault>
     ensures { Answers (λ w. w) result (found_at (quote_form text.now)) }
@@ -117,7 +118,7 @@ pub fn quoted(alloc: Global, text: &[u8]) -> Result<Found, LexFault>
     variable(alloc, text)
 }
 
-/// The place behind the bytes from this place on that stand for themselves.
+/// Returns the position after the bytes from `at` on that represent themselves in a string.
 pub(crate) fn plain_end(text: &[u8], at: usize) -> usize
     requires { at ≤ length text.now }
     ensures { result ≡ at + prefix_len is_plain (drop at text.now) }
@@ -125,7 +126,8 @@ pub(crate) fn plain_end(text: &[u8], at: usize) -> usize
     at + plain_len(&text[at..])
 }
 
-/// Appends the bytes from this place on that stand for themselves: the place behind them.
+/// Appends the bytes from `at` on that represent themselves in a string. Returns the position after
+/// them.
 fn take_plain(value: &mut Vec<u8>, text: &[u8], at: usize) -> Result<usize, AllocError>
     requires { at ≤ length text.now }
     ensures { IfOk result (λ end. TakesPlain text.now at value.old.items end value.new.items) }
@@ -136,7 +138,7 @@ fn take_plain(value: &mut Vec<u8>, text: &[u8], at: usize) -> Result<usize, Allo
     Ok(at + count)
 }
 
-/// The string whose quote stands before the text.
+/// Lexes the string whose opening quote precedes the text.
 pub fn string(alloc: Global, text: &[u8]) -> Result<Found, LexFault>
     ensures { Answers (λ w. w) result (string_at text.now) }
 {

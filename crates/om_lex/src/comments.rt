@@ -3,7 +3,7 @@
 ghost use Rattle.std.specs.Prelude.{◌≡◌, ◌≤◌, length, IfSome};
 ghost use Rattle.om_lex.specs.Scan.{bracket_of, closing};
 
-/// What two bytes of a comment are.
+/// The meaning of two bytes in a comment.
 #[derive(Clone, Copy)]
 enum Bracket {
     Opening,
@@ -11,7 +11,7 @@ enum Bracket {
     Neither,
 }
 
-/// Whether a comment begins or ends with these bytes.
+/// Returns whether two bytes begin a comment, end a comment, or do neither.
 fn bracket_of(first: u8, second: u8) -> Bracket
     ensures { result ≡ bracket_of first second }
 {
@@ -24,7 +24,9 @@ fn bracket_of(first: u8, second: u8) -> Bracket
     }
 }
 
-/// How many bytes go up to the end of the comment whose first two bytes stand before the text.
+/// Returns the number of bytes up to the end of the comment whose first two bytes precede the text,
+/// or `None` if the comment does not end. Comments nest. Strings inside comments are not
+/// recognized.
 pub fn closing(text: &[u8]) -> Option<usize>
     ensures value { result ≡ closing 0 text.now }
     ensures within { IfSome result (λ len. len ≤ length text.now) }

@@ -1,15 +1,15 @@
-//! What stands at the front of a text.
+//! The results of the lexer at the start of a text.
 
 use crate::lexeme::LexemeKind;
 
-/// A lexeme, and how many bytes it takes.
+/// A lexeme and its length in bytes.
 #[derive(Drop)]
 pub struct Found {
     pub kind: LexemeKind,
     pub len: usize,
 }
 
-/// A separator or a comment, by how many bytes it takes, or a lexeme.
+/// A separator or a comment with its length in bytes, or a lexeme.
 #[derive(Drop)]
 pub enum Step {
     Gap(usize),

@@ -1,4 +1,4 @@
-//! Lexemes of declarations, types and literals, and why a text has none.
+//! The lexemes of declarations, types and literals, and the lexical faults.
 
 ghost use Rattle.std.specs.Prelude.{◌≡◌};
 ghost use Rattle.om_lex.specs.declared.lexeme.LexFault.TheVariants as faults;
@@ -15,7 +15,7 @@ pub enum Keyword {
     Mutable,
 }
 
-/// The letter after an integer's digits: none, `l`, `L` or `n`.
+/// The suffix of an integer: none, `l`, `L` or `n`.
 #[derive(Clone, Copy)]
 pub enum Suffix {
     Absent,
@@ -24,7 +24,7 @@ pub enum Suffix {
     Native,
 }
 
-/// An integer as written: `-0` differs from `0`.
+/// An integer as written. `-0` differs from `0`.
 #[derive(Clone, Copy)]
 pub struct Integer {
     pub minus: bool,
@@ -55,7 +55,8 @@ pub enum Symbol {
     Hash,
 }
 
-/// What a lexeme is, with its value. The name of a tag or of a variable stands without its mark.
+/// The kind of a lexeme with its value. The name of a tag or a variable does not include its
+/// backquote or quote.
 #[derive(Drop)]
 pub enum LexemeKind {
     Keyword(Keyword),
@@ -70,32 +71,33 @@ pub enum LexemeKind {
     Symbol(Symbol),
 }
 
-/// Where a lexeme stands: the place of its first byte, and how many bytes it has.
+/// The location of a lexeme: the position of its first byte, and its length in bytes.
 #[derive(Clone, Copy)]
 pub struct Span {
     pub first: usize,
     pub len: usize,
 }
 
-/// A lexeme.
+/// A lexeme with its location.
 #[derive(Drop)]
 pub struct Lexeme {
     pub kind: LexemeKind,
     pub span: Span,
 }
 
-/// Why a text has no lexemes: the first fault from the left, with its place.
+/// The first fault of a text from the left, with its position in bytes.
 #[derive(Clone, Copy)]
 pub enum LexFault {
-    /// No lexeme begins here, or no escape goes on here.
+    /// No lexeme begins at this position, or no escape continues here.
     BadByte(usize),
-    /// The string that begins here ends neither in its line nor in the text.
+    /// The string that begins at this position does not end before the end of its line or of the
+    /// text.
     OpenString(usize),
-    /// The comment that begins here does not end.
+    /// The comment that begins at this position does not end.
     OpenComment(usize),
-    /// The integer that begins here needs more than 64 bits.
+    /// The integer that begins at this position does not fit in 64 bits.
     TooBig(usize),
-    /// Out of memory.
+    /// Memory ran out.
     Memory,
 }
 

@@ -1,4 +1,4 @@
-//! The lexemes of a row, or those at places of a text.
+//! A list of lexemes, stored as a slice or as positions in a text.
 
 ghost use Rattle.std.specs.Prelude.{◌≡◌, ◌<◌, ◌^◌, Some, length, map, option_map, slice_get, IfOk};
 ghost use Rattle.om_lex.specs.declared.lexeme.Lexeme.{Lexeme};
@@ -14,7 +14,7 @@ use om_model::list::List;
 use std::alloc::Global;
 use std::marker::Model;
 
-/// The kind of the lexeme at this place of a text.
+/// Returns the kind of the lexeme at a position of a text.
 #[inline(always)]
 fn kind_from(alloc: Global, text: &[u8], place: usize) -> Result<LexemeKind, Memory>
     ensures { IfOk result (λ kind. kind ≡ (lexeme_from text.now place).kind) }
@@ -29,7 +29,7 @@ fn kind_from(alloc: Global, text: &[u8], place: usize) -> Result<LexemeKind, Mem
     }
 }
 
-/// The name in lower case at this place of a text, or none.
+/// Returns the lowercase name at a position of a text, or the empty name if there is none.
 #[inline(always)]
 fn lower_from(text: &[u8], place: usize) -> &[u8]
     ensures { result.now ≡ lower_name (Some (lexeme_from text.now place).kind) }
@@ -40,7 +40,7 @@ fn lower_from(text: &[u8], place: usize) -> &[u8]
     lower_at(&text[place..])
 }
 
-/// The name in lower case at the front, or none.
+/// Returns the lowercase name at the start of the text, or the empty name if there is none.
 #[inline(always)]
 fn lower_at(text: &[u8]) -> &[u8]
     ensures { result.now ≡ lower_name (Some (lexeme_from text.now 0).kind) }
@@ -58,14 +58,14 @@ fn lower_at(text: &[u8]) -> &[u8]
     }
 }
 
-/// A list of bytes once more.
+/// Copies a list of bytes.
 fn copy_list(alloc: Global, bytes: &List<u8>) -> Result<List<u8>, Memory>
     ensures { IfOk result (λ copy. copy ≡ bytes.now) }
 {
     Ok(List::of(Vec::from_slice(alloc, bytes.as_slice())?))
 }
 
-/// A kind once more.
+/// Copies a kind.
 fn copy_kind(alloc: Global, kind: &LexemeKind) -> Result<LexemeKind, Memory>
     ensures { IfOk result (λ copy. copy ≡ kind.now) }
 {
@@ -83,7 +83,7 @@ fn copy_kind(alloc: Global, kind: &LexemeKind) -> Result<LexemeKind, Memory>
     }
 }
 
-/// The name that a kind is, where it is one in lower case.
+/// Returns the name if the kind is a lowercase name, and the empty name otherwise.
 fn lower_of(kind: &LexemeKind) -> &[u8]
     ensures { result.now ≡ lower_name (Some kind.now) }
 {
@@ -93,14 +93,14 @@ fn lower_of(kind: &LexemeKind) -> &[u8]
     }
 }
 
-/// Where lexemes are had from: a row of them, or a text and the places where they begin.
+/// The storage of lexemes: a slice of lexemes, or a text and the positions where its lexemes begin.
 #[derive(Clone, Copy)]
 enum Source<'a> {
     Row(&'a [Lexeme]),
     Text(&'a [u8], &'a [u32]),
 }
 
-/// Lexemes, which contracts see as their list.
+/// A list of lexemes. Its model is that list.
 #[derive(Drop)]
 pub struct Lexemes<'a> {
     source: Source<'a>,
@@ -117,7 +117,7 @@ impl<'a> Model for Lexemes<'a> {
 }
 
 impl<'a> Lexemes<'a> {
-    /// Those of a row.
+    /// Returns the lexemes of a slice.
     pub fn of_row(row: &'a [Lexeme]) -> Lexemes<'a>
         ensures { result ≡ row.now }
     {
@@ -126,7 +126,7 @@ impl<'a> Lexemes<'a> {
         }
     }
 
-    /// Those at these places of a text.
+    /// Returns the lexemes at these positions of a text. They are lexed again on each access.
     pub fn of_text(text: &'a [u8], places: &'a [u32]) -> Lexemes<'a>
         ensures { result ≡ map (lexeme_from text.now) places.now }
     {
@@ -135,7 +135,7 @@ impl<'a> Lexemes<'a> {
         }
     }
 
-    /// How many there are.
+    /// Returns the number of lexemes.
     pub fn len(&self) -> usize
         ensures count { result ≡ length self.now }
         ensures few { result < 2 ^ 63 }
@@ -146,7 +146,7 @@ impl<'a> Lexemes<'a> {
         }
     }
 
-    /// The first byte of lexeme number k.
+    /// Returns the position of the first byte of lexeme `k`, or `None` if there is no such lexeme.
     #[inline(always)]
     pub fn first(&self, k: usize) -> Option<usize>
         ensures { result ≡ option_map (λ (l : Lexeme). l.span.first) (slice_get self.now k) }
@@ -163,7 +163,7 @@ impl<'a> Lexemes<'a> {
         }
     }
 
-    /// The name that lexeme number k is, where it is one in lower case.
+    /// Returns the name of lexeme `k` if it is a lowercase name, and the empty name otherwise.
     pub fn lower(&self, k: usize) -> &[u8]
         ensures { result.now
             ≡ lower_name (option_map (λ (l : Lexeme). l.kind) (slice_get self.now k)) }
@@ -180,7 +180,8 @@ impl<'a> Lexemes<'a> {
         }
     }
 
-    /// The kind of lexeme number k.
+    /// Returns the kind of lexeme `k`, or `None` if there is no such lexeme. Fails with `Memory` if
+    /// memory runs out.
     #[inline(always)]
     pub fn kind(&self, alloc: Global, k: usize) -> Result<Option<LexemeKind>, Memory>
         ensures { IfOk result

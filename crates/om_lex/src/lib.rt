@@ -1,4 +1,7 @@
-//! The lexemes of declarations, types and literals.
+//! The lexer for declarations, types and literals (compare OCaml's `lexer.mll`). `tokens` returns
+//! all lexemes of a text or its first fault; `next_lexeme` and `next_brief` return one lexeme at a
+//! time. `one_outcome` proves that every text has exactly one outcome. The crate does not parse
+//! lexemes.
 #![tactic(auto)]
 
 mod brief;

@@ -1,4 +1,4 @@
-//! The lexemes of a text, one after the other.
+//! The lexemes of a text, one at a time.
 
 ghost use Rattle.std.specs.Prelude.{◌<◌, ◌≤◌, List, length, IfOk, IfSome};
 ghost use Rattle.om_lex.specs.declared.lexeme.Lexeme.{Lexeme};
@@ -9,15 +9,17 @@ use crate::lexeme::{LexFault, Lexeme, Span};
 use crate::scan::{moved, step_at};
 use std::alloc::Global;
 
-/// The next lexeme of a text, from this place on, or none where there is no other.
+/// Returns the next lexeme of a text from position `from` (in bytes) on, or `None` if no lexeme
+/// follows. Fails with the first fault.
 pub fn next_lexeme(alloc: Global, text: &[u8], from: usize) -> Result<Option<Lexeme>, LexFault>
     requires { from ≤ length text.now }
 
-    // It comes after those before the place; or they are all; or the text has a fault.
+    // Either the lexeme is the next one after those before `from`, or there are no more lexemes, or
+    // the text has this fault.
     ensures next { (front : List Lexeme) → Reached text.now from front
         → GoesOn text.now front result }
 
-    // It stands behind the place, and is what stands at its own place.
+    // The lexeme begins at `from` or later, and it is the lexeme at its own position.
     ensures place { IfOk result (λ found. IfSome found (IsNext text.now from)) }
 {
     let mut at = from;
@@ -40,7 +42,7 @@ pub fn next_lexeme(alloc: Global, text: &[u8], from: usize) -> Result<Option<Lex
     Ok(None)
 }
 
-/// The end of the separator, comment or lexeme at this place.
+/// Returns the position after the separator, comment or lexeme at position `at`.
 fn step_over(alloc: Global, text: &[u8], at: usize) -> Result<usize, LexFault>
     requires { at < length text.now }
     ensures over { (front : List Lexeme) → Reached text.now at front
@@ -54,7 +56,8 @@ fn step_over(alloc: Global, text: &[u8], at: usize) -> Result<usize, LexFault>
     }
 }
 
-/// Sees that there are lexemes up to the end of a text, from this place on.
+/// Checks that the text consists of lexemes from position `from` to its end. Fails with the first
+/// fault.
 pub fn see_lexemes(alloc: Global, text: &[u8], from: usize) -> Result<(), LexFault>
     requires { from ≤ length text.now }
     ensures { (front : List Lexeme) → Reached text.now from front → Ends text.now front result }

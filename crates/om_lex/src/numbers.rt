@@ -12,7 +12,7 @@ use crate::bytes::digit_value;
 use crate::found::Found;
 use crate::lexeme::{Integer, LexFault, LexemeKind, Suffix};
 
-/// How many decimal digits stand at the front.
+/// Returns the number of leading decimal digits.
 #[inline(always)]
 fn digits_len(text: &[u8]) -> usize
     ensures { result ≡ prefix_len is_ascii_digit text.now }
@@ -20,14 +20,14 @@ fn digits_len(text: &[u8]) -> usize
     text.iter().take_while(|b| b.is_ascii_digit()).count()
 }
 
-/// Whether all bytes are hexadecimal digits.
+/// Returns true if all bytes are hexadecimal digits.
 fn all_hexadecimal(bytes: &[u8]) -> bool
     ensures { result ≡ list_all is_ascii_hexdigit bytes.now }
 {
     bytes.iter().all(|b| b.is_ascii_hexdigit())
 }
 
-/// What the digits stand for, or the greatest number of 64 bits where it is less.
+/// Returns the number that the digits represent, or 2^64 - 1 if that is less.
 #[inline(always)]
 fn number_in(base: u64, digits: &[u8]) -> u64
     requires { IsTrue (list_all is_ascii_hexdigit digits.now) }
@@ -42,7 +42,7 @@ fn number_in(base: u64, digits: &[u8]) -> u64
     number
 }
 
-/// The number with its sign, where 64 bits have it.
+/// Returns the number with its sign, if it fits in 64 bits.
 #[inline(always)]
 fn signed(minus: bool, number: u64) -> Option<i64>
     ensures { result
@@ -63,7 +63,7 @@ fn signed(minus: bool, number: u64) -> Option<i64>
     }
 }
 
-/// The suffix at the front, and how many bytes it takes.
+/// Returns the suffix at the start of the text and its length in bytes.
 #[tactic(auto, unfolding(crate::specs::Scan::suffix_at))]
 #[inline(always)]
 fn suffix_at(text: &[u8]) -> (Suffix, usize)
@@ -78,7 +78,8 @@ fn suffix_at(text: &[u8]) -> (Suffix, usize)
     }
 }
 
-/// The integer at the front, after its minus where there is one.
+/// Lexes the integer at the start of the text. If `minus` is true, then a minus sign precedes the
+/// text.
 #[tactic(auto, unfolding(crate::specs::Scan::number_form))]
 #[inline(always)]
 pub fn integer(minus: bool, text: &[u8]) -> Result<Found, LexFault>
@@ -104,7 +105,7 @@ pub fn integer(minus: bool, text: &[u8]) -> Result<Found, LexFault>
     }
 }
 
-/// The double whose `$` stands before the text.
+/// Lexes the double whose `$` precedes the text: sixteen hexadecimal digits.
 #[tactic(auto, unfolding(crate::specs::Scan::double_form))]
 pub fn double(text: &[u8]) -> Result<Found, LexFault>
     ensures { Answers (λ w. w) result (found_at (double_form text.now)) }

@@ -17,7 +17,7 @@ use crate::symbols::symbol;
 use crate::words::{tag, word};
 use std::alloc::Global;
 
-/// The lexeme at the front.
+/// Lexes the lexeme at the start of the text.
 #[tactic(auto, unfolding(crate::specs::Scan::lexeme_at, crate::specs::Scan::form_at))]
 #[inline(always)]
 fn lexeme_at(alloc: Global, text: &[u8]) -> Result<Found, LexFault>
@@ -44,7 +44,7 @@ fn lexeme_at(alloc: Global, text: &[u8]) -> Result<Found, LexFault>
     }
 }
 
-/// The separator, comment or lexeme at the front.
+/// Lexes the separator, comment or lexeme at the start of the text.
 #[tactic(auto, unfolding(crate::specs::Scan::step_at))]
 #[inline(always)]
 pub fn step_at(alloc: Global, text: &[u8]) -> Result<Step, LexFault>
@@ -67,7 +67,7 @@ pub fn step_at(alloc: Global, text: &[u8]) -> Result<Step, LexFault>
     Ok(Step::Word(lexeme_at(alloc, text)?))
 }
 
-/// A fault of what begins at a place, seen from the text's beginning.
+/// Returns the fault with its position increased by `by`.
 pub fn moved(fault: LexFault, by: usize) -> LexFault
     requires { place_of fault + by < 2 ^ 64 }
     ensures { result ≡ moved by fault }
@@ -81,7 +81,7 @@ pub fn moved(fault: LexFault, by: usize) -> LexFault
     }
 }
 
-/// The lexemes of a text, one step after the other.
+/// Lexes the whole text, step by step.
 fn scan(alloc: Global, text: &[u8]) -> Result<Vec<Lexeme>, LexFault>
     ensures lexemes { IfOk result (λ v. Lexes text.now v.items) }
     ensures fault { IfErr result (UnlessMemory (Faults text.now)) }
@@ -108,17 +108,17 @@ fn scan(alloc: Global, text: &[u8]) -> Result<Vec<Lexeme>, LexFault>
     Ok(lexemes)
 }
 
-/// The lexemes of a text in their order, or its first fault.
+/// Returns the lexemes of a text in their order, or its first fault.
 pub fn tokens(alloc: Global, text: &[u8]) -> Result<Vec<Lexeme>, LexFault>
-    // What is answered are the text's lexemes, and a fault that is answered comes after whole
-    // parts.
+    // If the result is `Ok`, then it contains the lexemes of the text. If the result is a fault,
+    // then the text before the fault consists of complete parts.
     ensures lexemes { IfOk result (λ v. Lexes text.now v.items) }
     ensures fault { IfErr result (UnlessMemory (Faults text.now)) }
 
-    // Its lexemes stand one after the other.
+    // The spans of the lexemes follow one another without overlap.
     ensures spans { IfOk result (λ v. SpansWithin 0 v.items (length text.now)) }
 
-    // A text that has lexemes, or a fault, gets no others, unless memory runs out.
+    // If the text has lexemes or a fault, then the result is equal to them, unless memory runs out.
     ensures only_lexemes { (lexemes : List Lexeme) → Lexes text.now lexemes
         → Answers (λ v. v.items) result (Ok lexemes) }
     ensures only_fault { (fault : LexFault) → Faults text.now fault
@@ -127,7 +127,8 @@ pub fn tokens(alloc: Global, text: &[u8]) -> Result<Vec<Lexeme>, LexFault>
     scan(alloc, text)
 }
 
-/// Each text has lexemes or a fault, and no others.
+/// Proves that each text has exactly one outcome: its lexemes or its first fault. This is a lemma
+/// function.
 pub fn one_outcome()
     ensures { (text : List ℕ) → HasOneOutcome text }
 {}

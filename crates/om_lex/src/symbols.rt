@@ -7,7 +7,7 @@ ghost use Rattle.om_lex.specs.LexText.{Answers};
 use crate::found::Found;
 use crate::lexeme::{LexFault, LexemeKind, Symbol};
 
-/// The symbol of two bytes.
+/// Returns the symbol that two bytes form.
 #[tactic(auto, unfolding(crate::specs::Scan::pair_symbol))]
 #[inline(always)]
 fn pair_symbol(first: u8, second: u8) -> Option<Symbol>
@@ -26,7 +26,7 @@ fn pair_symbol(first: u8, second: u8) -> Option<Symbol>
     }
 }
 
-/// The symbol of one byte.
+/// Returns the symbol that one byte forms.
 #[tactic(auto, unfolding(crate::specs::Scan::single_symbol))]
 #[inline(always)]
 fn single_symbol(byte: u8) -> Option<Symbol>
@@ -51,7 +51,7 @@ fn single_symbol(byte: u8) -> Option<Symbol>
     }
 }
 
-/// The symbol of two bytes, where there are two.
+/// Returns the symbol that the first two bytes form, if there are two.
 #[tactic(auto, unfolding(crate::specs::Scan::pair_at))]
 #[inline(always)]
 fn pair_at(first: u8, rest: &[u8]) -> Option<Symbol>
@@ -63,7 +63,7 @@ fn pair_at(first: u8, rest: &[u8]) -> Option<Symbol>
     }
 }
 
-/// The symbol at the front, a byte and what follows it: the longer one first.
+/// Lexes the symbol that begins with the byte `first`. Prefers a symbol of two bytes.
 #[tactic(auto, unfolding(crate::specs::Scan::symbol_form))]
 #[inline(always)]
 pub fn symbol(first: u8, rest: &[u8]) -> Result<Found, LexFault>

@@ -1,4 +1,4 @@
-//! Names, keywords, tags and variables.
+//! Names, keywords, tags and type variables.
 
 ghost use Rattle.std.specs.Prelude.{◌≡◌, ◌<◌, length, slice_index, IsTrue, Ok};
 ghost use Rattle.std.specs.List.{take_while};
@@ -13,7 +13,7 @@ use crate::lexeme::{Keyword, LexFault, LexemeKind};
 use om_model::list::List;
 use std::alloc::Global;
 
-/// The keyword of this spelling.
+/// Returns the keyword with this text, if there is one.
 pub fn keyword_of(name: &[u8]) -> Option<Keyword>
     ensures { result ≡ keyword_of name.now }
 {
@@ -30,14 +30,14 @@ pub fn keyword_of(name: &[u8]) -> Option<Keyword>
     }
 }
 
-/// The text as a list of its own.
+/// Copies the text into a list.
 pub(crate) fn copied(alloc: Global, text: &[u8]) -> Result<List<u8>, LexFault>
     ensures { Answers (λ l. l) result (Ok text.now) }
 {
     Ok(List::of(Vec::from_slice(alloc, text)?))
 }
 
-/// A name that is no keyword.
+/// Returns the lexeme of a name that is no keyword.
 fn cased(alloc: Global, name: &[u8]) -> Result<Found, LexFault>
     requires { 0 < length name.now }
     ensures { Answers (λ w. w) result (Ok (found (cased_form name.now))) }
@@ -53,7 +53,7 @@ fn cased(alloc: Global, name: &[u8]) -> Result<Found, LexFault>
     Ok(Found { kind, len })
 }
 
-/// The name or keyword at the front.
+/// Lexes the name or keyword at the start of the text.
 #[tactic(auto, unfolding(crate::specs::Scan::word_form))]
 pub fn word(alloc: Global, text: &[u8]) -> Result<Found, LexFault>
     requires first { 0 < length text.now }
@@ -71,7 +71,7 @@ pub fn word(alloc: Global, text: &[u8]) -> Result<Found, LexFault>
     }
 }
 
-/// The tag whose backquote stands before the text.
+/// Lexes the variant tag whose backquote precedes the text.
 #[tactic(auto, unfolding(crate::specs::Scan::tag_form))]
 pub fn tag(alloc: Global, text: &[u8]) -> Result<Found, LexFault>
     ensures { Answers (λ w. w) result (found_at (tag_form text.now)) }
@@ -90,7 +90,7 @@ pub fn tag(alloc: Global, text: &[u8]) -> Result<Found, LexFault>
     })
 }
 
-/// The variable whose quote stands before the text.
+/// Lexes the type variable whose quote precedes the text.
 #[tactic(auto, unfolding(crate::specs::Scan::variable_form))]
 pub fn variable(alloc: Global, text: &[u8]) -> Result<Found, LexFault>
     ensures { Answers (λ w. w) result (found_at (variable_form text.now)) }

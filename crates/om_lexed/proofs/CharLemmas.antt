@@ -1,4 +1,5 @@
--- What stands for a byte between quotes is one character of the lexer, whose value is the byte; so a string is one lexeme.
+-- The escaped form of a byte is one character of the lexer, with the byte as its value. So a string
+-- is one lexeme.
 use Rattle.std.proofs.Common.{ℕ, ◌+◌, ◌≡◌, ◌≢◌, ◌∙◌, ◌<◌, ◌≤◌, ◌⊎◌, suc, inl, inr, ⊎_elim, true, List, [], ◌∷◌, ◌++◌, refl, sym, ap, subst, arith}
 use Rattle.std.proofs.lemmas.Bool.{cases_order, cases_lt}
 use Rattle.std.proofs.lemmas.Bool.Decides.{nat_tests}
@@ -37,7 +38,7 @@ quoted quote q = ⊎_elim
     (λ h. subst (λ k. IsChar k k) (sym h) (named 34 34 34 refl refl refl))
     (λ h. subst (λ k. IsChar k k) (sym h) (named 39 39 39 refl refl refl)) q
 
--- ---- a byte as it is, and three digits
+-- ---- a plain byte, and three digits
 
 plain : (quote b : ℕ) → 32 ≤ b → b ≤ 126 → b ≢ quote → b ≢ 92 → IsChar quote b
 plain quote b low high other slash = record {
@@ -90,7 +91,7 @@ char_lexed May b low =
     let c = any_char 39 b (inr refl) low in
     lexed_at (ap (λ bytes. 39 ∷ (bytes ++ 39 ∷ [])) c.bytes) (ap (λ value. kinds.Character value ∷ []) c.value) (lexed_character c.form c.is May)
 
--- ---- each row of bytes
+-- ---- each list of bytes
 
 record AreChars (bytes : List ℕ) : Type 0 where
   forms : List CharForm

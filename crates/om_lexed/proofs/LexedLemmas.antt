@@ -1,4 +1,4 @@
--- Lexemes one after the other, and what may follow them.
+-- Lexemes one after another, and the bytes that may follow them.
 use Rattle.std.proofs.Common.{◌≡◌, ◌≢◌, ℕ, Bool, List, [], ◌∷◌, ◌++◌, Some, refl, sym, ap, subst, ◌∙◌, append_assoc}
 use Rattle.std.specs.Prelude.{map}
 use Rattle.std.specs.List.{flat_map, AllByRecursion}
@@ -16,7 +16,7 @@ use Rattle.om_grammar.specs.Grammar.{Kinds, mark}
 use Rattle.om_lexed.specs.Lexed.{Ends, NoStar, Begins, kinds_in, IsOnLine, IsLexed}
 use Rattle.om_lexed.proofs.TakenLemmas.{found_part, paren_part, lower_found, upper_found, tag_found, number_found, double_found, quoted_found, character_found}
 
--- ---- one after the other
+-- ---- concatenation
 
 are_both : (ps qs : List Part) (after : List ℕ) → AreParts ps (flat_map part_bytes qs ++ after) → AreParts qs after → AreParts (ps ++ qs) after
 are_both [] qs after are more = more
@@ -55,14 +55,14 @@ lexed_at e f one = record {
 pub begins_with : (b : ℕ) (bs : List ℕ) → b ≢ 42 → Begins (b ∷ bs)
 begins_with b bs other = record { first = b; others = bs; is = refl; no_star = other }
 
--- nothing, whatever follows
+-- The empty text, whatever follows.
 pub lexed_nothing : (May : List ℕ → Type 0) → IsLexed May [] []
 lexed_nothing May = record { parts = []; written = refl; stands = refl; are = λ after may. tt; one_line = tt }
 
 pub lexed_space : (May : List ℕ → Type 0) → IsLexed May (32 ∷ []) []
 lexed_space May = record { parts = Separator 32 ∷ []; written = refl; stands = refl; are = λ after may. (refl, tt); one_line = (refl, tt) }
 
--- one lexeme
+-- One lexeme.
 pub lexed_form : (May : List ℕ → Type 0) (form : Form) → IsForm form → ((after : List ℕ) → May after → IsPart (Word form) after) → IsLexed May (form_bytes form) (form_kind form ∷ [])
 lexed_form May form own is = record { parts = Word form ∷ []; written = sym (append-nil (form_bytes form)); stands = refl; are = λ after may. (is after may, tt); one_line = (own, tt) }
 
@@ -136,7 +136,7 @@ module _ (May : List ℕ → Type 0) where
     one_line = (tt, (tt, tt));
   }
 
-  -- a comma or a semicolon, and a space
+  -- A comma or a semicolon, and a space.
   pub lexed_comma_space : IsLexed May (44 ∷ 32 ∷ []) (mark symbols.Comma)
   unfolding form_at symbol_form pair_at pair_symbol single_symbol
   lexed_comma_space = record {

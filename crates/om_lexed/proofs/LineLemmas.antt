@@ -1,4 +1,4 @@
--- Lexemes with spaces between them are one line.
+-- Lexemes separated by spaces are one line.
 use Rattle.std.proofs.Common.{◌≡◌, ◌≢◌, ℕ, Bool, true, false, leb, List, [], ◌∷◌, ◌++◌, refl, sym, ap, subst, ◌∙◌, arith}
 use Rattle.std.specs.Prelude.{IsSome}
 use Rattle.std.specs.List.{flat_map, list_all, AllByRecursion}
@@ -94,6 +94,6 @@ parts_line (Separator b ∷ parts) all = ((λ e. absurd (let h = all.0 in omega 
 parts_line (Comment inside ∷ parts) all = absurd all.0
 parts_line (Word form ∷ parts) all = both (form_bytes form) (flat_map part_bytes parts) (form_line form all.0) (parts_line parts all.1)
 
--- a lexed text is one line
+-- A lexed text is one line.
 pub lexed_one_line : {May : List ℕ → Type 0} {text : List ℕ} {kinds : Kinds} → IsLexed May text kinds → NoFeed text
 lexed_one_line one = subst NoFeed (sym one.written) (parts_line one.parts one.one_line)

@@ -1,4 +1,4 @@
--- A lexeme that is followed by what cannot go on with it is taken whole.
+-- If the bytes after a lexeme cannot continue it, then the lexer takes exactly this lexeme.
 use Rattle.std.proofs.Common.{◌≡◌, ◌≢◌, ℕ, Bool, true, false, ltb, List, [], ◌∷◌, ◌++◌, length, drop, Some, refl, sym, ap, subst, ◌∙◌, arith, inl, inr, length-append, append_assoc}
 use Rattle.std.specs.List.{list_all, prefix_len, take_while, flat_map}
 use Rattle.std.specs.Char.{is_ascii_digit}
@@ -68,7 +68,7 @@ tag_found (b ∷ bs) after is ends =
 
 -- ---- numbers
 
--- a byte of no name is no digit and no suffix
+-- A byte that cannot be in a name is neither a digit nor a suffix.
 pub no_digit : (b : ℕ) → is_name_byte b ≡ false → is_ascii_digit b ≡ false
 no_digit b e = elim (cases_Bool (is_ascii_digit b)) [
   | inr none ↦ none
@@ -102,7 +102,7 @@ number_found false (d ∷ ds) s after is ends =
     form_at-digit d (ds ++ suffix_text s ++ after) (and_parts (is_ascii_digit d) (list_all is_ascii_digit ds) is.1).0
     ∙ ap (λ t. number_form false (d ∷ t)) (append_assoc ds (suffix_text s) after) ∙ number_run false d ds s after is.1 ends
 
--- ---- what ends by itself
+-- ---- lexemes that end by themselves
 
 pub double_found : (ds after : List ℕ) → IsForm (Double ds) → form_at (36 ∷ ds ++ after) ≡ Some (Double ds)
 unfolding form_at double_form

@@ -1,4 +1,4 @@
--- The texts of values without parts that are one lexeme each.
+-- The texts of values without parts are one lexeme each.
 use Rattle.std.specs.Prelude.{ℕ, ℤ, ◌<◌, ◌^◌, List, [], ◌∷◌, ◌++◌}
 use Rattle.std.specs.Fmt.{signed_decimal}
 use Rattle.om_model.specs.Bytes.{AreBytes}
@@ -21,7 +21,7 @@ abbrev pub DoublesAreLexemes : Type 0
 DoublesAreLexemes =
     (bits : ℕ) → bits < 2 ^ 64 → IsLexed Anything (float_text bits) (kinds.Double bits ∷ [])
 
--- before what begins with no byte of a name
+-- If no byte of a name follows.
 abbrev pub IntegersAreLexemes : Type 0
 IntegersAreLexemes =
     (z : ℤ) (suffix : Suffix) → InRange z

@@ -1,4 +1,4 @@
--- Integers that are lexemes.
+-- Integers as lexemes.
 use Rattle.std.specs.Prelude.{ℤ, pos, negsuc, ◌^◌, ◌<◌, Bool, true, false, [], ◌∷◌}
 use Rattle.om_lex.specs.declared.lexeme.LexemeKind.TheVariants as kinds
 use Rattle.om_lex.specs.declared.lexeme.Suffix.{Suffix}

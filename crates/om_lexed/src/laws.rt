@@ -1,10 +1,10 @@
-//! The law, as a contract.
+//! The law. The function does nothing and exists only for its contract.
 
 ghost use Rattle.om_lexed.specs.Laws.{CharactersAreLexemes, DoublesAreLexemes, IntegersAreLexemes};
 ghost use Rattle.om_lexed.specs.Laws.{StringsAreLexemes};
 
-/// The text of a string, of a character and of a double is one lexeme, whatever follows it; that of
-/// an integer is one before all that begins with no byte of a name.
+/// Proves that the texts of strings, characters and doubles are one lexeme each, whatever follows.
+/// The text of an integer is one lexeme if no byte of a name follows.
 pub fn texts_are_lexemes()
     ensures strings { StringsAreLexemes }
     ensures characters { CharactersAreLexemes }

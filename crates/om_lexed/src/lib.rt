@@ -1,6 +1,6 @@
-//! Texts that are lexemes one after another, before all that cannot go on with them: those of
-//! strings, characters, doubles and integers are one lexeme each. The function does nothing: what
-//! it ensures is the law.
+//! Defines texts that consist of given lexemes, under a condition on the bytes that follow
+//! (`IsLexed`). The law `texts_are_lexemes` proves that the texts of strings, characters, doubles
+//! and integers are one lexeme each. The crate contains no code besides a lemma function.
 #![tactic(auto)]
 
 mod laws;

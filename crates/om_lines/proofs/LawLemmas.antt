@@ -1,5 +1,5 @@
--- Line and column tell a place: between two places of one line there is no line feed, so as many
--- bytes as their columns differ by.
+-- Line and column determine a position: between two positions of one line there is no line feed, so
+-- their distance is the difference of their columns.
 use Rattle.std.proofs.Common.{ℕ, ◌+◌, ◌-◌, ◌≤◌, ◌<◌, ◌≡◌, ◌∙◌, Bool, true, false, not, cond, List, ◌++◌, length, take, drop, inl, inr, refl, sym, ap, arith, get_or, leb}
 use Rattle.std.specs.Prelude.{◌⊎◌, reverse}
 use Rattle.std.specs.List.{count_by, prefix_len, suffix_len}
@@ -11,7 +11,7 @@ use Rattle.std.proofs.lemmas.List.Sums.{sum_by-append, get_or-le-sum_by, suffix_
 use Rattle.om_lines.specs.Lines.{is_feed, goes_on, line_of, column_of}
 use Rattle.om_lines.specs.Laws.{LinesTellPlaces, FirstLinesCount}
 
--- what a line feed counts
+-- The number of line feeds that a byte adds.
 abbrev counted : ℕ → ℕ
 counted b = cond (is_feed b) 1 0
 
@@ -19,7 +19,7 @@ uncounted : (t : Bool) → cond t 1 0 ≤ 0 → not t ≡ true
 uncounted true few = absurd (omega (arith, few))
 uncounted false few = refl
 
--- bytes without a line feed all go on
+-- If bytes have no line feed, then no byte among them ends a line.
 all_go_on : (bytes : List ℕ) → count_by is_feed bytes ≡ 0
     → suffix_len goes_on bytes ≡ length bytes
 all_go_on bytes none = suffix_len_is goes_on bytes 0 0 (omega arith) each first ∙ whole where
@@ -35,7 +35,7 @@ all_go_on bytes none = suffix_len_is goes_on bytes 0 0 (omega arith) each first 
   first : 0 < 0 → goes_on (get_or bytes (0 - 1) 0) ≡ false
   first never = absurd (omega (arith, never))
 
--- so they move the column by as many
+-- If bytes have no line feed, then they move the column by their number.
 column_more : (before bytes : List ℕ) → count_by is_feed bytes ≡ 0
     → suffix_len goes_on (before ++ bytes) ≡ length bytes + suffix_len goes_on before
 column_more before bytes none =
@@ -49,7 +49,7 @@ column_more before bytes none =
     ∙ ap (λ n. n + prefix_len goes_on (reverse before)) (length-reverse bytes)))
 
 module _ (text : List ℕ) where
-  -- of two places the later one
+  -- The law for two positions in ascending order.
   later : (place other : ℕ) → place ≤ other → other ≤ length text
       → line_of text place ≡ line_of text other → column_of text place ≡ column_of text other
       → place ≡ other

@@ -1,4 +1,4 @@
--- How places are told, in code.
+-- The printed forms of positions, for values of the type in the code.
 use Rattle.std.specs.Prelude.{ℕ, true, List, decimal}
 use Rattle.om_lines.specs.Lines.{place_in, place_on}
 use Rattle.om_lines.specs.declared.places.Places.{Places}

@@ -1,13 +1,14 @@
-//! The laws. Each function does nothing: what it ensures is the law.
+//! The laws of this crate. Each function is a lemma function: it has no effect and exists only for
+//! its contract.
 
 ghost use Rattle.om_lines.specs.Laws.{LinesTellPlaces, FirstLinesCount};
 
-/// At most one place of a text has a line and a column.
+/// No two positions of a text have the same line and column.
 pub fn lines_tell_places()
     ensures { LinesTellPlaces }
 {}
 
-/// Without a line feed before it a place is in the first line, and its column is one more.
+/// If no line feed precedes a position, then its line is 1 and its column is the position plus 1.
 pub fn first_lines_count()
     ensures { FirstLinesCount }
 {}

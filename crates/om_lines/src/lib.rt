@@ -1,4 +1,6 @@
-//! Where a byte of a text is, as people find it: its line and its column.
+//! Converts the position of a byte in a text to a line and a column, both counted from 1, and
+//! prints positions. The law `LinesTellPlaces` says that line and column determine the position.
+//! Columns count bytes, not characters.
 #![tactic(auto)]
 
 mod laws;

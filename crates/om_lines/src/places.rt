@@ -1,4 +1,4 @@
-//! How places are told.
+//! How positions in a text are printed.
 
 ghost use Rattle.std.specs.Prelude.{◌≡◌, ◌+◌, ◌++◌, decimal, OnOk};
 ghost use Rattle.om_lines.specs.Lines.{spot_text, place_in, place_on};
@@ -8,19 +8,20 @@ use crate::spot::spot_of;
 use itoa::Buffer;
 use om_model::Memory;
 
-/// How the places of a text are told.
+/// The way in which positions of a text are printed.
 #[derive(Clone, Copy)]
 pub enum Places<'a> {
-    /// By the number of the byte, from 0.
+    /// By the index of the byte, from 0.
     Bytes,
     /// By line and column in this text.
     Text(&'a [u8]),
-    /// By the number of the line, which is the text, and the column.
+    /// By the column and this line number. The text is the one line.
     Line(u64),
 }
 
 impl<'a> Places<'a> {
-    /// The places of a text, by line and column or not.
+    /// Returns the way to print positions of a text: by line and column if `lines` is true,
+    /// otherwise by byte index.
     pub fn of_text(lines: bool, text: &'a [u8]) -> Places<'a>
         ensures { told_by result ≡ place_in lines text.now }
     {
@@ -31,7 +32,8 @@ impl<'a> Places<'a> {
         }
     }
 
-    /// The places of the line of this number, by line and column or not.
+    /// Returns the way to print positions in the line with this number: by line and column if
+    /// `lines` is true, otherwise by byte index.
     pub fn of_line(lines: bool, number: u64) -> Places<'a>
         ensures { told_by result ≡ place_on lines number }
     {
@@ -42,7 +44,7 @@ impl<'a> Places<'a> {
         }
     }
 
-    /// Puts a place, as it is told, at the end.
+    /// Appends the printed position to `text`.
     pub fn put(&self, text: &mut Vec<u8>, place: u64) -> Result<(), Memory>
         ensures { OnOk result (text.new.items ≡ text.old.items ++ told_by self.now place) }
     {
@@ -57,7 +59,7 @@ impl<'a> Places<'a> {
     }
 }
 
-/// Puts a line and a column at the end.
+/// Appends a line and a column.
 fn put_spot(text: &mut Vec<u8>, line: u128, column: u128) -> Result<(), Memory>
     ensures { OnOk result (text.new.items ≡ text.old.items ++ spot_text line column) }
 {
@@ -66,7 +68,7 @@ fn put_spot(text: &mut Vec<u8>, line: u128, column: u128) -> Result<(), Memory>
     put_number(text, column)
 }
 
-/// Puts a number at the end.
+/// Appends a number in decimal.
 fn put_number(text: &mut Vec<u8>, n: u128) -> Result<(), Memory>
     ensures { OnOk result (text.new.items ≡ text.old.items ++ decimal n) }
 {

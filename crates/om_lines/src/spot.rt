@@ -1,16 +1,16 @@
-//! The line and the column of a place.
+//! The line and the column of a position.
 
 ghost use Rattle.std.specs.Prelude.{◌≡◌};
 ghost use Rattle.om_lines.specs.Lines.{line_after, column_after, line_of, column_of};
 
-/// A line, and a column in it, both from 1.
+/// A line, and a column in the line, both counted from 1.
 #[derive(Clone, Copy)]
 pub struct Spot {
     pub line: usize,
     pub column: usize,
 }
 
-/// Where a text goes on after these bytes of it.
+/// Returns the line and column of the position right after these bytes.
 fn spot_after(before: &[u8]) -> Spot
     ensures line { result.line ≡ line_after before.now }
     ensures column { result.column ≡ column_after before.now }
@@ -28,7 +28,8 @@ fn spot_after(before: &[u8]) -> Spot
     Spot { line, column }
 }
 
-/// Where a byte of a text is; one behind the text is where the text ends.
+/// Returns the line and column of a byte of a text. If `place` is beyond the end, returns those of
+/// the end.
 pub fn spot_of(text: &[u8], place: usize) -> Spot
     ensures line { result.line ≡ line_of text.now place }
     ensures column { result.column ≡ column_of text.now place }

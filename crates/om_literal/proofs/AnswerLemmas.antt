@@ -1,4 +1,4 @@
--- Lexemes have one answer at a type: what is said of their literal, or their place of Syntax.
+-- Lexemes have exactly one answer at a type: that of their literal, or their syntax error.
 use Rattle.std.proofs.Common.{refl, sym, ap, ◌∙◌, subst, ⊎_elim}
 use Rattle.std.specs.Prelude.{ℕ, suc, ◌+◌, ◌≡◌, Bool, true, false, if◌then◌else◌, Option, Some, None, Result, Ok, Err, List, [], ◌∷◌, ◌++◌, length, slice_get}
 use Rattle.om_model.specs.declared.value.Val.{Val}
@@ -18,12 +18,12 @@ use Rattle.om_literal.specs.Starts.{Start, misfit, out_of_range, small, whole, b
 use Rattle.om_literal.specs.Reading.{Reading, Refusal, misfit_at, int_range_at, label_at, reading, is_next, again_read, small_read, block_read, begun, literal_read, inside}
 use Rattle.om_literal.specs.LiteralAnswers.{byte_of, in_bytes, fault_of, shape_in, names_in, IsValue, IsMisread, IsAnswer, HasOneAnswer}
 
--- lexemes of a literal have no place of Syntax
+-- If lexemes are a literal, then they have no syntax error.
 pub literal_excludes : (lexemes : List Lexeme) (v : Literal) (k : ℕ) → literal_kinds v ≡ kinds_of lexemes
     → IsSyntax literal_kinds (kinds_of lexemes) k → ⊥
 literal_excludes lexemes v k spelled s = no_syntax literal_table v k (subst (λ all. IsSyntax literal_kinds all k) (sym spelled) s)
 
--- ---- a literal is one value
+-- ---- the value of a literal is unique
 
 abbrev pub HasOneValue : {T : Type 0} → Result Reading (Refusal T) → Type 0
 HasOneValue (Err refusal) = Unit {0}
@@ -60,7 +60,7 @@ module _ {T : Type 0} (shape : T → ShapeOf T) (names : T → Names) where
   literal_one k (labelled l p) c labels t = if_one T (is_next labels l) k _
       (begun_one T k (k + length (label_kinds l)) c labels l t (inside shape names (k + length (label_kinds l)) p (suc c)) (start_at t (shape t) (names t) p))
 
--- ---- what is said of a literal
+-- ---- answers for a literal
 
 abbrev pub with_objects : List Obj → List Obj → List Val → Result (List Obj × Val) LiteralFault
 with_objects old objects [] = Err faults.Memory
@@ -74,7 +74,7 @@ module _ (table : Tabled) (at : ℕ) (lexemes : List Lexeme) (end : ℕ) (old : 
   abbrev pub reading_of : Literal → Result Reading (Refusal ℕ)
   reading_of v = literal_read (shape_in table) (names_in table) 0 v (length old) [] at
 
-  -- a fault that is misread is an answer
+  -- If the reading of a literal fails, then its fault is an answer.
   is_fault : (v : Literal) (refusal : Refusal ℕ) → literal_kinds v ≡ kinds_of lexemes → reading_of v ≡ Err refusal
       → IsAnswer table at lexemes end old (Err (fault_of (in_bytes lexemes end refusal)))
   is_fault v (misfit_at k t) spelled e = record { literal = v; refusal = misfit_at k t; spelled = spelled; refused = e; is = refl }
@@ -94,7 +94,7 @@ module _ (table : Tabled) (at : ℕ) (lexemes : List Lexeme) (end : ℕ) (old : 
         behind = refl;
       })
 
-  -- trees of the same lexemes are one
+  -- Trees of the same lexemes are equal.
   misread_said : (v : Literal) (fault : LiteralFault) → literal_kinds v ≡ kinds_of lexemes → IsMisread table at lexemes end (length old) fault
       → Err fault ≡ said lexemes end old (reading_of v)
   misread_said v fault spelled m =
@@ -115,7 +115,7 @@ module _ (table : Tabled) (at : ℕ) (lexemes : List Lexeme) (end : ℕ) (old : 
   other_said v spelled (Err (faults.Label place)) a = misread_said v _ spelled a
   other_said v spelled (Err faults.Memory) a = absurd a
 
-  -- at a place of Syntax
+  -- The lexemes have a syntax error.
   other_syntax : (k : ℕ) → ((j : ℕ) → IsSyntax literal_kinds (kinds_of lexemes) j → j ≡ k) → IsSyntax literal_kinds (kinds_of lexemes) k
       → (other : Result (List Obj × Val) LiteralFault) → IsAnswer table at lexemes end old other → other ≡ Err (faults.Syntax (byte_of lexemes end k))
   other_syntax k same s (Ok (new, value)) a = absurd (literal_excludes lexemes a.literal k a.spelled s)

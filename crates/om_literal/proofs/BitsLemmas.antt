@@ -1,4 +1,4 @@
--- The doubles of nodes are those of the parts that they are.
+-- The doubles of nodes equal the doubles of the parts with these nodes.
 use Rattle.std.proofs.Common.{refl, sym, ap, ◌∙◌, arith, get_or, take, drop, min, subst, inl, inr, ⊎_elim}
 use Rattle.std.specs.Prelude.{ℕ, zero, suc, ◌+◌, ◌-◌, ◌<◌, ◌≤◌, ◌≡◌, ◌⊎◌, Option, Some, None, List, [], ◌∷◌, ◌++◌, length, slice_get}
 use Rattle.std.proofs.lemmas.List.{take_min, length-drop}
@@ -21,7 +21,7 @@ use Rattle.om_literal.specs.Bits.{double_in, bits_of_node, bits_of_nodes, bits_o
 use Rattle.om_literal.proofs.StandingLemmas.{at_same, at_back, first_found, own_and_parts, literal_spelled}
 use Rattle.om_literal.proofs.EndsLemmas.{own_parts}
 
--- ---- one that is no double
+-- ---- a part that is not a double
 
 pub and_none : (bits : Option (List ℕ)) → and_bits bits None ≡ None
 and_none None = refl
@@ -35,7 +35,7 @@ pub none_of_listed : (parts : List (ℕ × Literal)) → bits_of_listed None par
 none_of_listed [] = refl
 none_of_listed (p ∷ parts) = none_of_listed parts
 
--- ---- so many nodes, one after the other
+-- ---- several nodes in order
 
 found_first : (nodes : List Node) (i : ℕ) (n : Node) → slice_get nodes i ≡ Some n → drop i nodes ≡ n ∷ drop (suc i) nodes
 found_first [] zero n e = absurd cc
@@ -43,7 +43,7 @@ found_first [] (suc i) n e = absurd cc
 found_first (m ∷ nodes) zero n e = let same : m ≡ n = cc in ap (λ own. own ∷ nodes) same
 found_first (m ∷ nodes) (suc i) n e = found_first nodes i n e
 
--- the node that is next, and what is left
+-- The next node, and the remaining nodes.
 pub next_bits :
     (all : Kinds) (nodes : List Node) (from many k : ℕ) (n : Node) (before : Option (List ℕ)) → k < many → slice_get nodes (from + k) ≡ Some n
     → bits_of_nodes all before (take (many - k) (drop (from + k) nodes))
@@ -55,7 +55,7 @@ next_bits all nodes from many k n before inside found =
     ∙ ap (λ (rest : List Node). bits_of_nodes all before (take (suc (many - (k + 1))) rest)) (found_first nodes (from + k) n found)
     ∙ ap (λ i. bits_of_nodes all (and_bits before (bits_of_node all n)) (take (many - (k + 1)) (drop i nodes))) on
 
--- it is no double
+-- The next node is not a double.
 pub none_here :
     (all : Kinds) (nodes : List Node) (from many k : ℕ) (n : Node) (before : List ℕ) (bits : Option (List ℕ)) → k < many → slice_get nodes (from + k) ≡ Some n
     → bits_of_node all n ≡ None → bits_of_nodes all (Some before) (take (many - k) (drop (from + k) nodes)) ≡ bits → None ≡ bits
@@ -65,7 +65,7 @@ none_here all nodes from many k n before bits inside found e so_far =
     ∙ none_of_nodes all (take (many - (k + 1)) (drop (from + (k + 1)) nodes)))
     ∙ so_far
 
--- it is one
+-- The next node is a double.
 pub one_here :
     (all : Kinds) (nodes : List Node) (from many k d : ℕ) (n : Node) (before after : List ℕ) (bits : Option (List ℕ)) → k < many → slice_get nodes (from + k) ≡ Some n
     → bits_of_node all n ≡ Some d → after ≡ before ++ d ∷ [] → bits_of_nodes all (Some before) (take (many - k) (drop (from + k) nodes)) ≡ bits
@@ -85,7 +85,7 @@ none_left all nodes from many k own bits done so_far =
 
 -- ---- one node
 
--- a double without a label, or a node that is none and has no bits
+-- A literal is a double without a label, or neither it nor its node has bits.
 abbrev IsDouble : Literal → Type 0
 IsDouble v = (d : ℕ) × (v ≡ labelled None (double d))
 
@@ -109,7 +109,7 @@ double_or_not all k (labelled None empty_array) = inr (refl, refl)
 double_or_not all k (labelled None (array ps v)) = inr (refl, refl)
 
 module _ (all : Kinds) (k : ℕ) (parts : List (ℕ × Literal)) (rest : List Node) (before : Option (List ℕ)) where
-  -- what the nodes from the first part on come to, and what the parts do
+  -- The result for the nodes from the first part on, and the result for the parts.
   abbrev of_nodes : Literal → Option (List ℕ)
   of_nodes v = bits_of_nodes all before (take (suc (length parts)) (literal_nodes k v ++ nodes_of_parts parts ++ rest))
 

@@ -1,4 +1,4 @@
--- The node behind each literal, from the last node to the first.
+-- The index of the node after each literal, computed from the last node to the first.
 use Rattle.std.proofs.Common.{arith, refl, sym, ap, ◌∙◌, get_or, cond, ⊎_elim, get_or-set_other, get_or-set_same}
 use Rattle.std.specs.Prelude.{ℕ, suc, ◌+◌, ◌<◌, ◌≤◌, ◌≡◌, List, [], ◌∷◌, length, slice_set}
 use Rattle.std.proofs.lemmas.Bool.{lt-ltb, cases_eq}
@@ -18,7 +18,7 @@ sibling_next ends place n m e h =
     ap (λ i. sibling ends place i) e
     ∙ ap (λ b. cond b (sibling ends (get_or ends place 0) m) place) (lt-ltb place (length ends) h)
 
--- ---- as many siblings as there are parts
+-- ---- one sibling for each part
 
 node_at : (nodes : List Node) (j k : ℕ) (v : Literal) → IsAt nodes j (literal_nodes k v) → IsAt nodes j (own_node k v ∷ nodes_of_parts (inner_parts k v))
 node_at nodes j k v h = at_same nodes j _ _ (own_and_parts k v) h
@@ -39,7 +39,7 @@ behind_parts nodes ends i len known (p ∷ parts) j h at =
     ∙ behind_parts nodes ends i len known parts (j + length (part_nodes p)) (omega (arith, h)) there
     ∙ omega (arith, length-append (part_nodes p) (nodes_of_parts parts))
 
--- ---- one node more, in front
+-- ---- one more node at the beginning
 
 pub own_parts : (nodes : List Node) (i k : ℕ) (v : Literal) (d : Node) → IsAt nodes i (literal_nodes k v) → (get_or nodes i d).parts ≡ length (inner_parts k v)
 own_parts nodes i k v d h = ap (λ (node : Node). node.parts) (first_is nodes i _ _ d (node_at nodes i k v h)) ∙ parts_counted k v
@@ -71,7 +71,7 @@ ends_more nodes ends from i end d len inside same is known j k v h at =
     (λ other. get_or-set_other ends i j end 0 other ∙ known j k v (omega (arith, h, other)) at)
     (cases_eq j i)
 
--- none from the end on
+-- There are no entries from the end on.
 pub ends_none : (nodes : List Node) (ends : List ℕ) (i : ℕ) → length nodes ≤ i → AreEndsFrom i nodes ends
 ends_none nodes ends i all j k v h at = absurd (omega (arith, all, h, place_in nodes j k v at))
 

@@ -1,4 +1,4 @@
--- The names that are found before the parts of fields are those of the fields.
+-- The names found before the values of fields are the names of the fields.
 use Rattle.std.proofs.Common.{arith, refl, sym, ap, ◌∙◌, get_or, cond, length-append, append_assoc}
 use Rattle.std.specs.Prelude.{ℕ, suc, ◌+◌, ◌-◌, ◌<◌, ◌≡◌, Option, Some, List, [], ◌∷◌, ◌++◌, length, map, slice_get}
 use Rattle.std.proofs.lemmas.Bool.{lt-ltb}
@@ -21,7 +21,7 @@ use Rattle.om_literal.specs.FieldNames.{name_before, name_of_node, names_from}
 use Rattle.om_literal.proofs.StandingLemmas.{at_front, at_back, at_same, first_found, own_and_parts, own_first}
 use Rattle.om_literal.proofs.EndsLemmas.{sibling_next, place_in, own_parts}
 
--- ---- step by step
+-- ---- one step
 
 names_found :
     (nodes : List Node) (ends : List ℕ) (all : Kinds) (place n : ℕ) (node : Node) → place < length nodes → slice_get nodes place ≡ Some node
@@ -37,7 +37,7 @@ names_next nodes ends all place n m d e h =
     ap (λ i. names_from nodes ends all place i) e
     ∙ names_found nodes ends all place m (get_or nodes place d) h (slice_get-get_or nodes place d h)
 
--- one name more
+-- One more name.
 pub names_step :
     (nodes : List Node) (ends : List ℕ) (all : Kinds) (place n m next : ℕ) (d : Node) (before after names : List Name) (x : Name)
     → n ≡ suc m → place < length nodes → after ≡ before ++ x ∷ [] → x ≡ name_before all (get_or nodes place d).first → next ≡ sibling ends place 1
@@ -50,7 +50,7 @@ names_step nodes ends all place n m next d before after names x e inside more is
     ∙ ap (λ (own : List Name). before ++ own) (sym (names_next nodes ends all place n m d e inside))
     ∙ so_far
 
--- ---- of parts in a row
+-- ---- parts in a list
 
 abbrev names_of : Kinds → List (ℕ × Literal) → List Name
 names_of all parts = map (λ (part : ℕ × Literal). name_before all part.0) parts
@@ -68,7 +68,7 @@ module _ (nodes : List Node) (ends : List ℕ) (all : Kinds) (len : length ends 
       ∙ ap (λ i. name_before all p.0 ∷ names_from nodes ends all i (length parts)) next
       ∙ ap (λ names. name_before all p.0 ∷ names) (names_of_parts parts (place + length (part_nodes p)) there)
 
--- ---- of rows
+-- ---- fields
 
 name_is : (all : Kinds) (k : ℕ) (front : Kinds) (x : Name) → IsAt all k (front ++ row_start x) → name_before all (k + length (front ++ row_start x)) ≡ x
 name_is all k front x h =

@@ -1,4 +1,4 @@
--- One step of the reader, by what a part begins with.
+-- One step of the reader, by the first lexeme of a part.
 use Rattle.std.proofs.Common.{arith, refl, sym, ap, ◌∙◌, subst, get_or}
 use Rattle.std.specs.Prelude.{ℕ, ◌+◌, ◌<◌, ◌≡◌, Option, Some, None, Result, Ok, List, [], ◌∷◌, length, All, slice_get, slice_index}
 use Rattle.std.proofs.lemmas.Option.{get_or_from_slice_get}
@@ -48,7 +48,7 @@ no_again (tuple ps u v) e = absurd (cc)
 no_again empty_array e = absurd (cc)
 no_again (array ps v) e = absurd (cc)
 
--- by its form a literal is the use of a label, or none
+-- The form of its node decides if a literal is the use of a label.
 pub again_only : (P : Literal → Type 0) (k : ℕ) → ((n : ℕ) → P (again n)) → (v : Literal) → (own_node k v).form ≡ forms.Again → P v
 again_only P k f (again n) e = f n
 again_only P k f (labelled l p) e = absurd (no_again p e)
@@ -57,7 +57,7 @@ pub plain_only : (P : Literal → Type 0) (k : ℕ) → ((l : Option ℕ) (p : P
 plain_only P k f (again n) other = absurd (other refl)
 plain_only P k f (labelled l p) other = f l p
 
--- ---- what can go on
+-- ---- when the reader can go on
 
 pub has_part : (text : Text) (block : Opened) (stack : List Opened) (j : ℕ) (graph : List Obj) (labels : List ℕ) → CanGoOn text (block ∷ stack) j graph labels → HasPart text j
 has_part text block stack j graph labels (old, outcome, u) =
@@ -72,7 +72,7 @@ end_is text j k v good stands = good.ends j k v stands.nodes_at
 pub end_behind : (text : Text) (j : ℕ) → IsText text → HasPart text j → j < slice_index text.ends.now j
 end_behind text j good (k, v, stands) = omega (arith, end_is text j k v good stands, own_length k v)
 
--- a plain literal has a lexeme behind its label
+-- A plain literal has a lexeme after its label.
 pub first_within :
     (text : Text) (j : ℕ) (d : Node) → HasPart text j → slice_get text.nodes.now j ≡ Some d → (d.form ≡ forms.Again → ⊥)
     → d.first + length (label_kinds d.label) < length text.lexemes.now
@@ -83,7 +83,7 @@ first_within text j d (k, v, stands) found other =
     (λ l p there is. omega (arith, lead_in text.lexemes.now k l p there, ap (λ (n : Node). n.first + length (label_kinds n.label)) is)) v
     (λ e. other (ap (λ (n : Node). n.form) own ∙ e)) stands.kinds_at own
 
--- ---- no part more
+-- ---- no more parts
 
 pub popped_none : (old new : List Opened) (r : Option Opened) → Popped old new r → ((b : Opened) → r ≡ Some b → ⊥) → old ≡ []
 popped_none old new None p other = p.0
@@ -101,10 +101,10 @@ pub all_finished :
 all_finished text old outcome stack j graph labels empty u =
     let v = subst (λ (blocks : List Opened). IsUnderway text old outcome blocks j graph labels) empty u in nothing_open text old outcome graph labels v.parts v.open_blocks v.same
 
--- ---- one part more
+-- ---- one more part
 
 module _ (text : Text) (block : Opened) (stack : List Opened) (j : ℕ) (graph : List Obj) (labels : List ℕ) (t : ℕ) (type_is : t ≡ types_in block.at block.types block.part) where
-  -- what is said of the part that begins here
+  -- A property of the part that begins here.
   abbrev Here : (ℕ → Literal → Type 0) → Type 0
   Here P = (k : ℕ) (v : Literal) → Stands text.nodes.now text.lexemes.now j k v → All (λ o. o < length graph) labels → P k v
 

@@ -1,4 +1,4 @@
--- A plain literal's nodes are its own and then those of its parts.
+-- The nodes of a plain literal are its own node and then the nodes of its parts.
 use Rattle.std.proofs.Common.{arith, refl, sym, ap, ◌∙◌}
 use Rattle.std.specs.Prelude.{ℕ, suc, ◌+◌, ◌≡◌, Option, List, [], ◌∷◌, ◌++◌, length}
 use Rattle.std.proofs.lemmas.List.{append_assoc, append-nil, length-append}
@@ -13,13 +13,13 @@ use Rattle.om_literal_grammar.specs.Nodes.{node, count, rows_count, literal_node
 use Rattle.om_literal.specs.Pending.{listed_parts, listed_rows, parts_of}
 use Rattle.om_literal.specs.NodesOf.{form_of, part_nodes, nodes_of_parts}
 
--- ---- rows
+-- ---- lists of parts
 
 nodes_append : (xs ys : List (ℕ × Literal)) → nodes_of_parts (xs ++ ys) ≡ nodes_of_parts xs ++ nodes_of_parts ys
 nodes_append [] ys = refl
 nodes_append (x ∷ xs) ys = ap (λ all. part_nodes x ++ all) (nodes_append xs ys) ∙ sym (append_assoc (part_nodes x) (nodes_of_parts xs) (nodes_of_parts ys))
 
--- one more part
+-- One more part.
 and_last : (xs : List (ℕ × Literal)) (k j : ℕ) (v : Literal) → k ≡ j → nodes_of_parts (xs ++ (k, v) ∷ []) ≡ nodes_of_parts xs ++ literal_nodes j v
 and_last xs k j v same = nodes_append xs ((k, v) ∷ []) ∙ ap (λ all. nodes_of_parts xs ++ all) (append-nil (literal_nodes k v)) ∙ ap (λ n. nodes_of_parts xs ++ literal_nodes n v) same
 
@@ -45,18 +45,18 @@ count_rows k no_rows = refl
 count_rows k (more_rows rs x v) =
     omega (arith, length-append (listed_rows k rs) ((k + length (rows_kinds rs ++ row_start x), v) ∷ []), count_rows k rs)
 
--- behind a label
+-- The lexeme index after a label.
 moved : (k : ℕ) (front rest : Kinds) → k + length front + length rest ≡ k + length (front ++ rest)
 moved k front rest = omega (arith, length-append front rest)
 
--- behind a label and a bracket
+-- The lexeme index after a label and a parenthesis.
 tuple_last : (k : ℕ) (front rest : Kinds) → k + length front + 1 + length rest ≡ k + length (front ++ (mark symbols.OpenParen ++ rest))
 tuple_last k front rest = omega (arith, length-append front (mark symbols.OpenParen ++ rest), length-append (mark symbols.OpenParen) rest)
 
 array_last : (k : ℕ) (front rest : Kinds) → k + length front + 1 + length rest ≡ k + length (front ++ (mark symbols.OpenArray ++ rest))
 array_last k front rest = omega (arith, length-append front (mark symbols.OpenArray ++ rest), length-append (mark symbols.OpenArray) rest)
 
--- ---- a plain one
+-- ---- a plain literal
 
 listed_last :
     (separator : Symbol) (j k : ℕ) (ps : Parts) (m n : ℕ) (v : Literal) → j ≡ k → m ≡ n

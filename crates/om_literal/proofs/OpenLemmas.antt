@@ -1,4 +1,4 @@
--- Blocks that are open, when a value is put into one and objects come behind.
+-- Open blocks when a value is stored into one of them and objects are appended.
 use Rattle.std.proofs.Common.{arith, refl, sym, ap, ◌∙◌, get_or, ⊎_elim, get_or-set_other, get_or-set_same, take}
 use Rattle.std.specs.Prelude.{ℕ, ◌+◌, ◌<◌, ◌≤◌, ◌≡◌, List, [], ◌∷◌, ◌++◌, length, pos}
 use Rattle.std.proofs.lemmas.Bool.{cases_eq}
@@ -13,7 +13,7 @@ use Rattle.om_literal_grammar.specs.Literal.{Literal}
 use Rattle.om_literal.specs.declared.stack.Opened.{Opened}
 use Rattle.om_literal.specs.Underway.{PartList, IsAdvanced, IsOpen, AreOpen}
 
--- ---- an object's fields are as many as before
+-- ---- the number of fields of an object does not change
 
 with_as_many : (o : Obj) (i : ℕ) (v : Val) → length (fields_of (with_field o i v)) ≡ length (fields_of o)
 with_as_many (objects.Block tag values) i v = length-set values i v
@@ -34,7 +34,7 @@ set_as_many graph b i v o inside = ⊎_elim
     (λ other. ap (λ object. length (fields_of object)) (get_or-set_other graph b o (with_field (object_at graph b) i v) (objects.I32 (pos 0)) other))
     (cases_eq o b)
 
--- a value is put in, and objects come behind
+-- A value is stored, and objects are appended.
 module _ (graph : List Obj) (b i : ℕ) (v : Val) (os : List Obj) (inside : b < length graph) where
   pub as_many : (o : ℕ) → o < length graph → length (fields_of (object_at (set_field graph b i v ++ os) o)) ≡ length (fields_of (object_at graph o))
   as_many o h =
@@ -67,7 +67,7 @@ module _ (graph : List Obj) (b i : ℕ) (v : Val) (os : List Obj) (inside : b < 
   all_kept old all [] (parts ∷ rest) h = h
   all_kept old all (o ∷ stack) [] h = h
 
-  -- the block itself, where more parts are to come
+  -- The block itself, if more parts are still to be read.
   pub more_parts_kept :
       (old : List Obj) (all : Kinds) (o new : Opened) (p : ℕ × Literal) (parts : PartList) → IsOpen old graph all o (p ∷ parts) → IsAdvanced o new → 0 < length parts
       → IsOpen old (set_field graph b i v ++ os) all new parts

@@ -1,4 +1,4 @@
--- One part more: what comes of the open blocks stays the same.
+-- One more part does not change the result of the open blocks.
 use Rattle.std.proofs.Common.{arith, refl, sym, ap, ◌∙◌, subst, drop, take}
 use Rattle.std.specs.Prelude.{ℕ, suc, ◌+◌, ◌<◌, ◌≡◌, true, Option, if◌then◌else◌, Result, Ok, Err, List, [], ◌∷◌, ◌++◌, length, pos, replicate, All}
 use Rattle.std.proofs.lemmas.Bool.{lt-ltb, le-ltb}
@@ -27,7 +27,7 @@ use Rattle.om_literal.proofs.PendingLemmas.{stepped, stepped_in, refused, popped
 use Rattle.om_literal.proofs.StandingLemmas.{own_and_parts, literal_spelled}
 use Rattle.om_literal.proofs.OpenLemmas.{longer, kept_below, all_kept, more_parts_kept}
 
--- ---- the part that is next
+-- ---- the next part
 
 pub record IsNext (text : Text) (old : List Obj) (outcome : Result (List Obj) (Refusal ℕ)) (block : Opened) (stack : List Opened) (j : ℕ) (graph : List Obj) (labels : List ℕ) : Type 0 where
   pub part : ℕ × Literal
@@ -71,7 +71,7 @@ module _ (text : Text) (old : List Obj) (outcome : Result (List Obj) (Refusal �
     kinds_at = n.open_block.spelled.0;
   }
 
-  -- a refusal of the part is that of the whole
+  -- If the part is refused, then the whole has the same refusal.
   pub part_refused :
       (n : IsNext text old outcome block stack j graph labels) (refusal : Refusal ℕ)
       → literal_read (shape_in text.table.now) (names_in text.table.now) n.part.0 n.part.1 (length graph) labels (types_in block.at block.types block.part) ≡ Err refusal
@@ -80,7 +80,7 @@ module _ (text : Text) (old : List Obj) (outcome : Result (List Obj) (Refusal �
       sym n.same
       ∙ refused (shape_in text.table.now) (names_in text.table.now) block.block block.field block.part (types_in block.at block.types) n.part.0 n.part.1 n.parts (opens_with stack n.rest) graph labels refusal read
 
--- ---- a block without parts to come
+-- ---- a block without parts to be read
 
 put_same :
     (f g : List Obj → List ℕ → Result (List Obj) (Refusal ℕ)) → ((graph : List Obj) (labels : List ℕ) → f graph labels ≡ g graph labels)
@@ -93,7 +93,8 @@ put_same f g same graph b i (Ok r) = same _ r.labels
 abbrev pub opened_with : Opened → PartList → Open ℕ
 opened_with o parts = open_at o.block o.field o.part (types_in o.at o.types) parts
 
--- a block with these parts to come on a stack, without it where it has none
+-- A block with these parts to be read, on a stack. If there are no parts, the stack does not have
+-- the block.
 record IsSettled (text : Text) (old graph : List Obj) (block : Opened) (parts : PartList) (stack : List Opened) (rest : List PartList) (result : List Opened) : Type 0 where
   all : List PartList
   open_blocks : AreOpen old graph (kinds_of text.lexemes.now) result all
@@ -128,7 +129,7 @@ advanced_with : (old new : Opened) (parts : PartList) → IsAdvanced old new
     → open_at old.block (suc old.field) (suc old.part) (types_in old.at old.types) parts ≡ opened_with new parts
 advanced_with old new parts a = cc
 
--- a part that is a block
+-- The part is a block.
 stepped_inner :
     (text : Text) (b i n : ℕ) (types : ℕ → ℕ) (k : ℕ) (v : Literal) (ps : PartList) (opens : List (Open ℕ)) (graph : List Obj) (labels : List ℕ)
     (l : Option ℕ) (p : Plain) (tag : ℕ) (front : List Val) (inside : ℕ → ℕ) → v ≡ labelled l p → b < length graph
@@ -184,7 +185,7 @@ module _ (text : Text) (old : List Obj) (outcome : Result (List Obj) (Refusal �
       ∙ ap (λ rest. drop (length (literal_nodes n.part.0 n.part.1)) rest) (sym n.come)
       ∙ drop_at (literal_nodes n.part.0 n.part.1) _ (length (literal_nodes n.part.0 n.part.1)) refl)
 
-  -- the part was read whole
+  -- The part was read completely.
   pub after_whole :
       IsWhole (literal_read (shape_in text.table.now) (names_in text.table.now) n.part.0 n.part.1 (length graph) labels (types_in block.at block.types block.part)) graph new more value
       → (next : ℕ) → next ≡ j + length (literal_nodes n.part.0 n.part.1)
@@ -206,7 +207,7 @@ module _ (text : Text) (old : List Obj) (outcome : Result (List Obj) (Refusal �
         kept = kept_after w.objects;
       })
 
-  -- the part is a block
+  -- The part is a block.
   module _ (inner : Opened) (w : IsInner text.table.now n.part.0 n.part.1 (types_in block.at block.types block.part) graph new labels more value inner) where
     abbrev own : PartList
     own = inner_parts n.part.0 n.part.1
@@ -264,7 +265,7 @@ module _ (text : Text) (old : List Obj) (outcome : Result (List Obj) (Refusal �
         (after made) inner.block inner.field (row_read (shape_in text.table.now) (names_in text.table.now) own (length (after made)) more inner.part (types_in inner.at inner.types))
         ∙ inner_stepped
 
-    -- the part is open
+    -- The part is open.
     pub after_inner : Underway (inner ∷ if_open advanced stack) (j + 1) (set_field new block.block block.field value)
     after_inner =
         let s = settled made in

@@ -1,4 +1,4 @@
--- One step of the reader: what comes of open blocks is what comes of them after the next part has begun.
+-- One step of the reader: beginning the next part does not change the result of the open blocks.
 use Rattle.std.proofs.Common.{arith, refl, sym, ap, ◌∙◌}
 use Rattle.std.specs.Prelude.{ℕ, suc, ◌+◌, ◌<◌, ◌≡◌, true, if◌then◌else◌, Option, Result, Ok, Err, List, [], ◌∷◌, ◌++◌, length, pos, replicate}
 use Rattle.std.proofs.lemmas.List.{append_assoc, append-nil, length-append, length-replicate, set_at}
@@ -18,7 +18,7 @@ use Rattle.om_literal.specs.Pending.{listed_parts, listed_rows, parts_of, fill, 
 use Rattle.om_literal.specs.Starts.{block, start_at}
 use Rattle.om_literal.proofs.AnswerLemmas.{HasOneValue, literal_one}
 
--- ---- rows
+-- ---- lists of parts
 
 abbrev pub HasValues : {T : Type 0} → ℕ → Result Reading (Refusal T) → Type 0
 HasValues n (Err refusal) = Unit {0}
@@ -41,7 +41,7 @@ module _ {T : Type 0} (shape : T → ShapeOf T) (names : T → Names) where
       then_values T (length parts) c (literal_read shape names p.0 p.1 c labels (types i)) (λ next more. row_read shape names parts next more (suc i) types)
       (literal_one shape names p.0 p.1 c labels (types i)) (λ d more. row_values parts d more (suc i) types)
 
--- ---- one part more at the end
+-- ---- one more part at the end
 
 abbrev pub and_at : {T : Type 0} → ℕ → ℕ → (ℕ → T) → Result Reading (Refusal T) → (ℕ → List ℕ → T → Result Reading (Refusal T)) → Result Reading (Refusal T)
 and_at c i types (Err refusal) next = Err refusal
@@ -99,14 +99,14 @@ module _ {T : Type 0} (shape : T → ShapeOf T) (names : T → Names) where
       (λ d more. row_read shape names (parts ++ (k, v) ∷ []) d more (suc i) types) (literal_read shape names k v)
       (literal_one shape names p.0 p.1 c labels (types i)) (λ d more. row_and_last parts k v d more (suc i) types)
 
--- ---- the parts of a plain literal are a row
+-- ---- the parts of a plain literal as a list
 
 first_part : (T : Type 0) (c : ℕ) (types : ℕ → T) (row : Result Reading (Refusal T)) (next : ℕ → List ℕ → T → Result Reading (Refusal T)) → and_next c types row next ≡ and_at c 0 types row next
 first_part T c types (Err refusal) next = refl
 first_part T c types (Ok one) next = ap (λ n. added one (next (c + length one.objects) one.labels (types n))) (omega arith)
 
 module _ {T : Type 0} (shape : T → ShapeOf T) (names : T → Names) where
-  -- one more part
+  -- One more part.
   and_last :
       (parts : List (ℕ × Literal)) (k : ℕ) (v : Literal) (c : ℕ) (labels : List ℕ) (types : ℕ → T) (row : Result Reading (Refusal T)) → row ≡ row_read shape names parts c labels 0 types
       → and_next c types row (literal_read shape names k v) ≡ row_read shape names (parts ++ (k, v) ∷ []) c labels 0 types
@@ -153,7 +153,7 @@ fill-append xs ys b i (v ∷ values) h =
     ap (λ all. fill all b (suc i) values) (set_field-append xs ys b i v h)
     ∙ fill-append (set_field xs b i v) ys b (suc i) values (rw length-set_field h)
 
--- the fields of the last block after its first ones
+-- Fills the fields of the last block after its first fields.
 pub fill_from : (xs : List Obj) (tag : ℕ) (front rest : List Val) (b i : ℕ) (values : List Val) → length xs ≡ b → length front ≡ i → length rest ≡ length values
     → fill (xs ++ objects.Block tag (front ++ rest) ∷ []) b i values ≡ xs ++ objects.Block tag (front ++ values) ∷ []
 fill_from xs tag front [] b i [] e d l = refl
@@ -178,7 +178,7 @@ module _ {T : Type 0} (shape : T → ShapeOf T) (names : T → Names) where
       (sym (append_assoc (fill (set_field graph b i x) b (suc i) r.values) objs r.objects)
       ∙ ap (λ all. all ++ r.objects) (sym (fill-append (set_field graph b i x) objs b (suc i) r.values (rw length-set_field h))))
 
-  -- a part that is read whole
+  -- The part is read completely.
   pub stepped :
       (b i n : ℕ) (types : ℕ → T) (k : ℕ) (v : Literal) (ps : List (ℕ × Literal)) (opens : List (Open T)) (graph : List Obj) (labels : List ℕ)
       (x : Val) (objs : List Obj) (more : List ℕ) → b < length graph → literal_read shape names k v (length graph) labels (types n) ≡ Ok (reading (x ∷ []) objs more)
@@ -189,7 +189,7 @@ module _ {T : Type 0} (shape : T → ShapeOf T) (names : T → Names) where
       ∙ ap (λ d. put (finished shape names opens) (set_field graph b i x ++ objs) b (suc i) (row_read shape names ps d more (suc n) types))
       (omega (arith, length-append (set_field graph b i x) objs, length-set_field graph b i x))
 
-  -- a part that is refused
+  -- The part is refused.
   pub refused :
       (b i n : ℕ) (types : ℕ → T) (k : ℕ) (v : Literal) (ps : List (ℕ × Literal)) (opens : List (Open T)) (graph : List Obj) (labels : List ℕ) (refusal : Refusal T)
       → literal_read shape names k v (length graph) labels (types n) ≡ Err refusal
@@ -197,13 +197,13 @@ module _ {T : Type 0} (shape : T → ShapeOf T) (names : T → Names) where
   refused b i n types k v ps opens graph labels refusal read =
       ap (λ one. put (finished shape names opens) graph b i (then_row (length graph) one (λ d all. row_read shape names ps d all (suc n) types))) read
 
-  -- a block without parts to come
+  -- The block has no parts to be read.
   pub popped :
       (b i n : ℕ) (types : ℕ → T) (opens : List (Open T)) (graph : List Obj) (labels : List ℕ)
       → finished shape names (open_at b i n types [] ∷ opens) graph labels ≡ finished shape names opens graph labels
   popped b i n types opens graph labels = ap (λ all. finished shape names opens all labels) (append-nil graph)
 
-  -- how a plain part is read that is a block
+  -- The reading of a plain part that is a block.
   pub block_reads :
       (k : ℕ) (l : Option ℕ) (p : Plain) (c : ℕ) (labels : List ℕ) (t : T) (tag : ℕ) (front : List Val) (types : ℕ → T)
       → is_next labels l ≡ true → start_at t (shape t) (names t) p ≡ block tag front types
@@ -218,7 +218,7 @@ module _ {T : Type 0} (shape : T → ShapeOf T) (names : T → Names) where
       q = k + length (label_kinds l)
 
 module _ {T : Type 0} (shape : T → ShapeOf T) (names : T → Names) where
-  -- the parts of a block that was begun are put into it, and then come those beside it
+  -- The parts of the new block are stored into it, and then the parts after it are read.
   block_put :
       (b i n : ℕ) (types : ℕ → T) (k : ℕ) (v : Literal) (ps : List (ℕ × Literal)) (opens : List (Open T)) (graph : List Obj) (labels : List ℕ)
       (tag : ℕ) (front : List Val) (many : ℕ) → b < length graph → (row : Result Reading (Refusal T)) → HasValues many row
@@ -235,7 +235,7 @@ module _ {T : Type 0} (shape : T → ShapeOf T) (names : T → Names) where
       (length-set_field graph b i (vals.Ref (length graph))) refl (length-replicate many (vals.Int (pos 0)) ∙ sym full))
       ∙ append_assoc (set_field graph b i (vals.Ref (length graph))) (objects.Block tag (front ++ r.values) ∷ []) r.objects))
 
-  -- a part that is a block: it is open, and innermost
+  -- If the part is a block, then it becomes the innermost open block.
   pub stepped_in :
       (b i n : ℕ) (types : ℕ → T) (k : ℕ) (l : Option ℕ) (p : Plain) (ps : List (ℕ × Literal)) (opens : List (Open T)) (graph : List Obj) (labels : List ℕ)
       (tag : ℕ) (front : List Val) (inner : ℕ → T) → b < length graph

@@ -32,7 +32,7 @@ module _ (text : Text) (k n t : ℕ) (graph : List Obj) (labels : List ℕ) (lab
     labels_in = labels_in;
   }
 
--- ---- a plain one
+-- ---- a plain literal
 
 module _ (text : Text) (node : Node) (k t : ℕ) (l : Option ℕ) (p : Plain) (graph : List Obj) (labels : List ℕ) (is : node ≡ own_node k (labelled l p)) where
   abbrev start : Start ℕ
@@ -50,7 +50,7 @@ module _ (text : Text) (node : Node) (k t : ℕ) (l : Option ℕ) (p : Plain) (g
   same_label : node.label ≡ l
   same_label = ap (λ (n : Node). n.label) is
 
-  -- the number of its label is another
+  -- If the label does not have the next number, then the part is refused.
   pub number_refused :
       (byte : ℕ) → is_next labels node.label ≡ false → byte ≡ byte_of text.lexemes.now text.end node.first → MayRefuse text.lexemes.now text.end read (faults.Label byte)
   number_refused byte other at = record {

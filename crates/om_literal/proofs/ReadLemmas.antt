@@ -1,4 +1,4 @@
--- The answer to lexemes, from what was read.
+-- The answer for lexemes, from the result of reading them.
 use Rattle.std.proofs.Common.{sym, ◌∙◌, take}
 use Rattle.std.specs.Prelude.{ℕ, ◌≡◌, true, false, is_err, Result, Ok, Err, List, [], length}
 use Rattle.om_model.specs.declared.value.Val.{Val}
@@ -16,7 +16,7 @@ use Rattle.om_literal.specs.LiteralAnswers.{fault_of, in_bytes, shape_in, names_
 use Rattle.om_literal.specs.Underway.{IsRefusedAs, ReadsTree, Reads}
 use Rattle.om_literal.proofs.AnswerLemmas.{one_answer}
 
--- ---- of a tree
+-- ---- the answer for a tree
 
 misread :
     (table : Tabled) (at : ℕ) (lexemes : List Lexeme) (end : ℕ) (old : List Obj) (v : Literal) (fault : LiteralFault) → literal_kinds v ≡ kinds_of lexemes
@@ -49,7 +49,7 @@ tree_answers text at old new (Err (faults.Misfit place t)) tree reads = (reads.1
 tree_answers text at old new (Err (faults.IntRange place)) tree reads = (reads.1, misread text.table.now at text.lexemes.now text.end old tree.0 _ tree.1 (reads.0 tree.0 tree.1 tree.2))
 tree_answers text at old new (Err (faults.Label place)) tree reads = (reads.1, misread text.table.now at text.lexemes.now text.end old tree.0 _ tree.1 (reads.0 tree.0 tree.1 tree.2))
 
--- ---- with the heap as it was after a fault
+-- ---- the heap is restored after a fault
 
 module _ (table : Tabled) (at : ℕ) (lexemes : List Lexeme) (end : ℕ) (old new : List Obj) where
   fault_answered : (fault : LiteralFault) (final : List Obj) → Reads table at lexemes end old new (Err fault) → final ≡ take (length old) new → IsAnswered table at lexemes end old final (Err fault)
@@ -69,7 +69,7 @@ module _ (table : Tabled) (at : ℕ) (lexemes : List Lexeme) (end : ℕ) (old ne
   answered_there (Ok value) err r = r.0
   answered_there (Err fault) err r = absurd (cc)
 
-  -- there is no other answer
+  -- There is no other answer.
   same_answer : (one other : Result (List Obj × Val) LiteralFault) → IsAnswer table at lexemes end old one → IsAnswer table at lexemes end old other → one ≡ other
   same_answer one other a b = let answer = one_answer table at lexemes end old in answer.2 one a ∙ sym (answer.2 other b)
 

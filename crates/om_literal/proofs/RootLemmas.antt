@@ -1,4 +1,4 @@
--- The whole literal: a value that begins as a block, and what its parts come to.
+-- The whole literal: a value that begins as a block, and the result of its parts.
 use Rattle.std.proofs.Common.{arith, refl, sym, ap, ◌∙◌, subst, drop, take}
 use Rattle.std.specs.Prelude.{ℕ, suc, ◌<◌, ◌≡◌, Some, Result, Ok, Err, List, [], ◌∷◌, ◌++◌, length, pos, replicate, All, ⊤}
 use Rattle.std.proofs.lemmas.List.{append_assoc, append-nil, length-append, length-replicate, get_or_at}
@@ -32,7 +32,7 @@ use Rattle.om_literal.proofs.PendingLemmas.{HasValues, row_values, fill_from, bl
 use Rattle.om_literal.proofs.StandingLemmas.{own_and_parts, literal_spelled}
 use Rattle.om_literal.proofs.PartLemmas.{opened_with}
 
--- ---- the tree stands at its place
+-- ---- the location of the tree
 
 pub tree_stands : (text : Text) (v : Literal) → literal_kinds v ≡ kinds_of text.lexemes.now → text.nodes.now ≡ literal_nodes 0 v → Stands text.nodes.now text.lexemes.now 0 0 v
 tree_stands text v spelled nodes = record {
@@ -40,14 +40,14 @@ tree_stands text v spelled nodes = record {
   kinds_at = record { rest = []; is = sym spelled ∙ sym (append-nil (literal_kinds v)) };
 }
 
--- ---- what comes of the parts is the graph of the whole
+-- ---- the result of the parts is the graph of the whole
 
--- the graph that a reading leaves
+-- The graph after a reading.
 abbrev pub graph_of : List Obj → Result Reading (Refusal ℕ) → Result (List Obj) (Refusal ℕ)
 graph_of old (Err refusal) = Err refusal
 graph_of old (Ok r) = Ok (old ++ r.objects)
 
--- the parts of a block at the end of the graph, put into it
+-- The parts of the block at the end of the graph, stored into it.
 abbrev finished_row : List Obj → ℕ → List Val → ℕ → Result Reading (Refusal ℕ) → Result (List Obj) (Refusal ℕ)
 finished_row old tag front many row =
     put (λ g labels. Ok g) (old ++ objects.Block tag (front ++ replicate many (vals.Int (pos 0))) ∷ []) (length old) (length front) row
@@ -63,7 +63,7 @@ graph_finished old tag front many (Ok r) full =
 same_put : {R : Type 0} (F : List Obj → ℕ → ℕ → ℕ → ℕ → R) (g h : List Obj) (b d i e c n m o : ℕ) → g ≡ h → b ≡ d → i ≡ e → c ≡ n → m ≡ o → F g b i c m ≡ F h d e n o
 same_put F g h b d i e c n m o p q r s t = cc
 
--- a value that is one of the graph
+-- The value is one of the graph.
 pub record IsWholeRoot (all : Result Reading (Refusal ℕ)) (old final : List Obj) (value : Val) : Type 0 where
   pub labels : List ℕ
   pub whole : IsWhole all old final labels value
@@ -139,7 +139,7 @@ module _ (text : Text) (k : ℕ) (v : Literal) (t : ℕ) (old new : List Obj) (l
     spelled = spelled;
   }
 
-  -- the block is open, and the outcome is that of the whole
+  -- The block is open, and the outcome is that of the whole.
   pub root_underway : Stands text.nodes.now text.lexemes.now 0 k v → literal_nodes k v ≡ text.nodes.now → All (λ o. o < length new) more
       → IsUnderway text old (graph_of old whole_reading) (opened ∷ []) 1 new more
   root_underway stands nodes labels_in = record {
@@ -151,11 +151,11 @@ module _ (text : Text) (k : ℕ) (v : Literal) (t : ℕ) (old new : List Obj) (l
     kept = ap (λ (g : List Obj). take (length old) g) w.behind ∙ take-append_seam old (objects.Block w.tag (w.front ++ replicate (length own) (vals.Int (pos 0))) ∷ []);
   }
 
-  -- what the parts come to is the whole
+  -- The result of the parts is the whole reading.
   pub root_whole : (final : List Obj) → graph_of old whole_reading ≡ Ok final → IsWholeRoot whole_reading old final value
   root_whole final same = whole_of_row old w.tag w.front row whole_reading value final as_row w.value_is same
 
--- a refusal of what comes is one of the reading
+-- If the result is a refusal, then the reading has this refusal.
 pub root_refused : (lexemes : List Lexeme) (end : ℕ) (old : List Obj) (r : Result Reading (Refusal ℕ)) (fault : LiteralFault) → MayRefuse lexemes end (graph_of old r) fault → MayRefuse lexemes end r fault
 root_refused lexemes end old r faults.Memory m = tt
 root_refused lexemes end old r (faults.Syntax place) m = record { refusal = m.refusal; is = refused_back old r m.refusal m.is; place = m.place }

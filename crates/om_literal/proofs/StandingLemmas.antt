@@ -1,4 +1,4 @@
--- Where a literal stands, its parts stand, and its own first lexeme.
+-- If a literal is at a location, then so are its parts and its own first lexeme.
 use Rattle.std.proofs.Common.{arith, refl, sym, ap, ◌∙◌, length-append, append_assoc, get_or}
 use Rattle.std.specs.Prelude.{ℕ, ◌+◌, ◌<◌, ◌≡◌, Option, Some, None, List, [], ◌∷◌, ◌++◌, length, drop, slice_get, option_map}
 use Rattle.std.proofs.lemmas.List.{drop-drop, drop_at, length-drop, append-nil, get_or-drop, length-map}
@@ -46,7 +46,7 @@ module _ {T : Type 0} where
   pub first_found : (all : List T) (i : ℕ) (x : T) (xs : List T) → IsAt all i (x ∷ xs) → slice_get all i ≡ Some x
   first_found all i x xs h = slice_get-get_or all i x (first_in all i x xs h) ∙ ap (λ (y : T). Some y) (first_is all i x xs x h)
 
--- ---- a literal's nodes
+-- ---- the nodes of a literal
 
 pub own_and_parts : (k : ℕ) (v : Literal) → literal_nodes k v ≡ own_node k v ∷ nodes_of_parts (inner_parts k v)
 own_and_parts k (labelled l p) = parts_of_plain k l p
@@ -82,7 +82,7 @@ rows_spelled all k (more_rows rs x v) h =
     (rows_spelled all k rs (at_front all k (rows_kinds rs) (row_start x) (at_front all k (rows_kinds rs ++ row_start x) (literal_kinds v) both)))
     (at_back all k (rows_kinds rs ++ row_start x) (literal_kinds v) both, tt)
 
--- the last part, between brackets, behind what is in front
+-- The last part, between brackets and after the lexemes before it.
 last_spelled : (all : Kinds) (k : ℕ) (front : Kinds) (v : Literal) (end : Kinds) → IsAt all k (front ++ literal_kinds v ++ end) → IsAt all (k + length front) (literal_kinds v)
 last_spelled all k front v end h = at_back all k front (literal_kinds v) (at_front all k (front ++ literal_kinds v) end h)
 
@@ -131,7 +131,7 @@ plain_spelled all k (array ps v) h =
     (parts_spelled all symbols.Semicolon (k + 1) ps (at_back all k (mark symbols.OpenArray) parts (front_spelled all k start v (mark symbols.CloseArray) h)))
     (at_place all _ _ (literal_kinds v) (omega (arith, length-append (mark symbols.OpenArray) parts)) (last_spelled all k start v (mark symbols.CloseArray) h), tt)
 
--- the parts of a literal are where their numbers say
+-- The parts of a literal begin at their indices.
 pub literal_spelled : (all : Kinds) (k : ℕ) (v : Literal) → IsAt all k (literal_kinds v) → AreSpelled all (inner_parts k v)
 literal_spelled all k (labelled l p) h = plain_spelled all (k + length (label_kinds l)) p (at_back all k (label_kinds l) (plain_kinds p) h)
 literal_spelled all k (again n) h = tt
@@ -148,7 +148,7 @@ head_led cons_head more = (_, refl)
 head_led empty_head more = (_, refl)
 head_led ref_head more = (_, refl)
 
--- in front of more
+-- Appending more lexemes keeps the first one.
 led_more : (own more : Kinds) (kind : LexemeKind) → BeginsWith own kind → BeginsWith (own ++ more) kind
 led_more own more kind h = (h.0 ++ more, ap (λ all. all ++ more) h.1)
 
@@ -184,11 +184,11 @@ module _ (lexemes : List Lexeme) (k : ℕ) (l : Option ℕ) (p : Plain) (h : IsA
   own : IsAt (kinds_of lexemes) (k + length (label_kinds l)) (lead_of_plain p ∷ (plain_led p).0)
   own = at_same _ _ _ _ (plain_led p).1 (at_back _ k (label_kinds l) (plain_kinds p) h)
 
-  -- behind its label a literal has a lexeme of its own,
+  -- A literal has a lexeme of its own after its label.
   pub lead_in : k + length (label_kinds l) < length lexemes
   lead_in = omega (arith, first_in _ _ _ _ own, length-map lexemes (λ (lexeme : Lexeme). lexeme.kind))
 
-  -- which is of its kind
+  -- The kind of this lexeme is the lead of the literal.
   pub lead_is : (kind : LexemeKind) → Some kind ≡ option_map (λ (lexeme : Lexeme). lexeme.kind) (slice_get lexemes (k + length (label_kinds l))) → kind ≡ lead_of_plain p
   lead_is kind e =
       let found : Some kind ≡ Some (lead_of_plain p) =

@@ -20,7 +20,7 @@ use Rattle.om_literal.specs.Leaves.{lead_of}
 use Rattle.om_literal.specs.Standing.{lead_of_owner}
 use Rattle.om_literal.proofs.NodesLemmas.{count_parts, count_rows}
 
--- only a record without a constructor's name begins with a brace
+-- Only a record without a constructor name begins with a brace.
 no_brace : (h : Head) → kinds.Symbol symbols.OpenBrace ≡ lead_of h → ⊥
 no_brace (upper_head x) e = absurd (cc)
 no_brace (tag_head x) e = absurd (cc)
@@ -32,7 +32,7 @@ pub owner_none : (P : Option Head → Type 0) → P None → (o : Option Head) �
 owner_none P f None e = f
 owner_none P f (Some h) e = absurd (no_brace h e)
 
--- ---- with parts
+-- ---- literals with parts
 
 one_last : {T : Type 0} (xs : List T) (x : T) (n : ℕ) → length xs ≡ n → length (xs ++ x ∷ []) ≡ suc n
 one_last xs x n e = omega (arith, length-append xs (x ∷ []), e)

@@ -1,4 +1,4 @@
--- The doubles of nodes that stand in a row.
+-- The doubles of consecutive nodes.
 use Rattle.std.specs.Prelude.{ℕ, Option, Some, None, List, slice_get}
 use Rattle.std.specs.List.{fold}
 use Rattle.om_lex.specs.declared.lexeme.LexemeKind.{LexemeKind}
@@ -14,7 +14,7 @@ abbrev pub double_in : Option LexemeKind → Option ℕ
 double_in (Some (kinds.Double bits)) = Some bits
 double_in kind = None
 
--- by the label, the form and the double at the first lexeme
+-- The bits of a node, from its label, its form and the double at its first lexeme.
 abbrev pub unlabelled_bits : Option ℕ → Form → Option ℕ → Option ℕ
 unlabelled_bits None forms.Double bits = bits
 unlabelled_bits label form bits = None
@@ -22,7 +22,7 @@ unlabelled_bits label form bits = None
 abbrev pub bits_of_node : Kinds → Node → Option ℕ
 bits_of_node all n = unlabelled_bits n.label n.form (double_in (slice_get all n.first))
 
--- those of all, where each is a double without a label
+-- The bits of all nodes, if each is a double without a label.
 abbrev pub bits_of_nodes : Kinds → Option (List ℕ) → List Node → Option (List ℕ)
 bits_of_nodes all before nodes = fold (λ bits n. and_bits bits (bits_of_node all n)) before nodes
 

@@ -1,4 +1,4 @@
--- The names of fields, each two lexemes before its part.
+-- Field names. The name of a field is two lexemes before its value.
 use Rattle.std.specs.Prelude.{ℕ, zero, suc, ◌-◌, nat_lt, if◌then◌else◌, Option, Some, None, List}
 use Rattle.std.specs.Prelude.{[], ◌∷◌, length, slice_get}
 use Rattle.om_lex.specs.Lexemes.{lower_name}
@@ -6,7 +6,7 @@ use Rattle.om_grammar.specs.Grammar.{Name, Kinds}
 use Rattle.om_literal_grammar.specs.declared.node.Node.{Node}
 use Rattle.om_literal.specs.Ends.{sibling}
 
--- the name of the field whose part begins at lexeme k
+-- The name of the field whose value begins at lexeme k.
 abbrev pub name_before : Kinds → ℕ → Name
 name_before all k = lower_name (slice_get all (k - 2))
 
@@ -14,7 +14,7 @@ abbrev pub name_of_node : Kinds → Option Node → Name
 name_of_node all None = []
 name_of_node all (Some n) = name_before all n.first
 
--- of so many siblings
+-- The names of a given number of siblings.
 abbrev pub names_from : List Node → List ℕ → Kinds → ℕ → ℕ → List Name
 names_from nodes ends all place zero = []
 names_from nodes ends all place (suc n) =

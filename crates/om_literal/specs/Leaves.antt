@@ -1,4 +1,4 @@
--- What a leaf of the code stands for.
+-- The meaning of a `Leaf` of the code.
 use Rattle.std.specs.Prelude.{ℕ, pos, ◌==◌}
 use Rattle.om_model.specs.Graph.{IsValue}
 use Rattle.om_model.specs.declared.value.Val.TheVariants as vals
@@ -23,17 +23,17 @@ leaf_in (leaves.Bytes bytes) = whole (objects.Bytes bytes.now)
 leaf_in (leaves.Double bits) = whole (objects.Double bits)
 leaf_in (leaves.Custom c) = whole (custom_object c)
 
--- an integer of a leaf is one of 63 bits, and an atom is one that there is
+-- A leaf is sound if its integer has at most 63 bits and its atom exists.
 abbrev pub IsSound : Leaf → Type 0
 IsSound (leaves.Small v) = IsValue 0 v
 IsSound leaf = Unit {0}
 
--- an integer from 0, where the shape has so many
+-- An integer from 0, if the shape has exactly this number of integers.
 abbrev pub below_of : ShapeOf ℕ → ℕ → ℕ → Start ℕ
 below_of (shapes.Below limit) many n = if_fits (limit == many) (small (vals.Int (pos n)))
 below_of shape many n = misfit
 
--- the first lexeme of a head
+-- The first lexeme of a head.
 abbrev pub lead_of : Head → LexemeKind
 lead_of (upper_head x) = kinds.Upper x
 lead_of (tag_head x) = kinds.Tag x

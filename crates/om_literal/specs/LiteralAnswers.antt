@@ -1,4 +1,4 @@
--- What is answered about lexemes at a type of a table, with places in bytes.
+-- The answer for lexemes at a type of a table. Positions are byte offsets.
 use Rattle.std.specs.Prelude.{ℕ, ◌≡◌, option_map, unwrap_or, Result, Ok, Err, List, ◌++◌, length}
 use Rattle.std.specs.Prelude.{slice_get, ⊤}
 use Rattle.om_model.specs.declared.value.Val.{Val}
@@ -16,12 +16,12 @@ use Rattle.om_literal_grammar.specs.Literal.{Literal, literal_kinds}
 use Rattle.om_grammar.specs.Lexemes.{kinds_of}
 use Rattle.om_literal.specs.Reading.{Refusal, misfit_at, int_range_at, label_at, IsRead, IsRefused}
 
--- where a lexeme begins, or the end
+-- The byte offset at which a lexeme begins, or the end.
 abbrev pub byte_of : List Lexeme → ℕ → ℕ → ℕ
 byte_of lexemes end k =
     unwrap_or (option_map (λ (lexeme : Lexeme). lexeme.span.first) (slice_get lexemes k)) end
 
--- a refusal at bytes in place of lexemes
+-- A refusal with byte offsets instead of lexeme indices.
 abbrev pub in_bytes : {T : Type 0} → List Lexeme → ℕ → Refusal T → Refusal T
 in_bytes lexemes end (misfit_at k t) = misfit_at (byte_of lexemes end k) t
 in_bytes lexemes end (int_range_at k) = int_range_at (byte_of lexemes end k)
@@ -32,7 +32,7 @@ fault_of (misfit_at place t) = faults.Misfit place t
 fault_of (int_range_at place) = faults.IntRange place
 fault_of (label_at place) = faults.Label place
 
--- ---- the shapes and the names of a table, by its numbers
+-- ---- shapes and names of a table, by index
 
 abbrev pub shape_in : Tabled → ℕ → ShapeOf ℕ
 shape_in table i = node_or_none (slice_get table.nodes i)
@@ -40,10 +40,9 @@ shape_in table i = node_or_none (slice_get table.nodes i)
 abbrev pub names_in : Tabled → ℕ → Names
 names_in table i = unwrap_or (slice_get table.names i) no_names
 
--- ---- what is answered
+-- ---- answers
 
--- the lexemes are a literal of this value at the type, and the new objects stand behind the old
--- ones
+-- The lexemes are a literal with this value at the type. The new objects follow the old ones.
 pub record IsValue (table : Tabled) (at : ℕ) (lexemes : List Lexeme) (old new : List Obj)
     (value : Val) : Type 0 where
   pub literal : Literal
@@ -52,7 +51,7 @@ pub record IsValue (table : Tabled) (at : ℕ) (lexemes : List Lexeme) (old new 
   pub read : IsRead (shape_in table) (names_in table) literal at (length old) value objects
   pub behind : new ≡ old ++ objects
 
--- the lexemes are a literal that has this fault at the type
+-- The lexemes are a literal with this fault at the type.
 pub record IsMisread (table : Tabled) (at : ℕ) (lexemes : List Lexeme) (end : ℕ) (count : ℕ)
     (fault : LiteralFault) : Type 0 where
   pub literal : Literal
@@ -61,14 +60,14 @@ pub record IsMisread (table : Tabled) (at : ℕ) (lexemes : List Lexeme) (end : 
   pub refused : IsRefused (shape_in table) (names_in table) literal at count refusal
   pub is : fault ≡ fault_of (in_bytes lexemes end refusal)
 
--- the lexemes are no literal, first at this byte
+-- The lexemes are not a literal, and this offset is the syntax error.
 pub record IsNoLiteral (lexemes : List Lexeme) (end place : ℕ) : Type 0 where
   pub lexeme : ℕ
   pub syntax : IsSyntax literal_kinds (kinds_of lexemes) lexeme
   pub is : place ≡ byte_of lexemes end lexeme
 
--- the objects of the heap and a value, or a fault: what the lexemes are at a type over a heap;
--- never out of memory
+-- The answer for lexemes at a type and a heap: the objects of the heap with a value, or a fault. An
+-- answer is never an out-of-memory error.
 abbrev pub IsAnswer : Tabled → ℕ → List Lexeme → ℕ → List Obj
     → Result (List Obj × Val) LiteralFault → Type 0
 IsAnswer table at lexemes end old (Ok answer) = IsValue table at lexemes old answer.0 answer.1
@@ -81,9 +80,10 @@ IsAnswer table at lexemes end old (Err (faults.Label place)) =
     IsMisread table at lexemes end (length old) (faults.Label place)
 IsAnswer table at lexemes end old (Err faults.Memory) = ⊥
 
--- ---- what a call gives
+-- ---- results of a call
 
--- the answer with the heap that is left; out of memory, and at a fault, it is as it was
+-- The result is an answer, and `new` is the heap afterwards. After a fault, or if memory runs out,
+-- the heap is unchanged.
 abbrev pub IsAnswered : Tabled → ℕ → List Lexeme → ℕ → List Obj → List Obj
     → Result Val LiteralFault → Type 0
 IsAnswered table at lexemes end old new (Ok value) =
@@ -92,14 +92,14 @@ IsAnswered table at lexemes end old new (Err faults.Memory) = new ≡ old
 IsAnswered table at lexemes end old new (Err fault) =
     (new ≡ old) × IsAnswer table at lexemes end old (Err fault)
 
--- a call gives this answer, unless memory runs out
+-- A call returns this answer, unless memory runs out.
 abbrev pub Gives : Result (List Obj × Val) LiteralFault → List Obj → Result Val LiteralFault
     → Type 0
 Gives answer new (Ok value) = answer ≡ Ok (new, value)
 Gives answer new (Err faults.Memory) = ⊤
 Gives answer new (Err fault) = answer ≡ Err fault
 
--- there is one answer, and no other
+-- There is exactly one answer.
 abbrev pub HasOneAnswer : Tabled → ℕ → List Lexeme → ℕ → List Obj → Type 0
 HasOneAnswer table at lexemes end old =
     (answer : Result (List Obj × Val) LiteralFault) × IsAnswer table at lexemes end old answer

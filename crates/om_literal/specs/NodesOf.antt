@@ -1,4 +1,4 @@
--- The nodes of a literal as those of its parts.
+-- The nodes of a literal, expressed by the nodes of its parts.
 use Rattle.std.specs.Prelude.{ℕ, List, flat_map}
 use Rattle.om_literal_grammar.specs.declared.node.Form.{Form}
 use Rattle.om_literal_grammar.specs.declared.node.Form.TheVariants as forms
@@ -29,6 +29,6 @@ part_nodes part = literal_nodes part.0 part.1
 abbrev pub nodes_of_parts : List (ℕ × Literal) → List Node
 nodes_of_parts parts = flat_map part_nodes parts
 
--- the nodes that are to come, where these blocks are open
+-- The nodes still to be read while these blocks are open.
 abbrev pub nodes_to_come : {T : Type 0} → List (Open T) → List Node
 nodes_to_come opens = flat_map (λ o. nodes_of_parts o.parts) opens

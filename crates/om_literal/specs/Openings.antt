@@ -1,4 +1,4 @@
--- What an opening of the code stands for.
+-- The meaning of an `Opening` of the code.
 use Rattle.std.specs.Prelude.{ℕ, ℤ, ◌≤◌, IfSome, List, [], ◌∷◌, Option, Some, None}
 use Rattle.om_model.specs.Graph.{IsInteger}
 use Rattle.om_model.specs.declared.value.Val.{Val}
@@ -11,7 +11,7 @@ use Rattle.om_literal.specs.declared.opening.Types.{Types}
 use Rattle.om_literal.specs.declared.opening.Types.TheVariants as parts
 use Rattle.om_literal.specs.Starts.{Start, misfit, block, type_in}
 
--- by their numbers; t stands where a number has no type
+-- The type of a part by its index. If the part has no type, the type is t.
 abbrev pub types_in : ℕ → Types → ℕ → ℕ
 types_in t (parts.Listed types) i = type_in types.now t i
 types_in t (parts.Each u) i = u
@@ -24,7 +24,8 @@ abbrev pub opening_in : ℕ → Opening → Start ℕ
 opening_in t openings.Misfit = misfit
 opening_in t (openings.Block tag hash types) = block tag (front_of hash) (types_in t types)
 
--- its tag is that of a block, and the hash in front an integer of 63 bits
+-- An opening is sound if its tag is one of a block and the hash before its parts has at most 63
+-- bits.
 abbrev pub IsSound : Opening → Type 0
 IsSound openings.Misfit = Unit {0}
 IsSound (openings.Block tag hash types) = (tag ≤ 243) × IfSome hash IsInteger

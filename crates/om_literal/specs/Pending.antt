@@ -1,5 +1,5 @@
--- Blocks that are open, innermost first, with their parts to come, and what comes of them: the
--- parts are read one after the other, and each value is put into its block's next field.
+-- Open blocks, innermost first, with the parts still to be read, and the result of reading them.
+-- The parts are read in order, and each value is stored into the next field of its block.
 use Rattle.std.specs.Prelude.{ℕ, suc, ◌+◌, Result, Ok, Err, List, [], ◌∷◌, ◌++◌, length}
 use Rattle.om_model.specs.declared.value.Val.{Val}
 use Rattle.om_model.specs.declared.value.Obj.{Obj}
@@ -15,7 +15,7 @@ use Rattle.om_literal_grammar.specs.Literal.{head_kinds, owner_kinds, row_start,
 use Rattle.om_literal_grammar.specs.Literal.{parts_kinds, rows_kinds}
 use Rattle.om_literal.specs.Reading.{Reading, Refusal, reading, added, literal_read}
 
--- ---- the parts of a plain literal, each with the number of its first lexeme
+-- ---- the parts of a plain literal, each with the index of its first lexeme
 
 abbrev pub listed_parts : Symbol → ℕ → Parts → List (ℕ × Literal)
 listed_parts separator k no_parts = []
@@ -45,14 +45,14 @@ parts_of k (array ps v) =
     ++ (k + 1 + length (parts_kinds symbols.Semicolon ps), v) ∷ []
 parts_of k p = []
 
--- ---- values put into fields
+-- ---- storing values into fields
 
 abbrev pub fill : List Obj → ℕ → ℕ → List Val → List Obj
 fill graph o i [] = graph
 fill graph o i (v ∷ vs) = fill (set_field graph o i v) o (suc i) vs
 
--- an open block, the field that is next, the number of the part that is next, the types of parts,
--- and the parts to come
+-- An open block: its next field, the index of its next part, the types of its parts, and the parts
+-- still to be read.
 pub record Open (T : Type 0) : Type 0 where
   pub block : ℕ
   pub field : ℕ
@@ -69,21 +69,21 @@ abbrev pub open_at : {T : Type 0} → ℕ → ℕ → ℕ → (ℕ → T) → Li
 open_at block field part types parts =
     record { block = block; field = field; part = part; types = types; parts = parts }
 
--- the values of a row into fields, and then the rest
+-- Stores the values of a list of parts into fields, and continues with the rest.
 abbrev pub put : {T : Type 0} → (List Obj → List ℕ → Result (List Obj) (Refusal T)) → List Obj → ℕ
     → ℕ → Result Reading (Refusal T) → Result (List Obj) (Refusal T)
 put rest graph block field (Err refusal) = Err refusal
 put rest graph block field (Ok r) = rest (fill graph block field r.values ++ r.objects) r.labels
 
 module _ {T : Type 0} (shape : T → ShapeOf T) (names : T → Names) where
-  -- parts one after the other, the first of which has number i
+  -- Reads parts in order. The first of them has index i.
   abbrev pub row_read : List (ℕ × Literal) → ℕ → List ℕ → ℕ → (ℕ → T) → Result Reading (Refusal T)
   row_read [] c labels i types = Ok (reading [] [] labels)
   row_read (p ∷ parts) c labels i types =
       then_row c (literal_read shape names p.0 p.1 c labels (types i))
       (λ next more. row_read parts next more (suc i) types)
 
-  -- the graph that comes of open blocks, or the first refusal
+  -- The graph after all open blocks are finished, or the first refusal.
   abbrev pub finished : List (Open T) → List Obj → List ℕ → Result (List Obj) (Refusal T)
   finished [] graph labels = Ok graph
   finished (o ∷ opens) graph labels =

@@ -1,6 +1,6 @@
--- What a literal is at a type, over any shapes and names: its value and the objects that it makes,
--- in the order of their first lexemes, or its first fault in that order. Places are numbers of
--- lexemes.
+-- The reading of a literal at a type, for any shapes and names. The result is the value with the
+-- objects that the literal makes, in the order of their first lexemes, or its first fault in that
+-- order. Positions are lexeme indices.
 use Rattle.std.specs.Prelude.{ℕ, suc, ◌+◌, ◌==◌, ◌≡◌, Bool, true, if◌then◌else◌, Option, Some, None}
 use Rattle.std.specs.Prelude.{Result, Ok, Err, List, [], ◌∷◌, ◌++◌, length, slice_get}
 use Rattle.om_model.specs.declared.value.Val.{Val}
@@ -19,15 +19,15 @@ use Rattle.om_literal_grammar.specs.Literal.{owner_kinds, row_start, literal_kin
 use Rattle.om_literal_grammar.specs.Literal.{rows_kinds}
 use Rattle.om_literal.specs.Starts.{Start, misfit, out_of_range, small, whole, block, start_at}
 
--- Values one after the other, the objects that they make, and the object of each label so far, by
--- the label's number.
+-- A list of values, the objects that they make, and the object of each label so far. The labels are
+-- indexed by label number.
 pub record Reading : Type 0 where
   pub values : List Val
   pub objects : List Obj
   pub labels : List ℕ
 
--- why there is no value: where the first part stands that does not fit its type, an integer that is
--- out of range, or a `#` whose label is none
+-- The reason why there is no value: the first part with a type mismatch, an integer out of range,
+-- or a `#` with an invalid label. Each has its position.
 pub data Refusal (T : Type 0) : Type 0 where
   misfit_at : ℕ → T → Refusal T
   int_range_at : ℕ → Refusal T
@@ -38,7 +38,7 @@ reading values objects labels = record { values = values; objects = objects; lab
 
 -- ---- labels
 
--- labels are numbered from 0
+-- Labels are numbered from 0.
 abbrev pub is_next : List ℕ → Option ℕ → Bool
 is_next labels None = true
 is_next labels (Some n) = n == length labels
@@ -48,31 +48,31 @@ with_label labels None o = labels
 with_label labels (Some n) o = labels ++ o ∷ []
 
 module _ {T : Type 0} where
-  -- the object of a label, which makes no other
+  -- The use of a label refers to the object of the label and makes no new object.
   abbrev pub again_read : ℕ → List ℕ → Option ℕ → Result Reading (Refusal T)
   again_read k labels None = Err (label_at k)
   again_read k labels (Some o) = Ok (reading (vals.Ref o ∷ []) [] labels)
 
-  -- an integer or an atom has no label
+  -- An integer or an atom cannot have a label.
   abbrev pub small_read : ℕ → List ℕ → Val → Option ℕ → Result Reading (Refusal T)
   small_read k labels v None = Ok (reading (v ∷ []) [] labels)
   small_read k labels v (Some n) = Err (label_at k)
 
-  -- ---- parts in a row
+  -- ---- lists of parts
 
   abbrev pub added : Reading → Result Reading (Refusal T) → Result Reading (Refusal T)
   added one (Err refusal) = Err refusal
   added one (Ok other) =
       Ok (reading (one.values ++ other.values) (one.objects ++ other.objects) other.labels)
 
-  -- one more part after those that were read, from object c on
+  -- Reads one more part after those already read. Object indices begin at c.
   abbrev pub and_next : ℕ → (ℕ → T) → Result Reading (Refusal T)
       → (ℕ → List ℕ → T → Result Reading (Refusal T)) → Result Reading (Refusal T)
   and_next c types (Err refusal) next = Err refusal
   and_next c types (Ok one) next =
       added one (next (c + length one.objects) one.labels (types (length one.values)))
 
-  -- a block is before the objects of its parts
+  -- A block precedes the objects of its parts.
   abbrev pub block_read : ℕ → ℕ → List Val → Result Reading (Refusal T) → Result Reading (Refusal T)
   block_read c tag front (Err refusal) = Err refusal
   block_read c tag front (Ok parts) =
@@ -80,8 +80,8 @@ module _ {T : Type 0} where
       (reading (vals.Ref c ∷ []) (objects.Block tag (front ++ parts.values) ∷ parts.objects)
       parts.labels)
 
-  -- A part whose first lexeme is k, with its label p, by what it is at its type; its first object
-  -- is c.
+  -- Reads a part from its start at its type. Its first lexeme is k, the first lexeme after its
+  -- label is p, and its first object has index c.
   abbrev pub begun : ℕ → ℕ → ℕ → List ℕ → Option ℕ → T
       → (List ℕ → (ℕ → T) → Result Reading (Refusal T)) → Start T → Result Reading (Refusal T)
   begun k p c labels l t inside misfit = Err (misfit_at p t)
@@ -94,8 +94,8 @@ module _ {T : Type 0} where
 
 module _ {T : Type 0} (shape : T → ShapeOf T) (names : T → Names) where
   abbrev mutual
-    -- a literal whose first lexeme is k, where c objects and these labels are before it, at the
-    -- type t
+    -- Reads a literal with first lexeme k at the type t. Before it there are c objects and these
+    -- labels.
     pub literal_read : ℕ → Literal → ℕ → List ℕ → T → Result Reading (Refusal T)
     literal_read k (again n) c labels t = again_read k labels (slice_get labels n)
     literal_read k (labelled l p) c labels t =
@@ -104,7 +104,7 @@ module _ {T : Type 0} (shape : T → ShapeOf T) (names : T → Names) where
         (inside (k + length (label_kinds l)) p (suc c)) (start_at t (shape t) (names t) p)
         else Err (label_at k)
 
-    -- the parts of a plain one
+    -- Reads the parts of a plain literal.
     pub inside : ℕ → Plain → ℕ → List ℕ → (ℕ → T) → Result Reading (Refusal T)
     inside k (applied h ps v) c labels types =
         and_next c types
@@ -142,11 +142,11 @@ module _ {T : Type 0} (shape : T → ShapeOf T) (names : T → Names) where
         and_next c types (rows_read k rs c labels types)
         (literal_read (k + length (rows_kinds rs ++ row_start x)) v)
 
-  -- the literal is this value at the type, over c objects and these new ones
+  -- The literal has this value at the type. The new objects follow c old ones.
   pub record IsRead (v : Literal) (t : T) (c : ℕ) (value : Val) (objects : List Obj) : Type 0 where
     pub labels : List ℕ
     pub read : literal_read 0 v c [] t ≡ Ok (reading (value ∷ []) objects labels)
 
-  -- it is none, first for this reason
+  -- The literal has no value at the type, and this is the first reason.
   abbrev pub IsRefused : Literal → T → ℕ → Refusal T → Type 0
   IsRefused v t c refusal = literal_read 0 v c [] t ≡ Err refusal

@@ -1,4 +1,4 @@
--- Where a literal stands: in its row of nodes, and in the lexemes.
+-- The location of a literal in a list of nodes and in the lexemes.
 use Rattle.std.specs.Prelude.{ℕ, ◌+◌, ◌≡◌, Option, Some, None, List, [], ◌++◌, length, drop}
 use Rattle.std.specs.List.{AllByRecursion}
 use Rattle.om_lex.specs.declared.lexeme.Lexeme.{Lexeme}
@@ -18,17 +18,17 @@ use Rattle.om_literal.specs.Leaves.{lead_of}
 use Rattle.om_literal.specs.Pending.{parts_of}
 use Rattle.om_literal.specs.NodesOf.{form_of}
 
--- from number i on, the list goes on with these
+-- At index i, the list `all` continues with the list `own`.
 pub record IsAt {T : Type 0} (all : List T) (i : ℕ) (own : List T) : Type 0 where
   pub rest : List T
   pub is : drop i all ≡ own ++ rest
 
--- the literal whose nodes begin at node j, and whose lexemes begin at lexeme k
+-- The nodes of the literal begin at node j, and its lexemes begin at lexeme k.
 pub record Stands (nodes : List Node) (lexemes : List Lexeme) (j k : ℕ) (v : Literal) : Type 0 where
   pub nodes_at : IsAt nodes j (literal_nodes k v)
   pub kinds_at : IsAt (kinds_of lexemes) k (literal_kinds v)
 
--- ---- a literal as its node and its parts
+-- ---- a literal as its own node and its parts
 
 abbrev pub own_node : ℕ → Literal → Node
 own_node k (labelled l p) = node (form_of p) l k (length (parts_of (k + length (label_kinds l)) p))
@@ -38,12 +38,12 @@ abbrev pub inner_parts : ℕ → Literal → List (ℕ × Literal)
 inner_parts k (labelled l p) = parts_of (k + length (label_kinds l)) p
 inner_parts k (again n) = []
 
--- the lexemes of each part begin at its number
+-- The lexemes of each part begin at the index of the part.
 abbrev pub AreSpelled : Kinds → List (ℕ × Literal) → Type 0
 AreSpelled all parts =
     AllByRecursion (λ (part : ℕ × Literal). IsAt all part.0 (literal_kinds part.1)) parts
 
--- ---- the first lexeme of a plain one
+-- ---- the first lexeme of a plain literal
 
 abbrev pub lead_of_owner : Option Head → LexemeKind
 lead_of_owner None = kinds.Symbol symbols.OpenBrace

@@ -1,4 +1,4 @@
--- What a start of the code stands for.
+-- The meaning of a `Start` of the code.
 use Rattle.std.specs.Prelude.{ℕ}
 use Rattle.om_model.specs.declared.value.Obj.TheVariants as objects
 use Rattle.om_literal.specs.declared.start.Start.{Start as Code}
@@ -7,7 +7,7 @@ use Rattle.om_literal.specs.Starts.{Start, whole}
 use Rattle.om_literal.specs.Leaves as leaves
 use Rattle.om_literal.specs.Openings as openings
 
--- at a type of this number
+-- The start at the type with index t.
 abbrev pub start_in : ℕ → Code → Start ℕ
 start_in t (codes.Leaf leaf) = leaves.leaf_in leaf
 start_in t (codes.Doubles all) = whole (objects.Doubles all.items)

@@ -1,5 +1,5 @@
--- What a literal is at the shape and the names of a type, before its parts are read: by its form,
--- its name, and how many parts or which fields it has.
+-- The start of a literal at the shape and names of a type, before its parts are read. It depends on
+-- the form of the literal, its name, and its number of parts or its fields.
 use Rattle.std.specs.Prelude.{ℕ, ℤ, pos, negsuc, suc, ◌==◌, ◌^◌, ◌&&◌, nat_lt, Bool, true, false}
 use Rattle.std.specs.Prelude.{if◌then◌else◌, List, [], ◌∷◌, ◌++◌, length, slice_get, find, codes}
 use Rattle.std.specs.Prelude.{Option, Some, None, option_and_then, unwrap_or}
@@ -27,20 +27,20 @@ use Rattle.om_literal_grammar.specs.Literal.{tuple, empty_array, array, Parts, n
 use Rattle.om_literal_grammar.specs.Literal.{Rows, no_rows, more_rows, ref_name}
 use Rattle.om_literal_grammar.specs.Nodes.{count, rows_count}
 
--- what it is
+-- The start of a literal at a type.
 pub data Start (T : Type 0) : Type 0 where
   misfit : Start T
   out_of_range : Start T
-  -- an integer or an atom
+  -- An integer or an atom.
   small : Val → Start T
-  -- an object without parts
+  -- An object without parts.
   whole : Obj → Start T
-  -- a block: its tag, its fields before the parts, and the type of each part by its number
+  -- A block: its tag, its fields before the parts, and the type of each part by index.
   block : ℕ → List Val → (ℕ → T) → Start T
 
 -- ---- numbers
 
--- from -2^n and below 2^n
+-- The number is at least -2^n and less than 2^n.
 abbrev pub is_in_bits : ℕ → ℤ → Bool
 is_in_bits n (pos m) = nat_lt m (2 ^ n)
 is_in_bits n (negsuc m) = nat_lt m (2 ^ n)
@@ -70,12 +70,13 @@ names_of_rows (more_rows rs x v) = names_of_rows rs ++ x ∷ []
 abbrev pub is_constr : Name → List Name → ConstrNames → Bool
 is_constr name wanted names = bytes_eq names.name name && same_names names.fields wanted
 
--- the place of a constant constructor
+-- The index of a constant constructor.
 abbrev pub constant_of_name : Names → Head → Option ℕ
 constant_of_name names head =
     option_and_then (λ name. position (bytes_eq name) names.constants) (constructor_name head)
 
--- the tag of a constructor with the fields of an inline record, or with none
+-- The tag of a constructor whose inline record has these fields, or that has no inline record if
+-- the list is empty.
 abbrev pub tag_of_name : Names → List Name → Head → Option ℕ
 tag_of_name names wanted head =
     option_and_then (λ name. position (is_constr name wanted) names.constructors)
@@ -91,7 +92,7 @@ abbrev pub and_bits : Option (List ℕ) → Option ℕ → Option (List ℕ)
 and_bits (Some all) (Some bits) = Some (all ++ bits ∷ [])
 and_bits all bits = None
 
--- those of all parts, where each is a double without a label
+-- The bits of all parts, if each is a double without a label.
 abbrev pub bits_of_parts : Parts → Option (List ℕ)
 bits_of_parts no_parts = Some []
 bits_of_parts (more_parts ps v) = and_bits (bits_of_parts ps) (bits_of v)
@@ -107,7 +108,7 @@ module _ {T : Type 0} where
   abbrev pub if_in_range : Bool → Start T → Start T
   if_in_range fits start = if fits then start else out_of_range
 
-  -- ---- without parts
+  -- ---- literals without parts
 
   abbrev pub int_start : Suffix → ℤ → Start T
   int_start suffixes.Absent z = if_in_range (is_in_bits 62 z) (small (vals.Int z))
@@ -125,12 +126,12 @@ module _ {T : Type 0} where
   native_start suffixes.Native z = if_in_range (is_in_bits 63 z) (whole (objects.Native z))
   native_start suffix z = misfit
 
-  -- how an integer begins, where it is known for its suffix and its value
+  -- The start of an integer literal, from its suffix and its value.
   abbrev pub integer_start : (Suffix → ℤ → Start T) → Plain → Start T
   integer_start start (integer i) = start i.suffix i.value
   integer_start start p = misfit
 
-  -- of `char`, `bool` and `unit`
+  -- The start of a literal of type `char`, `bool` or `unit`.
   abbrev pub below_start : ℕ → Plain → Start T
   below_start many (character c) = if_fits (many == 256) (small (vals.Int (pos c)))
   below_start many (truth b) = if_fits (many == 2) (small (vals.Int (pos (if b then 1 else 0))))
@@ -145,7 +146,7 @@ module _ {T : Type 0} where
   double_start (double bits) = whole (objects.Double bits)
   double_start p = misfit
 
-  -- many doubles in one object
+  -- Several doubles in one object.
   abbrev pub doubles_start : Option (List ℕ) → Start T
   doubles_start None = misfit
   doubles_start (Some all) = whole (objects.Doubles all)
@@ -164,7 +165,7 @@ module _ {T : Type 0} where
   floatarray_start (array ps v) = doubles_start (and_bits (bits_of_parts ps) (bits_of v))
   floatarray_start p = empty_start p
 
-  -- ---- with parts: t stands where a number has no type, which is nowhere
+  -- ---- literals with parts: t is the default type of a part without a type, which never occurs
 
   abbrev pub type_in : List T → T → ℕ → T
   type_in ts t i = unwrap_or (slice_get ts i) t
@@ -185,12 +186,13 @@ module _ {T : Type 0} where
 
   -- ---- constructors
 
-  -- a name among the constants
+  -- A name among the constant constructors.
   abbrev pub constant_start : ℕ → Option ℕ → Start T
   constant_start constants None = misfit
   constant_start constants (Some i) = if_fits (nat_lt i constants) (small (vals.Int (pos i)))
 
-  -- the constructor of a tag, where it has so many fields; no block has a tag above 243
+  -- The block of the constructor with this tag, if the constructor has `size` fields. No block has
+  -- a tag above 243.
   abbrev pub constr_start : T → ℕ → ℕ → Option (Constr T) → Start T
   constr_start t size tag None = misfit
   constr_start t size tag (Some constr) =
@@ -219,7 +221,8 @@ module _ {T : Type 0} where
       (option_and_then (λ name. find (λ (tag : TagName). bytes_eq tag.name name) names.tags)
       (name_of_tag head))
 
-  -- by its hash and the type of its argument; no value has an integer of more than 63 bits
+  -- The start of a tag without an argument, from its hash and the type of its argument. No value
+  -- has an integer of more than 63 bits.
   abbrev pub bare_tag : ℤ → Option T → Start T
   bare_tag hash None = if_fits (is_in_bits 62 hash) (small (vals.Int hash))
   bare_tag hash (Some u) = misfit
@@ -237,7 +240,7 @@ module _ {T : Type 0} where
   poly_start tags names (applied head no_parts v) = if_tag carrying_tag (tag_named tags names head)
   poly_start tags names p = misfit
 
-  -- ---- all
+  -- ---- all literals
 
   abbrev pub start_at : T → ShapeOf T → Names → Plain → Start T
   start_at t shapes.AnyInt names p = integer_start int_start p

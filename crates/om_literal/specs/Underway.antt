@@ -1,4 +1,4 @@
--- What holds while the parts of a literal are read.
+-- The invariants that hold while the parts of a literal are read.
 use Rattle.std.specs.Prelude.{ℕ, pos, ◌+◌, ◌^◌, ◌≡◌, ◌<◌, ◌≤◌, suc, nat_lt, if◌then◌else◌, true}
 use Rattle.std.specs.Prelude.{Option, Some, None, Result, Ok, Err, List, [], ◌∷◌, ◌++◌, length}
 use Rattle.std.specs.Prelude.{take, drop, replicate, All, ⊤}
@@ -35,7 +35,7 @@ abbrev pub Popped : List Opened → List Opened → Option Opened → Type 0
 Popped old new None = (old ≡ []) × (new ≡ [])
 Popped old new (Some block) = old ≡ block ∷ new
 
--- the block when the part that was next has begun
+-- `new` is the block `old` after its next part has begun.
 pub record IsAdvanced (old new : Opened) : Type 0 where
   pub block_is : new.block ≡ old.block
   pub field_is : new.field ≡ suc old.field
@@ -44,11 +44,11 @@ pub record IsAdvanced (old new : Opened) : Type 0 where
   pub types_are : new.types ≡ old.types
   pub at_is : new.at ≡ old.at
 
--- a block stays open while parts of it are to come
+-- A block stays open while parts of it are still to be read.
 abbrev pub if_open : Opened → List Opened → List Opened
 if_open block stack = if nat_lt 0 block.left then block ∷ stack else stack
 
--- what there is to read by
+-- The invariant of the input for reading parts.
 pub record IsText (text : Text) : Type 0 where
   pub many : length text.ends.now ≡ length text.nodes.now
   pub ends : AreEnds text.nodes.now text.ends.now
@@ -56,7 +56,7 @@ pub record IsText (text : Text) : Type 0 where
 
 -- ---- parts that have begun
 
--- no value, for this reason with its place in bytes, unless memory runs out
+-- There is no value, and the fault is the refusal with its byte offset.
 pub record IsRefusedAs {A : Type 0} (lexemes : List Lexeme) (end : ℕ) (r : Result A (Refusal ℕ))
     (fault : LiteralFault) : Type 0 where
   pub refusal : Refusal ℕ
@@ -67,14 +67,14 @@ abbrev pub MayRefuse : {A : Type 0} → List Lexeme → ℕ → Result A (Refusa
 MayRefuse lexemes end r faults.Memory = ⊤
 MayRefuse lexemes end r fault = IsRefusedAs lexemes end r fault
 
--- the whole reading: one value, objects behind those that were there, and labels
+-- The reading is complete: one value, new objects after those of `graph`, and the labels `more`.
 pub record IsWhole (r : Result Reading (Refusal ℕ)) (graph new : List Obj) (more : List ℕ)
     (value : Val) : Type 0 where
   pub objects : List Obj
   pub read : r ≡ Ok (reading (value ∷ []) objects more)
   pub behind : new ≡ graph ++ objects
 
--- a block, whose parts are to come
+-- The part is a block whose own parts are still to be read.
 pub record IsInner (table : Tabled) (k : ℕ) (v : Literal) (t : ℕ) (graph new : List Obj)
     (labels more : List ℕ) (value : Val) (opened : Opened) : Type 0 where
   pub label : Option ℕ
@@ -98,7 +98,7 @@ pub record IsInner (table : Tabled) (k : ℕ) (v : Literal) (t : ℕ) (graph new
   pub some : 0 < opened.left
   pub few : opened.field + opened.left < 2 ^ 54
 
--- the literal that stands at node j is one of the text
+-- A literal of the text begins at node j.
 abbrev pub HasPart : Text → ℕ → Type 0
 HasPart text j = (k : ℕ) × (v : Literal) × Stands text.nodes.now text.lexemes.now j k v
 
@@ -126,7 +126,7 @@ Begins text k v t graph new labels more (Err fault) =
     t)
     fault
 
--- ---- what is made of a start, for a literal of so many parts
+-- ---- what is made from a start, for a literal with a given number of parts
 
 pub record IsMadeBlock (parts : ℕ) (start : Start ℕ) (graph new : List Obj) (opened : Opened)
     : Type 0 where
@@ -152,18 +152,18 @@ IsMade parts start graph new (made.Block opened) = IsMadeBlock parts start graph
 abbrev pub Grows : List Obj → List Obj → Type 0
 Grows old new = (objects : List Obj) × (new ≡ old ++ objects)
 
--- ---- blocks that are open
+-- ---- open blocks
 
 abbrev pub PartList : Type 0
 PartList = List (ℕ × Literal)
 
--- with the parts of each that are to come
+-- The open blocks, each with its parts still to be read.
 abbrev pub opens_with : List Opened → List PartList → List (Open ℕ)
 opens_with (o ∷ os) (parts ∷ all) =
     open_at o.block o.field o.part (types_in o.at o.types) parts ∷ opens_with os all
 opens_with os all = []
 
--- it is one of the new objects, and the parts to come fill it up
+-- An open block is one of the new objects, and its parts still to be read fill it exactly.
 pub record IsOpen (old graph : List Obj) (all : Kinds) (o : Opened) (parts : PartList)
     : Type 0 where
   pub behind : length old ≤ o.block
@@ -181,7 +181,7 @@ AreOpen old graph all (o ∷ os) (parts ∷ rest) =
     IsOpen old graph all o parts × AreOpen old graph all os rest
 AreOpen old graph all os rest = ⊥
 
--- what comes of the open blocks, with the nodes from j on, is the outcome
+-- Finishing the open blocks with the nodes from j on gives the outcome.
 pub record IsUnderway (text : Text) (old : List Obj) (outcome : Result (List Obj) (Refusal ℕ))
     (stack : List Opened) (j : ℕ) (graph : List Obj) (labels : List ℕ) : Type 0 where
   pub parts : List PartList
@@ -198,7 +198,7 @@ CanGoOn text stack j graph labels =
     (old : List Obj) × (outcome : Result (List Obj) (Refusal ℕ))
     × IsUnderway text old outcome stack j graph labels
 
--- the outcome is the graph that is left, or the refusal is given
+-- The outcome is the graph afterwards, or the refusal is returned.
 abbrev pub Finishes : Text → List Obj → Result (List Obj) (Refusal ℕ) → List Obj
     → Result ⊤ LiteralFault → Type 0
 Finishes text old outcome new (Ok done) = outcome ≡ Ok new
@@ -207,7 +207,8 @@ Finishes text old outcome new (Err fault) =
 
 -- ---- whole literals
 
--- the value of the tree of these nodes at a type, or its refusal, with the old objects unchanged
+-- The result is the value of the tree of these nodes at a type, or its refusal. The old objects are
+-- unchanged.
 abbrev pub ReadsTree : Text → ℕ → List Obj → List Obj → Result Val LiteralFault → Type 0
 ReadsTree text at old new (Ok value) =
     ((v : Literal) → literal_kinds v ≡ kinds_of text.lexemes.now
@@ -224,7 +225,7 @@ ReadsTree text at old new (Err fault) =
     (literal_read (shape_in text.table.now) (names_in text.table.now) 0 v (length old) [] at) fault)
     × (take (length old) new ≡ old)
 
--- the answer to lexemes, with the old objects unchanged
+-- The result is the answer for the lexemes. The old objects are unchanged.
 abbrev pub Reads : Tabled → ℕ → List Lexeme → ℕ → List Obj → List Obj → Result Val LiteralFault
     → Type 0
 Reads table at lexemes end old new (Ok value) =

@@ -1,5 +1,5 @@
--- Worked literals: their lexemes, each with the place of its first byte, and what they are at a
--- type, in an empty heap.
+-- Worked literals: their lexemes, each with the offset of its first byte, and their reading at a
+-- type in an empty heap.
 use Rattle.std.specs.Prelude.{ℕ, ℤ, pos, negsuc, ◌≡◌, Bool, true, false, Option, Some, option_map}
 use Rattle.std.specs.Prelude.{Result, Ok, Err, List, [], ◌∷◌, map, codes}
 use Rattle.om_literal_grammar.specs.WorkedTrees.{symbol as mark, reading as tree_of}
@@ -41,8 +41,8 @@ a_variable = variable (codes "a")
 abbrev pub field : List ℕ → Ty → Field
 field name t = record { name = name; mutable = false; ty = t }
 
--- two records, of which the second lies flat, and a variant `A | B of {x : int; y : string} | C of
--- int * bool`
+-- Two records, the second a flat float record, and a variant `A | B of {x : int; y : string} | C of
+-- int * bool`.
 abbrev pub decls : List Decl
 decls =
     record {
@@ -81,14 +81,14 @@ decls =
 abbrev pub number : Bool → ℤ → Suffix → LexemeKind
 number minus value suffix = kinds.Integer (record { minus = minus; value = value; suffix = suffix })
 
--- only the first byte counts
+-- Only the offset of the first byte matters.
 abbrev pub lexeme : ℕ × LexemeKind → Lexeme
 lexeme l = record { kind = l.1; span = record { first = l.0; len = 0 } }
 
 abbrev pub lexemes_of : List (ℕ × LexemeKind) → List Lexeme
 lexemes_of all = map lexeme all
 
--- ---- what they are
+-- ---- results
 
 abbrev pub placed : List Lexeme → Result Reading (Refusal Ty) → Result Reading (Refusal Ty)
 placed lexemes (Ok r) = Ok r
@@ -288,11 +288,11 @@ pub record Rows : Type 0 where
       ∷ (6, mark symbols.CloseParen) ∷ (7, mark symbols.CloseParen) ∷ [])
       (one (codes "option") (named (codes "unit")))
       ≡ Some (Ok (reading (Ref 0 ∷ []) (Block 0 (Int (pos 0) ∷ []) ∷ []) []))
-  -- the tag `On`
+  -- The tag `On`.
   pub bare : judged ((0, kinds.Tag (codes "On")) ∷ [])
       (tag (tag bracket (codes "Off")) (codes "On"))
       ≡ Some (Ok (reading (Int (pos 17727) ∷ []) [] []))
-  -- the tag `On` with 3
+  -- The tag `On` with the argument 3.
   pub carrying : judged
       ((0, kinds.Tag (codes "On")) ∷ (3, mark symbols.OpenParen)
       ∷ (4, number false (pos 3) suffixes.Absent) ∷ (5, mark symbols.CloseParen) ∷ [])

@@ -1,4 +1,4 @@
-//! The doubles of a literal's parts.
+//! Extracts the doubles from the parts of a literal.
 
 ghost use Rattle.std.specs.Prelude.{ℕ, ◌≡◌, ◌+◌, ◌<◌, ◌≤◌, [], Some, Option, length, take, drop};
 ghost use Rattle.std.specs.Prelude.{slice_get, option_map, IfOk};
@@ -15,7 +15,7 @@ use om_literal_grammar::{Form, Node, Nodes};
 use om_model::Memory;
 use std::alloc::Global;
 
-/// The bits of the double that is of this kind.
+/// Returns the bits if the lexeme kind is a double.
 fn double_of(kind: &Option<LexemeKind>) -> Option<u64>
     ensures { result ≡ double_in kind.now }
 {
@@ -25,7 +25,7 @@ fn double_of(kind: &Option<LexemeKind>) -> Option<u64>
     }
 }
 
-/// The bits of the double that is this lexeme.
+/// Returns the bits if the lexeme at index `place` is a double.
 fn double_at(alloc: Global, lexemes: &Lexemes, place: usize) -> Result<Option<u64>, Memory>
     ensures { IfOk result (λ bits. bits ≡ double_in (slice_get (kinds_of lexemes.now) place)) }
 {
@@ -33,7 +33,7 @@ fn double_at(alloc: Global, lexemes: &Lexemes, place: usize) -> Result<Option<u6
     Ok(double_of(&kind))
 }
 
-/// The bits of a node that is a double without a label.
+/// Returns the bits if the node is a double without a label.
 fn node_bits(alloc: Global, node: &Node, lexemes: &Lexemes) -> Result<Option<u64>, Memory>
     ensures { IfOk result (λ bits. bits ≡ bits_of_node (kinds_of lexemes.now) node.now) }
 {
@@ -43,7 +43,8 @@ fn node_bits(alloc: Global, node: &Node, lexemes: &Lexemes) -> Result<Option<u64
     }
 }
 
-/// The bits of so many nodes from this one on, that all are doubles without a label.
+/// Returns the bits of `many` nodes, beginning at node `from`, if each of them is a double without
+/// a label.
 fn all_bits(
     alloc: Global,
     nodes: &Nodes,
@@ -68,8 +69,8 @@ fn all_bits(
     Ok(Some(all))
 }
 
-/// The bits of the parts of a literal that begins at node `at`, where all are doubles without a
-/// label.
+/// Returns the bits of the parts of the literal that begins at node `at`, if each part is a double
+/// without a label.
 pub(crate) fn doubles_of_parts(
     alloc: Global,
     nodes: &Nodes,
@@ -78,7 +79,7 @@ pub(crate) fn doubles_of_parts(
 ) -> Result<Option<Vec<u64>>, Memory>
     requires { at < length nodes.now }
 
-    // Of an array, and of a record without a constructor's name.
+    // The literal is an array, or a record without a constructor name.
     ensures array { (k : ℕ) (l : Option ℕ) (ps : Parts) (v : Literal)
         → Stands nodes.now lexemes.now at k (labelled l (array ps v))
         → IfOk result

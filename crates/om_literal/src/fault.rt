@@ -1,22 +1,24 @@
-//! Why a text is no value of a type.
+//! Errors of reading a text as a value of a type.
 
 ghost use Rattle.std.specs.Prelude.{◌≡◌};
 ghost use Rattle.om_literal.specs.declared.fault.LiteralFault.TheVariants as faults;
 
 use om_model::Memory;
 
-/// Why lexemes are no value of a type. Places are bytes: of a lexeme's first byte, or of the end.
+/// Error of reading lexemes as a value of a type. Each position is the byte offset of the first
+/// byte of a lexeme, or the end of the text.
 #[derive(Clone, Copy)]
 pub enum LiteralFault {
-    /// No literal goes on here.
+    /// Syntax error: no literal continues with the lexeme, or ends with the text, at this offset.
     Syntax(u64),
-    /// The part that begins here is none of the type of this number.
+    /// Type mismatch: the part that begins at this offset does not have the type with this index.
     Misfit(u64, usize),
-    /// The integer that stands here is out of the range of its type.
+    /// The integer at this offset is out of the range of its type.
     IntRange(u64),
-    /// The label at this `#` has a wrong number, is used before it stands, or names no object.
+    /// The label at this `#` has a wrong number, is used before its definition, or labels a value
+    /// that is not an object.
     Label(u64),
-    /// Out of memory.
+    /// Memory ran out.
     Memory,
 }
 

@@ -1,4 +1,4 @@
-//! The names of a literal's fields.
+//! Collects the field names of a literal.
 
 ghost use Rattle.std.specs.Prelude.{ℕ, ◌≡◌, ◌<◌, ◌++◌, ◌∷◌, [], Option, length, map, IfOk};
 ghost use Rattle.om_grammar.specs.Grammar.{Name};
@@ -15,14 +15,14 @@ use om_literal_grammar::Nodes;
 use om_model::Memory;
 use std::alloc::Global;
 
-/// The name of the field whose part begins at this lexeme: it stands before the `=`.
+/// Returns the name of the field whose value begins at lexeme `first`. The name precedes the `=`.
 fn name_before<'a>(lexemes: &'a Lexemes, first: usize) -> &'a [u8]
     ensures { result.now ≡ specs.name_before (kinds_of lexemes.now) first }
 {
     lexemes.lower(first.saturating_sub(2))
 }
 
-/// The names of so many fields, the first of whose parts begins at node `from`.
+/// Returns the names of `many` fields. The value of the first field begins at node `from`.
 fn names_from<'a>(
     alloc: Global,
     nodes: &Nodes,
@@ -49,7 +49,7 @@ fn names_from<'a>(
     Ok(names)
 }
 
-/// The names of the fields of the literal that begins at node `at`.
+/// Returns the field names of the literal that begins at node `at`.
 pub(crate) fn field_names<'a>(
     alloc: Global,
     nodes: &Nodes,

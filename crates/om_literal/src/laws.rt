@@ -1,4 +1,5 @@
-//! Laws over the definitions. The functions do nothing: what each ensures is the law.
+//! Laws about the definitions. Each function here is a lemma function: it does nothing, and its
+//! contract is the law.
 
 ghost use Rattle.std.specs.Prelude.{ℕ, List};
 ghost use Rattle.om_model.specs.declared.value.Obj.{Obj};
@@ -7,13 +8,13 @@ ghost use Rattle.om_type_table.specs.declared.tabled.Tabled.{Tabled};
 ghost use Rattle.om_literal.specs.LiteralAnswers.{HasOneAnswer};
 ghost use Rattle.om_literal.specs.WorkedLiterals.{Rows};
 
-/// At a type and over a heap, lexemes are a value or have a fault, and this in one way.
+/// For each table, type and heap, lexemes have exactly one answer: a value or a fault.
 pub fn one_literal_answer()
     ensures { (table : Tabled) (at : ℕ) (lexemes : List Lexeme) (end : ℕ) (old : List Obj)
         → HasOneAnswer table at lexemes end old }
 {}
 
-/// Worked literals are the values that they should be, or are refused where they should be.
+/// Each worked literal has the expected value, or is refused with the expected fault.
 pub fn worked_literals_fit()
     ensures { Rows }
 {}

@@ -1,4 +1,4 @@
-//! What a literal without parts is at a shape.
+//! Reads a literal without parts at a shape.
 
 ghost use Rattle.std.specs.Prelude.{ℕ, ◌≡◌, length, Bool};
 ghost use Rattle.om_lex.specs.declared.lexeme.LexemeKind.TheVariants as kinds;
@@ -21,7 +21,8 @@ use om_model::value::Val;
 use om_types::names::Names;
 use om_types::shape::ShapeOf;
 
-/// What it is: none of the shape, out of its range, an integer or an atom, or an object.
+/// The result for a literal without parts: a type mismatch, an integer out of range, an integer or
+/// an atom, or the contents of an object.
 #[derive(Clone, Copy)]
 pub enum Leaf<'a> {
     Misfit,
@@ -32,7 +33,7 @@ pub enum Leaf<'a> {
     Custom(Custom),
 }
 
-/// An integer of 63 bits.
+/// Returns the leaf of an OCaml `int`, which has 63 bits.
 #[inline(always)]
 fn int_leaf(value: i64) -> Leaf<'static>
     ensures sound { IsSound result }
@@ -45,7 +46,7 @@ fn int_leaf(value: i64) -> Leaf<'static>
     }
 }
 
-/// An integer of 32 bits.
+/// Returns the leaf of an `int32`.
 fn int32_leaf(value: i64) -> Leaf<'static>
     ensures sound { IsSound result }
     ensures leaf { leaf_in result ≡ if_in_range (is_in_bits 31 value) (whole (objects.I32 value)) }
@@ -57,7 +58,7 @@ fn int32_leaf(value: i64) -> Leaf<'static>
     }
 }
 
-/// An integer at a shape.
+/// Returns the leaf of an integer literal at a shape.
 #[inline(always)]
 fn integer_leaf(shape: &ShapeOf<usize>, i: Integer) -> Leaf<'static>
     ensures leaf { (t : ℕ) (names : Names)
@@ -73,7 +74,8 @@ fn integer_leaf(shape: &ShapeOf<usize>, i: Integer) -> Leaf<'static>
     }
 }
 
-/// An integer below a limit, where the shape has so many.
+/// Returns the integer `n` if the shape is that of the integers from 0 below `many`, and a mismatch
+/// otherwise.
 fn below_leaf(shape: &ShapeOf<usize>, many: u64, n: u8) -> Leaf<'static>
     ensures sound { IsSound result }
     ensures leaf { leaf_in result ≡ below_of shape.now many n }
@@ -84,7 +86,7 @@ fn below_leaf(shape: &ShapeOf<usize>, many: u64, n: u8) -> Leaf<'static>
     }
 }
 
-/// A character at a shape.
+/// Returns the leaf of a character literal at a shape.
 fn character_leaf(shape: &ShapeOf<usize>, c: u8) -> Leaf<'static>
     ensures leaf { (t : ℕ) (names : Names)
         → leaf_in result ≡ start_at t shape.now names (character c) }
@@ -93,7 +95,7 @@ fn character_leaf(shape: &ShapeOf<usize>, c: u8) -> Leaf<'static>
     below_leaf(shape, 256, c)
 }
 
-/// `true` or `false` at a shape.
+/// Returns the leaf of `true` or `false` at a shape.
 fn truth_leaf(shape: &ShapeOf<usize>, b: bool) -> Leaf<'static>
     ensures leaf { (t : ℕ) (names : Names) → leaf_in result ≡ start_at t shape.now names (truth b) }
     ensures sound { IsSound result }
@@ -101,7 +103,7 @@ fn truth_leaf(shape: &ShapeOf<usize>, b: bool) -> Leaf<'static>
     below_leaf(shape, 2, u8::from(b))
 }
 
-/// `()` at a shape.
+/// Returns the leaf of `()` at a shape.
 fn unit_leaf(shape: &ShapeOf<usize>) -> Leaf<'static>
     ensures leaf { (t : ℕ) (names : Names) → leaf_in result ≡ start_at t shape.now names unit }
     ensures sound { IsSound result }
@@ -109,7 +111,7 @@ fn unit_leaf(shape: &ShapeOf<usize>) -> Leaf<'static>
     below_leaf(shape, 1, 0)
 }
 
-/// A string at a shape.
+/// Returns the leaf of a string literal at a shape.
 #[inline(always)]
 fn text_leaf<'a>(shape: &ShapeOf<usize>, bytes: &'a List<u8>) -> Leaf<'a>
     ensures leaf { (t : ℕ) (names : Names)
@@ -122,7 +124,7 @@ fn text_leaf<'a>(shape: &ShapeOf<usize>, bytes: &'a List<u8>) -> Leaf<'a>
     }
 }
 
-/// A double at a shape.
+/// Returns the leaf of a double literal at a shape.
 #[inline(always)]
 fn double_leaf(shape: &ShapeOf<usize>, bits: u64) -> Leaf<'static>
     ensures leaf { (t : ℕ) (names : Names)
@@ -135,7 +137,7 @@ fn double_leaf(shape: &ShapeOf<usize>, bits: u64) -> Leaf<'static>
     }
 }
 
-/// `[||]` at a shape.
+/// Returns the leaf of `[||]` at a shape.
 fn empty_leaf(shape: &ShapeOf<usize>) -> Leaf<'static>
     ensures leaf { (t : ℕ) (names : Names)
         → leaf_in result ≡ start_at t shape.now names empty_array }
@@ -148,7 +150,7 @@ fn empty_leaf(shape: &ShapeOf<usize>) -> Leaf<'static>
     }
 }
 
-/// A word at a shape: `true`, `false` or `ref`.
+/// Returns the leaf of a lowercase word (`true`, `false` or `ref`) at a shape.
 fn word_leaf(shape: &ShapeOf<usize>, names: &Names, kind: &LexemeKind, word: &[u8]) -> Leaf<'static>
     ensures truth { (t : ℕ) (b : Bool) → word.now ≡ truth_name b
         → leaf_in result ≡ start_at t shape.now names.now (truth b) }
@@ -163,7 +165,7 @@ fn word_leaf(shape: &ShapeOf<usize>, names: &Names, kind: &LexemeKind, word: &[u
     }
 }
 
-/// A literal without parts at a shape, by its first lexeme.
+/// Returns the leaf of a literal without parts at a shape. The first lexeme determines the literal.
 #[inline(always)]
 pub fn leaf_of<'a>(shape: &ShapeOf<usize>, names: &Names, kind: &'a LexemeKind) -> Leaf<'a>
     ensures leaf { (t k : ℕ) (p : Plain) → kind.now ≡ lead_of_plain p → length (parts_of k p) ≡ 0

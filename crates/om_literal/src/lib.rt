@@ -1,4 +1,6 @@
-//! What a literal, the text of a value, is at a type: its value and its objects, or why it is none.
+//! Reads a literal, the text of a value, at a type of a table. The result is the value with the new
+//! objects that it consists of, or the first fault. The law `one_literal_answer` says that each
+//! text has exactly one answer. The law `worked_literals_fit` covers worked examples.
 #![tactic(auto)]
 
 mod doubles;

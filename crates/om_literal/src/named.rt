@@ -1,4 +1,5 @@
-//! What a name without parts is at a shape: a constant constructor, or a tag without an argument.
+//! Reads a name without parts at a shape: a constant constructor, or a polymorphic variant tag
+//! without an argument.
 
 ghost use Rattle.std.specs.Prelude.{ℕ, ◌≡◌, ◌<◌, ◌^◌, Some, List, Option, option_map, position};
 ghost use Rattle.std.specs.Prelude.{find, IsTrue};
@@ -19,7 +20,7 @@ use om_model::value::Val;
 use om_types::names::{Names, TagName};
 use om_types::shape::{PolyTag, ShapeOf};
 
-/// The name of a constructor, by its first lexeme.
+/// Returns the name of a constructor. The first lexeme of the literal determines it.
 #[inline(always)]
 pub(crate) fn name_of_constructor(kind: &LexemeKind) -> Option<&[u8]>
     ensures { (h : Head) → kind.now ≡ lead_of h
@@ -33,7 +34,7 @@ pub(crate) fn name_of_constructor(kind: &LexemeKind) -> Option<&[u8]>
     }
 }
 
-/// The name of a tag, by its first lexeme.
+/// Returns the name of a polymorphic variant tag. The first lexeme of the literal determines it.
 pub(crate) fn tag_name(kind: &LexemeKind) -> Option<&[u8]>
     ensures { (h : Head) → kind.now ≡ lead_of h
         → option_map (λ name. name.now) result ≡ name_of_tag h }
@@ -44,7 +45,7 @@ pub(crate) fn tag_name(kind: &LexemeKind) -> Option<&[u8]>
     }
 }
 
-/// The place of a name.
+/// Returns the index of a name in a list of names.
 #[inline(always)]
 fn place(all: &[List<u8>], name: &[u8]) -> Option<usize>
     ensures bounded { (i : ℕ) → result ≡ Some i → i < 2 ^ 62 }
@@ -53,7 +54,7 @@ fn place(all: &[List<u8>], name: &[u8]) -> Option<usize>
     all.iter().position(|other| name == other.as_slice())
 }
 
-/// The place of a constant constructor.
+/// Returns the index of a constant constructor.
 #[inline(always)]
 fn place_of_constant(names: &Names, kind: &LexemeKind) -> Option<usize>
     ensures bounded { (i : ℕ) → result ≡ Some i → i < 2 ^ 62 }
@@ -65,7 +66,7 @@ fn place_of_constant(names: &Names, kind: &LexemeKind) -> Option<usize>
     }
 }
 
-/// A constant constructor by its place.
+/// Returns the leaf of the constant constructor with this index.
 #[inline(always)]
 fn constant_of(constants: u64, place: Option<usize>) -> Leaf<'static>
     requires { (i : ℕ) → place ≡ Some i → i < 2 ^ 62 }
@@ -78,21 +79,21 @@ fn constant_of(constants: u64, place: Option<usize>) -> Leaf<'static>
     }
 }
 
-/// The tag of this hash.
+/// Returns the tag with this hash.
 fn tag_of_hash(tags: &[PolyTag<usize>], hash: i64) -> Option<&PolyTag<usize>>
     ensures { option_map (λ tag. tag.now) result ≡ tag_with tags.now hash }
 {
     tags.iter().find(|tag| is_hash(tag.hash, hash))
 }
 
-/// Whether a tag's hash is the number.
+/// Returns true if the hash of a tag equals this number.
 fn is_hash(own: i64, hash: i64) -> bool
     ensures { result ≡ is_number own hash }
 {
     own == hash
 }
 
-/// The tag of this name, with its hash.
+/// Returns the tag name entry, with its hash, for this name.
 fn tag_of_name<'a>(tags: &'a [TagName], name: &[u8]) -> Option<&'a TagName>
     ensures { option_map (λ tag. tag.now) result
         ≡ find (λ (tag : TagName). bytes_eq tag.name name.now) tags.now }
@@ -100,7 +101,7 @@ fn tag_of_name<'a>(tags: &'a [TagName], name: &[u8]) -> Option<&'a TagName>
     tags.iter().find(|tag| tag.name.as_slice() == name)
 }
 
-/// The tag that a name stands for.
+/// Returns the tag that the first lexeme of a literal names.
 pub(crate) fn tag_of<'a>(
     tags: &'a [PolyTag<usize>],
     names: &Names,
@@ -114,7 +115,7 @@ pub(crate) fn tag_of<'a>(
     tag_of_hash(tags, tag.hash)
 }
 
-/// A tag without an argument.
+/// Returns the leaf of a tag without an argument.
 fn bare_leaf(tag: Option<&PolyTag<usize>>) -> Leaf<'static>
     ensures sound { IsSound result }
     ensures leaf { leaf_in result ≡ if_tag bare_tag (option_map (λ tag. tag.now) tag.entry) }
@@ -128,7 +129,7 @@ fn bare_leaf(tag: Option<&PolyTag<usize>>) -> Leaf<'static>
     }
 }
 
-/// Whether a number has at most 63 bits.
+/// Returns true if the number fits into 63 bits.
 pub(crate) fn is_integer(z: i64) -> bool
     ensures bits { result ≡ is_in_bits 62 z }
     ensures integer { IsTrue result → IsInteger z }
@@ -136,7 +137,7 @@ pub(crate) fn is_integer(z: i64) -> bool
     z >= -(1 << 62) && z < 1 << 62
 }
 
-/// A name without parts at a shape, by its first lexeme.
+/// Returns the leaf of a name without parts at a shape. The first lexeme determines the name.
 #[inline(always)]
 pub fn constant_leaf(shape: &ShapeOf<usize>, names: &Names, kind: &LexemeKind) -> Leaf<'static>
     ensures sound { IsSound result }

@@ -1,5 +1,5 @@
-//! What a literal with parts is at a shape, before its parts are read: a block, or none of the
-//! shape.
+//! Reads the beginning of a literal with parts at a shape, before its parts are read. The result is
+//! a block or a type mismatch.
 
 ghost use Rattle.std.specs.Prelude.{ℕ, ◌≡◌, ◌≢◌, suc, List, [], ◌∷◌, ◌++◌, map, Option, Some, None};
 ghost use Rattle.std.specs.Prelude.{option_map, position};
@@ -23,22 +23,22 @@ use om_model::list::List;
 use om_types::names::{ConstrNames, Names};
 use om_types::shape::{Constr, PolyTag, ShapeOf};
 
-/// The types of parts: one for each, or one for all.
+/// Types of the parts of a block: one type for each part, or one type for all.
 #[derive(Clone, Copy)]
 pub enum Types<'a> {
     Listed(&'a [usize]),
     Each(usize),
 }
 
-/// A block by its tag, with the hash in front of its parts where it is a tag's, or none of the
-/// shape.
+/// The result for a literal with parts: a type mismatch, or a block. A block has its tag byte, the
+/// hash before its parts if it is a polymorphic variant, and the types of its parts.
 #[derive(Clone, Copy)]
 pub enum Opening<'a> {
     Misfit,
     Block(u8, Option<i64>, Types<'a>),
 }
 
-/// Whether no field has a name.
+/// Returns true if there are no field names.
 #[inline(always)]
 fn is_unnamed(fields: &[List<u8>]) -> bool
     ensures { result ≡ starts.same_names fields.now [] }
@@ -46,7 +46,7 @@ fn is_unnamed(fields: &[List<u8>]) -> bool
     fields.is_empty()
 }
 
-/// Whether a constructor has the name, and no inline record.
+/// Returns true if a constructor has this name and no inline record.
 #[inline(always)]
 fn is_plain(constr: &ConstrNames, name: &[u8]) -> bool
     ensures { result ≡ is_constr name.now [] constr.now }
@@ -54,7 +54,7 @@ fn is_plain(constr: &ConstrNames, name: &[u8]) -> bool
     constr.name.as_slice() == name && is_unnamed(constr.fields.as_slice())
 }
 
-/// The place of a constructor of this name without inline record.
+/// Returns the index of the constructor with this name and no inline record.
 #[inline(always)]
 fn place(all: &[ConstrNames], name: &[u8]) -> Option<usize>
     ensures { result ≡ position (is_constr name.now []) all.now }
@@ -62,7 +62,8 @@ fn place(all: &[ConstrNames], name: &[u8]) -> Option<usize>
     all.iter().position(|constr| is_plain(constr, name))
 }
 
-/// The tag of a constructor without inline record.
+/// Returns the tag of a constructor without an inline record. The first lexeme of the literal
+/// determines it.
 #[inline(always)]
 fn plain_tag(names: &Names, kind: &LexemeKind) -> Option<usize>
     ensures { (h : Head) → kind.now ≡ lead_of h → result ≡ tag_of_name names.now [] h }
@@ -73,7 +74,7 @@ fn plain_tag(names: &Names, kind: &LexemeKind) -> Option<usize>
     }
 }
 
-/// A constructor by its tag, where it has so many fields.
+/// Returns the block of the constructor with this tag, if the constructor has `parts` fields.
 #[inline(always)]
 fn carrying<'a>(blocks: &'a [Constr<usize>], parts: usize, tag: Option<usize>) -> Opening<'a>
     ensures sound { IsSound result }
@@ -91,7 +92,7 @@ fn carrying<'a>(blocks: &'a [Constr<usize>], parts: usize, tag: Option<usize>) -
     }
 }
 
-/// A tag with an argument.
+/// Returns the block of a polymorphic variant tag with an argument.
 fn carrying_of<'a>(tag: Option<&'a PolyTag<usize>>) -> Opening<'a>
     ensures sound { IsSound result }
     ensures opening { (t : ℕ)
@@ -108,7 +109,7 @@ fn carrying_of<'a>(tag: Option<&'a PolyTag<usize>>) -> Opening<'a>
     }
 }
 
-/// Parts in parentheses without a name.
+/// Returns the block of `parts` parts in parentheses without a name (a tuple).
 pub fn tuple_opening<'a>(shape: &'a ShapeOf<usize>, names: &Names, parts: usize) -> Opening<'a>
     ensures sound { IsSound result }
     ensures opening { (t : ℕ) (ps : Parts) (u v : Literal) → parts ≡ suc (suc (count ps))
@@ -121,7 +122,7 @@ pub fn tuple_opening<'a>(shape: &'a ShapeOf<usize>, names: &Names, parts: usize)
     }
 }
 
-/// Parts in the brackets of arrays, but for those of doubles.
+/// Returns the block of an array literal, except for an array of doubles.
 pub fn array_opening(shape: &ShapeOf<usize>) -> Opening<'static>
     requires { shape.now ≢ shapes.FloatArray }
     ensures sound { IsSound result }
@@ -136,7 +137,7 @@ pub fn array_opening(shape: &ShapeOf<usize>) -> Opening<'static>
     }
 }
 
-/// A name with so many parts in parentheses.
+/// Returns the block of a name with `parts` parts in parentheses.
 #[inline(always)]
 pub fn applied_opening<'a>(
     shape: &'a ShapeOf<usize>,
@@ -156,14 +157,14 @@ pub fn applied_opening<'a>(
     }
 }
 
-/// Whether a constructor has the name, and an inline record of these fields.
+/// Returns true if a constructor has this name and an inline record with exactly these field names.
 fn is_inline(constr: &ConstrNames, name: &[u8], wanted: &[&[u8]]) -> bool
     ensures { result ≡ is_constr name.now (map (λ name. name.now) wanted.now) constr.now }
 {
     constr.name.as_slice() == name && same_names(constr.fields.as_slice(), wanted)
 }
 
-/// The place of a constructor of this name with an inline record of these fields.
+/// Returns the index of the constructor with this name and an inline record with these field names.
 fn inline_place(all: &[ConstrNames], name: &[u8], wanted: &[&[u8]]) -> Option<usize>
     ensures { result ≡ position (is_constr name.now (map (λ name. name.now) wanted.now)) all.now }
 {
@@ -171,7 +172,7 @@ fn inline_place(all: &[ConstrNames], name: &[u8], wanted: &[&[u8]]) -> Option<us
         .position(|constr| is_inline(constr, name, wanted))
 }
 
-/// The tag of a constructor with an inline record of these fields.
+/// Returns the tag of a constructor with an inline record with these field names.
 fn inline_tag(names: &Names, kind: &LexemeKind, wanted: &[&[u8]]) -> Option<usize>
     ensures { (h : Head) → kind.now ≡ lead_of h
         → result ≡ tag_of_name names.now (map (λ name. name.now) wanted.now) h }
@@ -182,7 +183,7 @@ fn inline_tag(names: &Names, kind: &LexemeKind, wanted: &[&[u8]]) -> Option<usiz
     }
 }
 
-/// So many fields of these names behind a constructor's name.
+/// Returns the block of a constructor name with `parts` fields that have these names.
 pub fn inline_opening<'a>(
     shape: &'a ShapeOf<usize>,
     names: &Names,
@@ -206,7 +207,8 @@ pub fn inline_opening<'a>(
     }
 }
 
-/// So many fields of these names without a constructor, but for a record that lies flat.
+/// Returns the block of `parts` fields with these names and without a constructor, except for a
+/// flat float record.
 pub fn record_opening<'a>(
     shape: &'a ShapeOf<usize>,
     names: &Names,

@@ -1,4 +1,5 @@
-//! A part of a literal begins: its value, and the block whose parts are to come.
+//! Begins to read a part of a literal: makes its value, and the block if the part has parts of its
+//! own.
 
 ghost use Rattle.std.specs.Prelude.{ℕ, ◌≡◌, ◌<◌, ◌≤◌, ◌^◌, ◌++◌, true, Option, List, length};
 ghost use Rattle.std.specs.Prelude.{option_and_then, slice_get, pos, replicate, IfOk, OnOk, OnErr};
@@ -34,15 +35,15 @@ use om_model::Memory;
 use om_model::value::Val;
 use std::alloc::Global;
 
-/// The value of a part, and the block where its own parts are to come.
+/// The value of a part, and the block whose own parts are still to be read.
 #[derive(Clone, Copy)]
 pub struct Begun<'a> {
     pub value: Val,
     pub inner: Option<Opened<'a>>,
 }
 
-/// What is made of a literal at its type: nothing, an integer or an atom, an object, or a block
-/// whose parts are to come.
+/// The result of making a literal at its type: a mismatch, an integer out of range, an integer or
+/// an atom, a whole object, or a block whose parts are still to be read.
 #[derive(Clone, Copy)]
 pub enum Made<'a> {
     Misfit,
@@ -52,7 +53,7 @@ pub enum Made<'a> {
     Block(Opened<'a>),
 }
 
-/// Whether the label has the next number, where there is one.
+/// Returns true if there is no label, or if the label has the next number.
 #[inline(always)]
 fn has_next_number(labels: &[u64], label: Option<u64>) -> bool
     ensures { result ≡ is_next labels.now label }
@@ -63,7 +64,7 @@ fn has_next_number(labels: &[u64], label: Option<u64>) -> bool
     }
 }
 
-/// The object of a label.
+/// Returns the object of a label.
 fn object_of(labels: &[u64], label: Option<u64>) -> Option<u64>
     ensures { result ≡ option_and_then (slice_get labels.now) label }
 {
@@ -73,7 +74,7 @@ fn object_of(labels: &[u64], label: Option<u64>) -> Option<u64>
     }
 }
 
-/// The use of a label.
+/// Reads the use of a label.
 fn again<'a>(text: &Text, labels: &[u64], node: &Node) -> Result<Begun<'a>, LiteralFault>
     ensures { (k n t : ℕ) (graph : List Obj) → node.now ≡ own_node k (again n)
         → All (λ o. o < length graph) labels.now
@@ -88,7 +89,7 @@ fn again<'a>(text: &Text, labels: &[u64], node: &Node) -> Result<Begun<'a>, Lite
     }
 }
 
-/// The reference to an object, which has the label where there is one.
+/// Returns a reference to object `o`. If there is a label, records `o` as its object.
 #[inline(always)]
 fn reference(labels: &mut Vec<u64>, label: Option<u64>, o: u64) -> Result<Val, Memory>
     ensures value { IfOk result (λ value. value ≡ vals.Ref o) }
@@ -101,7 +102,7 @@ fn reference(labels: &mut Vec<u64>, label: Option<u64>, o: u64) -> Result<Val, M
     Ok(Val::Ref(o))
 }
 
-/// Appends a string; `Memory` where it would be too large for an object.
+/// Appends a string object. Returns `Memory` if the string is too long for an object.
 #[inline(always)]
 fn add_text(heap: &mut Heap, bytes: &[u8]) -> Result<u64, Memory>
     ensures { Appends heap.old heap.new (objects.Bytes bytes.now) result }
@@ -112,14 +113,15 @@ fn add_text(heap: &mut Heap, bytes: &[u8]) -> Result<u64, Memory>
     heap.add_bytes_of(bytes)
 }
 
-/// Whether an object can have so many parts: some, and no more than memory holds.
+/// Returns true if an object can have this number of parts: at least one, and no more than memory
+/// can hold.
 fn can_have(parts: usize) -> bool
     ensures { IsTrue result → (0 < parts) × (parts < 2 ^ 53) }
 {
     parts > 0 && parts < 1 << 53
 }
 
-/// Appends doubles.
+/// Appends an object of doubles.
 fn add_doubles(heap: &mut Heap, all: Vec<u64>) -> Result<u64, Memory>
     ensures { Appends heap.old heap.new (objects.Doubles all.items) result }
 {
@@ -129,7 +131,7 @@ fn add_doubles(heap: &mut Heap, all: Vec<u64>) -> Result<u64, Memory>
     heap.add_doubles_of(all)
 }
 
-/// Appends a block with room for so many parts, and with the hash of a tag before them.
+/// Appends a block with room for `parts` parts. If there is a hash, it is stored before the parts.
 #[inline(always)]
 fn add_parts(heap: &mut Heap, tag: u8, hash: Option<i64>, parts: usize) -> Result<u64, Memory>
     requires tag { tag ≤ 243 }
@@ -152,7 +154,7 @@ fn add_parts(heap: &mut Heap, tag: u8, hash: Option<i64>, parts: usize) -> Resul
     }
 }
 
-/// How many fields stand before the parts.
+/// Returns the number of fields before the parts.
 #[inline(always)]
 fn front_len(hash: Option<i64>) -> u64
     ensures len { result ≡ length (front_of hash) }
@@ -164,7 +166,8 @@ fn front_len(hash: Option<i64>) -> u64
     }
 }
 
-/// A string, a double or a custom as an object; an integer and an atom need none.
+/// Appends the object of a string, a double or a custom value. An integer or an atom needs no
+/// object.
 #[inline(always)]
 fn make_leaf<'a>(heap: &mut Heap, leaf: Leaf) -> Result<Made<'a>, Memory>
     requires { leaves.IsSound leaf }
@@ -181,7 +184,7 @@ fn make_leaf<'a>(heap: &mut Heap, leaf: Leaf) -> Result<Made<'a>, Memory>
     }
 }
 
-/// A block, whose parts are to come.
+/// Appends a block whose parts are still to be read.
 #[inline(always)]
 fn make_block<'a>(
     heap: &mut Heap,
@@ -207,7 +210,7 @@ fn make_block<'a>(
     }))
 }
 
-/// The object of a literal of so many parts, by its start at a type.
+/// Makes a literal of `parts` parts from its start at a type.
 #[inline(always)]
 fn make<'a>(heap: &mut Heap, start: Start<'a>, parts: usize, t: usize) -> Result<Made<'a>, Memory>
     requires { started.IsSound start }
@@ -221,7 +224,8 @@ fn make<'a>(heap: &mut Heap, start: Start<'a>, parts: usize, t: usize) -> Result
     }
 }
 
-/// What was made, with its label.
+/// Returns the part for what was made, and records its label. Returns the fault if nothing was
+/// made.
 #[inline(always)]
 fn placed<'a>(
     text: &Text,
@@ -269,8 +273,8 @@ fn placed<'a>(
     }
 }
 
-/// The object of the literal at node j, which is this one and has this first lexeme behind its
-/// label, at a type.
+/// Makes the literal at node `j` at type `t`. The node is `node`, and `kind` is the first lexeme
+/// after the label.
 #[inline(always)]
 fn make_plain<'a>(
     alloc: Global,
@@ -300,7 +304,7 @@ fn make_plain<'a>(
     }
 }
 
-/// The literal at node j is begun at a type.
+/// Begins to read the literal at node `j` at type `t`.
 #[inline(always)]
 pub fn begin<'a>(
     alloc: Global,

@@ -1,4 +1,4 @@
-//! The parts of a literal's blocks, one after the other.
+//! Reads the parts of the blocks of a literal, in order.
 
 ghost use Rattle.std.specs.Prelude.{ℕ, ◌≡◌, ◌<◌, ◌∷◌, [], List, Result, length, take, IfOk, IfErr};
 ghost use Rattle.om_model.specs.declared.value.Obj.{Obj};
@@ -12,7 +12,7 @@ use crate::text::Text;
 use om_heap::Heap;
 use std::alloc::Global;
 
-/// Reads the part of a block that is the literal at node j: the node that comes next.
+/// Reads the literal at node `j` as the next part of a block. Returns the index of the next node.
 #[inline(always)]
 fn read_part<'a>(
     alloc: Global,
@@ -50,7 +50,7 @@ fn read_part<'a>(
     }
 }
 
-/// Reads the parts of a block, from the node at 1 on, and all that is in them.
+/// Reads the parts of a block, beginning at node 1, with everything inside them.
 pub fn read_parts<'a>(
     alloc: Global,
     text: &Text<'a>,

@@ -1,4 +1,4 @@
-//! The value that lexemes are at a type.
+//! Reads lexemes as a value of a type.
 
 ghost use Rattle.std.specs.Prelude.{length, List, Result, IfOk};
 ghost use Rattle.om_model.specs.declared.value.Val.{Val};
@@ -23,11 +23,11 @@ use om_model::value::Val;
 use om_type_table::TypeTable;
 use std::alloc::Global;
 
-/// Few values have more words than a third of the bytes of their texts. Memory that is taken at
-/// once is not held twice as it grows, and what is not used of it is no burden.
+/// Estimate for reserving memory: few values have more 64-bit words than a third of the bytes of
+/// their texts. One reservation avoids copying on growth, and unused reserved memory costs nothing.
 const BYTES_A_WORD: u64 = 3;
 
-/// Reads the literal of a text at a type. After a fault new objects may stay.
+/// Reads the literal of a text at a type. After a fault, new objects may remain in the heap.
 fn read_tree(alloc: Global, text: &Text, heap: &mut Heap, at: usize) -> Result<Val, LiteralFault>
     requires text { IsText text.now }
     requires tree { IsTreeOf text.now.lexemes.now text.now.nodes.now }
@@ -44,8 +44,8 @@ fn read_tree(alloc: Global, text: &Text, heap: &mut Heap, at: usize) -> Result<V
     }
 }
 
-/// Reads the literal of these nodes, which these lexemes spell, at a type. After a fault new
-/// objects may stay.
+/// Reads the literal with these nodes and lexemes at a type. After a fault, new objects may remain
+/// in the heap.
 fn read_nodes(
     alloc: Global,
     heap: &mut Heap,
@@ -70,7 +70,7 @@ fn read_nodes(
     read_tree(alloc, &text, heap, at)
 }
 
-/// The same, with memory for the value's objects taken at once.
+/// Reads like `read_nodes`, but first reserves memory for the objects of the value.
 fn read_in_room(
     alloc: Global,
     heap: &mut Heap,
@@ -87,7 +87,8 @@ fn read_in_room(
     read_nodes(alloc, heap, table, at, lexemes, tree, end)
 }
 
-/// Reads lexemes as a literal at a type. After a fault new objects may stay.
+/// Parses lexemes as a literal and reads it at a type. After a fault, new objects may remain in the
+/// heap.
 fn read_lexemes(
     alloc: Global,
     heap: &mut Heap,
@@ -109,8 +110,8 @@ fn read_lexemes(
     read_nodes(alloc, heap, table, at, &row, &tree, end)
 }
 
-/// Reads the lexemes of a text that ends at this byte as a value of a type, whose objects are
-/// appended to the heap.
+/// Reads the lexemes of a text of `end` bytes as a value of type `at`. Appends the objects of the
+/// value to the heap.
 pub fn read_literal(
     alloc: Global,
     heap: &mut Heap,
@@ -120,15 +121,15 @@ pub fn read_literal(
     end: usize,
 ) -> Result<Val, LiteralFault>
 
-    // The value, behind the old objects, or the fault, and then the heap is as it was. So it is out
-    // of memory too.
+    // Returns the value, with its objects after the old ones, or the fault. After a fault, or if
+    // memory runs out, the heap is unchanged.
     ensures answer { IsAnswered table.now at lexemes.now end heap.old heap.new result }
 
-    // The one answer is given, unless memory runs out.
+    // The result is the one answer, unless memory runs out.
     ensures only { (answer : Result (List Obj × Val) LiteralFault)
         → IsAnswer table.now at lexemes.now end heap.old answer → Gives answer heap.new result }
 
-    // A value that is given is one of the heap.
+    // If a value is returned, then it is a value of the heap.
     ensures valid { IfOk result (IsValue (length heap.new)) }
 {
     let count = heap.count();
@@ -139,8 +140,8 @@ pub fn read_literal(
     result
 }
 
-/// Reads a text, of which these are the nodes, as a value of a type, whose objects are appended to
-/// the heap.
+/// Reads a text with these nodes as a value of type `at`. Appends the objects of the value to the
+/// heap.
 pub fn read_placed(
     alloc: Global,
     heap: &mut Heap,
@@ -151,18 +152,18 @@ pub fn read_placed(
 ) -> Result<Val, LiteralFault>
     requires placed { IsPlaced text.now placed.now.places.items placed.now.tree }
 
-    // The value, behind the old objects, or the fault, and then the heap is as it was. So it is out
-    // of memory too.
+    // Returns the value, with its objects after the old ones, or the fault. After a fault, or if
+    // memory runs out, the heap is unchanged.
     ensures answer { IsAnswered table.now at (lexemes_at text.now placed.now.places.items)
         (length text.now) heap.old heap.new result }
 
-    // The one answer is given, unless memory runs out.
+    // The result is the one answer, unless memory runs out.
     ensures only { (answer : Result (List Obj × Val) LiteralFault)
         → IsAnswer table.now at (lexemes_at text.now placed.now.places.items) (length text.now)
         heap.old answer
         → Gives answer heap.new result }
 
-    // A value that is given is one of the heap.
+    // If a value is returned, then it is a value of the heap.
     ensures valid { IfOk result (IsValue (length heap.new)) }
 {
     let count = heap.count();

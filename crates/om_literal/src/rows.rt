@@ -1,11 +1,11 @@
-//! Rows of names.
+//! Compares lists of names.
 
 ghost use Rattle.std.specs.Prelude.{◌≡◌, map};
 ghost use Rattle.om_literal.specs.Starts as starts;
 
 use om_model::list::List;
 
-/// Whether two rows of names are the same.
+/// Returns true if the two lists of names are equal.
 pub(crate) fn same_names(own: &[List<u8>], wanted: &[&[u8]]) -> bool
     ensures { result ≡ starts.same_names own.now (map (λ name. name.now) wanted.now) }
 {

@@ -1,4 +1,4 @@
-//! Where each literal of a row of nodes ends.
+//! Computes where each literal in a list of nodes ends.
 
 ghost use Rattle.std.specs.Prelude.{◌≡◌, length, IfOk};
 ghost use Rattle.om_literal.specs.Ends as specs;
@@ -7,7 +7,7 @@ use om_literal_grammar::Nodes;
 use om_model::Memory;
 use std::alloc::Global;
 
-/// The node so many siblings on.
+/// Returns the node that is `many` siblings after node `from`.
 pub(crate) fn sibling(ends: &[u32], from: usize, many: usize) -> usize
     ensures { result ≡ specs.sibling ends.now from many }
 {
@@ -23,8 +23,8 @@ pub(crate) fn sibling(ends: &[u32], from: usize, many: usize) -> usize
     place
 }
 
-/// For each node the number of the node behind its last part; `Memory` where 32 bits do not have
-/// it.
+/// Returns, for each node, the index of the node after its last part. Returns `Memory` if an index
+/// does not fit into 32 bits.
 pub(crate) fn subtree_ends(alloc: Global, nodes: &Nodes) -> Result<Vec<u32>, Memory>
     ensures len { IfOk result (λ ends. length ends.items ≡ length nodes.now) }
     ensures ends { IfOk result (λ ends. specs.AreEnds nodes.now ends.items) }

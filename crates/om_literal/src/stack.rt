@@ -1,4 +1,4 @@
-//! The blocks that are open, the innermost first.
+//! The stack of open blocks, innermost first.
 
 ghost use Rattle.std.specs.Prelude.{◌≡◌, ◌<◌, ◌≤◌, ◌+◌, ◌^◌, List, [], ◌∷◌, reverse, IfOk};
 ghost use Rattle.om_literal.specs.Openings.{types_in};
@@ -12,19 +12,19 @@ use std::marker::Model;
 /// A block whose parts are being read.
 #[derive(Clone, Copy)]
 pub struct Opened<'a> {
-    /// The number of the object.
+    /// Index of the object.
     pub block: u64,
-    /// The field and the number of the part that comes next, and how many parts are to come.
+    /// Field and part index of the next part, and the number of parts still to be read.
     pub field: u64,
     pub part: usize,
     pub left: usize,
-    /// The types of the parts; where a part has none it is judged at that of the block.
+    /// Types of the parts. A part without a type of its own is read at the type of the block.
     pub types: Types<'a>,
     pub at: usize,
 }
 
 impl<'a> Opened<'a> {
-    /// The block when that part has begun.
+    /// Returns the block after its next part has begun.
     #[inline(always)]
     pub fn advanced(self) -> Opened<'a>
         requires left { 0 < self.left }
@@ -42,7 +42,7 @@ impl<'a> Opened<'a> {
         }
     }
 
-    /// The type of the part that comes next.
+    /// Returns the type of the next part.
     #[inline(always)]
     pub fn next_type(&self) -> usize
         ensures { result ≡ types_in self.now.at self.now.types self.now.part }
@@ -57,7 +57,7 @@ impl<'a> Opened<'a> {
     }
 }
 
-/// The blocks, the innermost last in memory.
+/// The open blocks. In memory the innermost is last.
 #[derive(Drop)]
 pub struct Stack<'a> {
     items: Vec<Opened<'a>>,
@@ -90,7 +90,7 @@ impl<'a> Stack<'a> {
         Ok(())
     }
 
-    /// Puts a block back if parts of it are to come.
+    /// Pushes the block back if parts of it are still to be read.
     #[inline(always)]
     pub fn put_back(&mut self, block: Opened<'a>) -> Result<(), Memory>
         ensures { IfOk result (λ _. self.new ≡ if_open block.entry self.old) }

@@ -1,4 +1,4 @@
-//! What a literal is at a type, before its parts are read.
+//! Reads the beginning of a literal at a type, before its parts are read.
 
 ghost use Rattle.std.specs.Prelude.{ℕ, ◌≡◌, ◌<◌, ◌++◌, ◌∷◌, [], Some, None, Option, length, map};
 ghost use Rattle.std.specs.Prelude.{suc, option_map, slice_get, IfOk, ◌&&◌, ◌==◌, ◌+◌};
@@ -34,7 +34,7 @@ use om_types::names::Names;
 use om_types::shape::ShapeOf;
 use std::alloc::Global;
 
-/// What it is: a leaf, doubles in one object, or a block.
+/// The result: a leaf, doubles in one object, or a block.
 #[derive(Drop)]
 pub enum Start<'a> {
     Leaf(Leaf<'a>),
@@ -42,7 +42,7 @@ pub enum Start<'a> {
     Opening(Opening<'a>),
 }
 
-/// The parts of the literal at node j as doubles in one object.
+/// Reads the parts of the literal at node `j` as doubles in one object.
 fn doubles_at<'a>(alloc: Global, text: &Text<'a>, j: usize) -> Result<Start<'a>, Memory>
     requires { j < length text.now.nodes.now }
     ensures array { (t k : ℕ) (l : Option ℕ) (ps : Parts) (v : Literal)
@@ -61,7 +61,7 @@ fn doubles_at<'a>(alloc: Global, text: &Text<'a>, j: usize) -> Result<Start<'a>,
     }
 }
 
-/// Parts in the brackets of arrays.
+/// Reads the beginning of an array literal.
 fn array_start<'a>(
     alloc: Global,
     text: &Text<'a>,
@@ -80,7 +80,7 @@ fn array_start<'a>(
     }
 }
 
-/// Whether so many fields of these names are those of a record that lies flat.
+/// Returns true if `parts` fields with these names are the fields of a flat float record.
 fn is_flat(names: &Names, wanted: &[&[u8]], many: u64, parts: usize) -> bool
     ensures { result
         ≡ (starts.same_names names.now.fields (map (λ name. name.now) wanted.now)
@@ -89,7 +89,7 @@ fn is_flat(names: &Names, wanted: &[&[u8]], many: u64, parts: usize) -> bool
     same_names(names.fields.as_slice(), wanted) && many == parts as u64
 }
 
-/// The fields of a record that lies flat, where it fits.
+/// Reads the fields of a flat float record, if they match the record.
 fn flat_start<'a>(alloc: Global, text: &Text<'a>, j: usize, fits: bool) -> Result<Start<'a>, Memory>
     requires { j < length text.now.nodes.now }
     ensures fits { (t k : ℕ) (l : Option ℕ) (rs : Rows) (x : Name) (v : Literal)
@@ -106,7 +106,7 @@ fn flat_start<'a>(alloc: Global, text: &Text<'a>, j: usize, fits: bool) -> Resul
     }
 }
 
-/// So many fields of these names without a constructor.
+/// Reads the beginning of fields without a constructor.
 fn record_start<'a>(
     alloc: Global,
     text: &Text<'a>,
@@ -134,7 +134,7 @@ fn record_start<'a>(
     }
 }
 
-/// So many fields, by their first lexeme.
+/// Reads the beginning of fields. The first lexeme says if there is a constructor.
 fn fields_start<'a>(
     alloc: Global,
     text: &Text<'a>,
@@ -163,7 +163,7 @@ fn fields_start<'a>(
     }
 }
 
-/// A literal with parts, by its node and its first lexeme.
+/// Reads the beginning of a literal with parts, from its node and its first lexeme.
 #[inline(always)]
 fn opening_start<'a>(
     alloc: Global,
@@ -192,7 +192,7 @@ fn opening_start<'a>(
     }
 }
 
-/// The shape of a type, where the table has it.
+/// Returns the shape of a type if the table has the type.
 #[inline(always)]
 fn shape_of(table: &TypeTable, t: usize) -> Option<&ShapeOf<usize>>
     ensures { option_map (λ shape. shape.now) result ≡ slice_get table.now.nodes t }
@@ -200,7 +200,7 @@ fn shape_of(table: &TypeTable, t: usize) -> Option<&ShapeOf<usize>>
     table.nodes().get(t)
 }
 
-/// A literal without parts, by its first lexeme behind its label, at a type.
+/// Reads a literal without parts at a type. `kind` is its first lexeme after the label.
 #[inline(always)]
 pub fn leaf_at<'k>(table: &TypeTable, kind: &'k LexemeKind, t: usize) -> Leaf<'k>
     ensures leaf { (k : ℕ) (p : Plain) → kind.now ≡ lead_of_plain p → length (parts_of k p) ≡ 0
@@ -213,8 +213,8 @@ pub fn leaf_at<'k>(table: &TypeTable, kind: &'k LexemeKind, t: usize) -> Leaf<'k
     }
 }
 
-/// The literal with parts at node j, which is this one and has this first lexeme behind its label,
-/// at a type.
+/// Reads the beginning of the literal with parts at node `j` at a type. The node is `node`, and
+/// `kind` is the first lexeme after the label.
 #[inline(always)]
 pub fn start_of<'a>(
     alloc: Global,

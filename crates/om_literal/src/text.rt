@@ -1,4 +1,4 @@
-//! A literal by its nodes and its lexemes.
+//! A literal as its nodes and its lexemes.
 
 ghost use Rattle.std.specs.Prelude.{◌≡◌, ◌+◌, ◌<◌, ◌^◌, length};
 ghost use Rattle.om_literal.specs.LiteralAnswers.{byte_of as first_byte};
@@ -8,19 +8,19 @@ use om_lex::Lexemes;
 use om_literal_grammar::{Node, Nodes};
 use om_type_table::TypeTable;
 
-/// What the parts of a literal are read by.
+/// The input for reading the parts of a literal.
 #[derive(Clone, Copy)]
 pub struct Text<'a> {
     pub table: &'a TypeTable,
     pub lexemes: &'a Lexemes<'a>,
     pub nodes: &'a Nodes,
-    /// For each node the number of the one behind its last part.
+    /// For each node, the index of the node after its last part.
     pub ends: &'a [u32],
-    /// The byte at which the lexemes end.
+    /// Byte offset of the end of the lexemes.
     pub end: usize,
 }
 
-/// The byte at which a lexeme begins, or the end.
+/// Returns the byte offset at which a lexeme begins, or `end` if there is no such lexeme.
 pub fn byte_of(lexemes: &Lexemes, end: usize, k: usize) -> u64
     ensures { result ≡ first_byte lexemes.now end k }
 {
@@ -30,7 +30,7 @@ pub fn byte_of(lexemes: &Lexemes, end: usize, k: usize) -> u64
     }
 }
 
-/// The first lexeme of a literal behind its label.
+/// Returns the index of the first lexeme of a literal after its label.
 #[inline(always)]
 pub fn plain_first(node: &Node) -> usize
     requires { node.now.first < 2 ^ 63 }

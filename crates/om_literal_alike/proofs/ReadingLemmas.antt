@@ -1,4 +1,4 @@
--- A literal is read alike at two types at which literals begin alike.
+-- If the starts of literals agree at two types, then the readings of literals agree.
 use Rattle.std.proofs.Common.{ℕ, suc, ◌+◌, List, [], ◌∷◌, ◌++◌, length, Bool, true, false, Option, Some, None, Result, Ok, Err, refl, ap, subst}
 use Rattle.std.specs.Prelude.{slice_get, if◌then◌else◌}
 use Rattle.om_model.specs.declared.value.Val.{Val}

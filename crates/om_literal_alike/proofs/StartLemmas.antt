@@ -1,4 +1,5 @@
--- What a literal begins as at a type does not depend on the parts of the type's shape, but for the types of its own parts.
+-- The start of a literal at a type depends on the parts of the shape only through the types of its
+-- own parts.
 use Rattle.std.proofs.Common.{ℕ, suc, ◌≡◌, ◌∙◌, ℤ, List, [], ◌∷◌, ◌++◌, length, map, Bool, true, false, Option, Some, None, refl, ap, sym, subst}
 use Rattle.std.specs.Prelude.{slice_get, option_map, option_and_then, unwrap_or, ◌==◌, ◌&&◌, nat_lt, bytes_eq, find, if◌then◌else◌}
 use Rattle.std.proofs.lemmas.List.{length-map}
@@ -21,7 +22,7 @@ use Rattle.om_literal_grammar.specs.Literal.{Head, Plain, integer, character, st
 use Rattle.om_literal_grammar.specs.Nodes.{count, rows_count}
 use Rattle.om_literal.specs.Starts.{Start, misfit, out_of_range, small, whole, block, is_in_bits, name_of_tag, same_names, names_of_rows, constant_of_name, tag_of_name, bits_of, and_bits, bits_of_parts, bits_of_rows, if_fits, if_in_range, int_start, int32_start, int64_start, native_start, integer_start, below_start, bytes_start, double_start, doubles_start, flat_start, empty_start, floatarray_start, type_in, array_start, product_start, constant_start, constr_start, carrying_start, sum_start, tag_named, bare_tag, carrying_tag, if_tag, poly_start, start_at}
 
--- ---- what is the same with other parts
+-- ---- starts with other part types
 
 module _ {T V : Type 0} (f : T → V) where
   pub data Mapped : Start T → Start V → Type 0 where
@@ -40,7 +41,7 @@ module _ {T V : Type 0} (f : T → V) where
   range_mapped true s r is = is
   range_mapped false s r is = to_range
 
-  -- ---- without parts
+  -- ---- literals without parts
 
   int_mapped : (suffix : Suffix) (z : ℤ) → Mapped (int_start suffix z) (int_start suffix z)
   int_mapped suffixes.Absent z = range_mapped (is_in_bits 62 z) _ _ (to_small (vals.Int z))
@@ -96,7 +97,7 @@ module _ {T V : Type 0} (f : T → V) where
   floatarray_mapped empty_array = to_small (vals.Atom 0)
   floatarray_mapped p = to_misfit
 
-  -- ---- with parts
+  -- ---- literals with parts
 
   found_mapped : (found : Option T) (t : T) → f (unwrap_or found t) ≡ unwrap_or (option_map f found) (f t)
   found_mapped None t = refl
@@ -105,7 +106,7 @@ module _ {T V : Type 0} (f : T → V) where
   type_mapped : (ts : List T) (t : T) (i : ℕ) → f (type_in ts t i) ≡ type_in (map f ts) (f t) i
   type_mapped ts t i = found_mapped (slice_get ts i) t ∙ ap (λ found. unwrap_or found (f t)) (sym (slice_get-map f ts i))
 
-  -- a block with so many parts
+  -- A block with a required number of parts.
   sized_mapped : (test : ℕ → Bool) (tag : ℕ) (ts : List T) (t : T)
       → Mapped (if_fits (test (length ts)) (block tag [] (type_in ts t))) (if_fits (test (length (map f ts))) (block tag [] (type_in (map f ts) (f t))))
   sized_mapped test tag ts t =
@@ -196,7 +197,7 @@ module _ {T V : Type 0} (f : T → V) where
   poly_mapped tags names (applied head no_parts v) = tag_start_mapped carrying_tag carrying_tag argument_mapped tags names head
   poly_mapped tags names p = to_misfit
 
-  -- ---- all
+  -- ---- all literals
 
   pub start_mapped : (t : T) (s : ShapeOf T) (names : Names) (p : Plain) → Mapped (start_at t s names p) (start_at (f t) (with_parts f s) names p)
   start_mapped t shapes.AnyInt names p = integer_mapped int_start int_start int_mapped p

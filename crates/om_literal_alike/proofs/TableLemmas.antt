@@ -1,4 +1,5 @@
--- A literal is read alike at a number of a table and at the type of this number.
+-- The reading of a literal at an index of a table agrees with its reading at the type with this
+-- index.
 use Rattle.std.proofs.Common.{ℕ, ◌≡◌, ◌∙◌, List, Option, Some, ap, sym, subst}
 use Rattle.std.specs.Prelude.{slice_get, option_map, unwrap_or}
 use Rattle.om_types.specs.declared.decl.Decl.{Decl}
@@ -25,7 +26,7 @@ module _ (decls : List Decl) (t : Ty) (table : Tabled) (is : IsTypeTable decls t
   abbrev type_if : ℕ → Option Ty
   type_if i = slice_get (types_of table) i
 
-  -- the shape at a number is the type's, but for numbers in the place of types
+  -- The shape at an index is the shape of the type, with indices instead of types.
   shape_is : (i : ℕ) (u : Ty) → Is i u → with_parts type_if (shape_in table i) ≡ with_parts Some (shape decls u)
   shape_is i u at =
       let found = mapped_some (with_parts type_if) (slice_get table.nodes i) (with_parts Some (shape decls u))

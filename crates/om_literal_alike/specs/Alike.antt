@@ -1,5 +1,5 @@
--- Literals that are read alike: as the same values and objects, or refused at types that stand for
--- one another.
+-- Readings of literals that agree: both have the same values and objects, or both are refused at
+-- corresponding types.
 use Rattle.std.specs.Prelude.{ℕ, ◌≡◌, Result, Ok, Err, List, slice_get, Some}
 use Rattle.om_types.specs.declared.decl.Decl.{Decl}
 use Rattle.om_types.specs.Names.{names_of}
@@ -24,7 +24,8 @@ module _ {T U : Type 0} (Of : T → U → Type 0) where
   ReadAgree (Err r) (Err s) = RefusalsAgree r s
   ReadAgree one other = ⊥
 
--- a literal is read alike at a number of a table and at the type of this number
+-- The reading of a literal at an index of a table agrees with its reading at the type with this
+-- index.
 abbrev pub TablesReadAlike : Type 0
 TablesReadAlike =
     (decls : List Decl) (t : Ty) (table : Tabled) → IsTypeTable decls t table

@@ -1,8 +1,9 @@
-//! The law, as a contract.
+//! The law, stated as a contract.
 
 ghost use Rattle.om_literal_alike.specs.Alike.{TablesReadAlike};
 
-/// A literal is read alike at a number of a table of types and at the type of this number.
+/// The reading of a literal at a type index of a table agrees with its reading at the type with
+/// this index.
 pub fn tables_read_alike()
     ensures { TablesReadAlike }
 {}

@@ -1,6 +1,6 @@
-//! What a literal is at a number of a table of types is what it is at the type of this number: the
-//! same value with the same objects, or the same refusal. The function does nothing: what it
-//! ensures is the law.
+//! Proves that reading a literal at an index of a type table agrees with reading it at the type
+//! with this index. Both give the same value with the same objects, or refusals that correspond.
+//! The lemma function `tables_read_alike` states the law in its contract and does nothing.
 #![tactic(auto)]
 
 mod laws;

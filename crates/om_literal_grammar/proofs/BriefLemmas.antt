@@ -1,4 +1,4 @@
--- A lexeme in brief does what the lexeme does.
+-- A lexeme in brief form has the same effect as the lexeme.
 use Rattle.std.proofs.Common.{ℕ, ◌+◌, ◌^◌, ◌≡◌, ◌∙◌, ◌<◌, ◌≤◌, List, [], ◌∷◌, ◌++◌, length, Option, Some, None, refl, sym, ap, subst, inl, inr, ◌||◌}
 use Rattle.std.specs.Prelude.{Ok, option_map}
 use Rattle.std.specs.Str.{bytes_eq}
@@ -24,7 +24,7 @@ use Rattle.om_literal_grammar.specs.Code.{Code, word_form, begun_as, close_in, c
 use Rattle.om_literal_grammar.specs.Placed.{lexemes_at, Stopped, IsPlacedFault}
 use Rattle.om_literal_grammar.proofs.PlacedLemmas.{Front, front_goes, front_stops}
 
--- ---- what closes
+-- ---- the end of a literal
 
 close_same : (ns : List Node) (os : List Open) (k j : LexemeKind) → ((b : Bracket) (ps : List Open) (o : Open) → close_in b ns ps o k ≡ close_in b ns ps o j) → close_code ns os k ≡ close_code ns os j
 close_same ns [] k j e = refl
@@ -48,7 +48,7 @@ closes_text ns x y brackets.Parens ps o = refl
 closes_text ns x y brackets.Array ps o = refl
 closes_text ns x y brackets.Fields ps o = refl
 
--- ---- what begins
+-- ---- the beginning of a literal
 
 brief_form : (x : List ℕ) → word_form (brief_name x) ≡ word_form x
 brief_form x =
@@ -141,7 +141,7 @@ brief_next text at l b = record {
 module _ (text : List ℕ) (at : ℕ) (places : List ℕ) (ns : List Node) (os : List Open) (stage : Stage) (front : Front text at places ns os stage)
     (short : length text < 2 ^ 32) (l : Lexeme) (next : IsBriefNext text at l)
     (on : lex.Reached text ((lexeme_from text l.span.first).span.first + (lexeme_from text l.span.first).span.len) (lexemes_at text places ++ lexeme_from text l.span.first ∷ [])) where
-  -- the text up to the lexeme's end
+  -- The text up to the end of the lexeme.
   pub brief_reached : lex.Reached text (l.span.first + l.span.len) (lexemes_at text places ++ lexeme_from text l.span.first ∷ [])
   brief_reached = subst (λ (s : Span). lex.Reached text (s.first + s.len) (lexemes_at text places ++ lexeme_from text l.span.first ∷ [])) next.span on
 

@@ -1,4 +1,5 @@
--- The code follows the table: its nodes, its brackets and its stage are told by what was read.
+-- The code agrees with the table: the state of the table determines the nodes, the brackets and the
+-- stage.
 use Rattle.std.proofs.Common.{ℕ, suc, ◌+◌, ◌-◌, ◌^◌, ◌≡◌, ◌≤◌, ◌<◌, ◌∙◌, Bool, true, false, List, [], ◌∷◌, ◌++◌, length, Option, Some, None, refl, sym, ap, arith, append_assoc, append-nil, length-append}
 use Rattle.std.specs.Prelude.{◌==◌, option_map, slice_set, if◌then◌else◌}
 use Rattle.std.specs.Str.{bytes_eq}
@@ -21,13 +22,13 @@ use Rattle.om_literal_grammar.specs.Machine.{Frame, in_arguments, in_parens, in_
 use Rattle.om_literal_grammar.specs.Nodes.{node, count, rows_count, literal_nodes, parts_nodes, rows_nodes}
 use Rattle.om_literal_grammar.specs.Code.{Code, code, next_number, with_part, with_form, opened, begun_as, begin_plain_code, close_unit_code, close_empty_code, begin_code, close_code, close_arguments_code, close_parens_code, close_array_code, close_fields_code, shut_tuple_code, step_code}
 
--- ---- what the code has where the table has a state
+-- ---- the data of the code for a state of the table
 
 abbrev owner_form : Option Head → Form
 owner_form None = forms.Fields
 owner_form (Some h) = forms.Named
 
--- the node as it stands while its parts are read, and those of its parts
+-- The node as it is while its parts are read, and the nodes of those parts.
 abbrev frame_nodes : ℕ → Frame → List Node
 frame_nodes k (in_arguments l h ps) = node forms.Named l k 0 ∷ parts_nodes symbols.Comma (k + length (label_kinds l ++ (head_kinds h ++ mark symbols.OpenParen))) ps
 frame_nodes k (in_parens l ps) = node forms.Unit l k 0 ∷ parts_nodes symbols.Comma (k + length (label_kinds l ++ mark symbols.OpenParen)) ps
@@ -75,7 +76,7 @@ code_of (at fs phase) =
 abbrev pub coded : Code → ℕ → LexemeKind → Option Code
 coded (code ns os stage) place kind = step_code ns os stage place kind
 
--- ---- what begins
+-- ---- the beginning of a literal
 
 word_follows : (fs : List Frame) (l : Option ℕ) (x : Name) (b c d : Bool) →
     option_map (begun_as (frames_nodes fs) (opens_of fs) (length (frames_front fs)) l (kinds.Lower x))
@@ -123,7 +124,7 @@ begin_follows fs (kinds.Symbol symbols.CloseParen) = unit_follows fs
 begin_follows fs (kinds.Symbol symbols.CloseArray) = empty_follows fs
 begin_follows fs kind = plain_follows fs None kind
 
--- ---- what closes
+-- ---- the end of a literal
 
 set_there : (A : List Node) (n m : Node) (B : List Node) → slice_set (A ++ n ∷ B) (length A) m ≡ A ++ m ∷ B
 set_there [] n m B = refl
@@ -158,7 +159,7 @@ module _ (N : List Node) (n : Node) (T : List Node) {V W : List Node} (same : V 
       ∙ ap (λ ns. Some (code ns os stages.Whole)) (set_there N n m (T ++ W))
       ∙ ap (λ k. Some (code (N ++ (k ∷ (T ++ W))) os stages.Whole)) e
 
--- ---- numbers of lexemes
+-- ---- indices of lexemes
 
 there : (F G : Kinds) (v : Literal) → literal_nodes (length (F ++ G)) v ≡ literal_nodes (length F + length G) v
 there F G v = ap (λ k. literal_nodes k v) (length-append F G)

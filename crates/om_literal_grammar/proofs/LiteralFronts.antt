@@ -1,4 +1,4 @@
--- What a state has read grows by the lexeme that the table takes.
+-- If the table accepts a lexeme, then the lexemes read grow by this lexeme.
 use Rattle.std.proofs.Common.{ℕ, ◌≡◌, ◌∙◌, Bool, true, false, List, [], ◌∷◌, ◌++◌, Option, Some, None, refl, sym, ap, append_assoc, append-nil}
 use Rattle.std.specs.Prelude.{IfSome, option_map, if◌then◌else◌}
 use Rattle.std.specs.Str.{bytes_eq}
@@ -15,7 +15,7 @@ use Rattle.om_literal_grammar.specs.Machine.{Frame, in_arguments, in_parens, in_
 abbrev FitsAfter : Kinds → LexemeKind → Option State → Type 0
 FitsAfter before kind o = IfSome o (λ next. front next ≡ before ++ kind ∷ [])
 
--- ---- lexemes in a row
+-- ---- lists of lexemes
 
 stays : (F P Q : Kinds) (kind : LexemeKind) → Q ≡ P ++ kind ∷ [] → F ++ Q ≡ F ++ P ++ kind ∷ []
 stays F P Q kind e = ap (λ xs. F ++ xs) e ∙ sym (append_assoc F P (kind ∷ []))
@@ -45,9 +45,9 @@ empty_row L H O = ap (λ xs. L ++ xs) (append-nil (H ++ O)) ∙ sym (append_asso
 one_longer : (L B X E : Kinds) → L ++ (B ++ (X ++ E)) ≡ (L ++ (B ++ X)) ++ E
 one_longer L B X E = simp append_assoc
 
--- ---- what a number is
+-- ---- numbers
 
--- ---- what begins
+-- ---- the beginning of a literal
 
 word_fits : (fs : List Frame) (l : Option ℕ) (x : Name) (b c d : Bool) → bytes_eq x true_name ≡ b → bytes_eq x false_name ≡ c → bytes_eq x ref_name ≡ d →
     FitsAfter (frames_front fs ++ label_kinds l) (kinds.Lower x)
@@ -60,7 +60,7 @@ word_fits fs l x false false true h i j = let e = (bytes_eq-Decides x ref_name).
     stays (frames_front fs) (label_kinds l) (label_kinds l ++ lower ref_name) (kinds.Lower x) (ap (λ n. label_kinds l ++ lower n) (sym e))
 word_fits fs l x false false false h i j = tt
 
--- one lexeme behind the label
+-- One lexeme after the label.
 labelled_one : (fs : List Frame) (l : Option ℕ) (kind : LexemeKind) → frames_front fs ++ (label_kinds l ++ kind ∷ []) ≡ frames_front fs ++ label_kinds l ++ kind ∷ []
 labelled_one fs l kind = stays (frames_front fs) (label_kinds l) (label_kinds l ++ kind ∷ []) kind refl
 
@@ -100,7 +100,7 @@ begin_fits fs (kinds.Symbol symbols.CloseParen) = unit_fits fs
 begin_fits fs (kinds.Symbol symbols.CloseArray) = empty_fits fs
 begin_fits fs kind = plain_fits fs None kind
 
--- ---- what closes
+-- ---- the end of a literal
 
 module _ (fs : List Frame) (l : Option ℕ) where
   arguments_fit : (h : Head) (ps : Parts) (v : Literal) (kind : LexemeKind) →

@@ -1,4 +1,4 @@
--- What a literal spells leads on to that literal.
+-- The lexemes of a literal lead the table to that literal.
 use Rattle.std.proofs.Common.{ℕ, ◌≡◌, true, false, List, [], ◌∷◌, ◌++◌, Option, Some, None, refl}
 use Rattle.om_lex.specs.declared.lexeme.LexemeKind.{LexemeKind}
 use Rattle.om_lex.specs.declared.lexeme.LexemeKind.TheVariants as kinds
@@ -8,7 +8,7 @@ use Rattle.om_grammar.specs.Grammar.{Name, Kinds, mark}
 use Rattle.om_literal_grammar.specs.Literal.{Head, upper_head, tag_head, cons_head, empty_head, ref_head, Literal, labelled, again, Plain, integer, character, string, double, truth, unit, constant, applied, fields, tuple, empty_array, array, Parts, no_parts, more_parts, Rows, no_rows, more_rows, label_kinds, head_kinds, owner_kinds, row_start, literal_kinds, plain_kinds, parts_kinds, rows_kinds}
 use Rattle.om_literal_grammar.specs.Machine.{Frame, in_arguments, in_parens, in_array, in_fields, due, number_read, plain_due, head_read, field_due, whole, State, at, begin_plain, close, after_number, after_head, step}
 
--- reading these lexemes leads from the one state to the other
+-- Reading these lexemes leads from the first state to the second.
 pub data Goes : State → Kinds → State → Type 0 where
   stay : {s : State} → Goes s [] s
   go_on : {s next t : State} {kind : LexemeKind} {rest : Kinds} → step s kind ≡ Some next → Goes next rest t → Goes s (kind ∷ rest) t
@@ -20,7 +20,7 @@ onward (go_on h p) q = go_on h (onward p q)
 one_more : {s t : State} {kind : LexemeKind} → step s kind ≡ Some t → Goes s (kind ∷ []) t
 one_more h = go_on h stay
 
--- ---- where a literal begins, and where it leads
+-- ---- the states before and after a literal
 
 abbrev start_plain : Option ℕ → List Frame → State
 start_plain None fs = at fs due
@@ -41,7 +41,7 @@ first_step None fs kind n h = h
 begins : (l : Option ℕ) (fs : List Frame) (kind : LexemeKind) (n : State) → begin_plain fs l kind ≡ Some n → Goes (start_plain l fs) (kind ∷ []) n
 begins l fs kind n h = one_more (first_step l fs kind n h)
 
--- a lexeme that begins nothing more closes the literal
+-- If a lexeme does not continue the literal, then it closes the literal.
 closing : (v : Literal) (fs : List Frame) (kind : LexemeKind) → ((k : ℕ) → after_number fs k kind ≡ close fs (again k) kind)
     → ((l : Option ℕ) (h : Head) → after_head fs l h kind ≡ close fs (labelled l (constant h)) kind) → step (read_in fs v) kind ≡ close fs v kind
 closing (again k) fs kind a b = a k
@@ -63,7 +63,7 @@ array_next v fs = closing v fs (kinds.Symbol symbols.CloseArray) (λ k. refl) (�
 brace_next : (v : Literal) (fs : List Frame) → step (read_in fs v) (kinds.Symbol symbols.CloseBrace) ≡ close fs v (kinds.Symbol symbols.CloseBrace)
 brace_next v fs = closing v fs (kinds.Symbol symbols.CloseBrace) (λ k. refl) (λ l h. refl)
 
--- ---- what begins
+-- ---- the beginning of a literal
 
 label_goes : (l : Option ℕ) (fs : List Frame) → Goes (at fs due) (label_kinds l) (start_plain l fs)
 label_goes None fs = stay

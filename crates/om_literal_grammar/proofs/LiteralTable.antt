@@ -14,11 +14,11 @@ use Rattle.om_literal_grammar.specs.Machine.{Frame, in_arguments, in_parens, in_
 use Rattle.om_literal_grammar.proofs.LiteralFronts.{step_fronts, shut}
 use Rattle.om_literal_grammar.proofs.LiteralGoes.{Goes, stay, go_on, read_in, literal_goes}
 
--- no lexeme of a literal ends a type
+-- No lexeme of a literal ends a type.
 abbrev pub none : State → ℕ
 none s = 0
 
--- the brackets that are open
+-- The number of open brackets.
 abbrev pub brackets : State → ℕ
 brackets s = open_after 0 (front s)
 
@@ -42,7 +42,7 @@ accepted_front (at [] (number_read k)) v h = let e : again k ≡ v = cc in ap li
 accepted_front (at [] (head_read l c)) v h = let e : labelled l (constant c) ≡ v = cc in ap literal_kinds (sym e)
 accepted_front s v h = absurd (cc)
 
--- ---- closing what is open
+-- ---- closing the open brackets
 
 abbrev filled : Frame → Literal → Literal
 filled (in_arguments l h ps) v = labelled l (applied h ps v)
@@ -84,7 +84,7 @@ closed_is (f ∷ fs) v =
           ∙ deeper (frames_front fs) (frame_kinds f) (literal_kinds v) (filled_rest f v) i.0,
     )
 
--- a literal that begins with what was read last
+-- Some literal begins with what was read last.
 abbrev Begun : Phase → Type 0
 Begun phase = (v : Literal) × (rest : Kinds) × (literal_kinds v ≡ phase_kinds phase ++ rest)
 

@@ -1,4 +1,4 @@
--- What the code has reached at a byte, and what follows there.
+-- The state of the code at a byte offset, and the lexemes that follow there.
 use Rattle.std.proofs.Common.{ℕ, zero, suc, ◌+◌, ◌^◌, ◌≡◌, ◌≢◌, ◌∙◌, ◌<◌, ◌≤◌, List, [], ◌∷◌, ◌++◌, length, take, get_or, Option, Some, None, refl, sym, ap, subst, arith, append_assoc}
 use Rattle.std.specs.Prelude.{true, false, Ok, option_map, unwrap_or, slice_get}
 use Rattle.std.proofs.lemmas.List.{map-append, length-map, length-append}
@@ -21,7 +21,7 @@ use Rattle.om_literal_grammar.specs.Code.{step_code, end_code, Steps}
 use Rattle.om_literal_grammar.specs.Placed.{lexemes_at, StopsAt, IsLexed, Stopped, IsPlacedFault, IsPlaced}
 use Rattle.om_literal_grammar.proofs.ReadLemmas.{Reached, begins, goes_at, stops_at, is_tree_where, ends_early_where}
 
--- the lexemes up to a byte are those at the places, and lead to what the code has
+-- The lexemes before this byte have these offsets and lead to the state of the code.
 pub record Front (text : List ℕ) (at : ℕ) (places : List ℕ) (ns : List Node) (os : List Open) (stage : Stage) : Type 0 where
   pub reached : lex.Reached text at (lexemes_at text places)
   pub read : Reached (lexemes_at text places) (length places) ns os stage
@@ -39,7 +39,7 @@ front_of (x ∷ xs) ys zero e = refl
 front_of [] ys (suc n) e = absurd (omega (arith, e))
 front_of (x ∷ xs) ys (suc n) e = ap (λ all. x ∷ all) (front_of xs ys n (omega (arith, e)))
 
--- the lexemes that follow change nothing of what was reached
+-- The lexemes that follow do not change the state reached before them.
 further : (xs ys : List Lexeme) (n : ℕ) (ns : List Node) (os : List Open) (stage : Stage) → length xs ≡ n → Reached xs n ns os stage → Reached (xs ++ ys) n ns os stage
 further xs ys n ns os stage e r =
     let all : kinds_of (xs ++ ys) ≡ kinds_of xs ++ kinds_of ys = map-append (λ (l : Lexeme). l.kind) xs ys in
@@ -61,7 +61,7 @@ some_are : (xs more : List Lexeme) (x : Lexeme) → (xs ++ x ∷ []) ++ more ≢
 some_are [] more x e = absurd cc
 some_are (y ∷ xs) more x e = absurd cc
 
--- ---- the fault of lexemes
+-- ---- lexical errors
 
 pub stopped_lexed : (text : List ℕ) (front : List Lexeme) (first : ℕ) (f : PlacedFault) → IsLexed text f → Stopped text front first f
 stopped_lexed text front first (faults.Lex f) is = is
@@ -90,7 +90,7 @@ module _ (text : List ℕ) (at : ℕ) (places : List ℕ) (ns : List Node) (os :
   count_is : length (lexemes_at text places) ≡ length places
   count_is = length-map places (lexeme_from text)
 
-  -- only what is no lexeme follows
+  -- No further lexeme follows.
   pub front_ends : lex.Reached text (length text) (lexemes_at text places) → Front text (length text) places ns os stage
   front_ends r = record { reached = r; read = front.read; few = omega (arith, front.few, front.reached.inside) }
 

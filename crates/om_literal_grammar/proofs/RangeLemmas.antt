@@ -1,4 +1,4 @@
--- Each node's first lexeme is one of the literal's own.
+-- The first lexeme of each node is one of the literal's own lexemes.
 use Rattle.std.proofs.Common.{ℕ, ◌+◌, ◌≤◌, ◌<◌, List, [], ◌∷◌, ◌++◌, length, Option, arith, length-append}
 use Rattle.om_lex.specs.declared.lexeme.Symbol.{Symbol}
 use Rattle.om_lex.specs.declared.lexeme.Symbol.TheVariants as symbols

@@ -1,4 +1,4 @@
--- What the code has reached at a lexeme, and what follows at the end.
+-- The state of the code at a lexeme, and the result at the end.
 use Rattle.std.proofs.Common.{ℕ, suc, ◌^◌, ◌≡◌, ◌∙◌, ◌<◌, List, [], ◌∷◌, ◌++◌, length, take, get_or, Option, Some, None, refl, sym, ap, subst, ⊎_elim, arith, append_assoc, append-nil}
 use Rattle.std.specs.Prelude.{Bool, true, false, if◌then◌else◌, Result, Ok, Err, IfOk, IfErr, IfSome, option_map, option_and_then}
 use Rattle.om_lex.specs.declared.lexeme.Lexeme.{Lexeme}
@@ -40,7 +40,7 @@ none_map : {X Y : Type 0} (f : X → Y) (o : Option X) → option_map f o ≡ No
 none_map f None h = refl
 none_map f (Some x) h = absurd (cc)
 
--- the lexemes up to a place lead to a state of which the code has the nodes, the brackets and the stage
+-- The lexemes before this index lead to a state with these nodes, brackets and stage.
 abbrev pub Reached : List Lexeme → ℕ → List Node → List Open → Stage → Type 0
 Reached lexemes place ns os stage = (s : State) × (run step start (take place (kinds_of lexemes)) ≡ Some s) × (code_of s ≡ code ns os stage)
 
@@ -121,7 +121,7 @@ module _ (lexemes : List Lexeme) (place : ℕ) (ns : List Node) (os : List Open)
     pub ends_early_where : (ends : Bool) (ms : List Node) → end_code ns os stage ≡ (if ends then Some ms else None) → ends ≡ false → IsSyntax literal_kinds (kinds_of lexemes) (length lexemes)
     ends_early_where ends ms h e = ends_early (h ∙ ap (λ b. if b then Some ms else None) e)
 
--- ---- one answer
+-- ---- at most one result
 
 module _ (lexemes : List Lexeme) where
   pub gives_tree : (result : Result (List Node) TreeFault) → IfOk result (IsTreeOf lexemes) → IfErr result (IsTreeFault lexemes) →

@@ -1,4 +1,4 @@
--- Nodes in eight bytes: what is added changes none of those that are held, and one may be put in place of another.
+-- Nodes in eight bytes: appending a node does not change the others, and a node can be replaced.
 use Rattle.std.proofs.Common.{ℕ, zero, suc, ◌≡◌, ◌<◌, ◌∙◌, List, [], ◌∷◌, ◌++◌, length, Option, Some, None, refl, ap, arith, length-append}
 use Rattle.std.specs.Prelude.{slice_get, slice_set, unwrap_or}
 use Rattle.om_literal_grammar.specs.declared.node.Form.{Form}
@@ -28,7 +28,7 @@ module _ (others more : List Node) where
       let rest = keeps_more all held.1 in
       (ap (λ (n : Node). n ∷ nodes_in (others ++ more) all) (same_by s.first s.parts s.form held.0) ∙ ap (λ (ns : List Node). node_in others s ∷ ns) rest.0, (held_by s.first s.form held.0, rest.1))
 
--- the last of the others
+-- The last of the other nodes.
 pub last_found : (others new : List Node) (n : Node) (number : ℕ) → number ≡ length others → new ≡ others ++ n ∷ [] → unwrap_or (slice_get new number) (plain_node forms.Unit 0 0) ≡ n
 last_found others new n number last is =
     ap (λ (found : Option Node). unwrap_or found (plain_node forms.Unit 0 0))
@@ -40,7 +40,7 @@ nodes_put others [] (suc k) s = refl
 nodes_put others (x ∷ all) zero s = refl
 nodes_put others (x ∷ all) (suc k) s = ap (λ (ns : List Node). node_in others x ∷ ns) (nodes_put others all k s)
 
--- one in place of another
+-- Replacing one node by another.
 pub put :
     (old new : List Node) (all : List SmallNode) (n : Node) (s : SmallNode) (k : ℕ) → Keeps old new → AreHeld (length old) all → Holds new n s
     → nodes_in new (slice_set all k s) ≡ slice_set (nodes_in old all) k n

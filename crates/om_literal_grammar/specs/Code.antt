@@ -1,4 +1,4 @@
--- The table on numbers of nodes: what the code does at a lexeme.
+-- The parsing table on indices of nodes: what the code does at a lexeme.
 use Rattle.std.specs.Prelude.{ℕ, suc, ◌-◌, ◌^◌, ◌≡◌, ◌==◌, nat_lt, Bool, false, if◌then◌else◌}
 use Rattle.std.specs.Prelude.{Option, Some, None, option_map, Result, Ok, Err, List, [], ◌∷◌, ◌++◌}
 use Rattle.std.specs.Prelude.{length, slice_set, ⊤}
@@ -26,7 +26,7 @@ pub data Code : Type 0 where
 abbrev pub bare_node : Form → Option ℕ → ℕ → Node
 bare_node form label first = record { form = form; label = label; first = first; parts = 0 }
 
--- one more, up to the greatest number
+-- One more, saturating at the greatest number.
 abbrev pub next_number : ℕ → ℕ
 next_number n = if nat_lt n (2 ^ 64 - 1) then suc n else n
 
@@ -40,7 +40,7 @@ with_form form n = record { form = form; label = n.label; first = n.first; parts
 abbrev pub opened : Bracket → ℕ → Node → Open
 opened bracket index node = record { bracket = bracket; index = index; node = node }
 
--- ---- what begins
+-- ---- the beginning of a literal
 
 abbrev pub word_form : List ℕ → Option Form
 word_form x =
@@ -109,7 +109,7 @@ begin_code ns os place (kinds.Symbol symbols.CloseParen) = close_unit_code ns os
 begin_code ns os place (kinds.Symbol symbols.CloseArray) = close_empty_code ns os
 begin_code ns os place kind = begin_plain_code ns os place None kind
 
--- ---- what closes
+-- ---- the end of a literal
 
 abbrev pub next_code : List Node → List Open → Open → Option Code
 next_code ns os o = Some (code ns (opened o.bracket o.index (with_part o.node) ∷ os) stages.Due)
@@ -186,7 +186,7 @@ take_equals_code ns os index node (kinds.Symbol symbols.Equals) =
     Some (code ns (opened brackets.Fields index node ∷ os) stages.Due)
 take_equals_code ns os index node kind = None
 
--- lexeme number place
+-- The step on the lexeme with index `place`.
 abbrev pub step_code : List Node → List Open → Stage → ℕ → LexemeKind → Option Code
 step_code ns os stages.Due place kind = begin_code ns os place kind
 step_code ns os (stages.Hash first) place kind = take_number_code ns os first kind
@@ -198,14 +198,14 @@ step_code ns os (stages.FieldDue index node) place kind = take_name_code ns os i
 step_code ns os (stages.NameRead index node) place kind = take_equals_code ns os index node kind
 step_code ns os stages.Whole place kind = close_code ns os kind
 
--- the nodes at the end, where a literal ends there
+-- The nodes at the end, if a literal can end there.
 abbrev pub end_code : List Node → List Open → Stage → Option (List Node)
 end_code ns [] stages.Whole = Some ns
 end_code ns [] (stages.Head index node) = Some ns
 end_code ns [] (stages.Number first n) = Some (ns ++ bare_node forms.Again (Some n) first ∷ [])
 end_code ns os stage = None
 
--- ---- what a function gives
+-- ---- the result of a function
 
 abbrev pub Steps : Result (Option Stage) Memory → List Node → List Open → Option Code → Type 0
 Steps (Ok (Some stage)) ns os c = c ≡ Some (code ns os stage)

@@ -1,4 +1,4 @@
--- The grammar of literals, that is of values as texts. A tree has a case for each production.
+-- The grammar of literals, the textual form of values. A tree has one case for each production.
 use Rattle.std.specs.Prelude.{ℕ, Bool, true, false, Option, Some, None, List, [], ◌∷◌, ◌++◌, codes}
 use Rattle.om_lex.specs.declared.lexeme.LexemeKind.TheVariants as kinds
 use Rattle.om_lex.specs.declared.lexeme.Integer.{Integer}
@@ -7,7 +7,7 @@ use Rattle.om_lex.specs.declared.lexeme.Symbol.TheVariants as symbols
 use Rattle.om_grammar.specs.Grammar.{Name, Kinds, mark, lower}
 use Rattle.om_grammar.specs.Lexemes.{number}
 
--- what stands before arguments and fields, or alone
+-- The lexemes before arguments or fields, or a constant.
 pub data Head : Type 0 where
   upper_head : Name → Head
   tag_head : Name → Head
@@ -16,7 +16,7 @@ pub data Head : Type 0 where
   ref_head : Head
 
 mutual
-  -- a plain one, with a label in front or without one, or the use of a label
+  -- A plain literal with or without a label, or a reference to a label.
   pub data Literal : Type 0 where
     labelled : Option ℕ → Plain → Literal
     again : ℕ → Literal
@@ -29,26 +29,26 @@ mutual
     truth : Bool → Plain
     unit : Plain
     constant : Head → Plain
-    -- the arguments before the last one, and the last one
+    -- The arguments before the last one, and the last one.
     applied : Head → Parts → Literal → Plain
-    -- the fields before the last one, and the last one
+    -- The fields before the last one, and the last one.
     fields : Option Head → Rows → Name → Literal → Plain
-    -- two parts or more
+    -- Two or more parts.
     tuple : Parts → Literal → Literal → Plain
     empty_array : Plain
     array : Parts → Literal → Plain
 
-  -- parts that others follow
+  -- Parts that are followed by further ones.
   pub data Parts : Type 0 where
     no_parts : Parts
     more_parts : Parts → Literal → Parts
 
-  -- fields that others follow
+  -- Fields that are followed by further ones.
   pub data Rows : Type 0 where
     no_rows : Rows
     more_rows : Rows → Name → Literal → Rows
 
--- ---- what they spell
+-- ---- the lexemes of a tree
 
 -- `#k`
 abbrev pub reference : ℕ → Kinds
@@ -83,7 +83,7 @@ abbrev pub owner_kinds : Option Head → Kinds
 owner_kinds None = []
 owner_kinds (Some h) = head_kinds h
 
--- a field's name and what follows it
+-- A field's name and the equals sign after it.
 abbrev pub row_start : Name → Kinds
 row_start x = kinds.Lower x ∷ kinds.Symbol symbols.Equals ∷ []
 
@@ -115,7 +115,7 @@ abbrev mutual
       mark symbols.OpenArray ++ parts_kinds symbols.Semicolon ps ++ literal_kinds v
       ++ mark symbols.CloseArray
 
-  -- each with the separator after it
+  -- Each part, followed by the separator.
   pub parts_kinds : Symbol → Parts → Kinds
   parts_kinds separator no_parts = []
   parts_kinds separator (more_parts ps v) =

@@ -1,5 +1,5 @@
--- The table that reads a literal's lexemes one by one: what is open, the innermost first, and what
--- was read in it last.
+-- The table that reads a literal's lexemes one by one. A state holds the open brackets, the
+-- innermost first, and what was read last.
 use Rattle.std.specs.Prelude.{ℕ, true, false, if◌then◌else◌, Option, Some, None, option_map, List}
 use Rattle.std.specs.Prelude.{[], ◌∷◌, ◌++◌, map}
 use Rattle.std.specs.Str.{bytes_eq}
@@ -17,19 +17,19 @@ use Rattle.om_literal_grammar.specs.Literal.{reference, label_kinds, true_name, 
 use Rattle.om_literal_grammar.specs.Literal.{ref_name, head_kinds, owner_kinds, row_start}
 use Rattle.om_literal_grammar.specs.Literal.{literal_kinds, parts_kinds, rows_kinds}
 
--- what stands round a literal, with its label and the parts before
+-- The context of a literal, with its label and the parts before.
 pub data Frame : Type 0 where
   in_arguments : Option ℕ → Head → Parts → Frame
   in_parens : Option ℕ → Parts → Frame
   in_array : Option ℕ → Parts → Frame
   in_fields : Option ℕ → Option Head → Rows → Name → Frame
 
--- what was read last, with the label in front of it
+-- What was read last, with the label before it.
 pub data Phase : Type 0 where
   due : Phase
   hash_read : Phase
   number_read : ℕ → Phase
-  -- after `#k=`
+  -- After `#k=`.
   plain_due : ℕ → Phase
   bracket_read : Option ℕ → Phase
   head_read : Option ℕ → Head → Phase
@@ -69,7 +69,7 @@ begin_plain fs l (kinds.Symbol symbols.OpenArray) = Some (at (in_array l no_part
 begin_plain fs l (kinds.Symbol symbols.OpenBrace) = Some (at fs (field_due l None no_rows))
 begin_plain fs l kind = None
 
--- a parenthesis, or an array, that closes without a part
+-- Parentheses, or an array, that close without parts.
 abbrev pub close_unit : List Frame → Option State
 close_unit (in_parens l no_parts ∷ fs) = read fs l unit
 close_unit fs = None
@@ -196,7 +196,7 @@ phase_kinds (whole v) = literal_kinds v
 abbrev pub front : State → Kinds
 front (at fs phase) = frames_front fs ++ phase_kinds phase
 
--- no lexeme of a literal ends a type
+-- No lexeme of a literal ends a type.
 abbrev pub zeros : Kinds → List ℕ
 zeros lexemes = map (λ (kind : LexemeKind). 0) lexemes
 

@@ -1,4 +1,5 @@
--- A literal as a row of nodes, each before its parts, in the order of their first lexemes.
+-- A literal as a list of nodes in preorder: each node comes before its parts, and the nodes are in
+-- the order of their first lexemes.
 use Rattle.std.specs.Prelude.{ℕ, suc, ◌+◌, ◌≡◌, ◌<◌, Option, Some, Result, Ok, Err, List, [], ◌∷◌}
 use Rattle.std.specs.Prelude.{◌++◌, length, ⊤}
 use Rattle.std.specs.List.{AllByRecursion}
@@ -32,7 +33,7 @@ rows_count no_rows = 0
 rows_count (more_rows rs x v) = suc (rows_count rs)
 
 abbrev mutual
-  -- the nodes of a literal whose first lexeme has this number
+  -- The nodes of a literal whose first lexeme has this index.
   pub literal_nodes : ℕ → Literal → List Node
   literal_nodes k (labelled l p) = plain_nodes k l p
   literal_nodes k (again n) = node forms.Again (Some n) k 0 ∷ []
@@ -99,9 +100,9 @@ abbrev mutual
   rows_nodes k (more_rows rs x v) =
       rows_nodes k rs ++ literal_nodes (k + length (rows_kinds rs ++ row_start x)) v
 
--- ---- what is answered about lexemes
+-- ---- the result of parsing lexemes
 
--- the lexemes are a literal, and these its nodes
+-- The lexemes are a literal, and these are its nodes.
 abbrev pub IsTreeOf : List Lexeme → List Node → Type 0
 IsTreeOf lexemes nodes =
     (v : Literal) × (literal_kinds v ≡ kinds_of lexemes) × (nodes ≡ literal_nodes 0 v)
@@ -110,18 +111,18 @@ abbrev pub IsTreeFault : List Lexeme → TreeFault → Type 0
 IsTreeFault lexemes (faults.Syntax k) = IsSyntax literal_kinds (kinds_of lexemes) k
 IsTreeFault lexemes faults.Memory = ⊤
 
--- a call gives these nodes, unless memory runs out
+-- A call returns these nodes, unless memory runs out.
 abbrev pub GivesTree : List Node → Result (List Node) TreeFault → Type 0
 GivesTree nodes (Ok all) = all ≡ nodes
 GivesTree nodes (Err (faults.Syntax k)) = ⊥
 GivesTree nodes (Err faults.Memory) = ⊤
 
--- a call gives this place, unless memory runs out
+-- A call returns this position, unless memory runs out.
 abbrev pub GivesSyntax : ℕ → Result (List Node) TreeFault → Type 0
 GivesSyntax k (Ok all) = ⊥
 GivesSyntax k (Err (faults.Syntax j)) = j ≡ k
 GivesSyntax k (Err faults.Memory) = ⊤
 
--- the first lexeme of each node has a number below this one
+-- The index of each node's first lexeme is below this number.
 abbrev pub FirstsBelow : ℕ → List Node → Type 0
 FirstsBelow m nodes = AllByRecursion (λ (n : Node). n.first < m) nodes

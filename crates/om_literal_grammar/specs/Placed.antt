@@ -1,4 +1,4 @@
--- What is answered about a text, whose lexemes are found at their places.
+-- The result of parsing a text whose lexemes are given by their byte offsets.
 use Rattle.std.specs.Prelude.{ℕ, ◌≡◌, ◌≢◌, ◌≤◌, ◌^◌, option_map, unwrap_or, Option, Some, None}
 use Rattle.std.specs.Prelude.{Result, Ok, Err, List, [], ◌++◌, length, map, slice_get, ⊤}
 use Rattle.om_lex.specs.declared.lexeme.Lexeme.{Lexeme}
@@ -16,7 +16,8 @@ use Rattle.om_literal_grammar.specs.Nodes.{IsTreeOf}
 abbrev pub lexemes_at : List ℕ → List ℕ → List Lexeme
 lexemes_at text places = map (lexeme_from text) places
 
--- the text's lexemes, of which there are some, are no literal, first at this byte
+-- The text has at least one lexeme, and its lexemes are not a literal. The first error is at this
+-- byte offset.
 pub record StopsAt (text : List ℕ) (byte : ℕ) : Type 0 where
   pub lexemes : List Lexeme
   pub lexeme : ℕ
@@ -27,14 +28,14 @@ pub record StopsAt (text : List ℕ) (byte : ℕ) : Type 0 where
       ≡ unwrap_or (option_map (λ (l : Lexeme). l.span.first) (slice_get lexemes lexeme))
       (length text)
 
--- ---- what functions give
+-- ---- the result of functions
 
 abbrev pub IsLexed : List ℕ → PlacedFault → Type 0
 IsLexed text (faults.Lex fault) = Faults text fault
 IsLexed text faults.Memory = ⊤
 IsLexed text fault = ⊥
 
--- the text's lexemes begin with these, at whose last one no literal goes on
+-- The text's lexemes begin with these, and no literal continues at the last one.
 abbrev pub Stopped : List ℕ → List Lexeme → ℕ → PlacedFault → Type 0
 Stopped text front first (faults.Syntax byte) =
     (byte ≡ first) × ((more : List Lexeme) × Lexes text (front ++ more))
@@ -46,7 +47,8 @@ IsPlacedFault text (faults.Syntax byte) = StopsAt text byte
 IsPlacedFault text faults.TooLong = 2 ^ 32 ≤ length text
 IsPlacedFault text faults.Memory = ⊤
 
--- the places are those of the text's lexemes, and the nodes those of a literal that these spell
+-- The offsets are those of the text's lexemes, and the nodes are those of the literal with these
+-- lexemes.
 abbrev pub IsPlaced : List ℕ → List ℕ → List Node → Type 0
 IsPlaced text places nodes =
     Lexes text (lexemes_at text places) × IsTreeOf (lexemes_at text places) nodes

@@ -1,4 +1,4 @@
--- The innermost bracket, taken off.
+-- The innermost bracket, removed from the stack.
 use Rattle.std.specs.Prelude.{◌≡◌, List, [], ◌∷◌, Option, Some, None}
 use Rattle.om_literal_grammar.specs.declared.open.Open.{Open}
 

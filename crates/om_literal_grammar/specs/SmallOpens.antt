@@ -1,4 +1,5 @@
--- Brackets in sixteen bytes, and the others beside them, both the innermost first.
+-- Brackets in sixteen bytes, and the others beside them. In both lists the innermost bracket comes
+-- first.
 use Rattle.std.specs.Prelude.{◌≡◌, Option, Some, None, List, [], ◌∷◌}
 use Rattle.om_literal_grammar.specs.declared.node.Form.{Form}
 use Rattle.om_literal_grammar.specs.declared.node.Form.TheVariants as forms
@@ -15,7 +16,7 @@ abbrev pub blank_open : Open
 blank_open =
     record { bracket = brackets.Parens; index = 0; node = plain_node forms.Unit 0 0 }
 
--- a bracket by its form, or the innermost of the others
+-- A bracket given by its form, or the innermost of the others.
 abbrev pub open_by : SmallOpen → Option Form → List Open → Open
 open_by s (Some form) others = plain_open s form
 open_by s None [] = blank_open
@@ -30,6 +31,6 @@ abbrev pub opens_in : List SmallOpen → List Open → List Open
 opens_in [] others = []
 opens_in (s ∷ all) others = open_by s s.form others ∷ opens_in all (others_behind s.form others)
 
--- it is the bracket, whatever the others are
+-- The entry is the bracket, independently of the others.
 abbrev pub IsSmallOpen : Open → SmallOpen → Type 0
 IsSmallOpen outer small = (form : Form) × (small.form ≡ Some form) × (plain_open small form ≡ outer)

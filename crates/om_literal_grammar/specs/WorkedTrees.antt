@@ -1,4 +1,4 @@
--- Literals as trees, with the lexemes that they spell and where they end, worked out by hand.
+-- Examples, worked out by hand: literals as trees, with their lexemes and nodes.
 use Rattle.std.specs.Prelude.{ℕ, pos, ◌≡◌, false, Option, Some, None, List, [], ◌∷◌, codes}
 use Rattle.std.specs.Prelude.{option_and_then}
 use Rattle.om_lex.specs.declared.lexeme.LexemeKind.{LexemeKind}
@@ -27,7 +27,7 @@ alone p = labelled None p
 abbrev pub small : ℕ → Literal
 small n = alone (integer (record { minus = false; value = pos n; suffix = suffixes.Absent }))
 
--- what the table makes of lexemes
+-- The literal that the table reads from these lexemes.
 abbrev pub reading : Kinds → Option Literal
 reading lexemes = option_and_then accepted (run step start lexemes)
 
@@ -83,7 +83,7 @@ abbrev pub carrying_lexemes : Kinds
 carrying_lexemes =
     kinds.Tag (codes "B") ∷ symbol symbols.OpenParen ∷ number 3 ∷ symbol symbols.CloseParen ∷ []
 
--- the nodes where the literal begins at lexeme 0
+-- The nodes, if the literal begins at lexeme 0.
 abbrev pub nodes : Literal → List Node
 nodes v = literal_nodes 0 v
 
@@ -106,13 +106,13 @@ pub record Rows : Type 0 where
       ≡ symbol symbols.OpenParen ∷ symbol symbols.CloseParen ∷ []
   pub unit_read : reading (symbol symbols.OpenParen ∷ symbol symbols.CloseParen ∷ [])
       ≡ Some (alone unit)
-  -- one part in parentheses is no literal, nor is a name with empty parentheses
+  -- One part in parentheses is not a literal, and neither is a name with empty parentheses.
   pub alone_refused : reading (symbol symbols.OpenParen ∷ number 1 ∷ symbol symbols.CloseParen ∷ [])
       ≡ None
   pub nothing_applied : reading
       (kinds.Upper (codes "C") ∷ symbol symbols.OpenParen ∷ symbol symbols.CloseParen ∷ [])
       ≡ None
-  -- the nodes: form, label, number of the first lexeme, count of the parts
+  -- The nodes: form, label, index of the first lexeme, number of parts.
   pub cyclic_nodes : nodes cyclic
       ≡ node forms.Named (Some 0) 0 2 ∷ node forms.Integer None 5 0 ∷ node forms.Again (Some 0) 7 0
       ∷ []

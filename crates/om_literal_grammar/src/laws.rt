@@ -1,4 +1,4 @@
-//! Laws over the definitions. The functions do nothing: what each ensures is the law.
+//! Laws of the grammar's definitions. The functions do nothing and exist only for their contracts.
 
 ghost use Rattle.std.specs.Prelude.{length};
 ghost use Rattle.om_grammar.specs.Laws.{HasOneTree, IsTextOrSyntax, HasNoSyntax};
@@ -6,23 +6,24 @@ ghost use Rattle.om_literal_grammar.specs.Literal.{Literal, literal_kinds};
 ghost use Rattle.om_literal_grammar.specs.Nodes.{FirstsBelow, literal_nodes};
 ghost use Rattle.om_literal_grammar.specs.WorkedTrees.{Rows};
 
-/// Lexemes are those of one literal at most.
+/// Proves that the grammar is unambiguous: a list of lexemes is the text of at most one literal.
 pub fn one_literal()
     ensures { HasOneTree literal_kinds }
 {}
 
-/// Lexemes are a literal, or there is one place of Syntax; a literal has none.
+/// Proves that every list of lexemes either is a literal or has exactly one position of a syntax
+/// error, and never both.
 pub fn literal_or_syntax()
     ensures either { IsTextOrSyntax literal_kinds }
     ensures not_both { HasNoSyntax literal_kinds }
 {}
 
-/// The first lexeme of each node of a literal is one of the literal's own.
+/// Proves that the first lexeme of each node of a literal is one of the literal's own lexemes.
 pub fn firsts_in_range()
     ensures { (v : Literal) → FirstsBelow (length (literal_kinds v)) (literal_nodes 0 v) }
 {}
 
-/// Worked literals spell what they should, and are read.
+/// Proves that the example literals have the expected lexemes and that the table reads them.
 pub fn worked_literals()
     ensures { Rows }
 {}

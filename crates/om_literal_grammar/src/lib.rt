@@ -1,5 +1,7 @@
-//! The grammar of literals, that is of values as texts, and a table that reads it one lexeme at a
-//! time.
+//! The grammar of literals, the textual form of values, and a parser that reads it one lexeme at a
+//! time. A parsed literal is a list of nodes in preorder. `read_literal_tree` reads a list of
+//! lexemes and `read_placed_tree` reads a text; their contracts state that the nodes are those of
+//! the unique literal, or that the error is the first one. The literal's type is not checked here.
 #![tactic(auto)]
 
 mod laws;

@@ -1,11 +1,11 @@
-//! A literal as a row of nodes, and why lexemes are none.
+//! A literal as a list of nodes, and the parser's errors.
 
 ghost use Rattle.std.specs.Prelude.{◌≡◌};
 ghost use Rattle.om_literal_grammar.specs.declared.node.TreeFault.TheVariants as faults;
 
 use om_model::Memory;
 
-/// What a node is. Its own lexemes say with which value.
+/// The form of a node. The node's lexemes determine its value.
 #[derive(Clone, Copy)]
 pub enum Form {
     Integer,
@@ -16,16 +16,16 @@ pub enum Form {
     Unit,
     /// A name, alone or with arguments.
     Named,
-    /// Fields, with a name in front or without one.
+    /// Fields, with or without a name before them.
     Fields,
     Tuple,
     Array,
-    /// The use of a label.
+    /// A reference to a label.
     Again,
 }
 
-/// A node: its form, its label or the one that it uses, the number of its first lexeme, and how
-/// many parts it has.
+/// A node: its form, its label (or the label that it refers to), the index of its first lexeme, and
+/// the number of its parts.
 #[derive(Clone, Copy)]
 pub struct Node {
     pub form: Form,
@@ -34,10 +34,11 @@ pub struct Node {
     pub parts: usize,
 }
 
-/// Why lexemes are no literal.
+/// An error of the parser for literals.
 #[derive(Clone, Copy)]
 pub enum TreeFault {
-    /// The number of the first lexeme at which no literal goes on, or how many there are.
+    /// Syntax error: the index of the first lexeme at which no literal continues, or the number of
+    /// lexemes.
     Syntax(usize),
     /// Out of memory.
     Memory,

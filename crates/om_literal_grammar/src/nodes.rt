@@ -1,4 +1,4 @@
-//! Nodes in a row, eight bytes each.
+//! A list of nodes, stored in eight bytes each.
 
 ghost use Rattle.std.specs.Prelude.{◌≡◌, ◌∷◌, ◌++◌, ◌<◌, ◌^◌, [], Some, List, length, slice_get};
 ghost use Rattle.std.specs.Prelude.{slice_set, IfOk, IfSome};
@@ -9,7 +9,8 @@ use om_model::Memory;
 use std::alloc::Global;
 use std::marker::Model;
 
-/// A node without a label whose numbers are small; or one of the others, by its number.
+/// A node in eight bytes: a node without a label whose numbers are small. If `form` is `None`, it
+/// is the index of a node in the list of other nodes.
 #[derive(Clone, Copy)]
 pub struct SmallNode {
     pub first: u32,
@@ -19,7 +20,8 @@ pub struct SmallNode {
 
 const _: () = prove!(size_of::<SmallNode>() == 8);
 
-/// Nodes, which contracts see as their list. The others are those that eight bytes do not hold.
+/// A list of nodes. Contracts see only the list. `others` stores the nodes that do not fit into
+/// eight bytes.
 #[derive(Drop)]
 pub struct Nodes {
     small: Vec<SmallNode>,
@@ -39,7 +41,7 @@ impl Model for Nodes {
     ghost invariant = { λ n. AreHeld (length n.others.items) n.small.items };
 }
 
-/// The node in eight bytes, where they hold it.
+/// Returns the node in eight bytes, or `None` if it does not fit.
 #[inline(always)]
 fn small_of(node: &Node) -> Option<SmallNode>
     ensures { IfSome result (IsSmall node.now) }
@@ -54,7 +56,7 @@ fn small_of(node: &Node) -> Option<SmallNode>
     })
 }
 
-/// The node in eight bytes, or as one more of the others.
+/// Returns the node in eight bytes. If it does not fit, appends it to `others`.
 #[inline(always)]
 fn hold(others: &mut Vec<Node>, node: Node) -> Result<SmallNode, Memory>
     ensures kept { Keeps others.old.items others.new.items }
@@ -85,7 +87,7 @@ impl Nodes {
         }
     }
 
-    /// No nodes, and memory for so many, where there is so much.
+    /// Returns an empty list. Tries to reserve memory for `many` nodes.
     pub(crate) fn with_room(alloc: Global, many: usize) -> Nodes
         ensures { result ≡ [] }
     {
@@ -97,7 +99,7 @@ impl Nodes {
         }
     }
 
-    /// How many there are.
+    /// Returns the number of nodes.
     pub fn len(&self) -> usize
         ensures count { result ≡ length self.now }
         ensures few { result < 2 ^ 63 }
@@ -105,7 +107,7 @@ impl Nodes {
         self.small.len()
     }
 
-    /// Node number k.
+    /// Returns the node with index `k`.
     #[inline(always)]
     pub fn get(&self, k: usize) -> Node
         requires { k < length self.now }
@@ -133,7 +135,7 @@ impl Nodes {
         Ok(())
     }
 
-    /// Puts a node in place of another.
+    /// Replaces the node with index `k`.
     #[inline(always)]
     pub(crate) fn set(&mut self, k: usize, node: Node) -> Result<(), Memory>
         ensures { IfOk result (λ _. self.new ≡ slice_set self.old k node) }

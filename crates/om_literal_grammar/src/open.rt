@@ -1,4 +1,5 @@
-//! What is open while a literal is read, the innermost first.
+//! The brackets that are open while a literal is read. The innermost bracket comes first in the
+//! model.
 
 ghost use Rattle.std.specs.Prelude.{◌≡◌, None, List, [], ◌∷◌, reverse, IfOk, IfSome};
 ghost use Rattle.om_literal_grammar.specs.Popped.{Popped};
@@ -9,7 +10,7 @@ use om_model::Memory;
 use std::alloc::Global;
 use std::marker::Model;
 
-/// What is open.
+/// The kind of an open bracket.
 #[derive(Clone, Copy)]
 pub enum Bracket {
     Arguments,
@@ -18,7 +19,7 @@ pub enum Bracket {
     Fields,
 }
 
-/// What is open, the number of its node, and that node with the parts so far.
+/// An open bracket, the index of its node, and that node with the number of parts so far.
 #[derive(Clone, Copy)]
 pub struct Open {
     pub bracket: Bracket,
@@ -26,7 +27,7 @@ pub struct Open {
     pub node: Node,
 }
 
-/// What was read last, with the number of the lexeme that began it, or of its node.
+/// What the parser read last, with the index of its first lexeme or of its node.
 #[derive(Clone, Copy)]
 pub enum Stage {
     Due,
@@ -40,8 +41,8 @@ pub enum Stage {
     Whole,
 }
 
-/// A bracket whose node has no label, and whose numbers are small; or without a form the last of
-/// the others.
+/// An open bracket in sixteen bytes: its node has no label and its numbers are small. If `form` is
+/// `None`, it stands for the last bracket in `others`.
 #[derive(Clone, Copy)]
 pub struct SmallOpen {
     pub index: u32,
@@ -53,8 +54,8 @@ pub struct SmallOpen {
 
 const _: () = prove!(size_of::<SmallOpen>() == 16);
 
-/// The brackets that are open, the innermost last in memory. The others are those that sixteen
-/// bytes do not hold.
+/// The stack of open brackets. In memory, the innermost bracket comes last. `others` stores the
+/// brackets that do not fit into sixteen bytes.
 #[derive(Drop)]
 pub struct Opens {
     small: Vec<SmallOpen>,
@@ -72,7 +73,7 @@ impl Model for Opens {
     ghost view = { λ s. opens_in (reverse s.small.items) (reverse s.others.items) };
 }
 
-/// The bracket in sixteen bytes, where they hold it.
+/// Returns the bracket in sixteen bytes, or `None` if it does not fit.
 #[inline(always)]
 fn small_of(outer: &Open) -> Option<SmallOpen>
     ensures { IfSome result (IsSmallOpen outer.now) }
@@ -93,7 +94,7 @@ fn small_of(outer: &Open) -> Option<SmallOpen>
     })
 }
 
-/// What stands for one of the others.
+/// Returns the entry that stands for a bracket in `others`.
 #[inline(always)]
 fn other() -> SmallOpen
     ensures { result.form ≡ None }
@@ -107,7 +108,7 @@ fn other() -> SmallOpen
     }
 }
 
-/// No bracket that was ever open.
+/// Returns a placeholder that is never an open bracket.
 #[inline(always)]
 fn blank() -> Open
     ensures { result ≡ blank_open }

@@ -1,4 +1,4 @@
-//! A literal's nodes from its text, one lexeme after the other.
+//! The parser for a literal's text. It lexes and parses one lexeme at a time.
 
 ghost use Rattle.std.specs.Prelude.{◌≡◌, ◌+◌, ◌<◌, ◌≤◌, ◌^◌, ℕ, List, [], length, IfOk};
 ghost use Rattle.om_lex.specs.declared.lexeme.Lexeme.{Lexeme};
@@ -15,33 +15,34 @@ use om_lex::{next_brief, see_lexemes};
 use om_model::Memory;
 use std::alloc::Global;
 
-/// Few texts have more lexemes and nodes for their bytes. Memory that is taken at once is not
-/// copied as it grows, and what is not used of it is no burden.
+/// Estimates for reserving memory: few texts have more lexemes or nodes per byte. Memory reserved
+/// in advance need not be copied as it grows, and unused memory costs nothing.
 const BYTES_A_LEXEME: usize = 2;
 
 const BYTES_A_NODE: usize = 6;
 
-/// A literal's nodes, and the places of the lexemes in its text.
+/// The nodes of a literal, and the byte offsets of the lexemes in its text.
 #[derive(Drop)]
 pub struct Placed {
     pub places: Vec<u32>,
     pub tree: Nodes,
 }
 
-/// Why a text is no literal. Places are bytes.
+/// An error in the text of a literal. Positions are byte offsets.
 #[derive(Clone, Copy)]
 pub enum PlacedFault {
-    /// It has no lexemes.
+    /// Lexical error.
     Lex(LexFault),
-    /// No literal goes on here.
+    /// Syntax error: the offset of the first lexeme at which no literal continues, or the end of
+    /// the text.
     Syntax(usize),
-    /// It has 2^32 bytes or more.
+    /// The text has 2^32 bytes or more.
     TooLong,
     /// Out of memory.
     Memory,
 }
 
-/// A fault of lexemes.
+/// Returns the error for a lexical error.
 fn lexed(fault: LexFault) -> PlacedFault
     ensures { (text : List ℕ) → UnlessMemory (Faults text) fault → IsLexed text result }
 {
@@ -51,7 +52,8 @@ fn lexed(fault: LexFault) -> PlacedFault
     }
 }
 
-/// The fault of a text in which no literal goes on at the lexeme that stands here.
+/// Returns the error of a text in which no literal continues at the lexeme with this span. A
+/// lexical error in the rest of the text takes precedence.
 fn stopped(alloc: Global, text: &[u8], span: Span) -> PlacedFault
     requires { span.first + span.len ≤ length text.now }
     ensures { (front : List Lexeme) → Reached text.now (span.first + span.len) front
@@ -63,7 +65,7 @@ fn stopped(alloc: Global, text: &[u8], span: Span) -> PlacedFault
     }
 }
 
-/// Takes a lexeme.
+/// Parses one lexeme.
 #[inline(always)]
 fn take(
     nodes: &mut Nodes,
@@ -78,7 +80,7 @@ fn take(
     step(nodes, opens, stage, place, &lexeme.kind)
 }
 
-/// The nodes of the literal that ends here, or none where none does.
+/// Returns the nodes of the literal that ends here, or `None` if no literal can end here.
 fn ended(nodes: Nodes, opens: Opens, stage: Stage) -> Result<Option<Nodes>, Memory>
     ensures { IfOk result (λ tree. tree ≡ end_code nodes opens stage) }
 {
@@ -91,7 +93,7 @@ fn ended(nodes: Nodes, opens: Opens, stage: Stage) -> Result<Option<Nodes>, Memo
     }
 }
 
-/// The nodes of a text that is not blank, with the places of its lexemes.
+/// Parses a text that is not blank, and appends the offsets of its lexemes to `places`.
 fn read_at(alloc: Global, text: &[u8], places: &mut Vec<u32>) -> Result<Option<Nodes>, PlacedFault>
     requires empty { places.old.items ≡ [] }
     requires short { length text.now < 2 ^ 32 }
@@ -129,10 +131,10 @@ fn read_at(alloc: Global, text: &[u8], places: &mut Vec<u32>) -> Result<Option<N
     }
 }
 
-/// The nodes of the literal that a text is, or none of a blank text.
+/// Parses the text of a literal. Returns `None` if the text is blank.
 pub fn read_placed_tree(alloc: Global, text: &[u8]) -> Result<Option<Placed>, PlacedFault>
-    // The places are those of the text's lexemes, and the nodes those of a literal that these
-    // spell; or the text has no lexemes; or it has the fault.
+    // The offsets are those of the text's lexemes, and the nodes are those of the literal with
+    // these lexemes. Otherwise the text has no lexemes, or it has the returned error.
     ensures { ReadsPlaced text.now result }
 {
     if text.len() >= 1 << 32 {

@@ -1,4 +1,4 @@
-//! A literal's nodes from its lexemes.
+//! The parser for the lexemes of a literal.
 
 ghost use Rattle.std.specs.Prelude.{◌≡◌, ℕ, IfOk, IfErr};
 ghost use Rattle.om_grammar.specs.Refusals.{IsSyntax};
@@ -14,7 +14,7 @@ use crate::step::{end, step};
 use om_lex::lexeme::Lexeme;
 use std::alloc::Global;
 
-/// The nodes, or the fault.
+/// Parses a literal from its lexemes.
 fn read(alloc: Global, lexemes: &[Lexeme]) -> Result<Nodes, TreeFault>
     ensures tree { IfOk result (IsTreeOf lexemes.now) }
     ensures fault { IfErr result (IsTreeFault lexemes.now) }
@@ -35,14 +35,15 @@ fn read(alloc: Global, lexemes: &[Lexeme]) -> Result<Nodes, TreeFault>
     }
 }
 
-/// The nodes of the literal that these lexemes are, or the first place at which no literal goes on.
+/// Parses a literal from its lexemes and returns its nodes. A syntax error carries the index of the
+/// first lexeme at which no literal continues.
 pub fn read_literal_tree(alloc: Global, lexemes: &[Lexeme]) -> Result<Nodes, TreeFault>
-    // The nodes are those of a literal that the lexemes spell, or the fault is theirs.
+    // The nodes are those of the literal with these lexemes, or the error is theirs.
     ensures tree { IfOk result (IsTreeOf lexemes.now) }
     ensures fault { IfErr result (IsTreeFault lexemes.now) }
 
-    // A literal's nodes are given, and so is the place at which none goes on, unless memory runs
-    // out.
+    // If the lexemes are a literal, its nodes are returned. If they have a syntax error, its
+    // position is returned. The exception is that memory runs out.
     ensures literal { (v : Literal) → literal_kinds v ≡ kinds_of lexemes.now
         → GivesTree (literal_nodes 0 v) result }
     ensures syntax { (k : ℕ) → IsSyntax literal_kinds (kinds_of lexemes.now) k

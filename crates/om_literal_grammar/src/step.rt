@@ -1,5 +1,5 @@
-//! What a lexeme does to a literal that is being read. The answer is what was read then, or none
-//! where no literal goes on.
+//! One step of the parser on a lexeme. A step returns the next stage, or `None` if no literal
+//! continues with the lexeme.
 
 ghost use Rattle.std.specs.Prelude.{◌≡◌, ◌++◌, ◌∷◌, [], List, length, Option, Some, None};
 ghost use Rattle.std.specs.Prelude.{if◌then◌else◌, IfOk};
@@ -24,7 +24,7 @@ use crate::open::{Bracket, Open, Opens, Stage};
 use om_lex::lexeme::{Integer, LexemeKind, Suffix, Symbol};
 use om_model::Memory;
 
-/// The number that a lexeme is, where it has no sign and no suffix.
+/// Returns the number of a lexeme, or `None` unless it is an integer without sign and suffix.
 fn number_of(kind: &LexemeKind) -> Option<u64>
     ensures { result ≡ number_of kind.now }
 {
@@ -48,7 +48,7 @@ fn number_of(kind: &LexemeKind) -> Option<u64>
     }
 }
 
-/// The form that a word begins.
+/// Returns the form that begins with this word, or `None` if no literal does.
 fn word_form(word: &[u8]) -> Option<Form>
     ensures { result ≡ word_form word.now }
 {
@@ -63,7 +63,7 @@ fn word_form(word: &[u8]) -> Option<Form>
     }
 }
 
-/// The form that a lexeme begins.
+/// Returns the form that begins with this lexeme, or `None` if no literal does.
 #[inline(always)]
 fn form_of(kind: &LexemeKind) -> Option<Form>
     ensures { result ≡ form_of kind.now }
@@ -85,7 +85,7 @@ fn form_of(kind: &LexemeKind) -> Option<Form>
     }
 }
 
-/// Adds a node, and answers its number.
+/// Appends a node and returns its index.
 #[inline(always)]
 fn add(nodes: &mut Nodes, node: Node) -> Result<usize, Memory>
     ensures number { IfOk result (λ n. n ≡ length nodes.old) }
@@ -96,7 +96,7 @@ fn add(nodes: &mut Nodes, node: Node) -> Result<usize, Memory>
     Ok(number)
 }
 
-/// One more, up to the greatest number.
+/// Returns `n` plus one, saturating at the greatest number.
 #[inline(always)]
 fn next_number(n: usize) -> usize
     ensures { result ≡ next_number n }
@@ -104,7 +104,7 @@ fn next_number(n: usize) -> usize
     if n < usize::MAX { n + 1 } else { n }
 }
 
-/// The node with one part more.
+/// Returns the node with one more part.
 #[inline(always)]
 fn with_part(node: Node) -> Node
     ensures { result ≡ with_part node }
@@ -117,7 +117,7 @@ fn with_part(node: Node) -> Node
     }
 }
 
-/// The node in another form.
+/// Returns the node with another form.
 #[inline(always)]
 fn with_form(form: Form, node: Node) -> Node
     ensures { result ≡ with_form form node }
@@ -130,7 +130,7 @@ fn with_form(form: Form, node: Node) -> Node
     }
 }
 
-/// What comes after a name's first lexeme.
+/// Returns the stage after the first lexeme of a name.
 #[inline(always)]
 fn head_stage(kind: &LexemeKind, index: usize, node: Node) -> Stage
     ensures { result ≡ head_stage kind.now index node }
@@ -141,7 +141,7 @@ fn head_stage(kind: &LexemeKind, index: usize, node: Node) -> Stage
     }
 }
 
-/// Opens what the last node begins.
+/// Opens the bracket that the last node begins.
 #[inline(always)]
 fn enter(
     opens: &mut Opens,
@@ -177,7 +177,7 @@ fn enter(
     }
 }
 
-/// Begins a literal behind its label, if it has one.
+/// Parses the first lexeme of a literal after its label, if it has one.
 #[inline(always)]
 fn begin_plain(
     nodes: &mut Nodes,
@@ -223,7 +223,7 @@ fn is_empty_array(bracket: Bracket, parts: usize) -> bool
     }
 }
 
-/// Parentheses that close without a part.
+/// Closes parentheses without parts.
 fn close_unit(nodes: &mut Nodes, opens: &mut Opens) -> Result<Option<Stage>, Memory>
     ensures { Steps result nodes.new opens.new (close_unit_code nodes.old opens.old) }
 {
@@ -239,7 +239,7 @@ fn close_unit(nodes: &mut Nodes, opens: &mut Opens) -> Result<Option<Stage>, Mem
     }
 }
 
-/// An array that closes without a part.
+/// Closes an array without parts.
 fn close_empty(nodes: &mut Nodes, opens: &mut Opens) -> Result<Option<Stage>, Memory>
     ensures { Steps result nodes.new opens.new (close_empty_code nodes.old opens.old) }
 {
@@ -255,7 +255,7 @@ fn close_empty(nodes: &mut Nodes, opens: &mut Opens) -> Result<Option<Stage>, Me
     }
 }
 
-/// Begins a literal at lexeme `place`.
+/// Parses lexeme `place` as the first one of a literal.
 #[inline(always)]
 fn begin(
     nodes: &mut Nodes,
@@ -274,7 +274,7 @@ fn begin(
     }
 }
 
-/// A part more is due.
+/// Returns the stage in which one more part must follow.
 #[inline(always)]
 fn next(nodes: &mut Nodes, opens: &mut Opens, outer: Open) -> Result<Option<Stage>, Memory>
     ensures { Steps result nodes.new opens.new (next_code nodes.old opens.old outer) }
@@ -287,7 +287,7 @@ fn next(nodes: &mut Nodes, opens: &mut Opens, outer: Open) -> Result<Option<Stag
     Ok(Some(Stage::Due))
 }
 
-/// The last part was read.
+/// Closes a bracket after its last part.
 #[inline(always)]
 fn shut(nodes: &mut Nodes, opens: &mut Opens, outer: Open) -> Result<Option<Stage>, Memory>
     ensures { Steps result nodes.new opens.new (shut_code nodes.old opens.old outer) }
@@ -296,7 +296,7 @@ fn shut(nodes: &mut Nodes, opens: &mut Opens, outer: Open) -> Result<Option<Stag
     Ok(Some(Stage::Whole))
 }
 
-/// The last part of a tuple was read.
+/// Closes a tuple after its last part. Returns `None` if the tuple has only one part.
 #[inline(always)]
 fn shut_tuple(nodes: &mut Nodes, opens: &mut Opens, outer: Open) -> Result<Option<Stage>, Memory>
     ensures { Steps result nodes.new opens.new
@@ -380,7 +380,7 @@ fn close_fields(
     }
 }
 
-/// What comes after a whole literal.
+/// Parses the lexeme after a complete literal.
 #[inline(always)]
 fn close(nodes: &mut Nodes, opens: &mut Opens, kind: &LexemeKind) -> Result<Option<Stage>, Memory>
     ensures { Steps result nodes.new opens.new
@@ -397,7 +397,7 @@ fn close(nodes: &mut Nodes, opens: &mut Opens, kind: &LexemeKind) -> Result<Opti
     }
 }
 
-/// What comes after `#` and a number.
+/// Parses the lexeme after `#` and a number.
 fn after_number(
     nodes: &mut Nodes,
     opens: &mut Opens,
@@ -417,7 +417,7 @@ fn after_number(
     }
 }
 
-/// The use of a label.
+/// Returns the node of a reference to a label.
 fn again(first: usize, number: u64) -> Node
     ensures { result ≡ bare_node forms.Again (Some number) first }
 {
@@ -429,7 +429,7 @@ fn again(first: usize, number: u64) -> Node
     }
 }
 
-/// What comes after a name.
+/// Parses the lexeme after a name.
 #[inline(always)]
 fn after_head(
     nodes: &mut Nodes,
@@ -458,7 +458,7 @@ fn after_head(
     }
 }
 
-/// What comes after a field's name.
+/// Parses the lexeme after a field's name.
 #[inline(always)]
 fn take_equals(
     nodes: &mut Nodes,
@@ -483,7 +483,7 @@ fn take_equals(
     }
 }
 
-/// What comes after `#`.
+/// Parses the lexeme after `#`.
 fn take_number(
     nodes: &mut Nodes,
     opens: &mut Opens,
@@ -499,7 +499,7 @@ fn take_number(
     }
 }
 
-/// What comes after `[`.
+/// Parses the lexeme after `[`.
 #[inline(always)]
 fn after_bracket(
     nodes: &mut Nodes,
@@ -517,7 +517,7 @@ fn after_bracket(
     }
 }
 
-/// What comes before a field's name.
+/// Parses the lexeme at the position of a field's name.
 #[inline(always)]
 fn take_name(
     nodes: &mut Nodes,
@@ -535,7 +535,7 @@ fn take_name(
     }
 }
 
-/// Lexeme number `place`.
+/// Parses the lexeme with index `place`.
 #[inline(always)]
 pub fn step(
     nodes: &mut Nodes,
@@ -560,7 +560,7 @@ pub fn step(
     }
 }
 
-/// Whether a literal ends here; its nodes are whole then.
+/// Returns true if a literal can end here. In that case the nodes are complete.
 pub fn end(nodes: &mut Nodes, opens: &mut Opens, stage: Stage) -> Result<bool, Memory>
     ensures { IfOk result
         (λ ends. end_code nodes.old opens.old stage

@@ -1,4 +1,4 @@
--- What a block is at its shape: which of its values are shown, at which types, and how its row is read.
+-- The values of a block that are printed at its shape, their types, and the reading of its parts.
 use Rattle.std.proofs.Common.{◌≡◌, ℕ, ℤ, suc, ◌<◌, ◌≤◌, Bool, true, false, ◌&&◌, cond, eqb, List, [], ◌∷◌, ◌++◌, length, Option, Some, None, refl, sym, ap, subst, ◌∙◌, arith, inl, inr, ⊎_elim}
 use Rattle.std.specs.Prelude.{IsSome, IsSomeAnd, slice_get, find, unwrap_or, option_map, option_and_then, codes, replicate}
 use Rattle.std.specs.List.{position}
@@ -37,7 +37,7 @@ texts_many [] (v ∷ vs) are = absurd are
 texts_many (t ∷ ts) [] are = absurd are
 texts_many (t ∷ ts) (v ∷ vs) are = omega (arith, texts_many ts vs are.1)
 
--- a row of one text at least
+-- There is at least one text.
 by_first : (P : List (List ℕ) → List Literal → Type 0) → ((text : List ℕ) (v : Literal) (texts : List (List ℕ)) (vs : List Literal) → IsText text v → AreTexts texts vs → P (text ∷ texts) (v ∷ vs))
     → (texts : List (List ℕ)) (vs : List Literal) → AreTexts texts vs → 0 < length vs → P texts vs
 by_first P some [] [] are many = absurd (omega arith)
@@ -46,7 +46,7 @@ by_first P some (t ∷ ts) [] are many = absurd are
 by_first P some (t ∷ ts) (v ∷ vs) are many = some t v ts vs are.0 are.1
 
 module _ {T : Type 0} (shape : T → ShapeOf T) (names : T → Names) (t : T) where
-  -- all values are shown
+  -- All values are printed as parts.
   whole_block : (s : ShapeOf T) (nm : Names) (tag : ℕ) (values : List Val) (ts : List T) → block_fields s tag values ≡ Some (numbered_from 0 ts) → length ts ≡ length values
       → ReadsRow shape names t s nm tag [] ts (frame_of s nm tag values) → IsBlockAt shape names t s nm tag values
   whole_block s nm tag values ts needs many row = record { skip = []; rest = values; values_are = refl; skips = inl refl; ts = ts; needs = needs; many = many; row = row }
@@ -207,7 +207,7 @@ module _ {T : Type 0} (shape : T → ShapeOf T) (names : T → Names) (t : T) wh
   tags_block tags nm tag values range names_are false test fits has = absurd (false≢true fits)
   tags_block tags nm tag values range names_are true test fits has = subst (λ n. IsBlockAt shape names t (shapes.Poly tags) nm n values) (sym (eqb-true tag 0 test)) (tagged_block tags nm values range names_are fits has)
 
-  -- ---- all
+  -- ---- all shapes
 
   pub block_at : (s : ShapeOf T) (nm : Names) (tag : ℕ) (values : List Val) → IsReadable s nm → tag ≤ 243 → 0 < length values → IsInteger (tag_of_values values)
       → IsSome (block_fields s tag values) → HasBlockNames s nm tag values → IsBlockAt shape names t s nm tag values

@@ -1,4 +1,4 @@
--- The text of a block is a plain literal of its parts' literals.
+-- The text of a block is a plain literal with the literals of its parts.
 use Rattle.std.proofs.Common.{◌≡◌, ℕ, zero, suc, ◌+◌, List, [], ◌∷◌, ◌++◌, length, Option, Ok, refl, sym, ap, subst, ◌∙◌, arith, append_assoc}
 use Rattle.std.specs.Prelude.{slice_get, unwrap_or, codes, replicate}
 use Rattle.om_model.specs.declared.value.Val.{Val}
@@ -39,7 +39,7 @@ pub same_types : {T : Type 0} (u : T) (n i : ℕ) → TypesAre (λ i. u) i (repl
 same_types u zero i = tt
 same_types u (suc n) i = (refl, same_types u n (suc i))
 
--- ---- after a parenthesis no star stands
+-- ---- no star follows an opening parenthesis
 
 no_star : (text later : List ℕ) → Begins text → NoStar (text ++ later)
 no_star text later begins = subst (λ t. NoStar (t ++ later)) (sym begins.is) begins.no_star
@@ -54,7 +54,7 @@ row_begins opening between closing text texts b = record {
 }
 
 module _ {T : Type 0} (shape : T → ShapeOf T) (names : T → Names) (labels : List ℕ) where
-  -- the parts of a row of literals are read
+  -- The parts of a list of literals are read.
   row_inside : (types : ℕ → T) (v : Literal) (vs : List Literal) (separator : Symbol) (fs : Forest) (c : ℕ) → AreTrees fs → ReadForest shape names labels types 0 fs c (v ∷ vs)
       → let l = listing no_parts v vs in (k j : ℕ)
       → and_next c types (parts_read shape names separator k l.0 c (before c labels) types) (literal_read shape names j l.1) ≡ Ok (reading (roots fs c) (all_objects fs c) (before (c + all_made fs) labels))
@@ -116,7 +116,7 @@ module _ {T : Type 0} (shape : T → ShapeOf T) (names : T → Names) (labels : 
         inside_is = λ fs c trees reads k. row_inside types v vs symbols.Semicolon fs c trees reads _ _;
       }
 
-  -- two parts or more, in parentheses
+  -- Two or more parts in parentheses.
   pub tuple_row : (s : ShapeOf T) (nm : Names) (t : T) (ts : List T) (text other : List ℕ) (texts : List (List ℕ)) (v w : Literal) (vs : List Literal) (types : ℕ → T)
       → IsText text v → AreTexts (other ∷ texts) (w ∷ vs) → TypesAre types 0 ts
       → ((ps : Parts) (u x : Literal) → count ps ≡ length vs → start_at t s nm (tuple ps u x) ≡ block 0 [] types)

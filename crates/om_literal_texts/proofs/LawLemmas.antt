@@ -1,4 +1,4 @@
--- So it is at any types whose names are read back.
+-- The law for any types whose names can be read back.
 use Rattle.om_types.specs.declared.names.Names.{Names}
 use Rattle.om_types.specs.declared.shape.ShapeOf.{ShapeOf}
 use Rattle.om_literal_texts.specs.Laws.{ValuesAreLiterals}

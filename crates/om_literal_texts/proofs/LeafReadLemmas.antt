@@ -1,4 +1,4 @@
--- The text of a value without parts is a plain literal that is this value.
+-- The text of a value without parts is a plain literal with this value.
 use Rattle.std.proofs.Common.{◌≡◌, ◌≢◌, ℕ, ℤ, pos, negsuc, zero, suc, ◌<◌, ◌≤◌, ◌^◌, ◌⊎◌, true, false, eqb, List, [], ◌∷◌, ◌++◌, Option, Some, None, refl, sym, ap, subst, ◌∙◌, arith, inl, inr}
 use Rattle.std.specs.Prelude.{slice_get, find, IsTrue, IsSome, unwrap_or, option_map, codes}
 use Rattle.std.specs.Fmt.{signed_decimal}
@@ -164,7 +164,7 @@ module _ {T : Type 0} (t : T) (names : Names) where
   int_plain shapes.Anything z are range fits named = absurd are
   int_plain s z are range fits named = absurd (false≢true fits)
 
-  -- `[||]` is the atom 0
+  -- The literal `[||]` is the atom 0.
   empty_plain : (s : ShapeOf T) (tag : ℕ) → start_at t s names empty_array ≡ small (vals.Atom 0) → eqb tag 0 ≡ true → IsPlain t s names (codes "[||]") (small (vals.Atom tag))
   empty_plain s tag starts is = record {
     plain = empty_array;

@@ -1,4 +1,4 @@
--- The text of an object without values in it is a plain literal that is this object.
+-- The text of an object without values in it is a plain literal with this object.
 use Rattle.std.proofs.Common.{◌≡◌, ℕ, ℤ, suc, ◌+◌, ◌<◌, ◌≤◌, ◌^◌, Bool, true, false, List, [], ◌∷◌, ◌++◌, length, Some, None, refl, sym, ap, subst, ◌∙◌, arith, append_assoc}
 use Rattle.std.specs.Prelude.{All, IsTrue, IsSome, map, codes}
 use Rattle.std.specs.Fmt.{signed_decimal}
@@ -36,7 +36,7 @@ use Rattle.om_literal_texts.specs.Readable.{AreFieldNames, IsReadable}
 use Rattle.om_literal_texts.proofs.LeafReadLemmas.{in_bits, in_range}
 use Rattle.om_literal_texts.proofs.RowLexLemmas.{parts_lexed, rows_lexed}
 
--- ---- rows: how many, and their names
+-- ---- lists: their length and their names
 
 pub listing_count : (vs : List Literal) (ps : Parts) (v : Literal) → count (listing ps v vs).0 ≡ count ps + length vs
 listing_count [] ps v = omega arith

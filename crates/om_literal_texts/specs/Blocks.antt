@@ -1,4 +1,4 @@
--- A text that is a block's: a plain literal whose parts are literals, each read as a tree.
+-- The text of a block: a plain literal whose parts are literals, each read as a tree.
 use Rattle.std.specs.Prelude.{ℕ, ℤ, ◌+◌, ◌≡◌, ◌⊎◌, List, [], ◌∷◌, ◌++◌, length, Ok, Some}
 use Rattle.om_model.specs.declared.value.Val.{Val}
 use Rattle.om_model.specs.declared.value.Val.TheVariants as vals
@@ -16,7 +16,8 @@ use Rattle.om_literal_texts.specs.Listing.{AreTexts}
 use Rattle.om_literal_texts.specs.Numbered.{before}
 
 module _ {T : Type 0} (shape : T → ShapeOf T) (names : T → Names) (labels : List ℕ) where
-  -- the whole text is a plain literal that starts this block, and inside it the parts are read
+  -- The whole text is a plain literal that starts this block, and its parts are read as the trees
+  -- of a forest.
   pub record IsRow (s : ShapeOf T) (nm : Names) (t : T) (tag : ℕ) (skip : List Val) (ts : List T)
       (text : List ℕ) (literals : List Literal) : Type 0 where
     pub plain : Plain
@@ -31,7 +32,7 @@ module _ {T : Type 0} (shape : T → ShapeOf T) (names : T → Names) (labels : 
         ≡ Ok (reading (roots fs c) (all_objects fs c) (before (c + all_made fs) labels))
 
 module _ {T : Type 0} (shape : T → ShapeOf T) (names : T → Names) (t : T) where
-  -- whatever the texts of the parts are, and the literals that they are
+  -- The frame with any texts of the parts is such a literal, if these texts are literals.
   abbrev pub ReadsRow : ShapeOf T → Names → ℕ → List Val → List T → Frame → Type 0
   ReadsRow s nm tag skip ts frame =
       (labels : List ℕ) (texts : List (List ℕ)) (literals : List Literal)
@@ -39,8 +40,8 @@ module _ {T : Type 0} (shape : T → ShapeOf T) (names : T → Names) (t : T) wh
       → IsRow shape names labels s nm t tag skip ts
       (frame.opening ++ (row_from frame 0 texts ++ frame.closing)) literals
 
-  -- a block's values at a type: those that the frame shows, if any, and those that are parts, with
-  -- types
+  -- The values of a block at a type. `skip` has the values that the frame prints, if any. `rest`
+  -- has the values of the parts, which have types.
   pub record IsBlockAt (s : ShapeOf T) (nm : Names) (tag : ℕ) (values : List Val) : Type 0 where
     pub skip : List Val
     pub rest : List Val

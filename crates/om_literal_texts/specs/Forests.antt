@@ -1,4 +1,4 @@
--- Literals that are the trees of a forest, with their objects in their order.
+-- Literals that are the trees of a forest, with the objects in their order.
 use Rattle.std.specs.Prelude.{ℕ, suc, ◌+◌, ◌≡◌, List, [], ◌∷◌, Ok}
 use Rattle.om_model.specs.declared.value.Val.{Val}
 use Rattle.om_model.specs.declared.value.Obj.{Obj}
@@ -9,19 +9,19 @@ use Rattle.om_literal_grammar.specs.Literal.{Literal}
 use Rattle.om_literal.specs.Reading.{reading, literal_read}
 use Rattle.om_literal_texts.specs.Numbered.{before}
 
--- the types of parts, from number i on
+-- The types of the parts, beginning at part i.
 abbrev pub TypesAre : {T : Type 0} → (ℕ → T) → ℕ → List T → Type 0
 TypesAre types i [] = Unit {0}
 TypesAre types i (t ∷ ts) = (types i ≡ t) × TypesAre types (suc i) ts
 
 module _ {T : Type 0} (shape : T → ShapeOf T) (names : T → Names) where
-  -- the literal is this value at the type, after c objects, and d are there then
+  -- The literal is read as this value at the type. Before it there are c objects, after it d.
   abbrev pub Reads : List ℕ → Literal → Val → List Obj → ℕ → ℕ → T → Type 0
   Reads labels v value objects c d t =
       (k : ℕ) → literal_read shape names k v c (before c labels) t
       ≡ Ok (reading (value ∷ []) objects (before d labels))
 
-  -- each literal is a tree of the forest
+  -- Each literal is read as a tree of the forest.
   abbrev pub ReadForest : List ℕ → (ℕ → T) → ℕ → Forest → ℕ → List Literal → Type 0
   ReadForest labels types i none c [] = Unit {0}
   ReadForest labels types i none c (v ∷ vs) = ⊥

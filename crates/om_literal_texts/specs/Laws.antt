@@ -1,4 +1,4 @@
--- The text of each value at a type is a literal that begins as the value.
+-- The text of each value at a type is a literal that starts as the value.
 use Rattle.std.specs.Prelude.{ℕ, ℤ, ◌<◌, ◌≤◌, IsTrue, IsSome, List, length, codes}
 use Rattle.om_model.specs.Graph.{IsInteger}
 use Rattle.om_model.specs.declared.value.Val.{Val}
@@ -15,7 +15,8 @@ use Rattle.om_literal_texts.specs.Blocks.{IsBlockAt}
 use Rattle.om_literal_texts.specs.Plain.{IsPlain}
 use Rattle.om_literal_texts.specs.Readable.{IsReadable}
 
--- where what fits a type has its names there, and these are read back
+-- The law for any shapes and names. It requires that the value fits the type, that its name exists
+-- there, and that the names can be read back.
 pub record ValuesAreLiterals {T : Type 0} (shape : T → ShapeOf T) (names : T → Names) : Type 0 where
   pub integers : (t : T) (z : ℤ) → IsReadable (shape t) (names t) → IsInteger z
       → IsTrue (fits_int (shape t) z) → HasIntName (shape t) (names t) z

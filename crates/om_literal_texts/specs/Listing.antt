@@ -1,22 +1,22 @@
--- Literals one after another, as the grammar groups them: the last one stands alone.
+-- Lists of literals as the grammar groups them: the last literal is separate.
 use Rattle.std.specs.Prelude.{ℕ, List, [], ◌∷◌}
 use Rattle.om_grammar.specs.Grammar.{Name}
 use Rattle.om_literal_grammar.specs.Literal.{Literal, Parts, more_parts, Rows, more_rows}
 use Rattle.om_literal_grammar.specs.Literal.{literal_kinds}
 use Rattle.om_lexed.specs.Lexed.{Ends, IsLexed, Begins}
 
--- these after those, of which v is the last one
+-- Appends literals to a group whose last literal is v.
 abbrev pub listing : Parts → Literal → List Literal → Parts × Literal
 listing ps v [] = (ps, v)
 listing ps v (w ∷ ws) = listing (more_parts ps v) w ws
 
--- the same with a name for each
+-- Appends literals with field names.
 abbrev pub rowing : Rows → Name → Literal → List Name → List Literal → Rows × Name × Literal
 rowing rs x v [] ws = (rs, x, v)
 rowing rs x v (y ∷ ys) [] = (rs, x, v)
 rowing rs x v (y ∷ ys) (w ∷ ws) = rowing (more_rows rs x v) y w ys ws
 
--- the text is that of a literal
+-- The text is that of the literal v.
 pub record IsText (text : List ℕ) (v : Literal) : Type 0 where
   pub lexed : IsLexed Ends text (literal_kinds v)
   pub begins : Begins text

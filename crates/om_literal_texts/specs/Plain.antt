@@ -6,7 +6,7 @@ use Rattle.om_literal_grammar.specs.Literal.{Plain, plain_kinds}
 use Rattle.om_literal.specs.Starts.{Start, start_at}
 use Rattle.om_lexed.specs.Lexed.{Ends, IsLexed, Begins}
 
--- the text is a plain literal, and this is how it starts at the type
+-- The text is a plain literal with this start at the type.
 pub record IsPlain {T : Type 0} (t : T) (s : ShapeOf T) (names : Names) (text : List ℕ)
     (start : Start T) : Type 0 where
   pub plain : Plain

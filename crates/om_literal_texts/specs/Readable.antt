@@ -1,5 +1,5 @@
--- What the names of a type must be like so that a text by them is read back: each is a lexeme, and
--- stands for one thing. What is hidden is not read back.
+-- The condition under which texts with the names of a type can be read back: each name is a lexeme
+-- and has one meaning. A value of the wildcard type `_` cannot be read back.
 use Rattle.std.specs.Prelude.{ℕ, ℤ, ◌≡◌, ◌≤◌, ◌⊎◌, List, [], length, slice_get, find, Some}
 use Rattle.std.specs.Prelude.{Contains}
 use Rattle.std.specs.List.{position, AllByRecursion}
@@ -21,7 +21,7 @@ use Rattle.om_types.specs.Ty.{Ty}
 use Rattle.om_lexed.specs.Lexed.{Ends, IsLexed, Begins}
 use Rattle.om_literal.specs.Starts.{constructor_name, is_constr, tag_named}
 
--- the name is written as a head of a literal is
+-- The name is written like the head of a literal.
 pub record IsHead (name : List ℕ) : Type 0 where
   pub head : Head
   pub lexed : IsLexed Ends name (head_kinds head)
@@ -65,7 +65,7 @@ module _ {T : Type 0} where
   IsReadable (shapes.ArrayOfAnything t) names = ⊥
   IsReadable shape names = Unit {0}
 
--- so it is at each of these types
+-- The names of each of these types can be read back.
 abbrev pub AreReadable : List Decl → List Ty → Type 0
 AreReadable decls types =
     (u : Ty) → Contains types u → IsReadable (shape decls u) (names_of decls u)

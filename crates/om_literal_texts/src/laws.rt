@@ -1,4 +1,4 @@
-//! The law, as a contract.
+//! The law, stated as a contract.
 
 ghost use Rattle.std.specs.Prelude.{List};
 ghost use Rattle.om_types.specs.declared.decl.Decl.{Decl};
@@ -8,8 +8,9 @@ ghost use Rattle.om_literal.specs.LiteralAnswers.{shape_in, names_in};
 ghost use Rattle.om_type_table.specs.declared.tabled.Tabled.{Tabled};
 ghost use Rattle.om_literal_texts.specs.Laws.{ValuesAreLiterals};
 
-/// The text of a value at a type whose names are read back is a literal that begins as the value;
-/// at a number of a table too.
+/// Let the names of a type be readable, so that texts with them can be read back. Then the text of
+/// each value of the type is a literal that starts as the value. This holds for declared types and
+/// for the type indices of a table.
 pub fn values_are_literals()
     ensures types { (decls : List Decl) → ValuesAreLiterals (shape decls) (names_of decls) }
     ensures numbers { (table : Tabled) → ValuesAreLiterals (shape_in table) (names_in table) }

@@ -1,6 +1,7 @@
-//! The text of each value at a type is a literal that begins as the value: of integers, atoms and
-//! objects without parts the whole literal, of a block one whose parts are read, where their texts
-//! are literals. The function does nothing: what it ensures is the law.
+//! Proves that the printed text of each value at a type is a literal that starts as the value. For
+//! integers, atoms and objects without parts, this determines the whole literal. For a block, the
+//! parts are read if their texts are literals. The lemma function `values_are_literals` states the
+//! law in its contract and does nothing.
 #![tactic(auto)]
 
 mod laws;

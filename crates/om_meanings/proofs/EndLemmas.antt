@@ -1,4 +1,4 @@
--- Bytes end with a reply of a status exactly where they end with that.
+-- Bytes end with a reply that has a status if and only if `EndWith` holds for them.
 use Rattle.std.proofs.Common.{◌≡◌, ◌⊎◌, ℕ, List, [], length, inl, inr, refl, sym, ap, ◌∙◌, subst, arith}
 use Rattle.om_model.specs.Bytes.{AreBytes}
 use Rattle.om_model.specs.declared.refusal.ReadRefusal.{ReadRefusal}
@@ -21,13 +21,14 @@ use Rattle.om_meanings.specs.Values.{EndWith}
 use Rattle.om_meanings.proofs.ItemLemmas.{AreSaid, says_first, say_first}
 use Rattle.om_meanings.proofs.SaidLemmas.{stop_status, few_compared, pass_of, pass_said, pass_more, finish_of, finish_said}
 
--- some bytes of a value are not none
+-- A truncated value has at least one byte.
 cut_some : (limit n : ℕ) (rest : List ℕ) → IsTail limit rest (cut n) → rest ≡ [] → ⊥
 cut_some limit n rest (some, size, front) none =
     let zero : length rest ≡ 0 = ap length none in omega (arith, some, size)
 
 module _ {D T E : Type 0} (language : Language D T E) where
-  -- where the command does not stop after values of which something is said, one more may come
+  -- If the command does not end the run after values with an output, then one more value may
+  -- follow.
   may_come :
       (work : Work T E) (limit : ℕ) (trees : List Tree) (said : List Said) (rest : List ℕ)
       → AreSaid language work [] trees said → (rest ≡ [] → ⊥)
@@ -41,7 +42,7 @@ module _ {D T E : Type 0} (language : Language D T E) where
       let not : length trees ≡ 2 → ⊥ = λ two. none not_two_values (two, some, refl) in
       omega (arith, most, not)
 
-  -- ---- an end is one of the table
+  -- ---- an end is a row of the table
 
   end_row :
       (a : Task T E) (bytes : List ℕ) (trees : List Tree) (said : List Said) (rest : List ℕ)
@@ -88,9 +89,9 @@ module _ {D T E : Type 0} (language : Language D T E) where
         none stop at =
             h.goes_on.no_stop stop (record { trees = h.ends.trees; are = h.ends.are; why = inl at })
 
-  -- ---- and one of the table is an end
+  -- ---- a row of the table is an end
 
-  -- where the bytes end, or cut a value that may come, the command does not stop
+  -- If the bytes end, or truncate a value that may follow, then the command does not end the run.
   never_stops :
       (work : Work T E) (limit : ℕ) (trees : List Tree) (rest : List ℕ) (end : End) → AreBytes rest
       → IsTail limit rest end → (rest ≡ []) ⊎ MayCome language work (length trees)
@@ -122,7 +123,7 @@ module _ {D T E : Type 0} (language : Language D T E) where
       ends = record { trees = trees; are = refl; end = end; tail = tail; ends = ends };
     }
 
-  -- an end of this status is held
+  -- The bytes have an end with this status.
   abbrev pub HasEnd : Task T E → List ℕ → Status → Type 0
   HasEnd a bytes status =
       (all : Replies) × ((ending_of all).status ≡ status)

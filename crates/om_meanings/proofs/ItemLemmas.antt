@@ -1,4 +1,4 @@
--- Values at the front of bytes, and what is said of them, are items and what is said of those.
+-- The first values of the bytes and their outputs correspond to items and their outputs.
 use Rattle.std.proofs.Common.{◌≡◌, ℕ, suc, ◌+◌, List, [], ◌∷◌, ◌++◌, length, refl, sym, ap, ◌∙◌, subst, length-append, arith}
 use Rattle.std.specs.Prelude.{◌↔◌}
 use Rattle.om_format.specs.Stream.{SpellAll}
@@ -9,7 +9,7 @@ use Rattle.om_commands.specs.Tasks.{items_of, IsFirstValue, commands}
 use Rattle.om_commands.proofs.FrontLemmas.{cut_of, spelled_of}
 use Rattle.om_commands.proofs.ItemLemmas.{items_once, items_more}
 
--- one item more
+-- One more item.
 pub one_more : (before : List Item) (item : Item) (k : ℕ)
     → length before ≡ k → length (before ++ item ∷ []) ≡ suc k
 one_more before item k at =
@@ -17,14 +17,14 @@ one_more before item k at =
     length-append before (item ∷ []) in
     omega arith
 
--- one value more
+-- One more value.
 items_on : (before : List Item) (earlier : List Tree) → before ≡ items_of earlier → (tree : Tree)
     → before ++ value tree ∷ [] ≡ items_of (earlier ++ tree ∷ [])
 items_on before earlier at tree =
     ap (λ items. items ++ value tree ∷ []) at ∙ sym (items_more earlier tree)
 
 module _ {D T E : Type 0} (language : Language D T E) where
-  -- this is said of the values that come after these
+  -- These are the outputs for the values that follow the earlier ones.
   abbrev pub AreSaid : Work T E → List Tree → List Tree → List Said → Type 0
   AreSaid work earlier [] [] = Unit {0}
   AreSaid work earlier [] (said ∷ more) = ⊥
@@ -33,7 +33,7 @@ module _ {D T E : Type 0} (language : Language D T E) where
       Says language work earlier tree said × AreSaid work (earlier ++ tree ∷ []) trees more
 
   module _ (a : Task T E) where
-    -- the next item is a value
+    -- The next item is a value.
     first : (items : List Item) (bytes : List ℕ) (item : Item) (more : List ℕ)
         → (commands language).IsFirst a items bytes item more
         ↔ IsFirstValue language a.limit bytes item more
@@ -69,7 +69,7 @@ module _ {D T E : Type 0} (language : Language D T E) where
               said more,
         )
 
-    -- the first values, as items
+    -- The first values, as items.
     pub says_first :
         (bytes : List ℕ) (trees : List Tree) (said : List Said) (rest : List ℕ)
         → SpellAll a.limit bytes trees rest → AreSaid a.work [] trees said
@@ -79,7 +79,7 @@ module _ {D T E : Type 0} (language : Language D T E) where
       all_say = say_of [] [] refl trees said say;
     }
 
-    -- the first items, as values
+    -- The first items, as values.
     pub say_first :
         (bytes : List ℕ) (items : List Item) (said : List Said) (rest : List ℕ)
         → SaysFirst (commands language) a bytes items said rest

@@ -1,5 +1,5 @@
--- What is said of values, of each by its number: from it what holds of the values, and back; and at
--- commands whose items are values, what is said of the items.
+-- Outputs for values that depend on their numbers: what follows for the values, and the converse.
+-- If items are values, the same for the outputs of items.
 use Rattle.std.proofs.Common.{◌≡◌, ℕ, suc, Bool, true, false, List, [], ◌∷◌, ◌++◌, length, inl, inr, refl, sym, ap, ◌∙◌, subst}
 use Rattle.std.specs.Prelude.{◌&&◌, ◌↔◌}
 use Rattle.std.proofs.lemmas.Bool.{and_parts}
@@ -13,7 +13,7 @@ use Rattle.om_meanings.specs.Numbered.{HoldsOfAll, HoldsOfSome}
 use Rattle.om_meanings.proofs.ItemLemmas.{one_more}
 use Rattle.om_meanings.proofs.SaidLemmas.{and_false}
 
--- this is said of the values, the first of which has the number
+-- These are the outputs for the values, the first of which has the number.
 abbrev pub AreSaid : (ℕ → Tree → Said → Type 0) → ℕ → List Tree → List Said → Type 0
 AreSaid SaidOf number [] [] = Unit {0}
 AreSaid SaidOf number [] (said ∷ more) = ⊥
@@ -21,11 +21,11 @@ AreSaid SaidOf number (tree ∷ trees) [] = ⊥
 AreSaid SaidOf number (tree ∷ trees) (said ∷ more) =
     SaidOf number tree said × AreSaid SaidOf (suc number) trees more
 
--- something is said of the value, and tells whether nothing is wrong with it
+-- The value has an output, and `well` states whether it is without errors.
 abbrev pub HasSaid : (ℕ → Tree → Said → Type 0) → Bool → ℕ → Tree → Type 0
 HasSaid SaidOf well number tree = (said : Said) × SaidOf number tree said × (said.well ≡ well)
 
--- `Certified` is what holds of a value of which something is said
+-- If a value has an output, then `Certified` holds for it.
 module _ (SaidOf : ℕ → Tree → Said → Type 0) (Certified : Bool → ℕ → Tree → Type 0)
     (holds : (well : Bool) (number : ℕ) (tree : Tree) → HasSaid SaidOf well number tree
     → Certified well number tree) where
@@ -64,7 +64,7 @@ module _ (SaidOf : ℕ → Tree → Said → Type 0) (Certified : Bool → ℕ �
         by later false at = inl (holds false k t (s, is, at))
         by later true at = inr (later (ap (λ w. w && all_well said) (sym at) ∙ e))
 
--- and of such values something is said
+-- If `Certified` holds for a value, then the value has an output.
 module _ (SaidOf : ℕ → Tree → Said → Type 0) (Certified : Bool → ℕ → Tree → Type 0)
     (said_of : (well : Bool) (number : ℕ) (tree : Tree) → Certified well number tree
     → HasSaid SaidOf well number tree) where
@@ -138,7 +138,7 @@ module _ {D T E A : Type 0} (language : Language D T E) (limit : ℕ) (c : Comma
     told_of (before ++ value t ∷ []) (suc k) (one_more before (value t) k at) trees said more,
   )
 
-  -- the first values, as items
+  -- The first values, as items.
   pub values_first :
       (bytes : List ℕ) (trees : List Tree) (said : List Said) (rest : List ℕ)
       → SpellAll limit bytes trees rest → AreSaid SaidOf 0 trees said
@@ -148,7 +148,7 @@ module _ {D T E A : Type 0} (language : Language D T E) (limit : ℕ) (c : Comma
     all_say = say_of [] 0 refl trees said say;
   }
 
-  -- the first items, as values
+  -- The first items, as values.
   pub items_first :
       (bytes : List ℕ) (items : List Item) (said : List Said) (rest : List ℕ)
       → SaysFirst c a bytes items said rest

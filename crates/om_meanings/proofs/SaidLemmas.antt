@@ -1,4 +1,5 @@
--- What is said of values, and of their end, by the tables: from it what holds of the values, and back.
+-- Outputs for values and for their end, by the tables: what follows for the values, and the
+-- converse.
 use Rattle.std.proofs.Common.{◌≡◌, ◌+◌, ◌<◌, ◌≤◌, Bool, true, false, List, [], ◌∷◌, ◌++◌, length, Option, Some, None, inl, inr, refl, sym, ap, ◌∙◌, subst, length-append, arith}
 use Rattle.std.specs.Prelude.{◌&&◌, ◌↔◌, IsTrue, if◌then◌else◌}
 use Rattle.std.specs.List.{AllByRecursion}
@@ -14,13 +15,13 @@ use Rattle.om_commands.specs.Tasks.{MayCome}
 use Rattle.om_meanings.specs.Values.{HoldsOfSome, AreTwo, HasLine, HasSomeLine, AreEdited, Pass, Finish}
 use Rattle.om_meanings.proofs.ItemLemmas.{AreSaid}
 
--- ---- whether nothing is wrong
+-- ---- outputs without errors
 
 pub and_false : (b : Bool) → b && false ≡ false
 and_false true = refl
 and_false false = refl
 
--- the status where the run goes to its end
+-- The status if the run reaches its end.
 pub said_status :
     (said : List Said) (last : Reply) (final : Said) (well : Bool) → last ≡ says final
     → all_well said && final.well ≡ well
@@ -29,7 +30,7 @@ said_status said last final well is e =
     ap (λ l. (ending_of (replies said l)).status) is
     ∙ ap (λ w. if w then Well else No) (all_well-snoc said final ∙ e)
 
--- and where it stops
+-- The status if an exit reason ends the run.
 pub stop_status :
     (said : List Said) (last : Reply) (stop : Stop) → last ≡ stops stop
     → (ending_of (replies said last)).status ≡ status_of stop
@@ -44,7 +45,7 @@ two_by P Q by (t ∷ u ∷ []) h = by t u h
 two_by P Q by (t ∷ u ∷ v ∷ trees) h = absurd h
 
 module _ {D T E : Type 0} (language : Language D T E) where
-  -- ---- what holds of values of which this is said
+  -- ---- from outputs to values
 
   quiet :
       (work : Work T E)
@@ -57,7 +58,7 @@ module _ {D T E : Type 0} (language : Language D T E) where
   quiet work each earlier (t ∷ trees) (s ∷ said) (is, more) =
       ap (λ w. w && all_well said) (each earlier t s is) ∙ quiet work each (earlier ++ t ∷ []) trees said more
 
-  -- of no more than two values that are compared something is said
+  -- At most two values to be compared have an output.
   few :
       (earlier trees : List Tree) (said : List Said) → length earlier ≤ 2
       → AreSaid language compares earlier trees said → length earlier + length trees ≤ 2
@@ -123,7 +124,7 @@ module _ {D T E : Type 0} (language : Language D T E) where
   are_edited type script compat earlier (t ∷ trees) (s ∷ said) (is, more) =
       ((s.text, is.0), are_edited type script compat (earlier ++ t ∷ []) trees said more)
 
-  -- values of which something is said pass, where one more may come
+  -- If values have an output and one more may follow, then they satisfy `Pass`.
   pub pass_of :
       (work : Work T E) (trees : List Tree) (said : List Said) → AreSaid language work [] trees said
       → MayCome language work (length trees) → Pass language work trees
@@ -141,7 +142,7 @@ module _ {D T E : Type 0} (language : Language D T E) where
   lines_finish saying type trees said false h e =
       (some_lines saying type [] trees said h, wrong_line saying type [] trees said h e)
 
-  -- where the input ends after such values, its status is one of the table
+  -- If the input ends after such values, then its status is a row of the table.
   pub finish_of :
       (work : Work T E) (trees : List Tree) (said : List Said) (last : Reply)
       → AreSaid language work [] trees said → Finishes language work trees last
@@ -194,7 +195,7 @@ module _ {D T E : Type 0} (language : Language D T E) where
         (sym (said_status said last (comparison false) false is (and_false (all_well said))))
         (λ same. let no = decides.1 same in cc no)
 
-  -- ---- what is said of values of which this holds
+  -- ---- from values to outputs
 
   say_some :
       (saying : Saying) (type : T) (earlier trees : List Tree)
@@ -258,7 +259,7 @@ module _ {D T E : Type 0} (language : Language D T E) where
       let next = say_compared (earlier ++ t ∷ []) trees (omega (arith, fits, size)) in
       (nothing_said ∷ next.0, ((omega (arith, fits), refl), next.1))
 
-  -- of values that pass something is said
+  -- If values satisfy `Pass`, then they have an output.
   pub pass_said :
       (work : Work T E) (trees : List Tree) → Pass language work trees
       → (said : List Said) × AreSaid language work [] trees said
@@ -267,7 +268,7 @@ module _ {D T E : Type 0} (language : Language D T E) where
   pass_said dumps trees h = say_dumped [] trees
   pass_said compares trees h = say_compared [] trees (omega (arith, h))
 
-  -- and one more may come
+  -- If values satisfy `Pass`, then one more may follow.
   pub pass_more :
       (work : Work T E) (trees : List Tree) → Pass language work trees
       → MayCome language work (length trees)
@@ -276,7 +277,7 @@ module _ {D T E : Type 0} (language : Language D T E) where
   pass_more dumps trees h = tt
   pass_more compares trees h = h
 
-  -- replies to values and their end, of this status
+  -- Replies to values and to their end, with this status.
   abbrev pub IsReplied : Work T E → List Tree → Status → Type 0
   IsReplied work trees status =
       (all : Replies) × ((ending_of all).status ≡ status) × AreSaid language work [] trees all.said

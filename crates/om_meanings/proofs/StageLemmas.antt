@@ -1,4 +1,4 @@
--- A request and what came of its files stop the run with a status exactly where they bar it so.
+-- A request and its fetched files end the run with a status if and only if `Bar` holds for them.
 use Rattle.std.proofs.Common.{◌≡◌, ◌⊎◌, ℕ, List, Option, Some, Ok, Err, inl, inr, refl, sym, ap, ◌∙◌, subst}
 use Rattle.om_outcome.specs.declared.status.Status.{Status}
 use Rattle.om_outcome.specs.declared.status.Status.TheVariants.{Usage, Types, Script, ReadFault, OpenFault, TooLong}
@@ -11,7 +11,7 @@ use Rattle.om_causes.specs.Causes.{HaveBars}
 use Rattle.om_meanings.specs.Tables.{values_tables}
 use Rattle.om_meanings.specs.Stages.{HasNoPath, IsRefusedType, RefusesTypes, RefusesScript, IsUnread, Bar}
 
--- the status of a file that was not read
+-- The status of a file that was not read.
 abbrev pub IsOfFile : Status → Type 0
 IsOfFile status = (status ≡ ReadFault) ⊎ ((status ≡ OpenFault) ⊎ (status ≡ TooLong))
 
@@ -29,7 +29,7 @@ file_status name missing stop fault = inr (inl (ap status_of fault))
 file_status name failed stop fault = inr (inl (ap status_of fault))
 file_status name unfetched stop fault = absurd fault
 
--- a file that was not read bars the run with the status of its stop
+-- If a file was not read, then `Bar` holds for the status of its exit reason.
 pub file_bar :
     (P Unread : Status → Type 0) → (Unread ReadFault → P ReadFault)
     → (Unread OpenFault → P OpenFault) → (Unread TooLong → P TooLong)
@@ -45,7 +45,7 @@ file_bar P Unread at_read at_open at_long name found stop fault so =
 module _ {D T E : Type 0} (language : Language D T E) where
   -- ---- FILE and TYPE
 
-  -- a stop is that of the file, or what it holds is refused, or the type
+  -- An exit reason is that of the file, or the contents of the file or the type are refused.
   pub type_stop :
       (P : Stop → Type 0) (file : List ℕ → Found) (name : List ℕ) (type : AskedType) (stop : Stop)
       → ReadsTypeOf language file (name, type) (Err stop)
@@ -61,7 +61,7 @@ module _ {D T E : Type 0} (language : Language D T E) where
   type_stop P file name type stop (Ok text, read, (Ok d, reads, (refusal, refuses, e))) of_file of_type =
       of_type stop text (ap status_of e) read (inr (d, refusal, reads, refuses))
 
-  -- where they are refused there is such a stop
+  -- If they are refused, then there is such an exit reason.
   pub refused_stop :
       (file : List ℕ → Found) (name : List ℕ) (type : AskedType) (text : List ℕ)
       → file name ≡ opened (whole text) → IsRefusedType language text type
@@ -75,10 +75,10 @@ module _ {D T E : Type 0} (language : Language D T E) where
   refused_stop file name type text read (inr (d, refusal, reads, refuses)) =
       (requested_type refusal, refl, (Ok text, read, (Ok d, reads, (refusal, refuses, refl))))
 
-  -- ---- a stop is one of the table
+  -- ---- an exit reason is a row of the table
 
   module _ (request : Request) (files : Fetches) where
-    -- the run is barred with the status of the stop
+    -- `Bar` holds for the status of the exit reason.
     abbrev BarBy : Stop → Type 0
     BarBy stop = Bar language request files (status_of stop)
 
@@ -170,7 +170,7 @@ module _ {D T E : Type 0} (language : Language D T E) where
       let same : s ≡ stop = cc is in
       subst (BarBy request files) same (work_bar request files s h)
 
-  -- ---- and one of the table is a stop
+  -- ---- a row of the table is an exit reason
 
   same_typed :
       (f : List ℕ) (t : AskedType) (name : List ℕ) (type : AskedType) (file : List ℕ → Found)
@@ -239,7 +239,7 @@ module _ {D T E : Type 0} (language : Language D T E) where
   path_work (compare most) files none = absurd none
   path_work (own request) files none = absurd none
 
-  -- a stop of this status is found
+  -- An exit reason with this status is found.
   abbrev pub HasStopBefore : Request → Fetches → Status → Type 0
   HasStopBefore request files status =
       (stop : Stop) × (status_of stop ≡ status) × Finds language request files (Err stop)

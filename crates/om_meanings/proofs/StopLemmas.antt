@@ -1,4 +1,4 @@
--- Bytes hold a stop of a status exactly where they stop the run with it.
+-- Bytes contain an exit reason with a status if and only if `StopWith` holds for them.
 use Rattle.std.proofs.Common.{◌≡◌, ◌≢◌, ◌⊎◌, ℕ, List, [], ◌∷◌, ◌++◌, length, Err, inl, inr, refl, sym, ap, ◌∙◌, subst, arith}
 use Rattle.om_format.specs.Stream.{SpellAll}
 use Rattle.om_format.specs.Tree.{Tree}
@@ -18,7 +18,7 @@ use Rattle.om_meanings.specs.Values.{AreEdited, IsNotEdited, Break, Close, HoldB
 use Rattle.om_meanings.proofs.ItemLemmas.{AreSaid, says_first, say_first}
 use Rattle.om_meanings.proofs.SaidLemmas.{pass_of, pass_said, pass_more, say_compared}
 
--- values before another one come before the bytes that it begins
+-- Values before another one are followed by the bytes of that value.
 pub spell_before :
     (limit : ℕ) (bytes : List ℕ) (trees more : List Tree) (rest : List ℕ)
     → SpellAll limit bytes (trees ++ more) rest
@@ -29,7 +29,7 @@ spell_before limit bytes (t ∷ trees) more rest (first, after, same, spelled, a
     (next.0, (first, after, same, spelled, next.1), next.2)
 
 module _ {D T E : Type 0} (language : Language D T E) where
-  -- ---- a stop is one of the table
+  -- ---- an exit reason is a row of the table
 
   stop_row :
       (work : Work T E) (limit : ℕ) (bytes : List ℕ) (trees : List Tree) (said : List Said)
@@ -111,9 +111,9 @@ module _ {D T E : Type 0} (language : Language D T E) where
       },
     ))
 
-  -- ---- and one of the table is a stop
+  -- ---- a row of the table is an exit reason
 
-  -- a stop of this status is held
+  -- The bytes contain an exit reason with this status.
   abbrev pub HasStop : Task T E → List ℕ → Status → Type 0
   HasStop a bytes status =
       (stop : Stop) × (status_of stop ≡ status) × HoldStop (commands language) a bytes stop

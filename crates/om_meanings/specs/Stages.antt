@@ -1,5 +1,5 @@
--- What each status says of the words and the files, where they stop the run before the input: a
--- table, with a row for each status.
+-- The exit status specification for arguments and files that end the run before the input is read:
+-- a table with one row for each status.
 use Rattle.std.specs.Prelude.{ℕ, ◌≡◌, ◌⊎◌, List, None, IsSomeAnd, Ok, Err}
 use Rattle.om_outcome.specs.declared.status.Status.{Status}
 use Rattle.om_outcome.specs.declared.status.Status.TheVariants.{Usage, Types, Script, ReadFault}
@@ -11,18 +11,18 @@ use Rattle.om_promises.specs.Commands.{Fetches}
 use Rattle.om_commands.specs.Tasks.{WantsFile, WantsScript, Wants}
 
 module _ {D T E : Type 0} (language : Language D T E) where
-  -- PATH is there, and is no path
+  -- There is a PATH, and it is no valid path.
   abbrev pub HasNoPath : Request → Type 0
   HasNoPath request = IsSomeAnd (path_of request) (λ text. language.ReadsPath text None)
 
-  -- the declarations are refused, or the type
+  -- The declarations or the type are refused.
   abbrev pub IsRefusedType : List ℕ → AskedType → Type 0
   IsRefusedType text type =
       ((refusal : List ℕ) × language.ReadsDeclarations type.lines text (Err refusal))
       ⊎ ((d : D) × (refusal : List ℕ) × language.ReadsDeclarations type.lines text (Ok d)
       × language.ReadsType d type (Err refusal))
 
-  -- FILE is read, and what it holds is refused, or TYPE
+  -- FILE is read, and its contents or TYPE are refused.
   pub record RefusesTypes (request : Request) (files : Fetches) : Type 0 where
     pub name : List ℕ
     pub wants : WantsFile language request name
@@ -30,7 +30,7 @@ module _ {D T E : Type 0} (language : Language D T E) where
     pub read : files 0 name ≡ opened (whole text)
     pub refused : IsRefusedType text wants.type
 
-  -- SCRIPT is read, in its turn, and what it holds is refused
+  -- SCRIPT is read in its turn, and its contents are refused.
   pub record RefusesScript (request : Request) (files : Fetches) : Type 0 where
     pub name : List ℕ
     pub wants : WantsScript language request files name
@@ -40,7 +40,7 @@ module _ {D T E : Type 0} (language : Language D T E) where
     pub refused :
         language.ReadsScript wants.typed.1.lines wants.typed.1.decimal text (Err refusal)
 
-  -- FILE, or SCRIPT in its turn, is not read to its end, and the stop has this status
+  -- FILE, or SCRIPT in its turn, is not read to its end, and the exit reason has this status.
   pub record IsUnread (request : Request) (files : Fetches) (status : Status) : Type 0 where
     pub turn : ℕ
     pub name : List ℕ
@@ -49,7 +49,7 @@ module _ {D T E : Type 0} (language : Language D T E) where
     pub fault : ReadsFile name (files turn name) (Err stop)
     pub is : status_of stop ≡ status
 
-  -- the request and what came of its files stop the run before the input, with this status
+  -- The request and its fetched files end the run before the input is read, with this status.
   abbrev pub Bar : Request → Fetches → Status → Type 0
   Bar request files Usage = HasNoPath request
   Bar request files Types = RefusesTypes request files

@@ -1,19 +1,19 @@
--- What each status means at the commands on values, in words of values and texts:
+-- Exit status specification of the commands on values, in terms of values and texts:
 --
---   0   nothing is wrong with the values (`Finish`)
---   1   something is wrong with them, at the end (`Finish`); or one to be edited has not the type
---       (`Break`)
---   2   the words ask for nothing; PATH is no path (`Bar`); or values that are compared are other
---       than two (`Finish`, `Close`)
---   3   what FILE holds is refused, or TYPE (`Bar`)
---   4   a value is refused (`HoldRefusal`) or cut (`AreCut`)
---   5   what SCRIPT holds is refused (`Bar`), or a line of it at its value (`Break`); or a line
---       edits no value (`Finish`)
---   8   FILE could not be opened, or SCRIPT in its turn (`Bar`)
---   11  an edited value is too large for a reader on 32 bits (`Break`)
+--     0   the values are without errors (`Finish`)
+--     1   at the end, some value has an error (`Finish`), or a value to be edited does not have
+--         the type (`Break`)
+--     2   the arguments are no request, PATH is no valid path (`Bar`), or the number of values to
+--         be compared is not two (`Finish`, `Close`)
+--     3   the contents of FILE or TYPE are refused (`Bar`)
+--     4   a value is refused (`HoldRefusal`) or truncated (`AreCut`)
+--     5   the contents of SCRIPT are refused (`Bar`), a line of it is refused at its value
+--         (`Break`), or a line edits no value (`Finish`)
+--     8   FILE, or SCRIPT in its turn, could not be opened (`Bar`)
+--     11  an edited value is too large for a reader on a 32-bit platform (`Break`)
 --
--- What 6, 7, 9 and 10 mean, and the faults of files, is the same for all commands: it stands in
--- om_promises.
+-- The statuses 6, 7, 9 and 10, and the faults of files, have the same meaning for all commands.
+-- `om_promises` defines them.
 use Rattle.om_outcome.specs.Outcome.{Language, Task}
 use Rattle.om_causes.specs.Causes.{Tables}
 use Rattle.om_meanings.specs.Stages.{HasNoPath, Bar}

@@ -1,5 +1,5 @@
--- What each status says of the values of the input, by what is done with them: tables, with a row
--- for each status that a work gives. A command that does something else adds its rows.
+-- The exit status specification for the values of the input, by task: tables with one row for each
+-- status of a task. A command with another task adds its own rows.
 use Rattle.std.specs.Prelude.{ℕ, ◌<◌, ◌≡◌, ◌≢◌, ◌⊎◌, Bool, true, false, List, [], ◌∷◌, ◌++◌, length}
 use Rattle.std.specs.Prelude.{Some, None, Ok, Err}
 use Rattle.std.specs.List.{AllByRecursion}
@@ -12,12 +12,12 @@ use Rattle.om_outcome.specs.declared.status.Status.TheVariants.{Compat}
 use Rattle.om_outcome.specs.Outcome.{Language, Saying, Unedited, untyped, refused_line, too_large}
 use Rattle.om_outcome.specs.Outcome.{Work, tells, edits, dumps, compares, Task, line_past, AreSame}
 
--- this holds of some value
+-- `Holds` is true of some value.
 abbrev pub HoldsOfSome : (Tree → Type 0) → List Tree → Type 0
 HoldsOfSome Holds [] = ⊥
 HoldsOfSome Holds (tree ∷ trees) = Holds tree ⊎ HoldsOfSome Holds trees
 
--- the values are two, of which this holds
+-- There are exactly two values, and `Holds` is true of them.
 abbrev pub AreTwo : (Tree → Tree → Type 0) → List Tree → Type 0
 AreTwo Holds [] = ⊥
 AreTwo Holds (first ∷ []) = ⊥
@@ -25,41 +25,41 @@ AreTwo Holds (first ∷ second ∷ []) = Holds first second
 AreTwo Holds (first ∷ second ∷ third ∷ rest) = ⊥
 
 module _ {D T E : Type 0} (language : Language D T E) where
-  -- the value has a line at the type, which tells whether nothing is wrong with it
+  -- The value has an output line at the type, and `well` states whether it is without errors.
   abbrev pub HasLine : Saying → T → Bool → Tree → Type 0
   HasLine saying type well tree = (line : List ℕ) × language.LineOf saying type tree line well
 
   abbrev pub HasSomeLine : Saying → T → Tree → Type 0
   HasSomeLine saying type tree = (well : Bool) × HasLine saying type well tree
 
-  -- the value that comes after these is edited, and has its bytes
+  -- The value that follows these is edited, and its bytes are written.
   abbrev pub IsEdited : T → List E → Bool → (earlier : List Tree) → Tree → Type 0
   IsEdited type script compat earlier tree =
       (bytes : List ℕ) × language.BytesOf type script compat earlier tree (Ok bytes)
 
-  -- each value that comes after these is
+  -- Each value that follows these is edited.
   abbrev pub AreEdited : T → List E → Bool → (earlier trees : List Tree) → Type 0
   AreEdited type script compat earlier [] = Unit {0}
   AreEdited type script compat earlier (tree ∷ trees) =
       IsEdited type script compat earlier tree
       × AreEdited type script compat (earlier ++ tree ∷ []) trees
 
-  -- the values are edited, and the next one is not, for this reason
+  -- The values are edited, and the next one is not, for this reason.
   abbrev pub IsNotEdited : T → List E → Bool → List Tree → Tree → Unedited → Type 0
   IsNotEdited type script compat trees tree why =
       AreEdited type script compat [] trees
       × language.BytesOf type script compat trees tree (Err why)
 
-  -- ---- by the values
+  -- ---- in terms of values
 
-  -- something is said of each of the values, and one more may come
+  -- Each of the values has an output, and one more value may follow.
   abbrev pub Pass : Work T E → List Tree → Type 0
   Pass (tells saying type) trees = AllByRecursion (HasSomeLine saying type) trees
   Pass (edits type script compat) trees = AreEdited type script compat [] trees
   Pass dumps trees = Unit {0}
   Pass compares trees = length trees < 2
 
-  -- where the input ends after these values, this status comes
+  -- If the input ends after these values, then this is the status.
   abbrev pub Finish : Work T E → List Tree → Status → Type 0
   Finish (tells saying type) trees Well = AllByRecursion (HasLine saying type true) trees
   Finish (tells saying type) trees No =
@@ -76,7 +76,7 @@ module _ {D T E : Type 0} (language : Language D T E) where
   Finish compares trees Usage = length trees < 2
   Finish work trees status = ⊥
 
-  -- after these values the next one stops the run with this status
+  -- After these values, the next one ends the run with this status.
   abbrev pub Break : Work T E → List Tree → Tree → Status → Type 0
   Break (edits type script compat) trees tree No =
       (fault : List ℕ) × IsNotEdited type script compat trees tree (untyped fault)
@@ -87,20 +87,20 @@ module _ {D T E : Type 0} (language : Language D T E) where
       (refusal : List ℕ) × IsNotEdited type script compat trees tree (too_large refusal)
   Break work trees tree status = ⊥
 
-  -- after these values any byte more stops the run with this status
+  -- After these values, any further byte ends the run with this status.
   abbrev pub Close : Work T E → List Tree → Status → Type 0
   Close compares trees Usage = length trees ≡ 2
   Close work trees status = ⊥
 
-  -- ---- by the bytes
+  -- ---- in terms of bytes
 
-  -- the bytes are values to their end, where this status comes
+  -- All bytes are values, and this is the status at their end.
   pub record AreFinished (task : Task T E) (bytes : List ℕ) (status : Status) : Type 0 where
     pub trees : List Tree
     pub spelled : SpellAll task.limit bytes trees []
     pub finishes : Finish task.work trees status
 
-  -- after values that pass the bytes end within one more
+  -- After values that satisfy `Pass`, the bytes end inside the next value.
   pub record AreCut (task : Task T E) (bytes : List ℕ) : Type 0 where
     pub trees : List Tree
     pub rest : List ℕ
@@ -109,12 +109,13 @@ module _ {D T E : Type 0} (language : Language D T E) where
     pub pass : Pass task.work trees
     pub tail : IsTail task.limit rest (cut n)
 
-  -- where the input is these bytes this status comes, at its end; 4 where a value is cut
+  -- If the input is these bytes, then this is the status at its end. It is 4 if a value is
+  -- truncated.
   abbrev pub EndWith : Task T E → List ℕ → Status → Type 0
   EndWith task bytes status =
       AreFinished task bytes status ⊎ ((status ≡ Value) × AreCut task bytes)
 
-  -- the bytes begin with values, the last of which stops the run with this status
+  -- The bytes begin with values, and the last of them ends the run with this status.
   pub record HoldBreak (task : Task T E) (bytes : List ℕ) (status : Status) : Type 0 where
     pub trees : List Tree
     pub tree : Tree
@@ -122,7 +123,7 @@ module _ {D T E : Type 0} (language : Language D T E) where
     pub spelled : SpellAll task.limit bytes (trees ++ tree ∷ []) rest
     pub breaks : Break task.work trees tree status
 
-  -- the bytes are values, and then a byte more stops the run with this status
+  -- The bytes are values, and one further byte ends the run with this status.
   pub record HoldClose (task : Task T E) (bytes : List ℕ) (status : Status) : Type 0 where
     pub trees : List Tree
     pub rest : List ℕ
@@ -130,7 +131,7 @@ module _ {D T E : Type 0} (language : Language D T E) where
     pub closes : Close task.work trees status
     pub more : rest ≢ []
 
-  -- after values that pass the next bytes are refused
+  -- After values that satisfy `Pass`, the next bytes are refused.
   pub record HoldRefusal (task : Task T E) (bytes : List ℕ) : Type 0 where
     pub trees : List Tree
     pub rest : List ℕ
@@ -139,7 +140,8 @@ module _ {D T E : Type 0} (language : Language D T E) where
     pub pass : Pass task.work trees
     pub tail : IsTail task.limit rest (refused refusal)
 
-  -- the bytes stop the run with this status, whatever follows them; 4 where some are refused
+  -- The bytes end the run with this status, whatever follows them. It is 4 if some bytes are
+  -- refused.
   abbrev pub StopWith : Task T E → List ℕ → Status → Type 0
   StopWith task bytes status =
       HoldBreak task bytes status

@@ -1,4 +1,4 @@
-//! The laws. Each function does nothing: what it ensures is the law.
+//! The theorem as the contract of a lemma function, which does nothing itself.
 
 ghost use Rattle.om_causes.specs.Causes.{AreExact};
 ghost use Rattle.om_commands.specs.Tasks.{commands};
@@ -9,7 +9,7 @@ use om_causes::laws::Meant;
 use om_commands::laws::Speaks;
 use std::marker::PhantomData;
 
-/// The commands on values, and what each status means at them.
+/// The commands on values, with their exit status specification.
 pub struct MeantValues<L>(PhantomData<L>);
 
 impl<L: Speaks> Meant for MeantValues<L> {
@@ -20,8 +20,8 @@ impl<L: Speaks> Meant for MeantValues<L> {
     ghost tables = { values_tables L.language };
 }
 
-/// The tables are exact: what stops a run, and how an input ends, by the values; and what the words
-/// and the files do.
+/// States that the tables are exact. They describe how values end a run, how an input ends, and how
+/// the arguments and the files end a run.
 pub fn values_have_meanings<L: Speaks>()
     ensures { AreExact (commands L.language) (values_tables L.language) }
 {}

@@ -1,6 +1,7 @@
-//! What each status means at the commands on values: of the values of the input, of the texts of
-//! the files and of the words. These are definitions, and the laws on them: nothing here does
-//! anything.
+//! The exit status specification of the commands on values: what each status means in terms of the
+//! values of the input, the texts of the files, and the arguments. The crate consists of
+//! definitions and one theorem, that the tables are exact (`values_have_meanings`). Nothing here
+//! does anything.
 #![tactic(auto)]
 
 pub mod laws;

@@ -1,4 +1,4 @@
--- What one token more leads to, by what it changes.
+-- The state after one more token, by what the token changes.
 use Rattle.std.proofs.Common.{ℕ, zero, suc, ◌+◌, ◌-◌, ◌<◌, ◌≤◌, ◌≡◌, ◌∙◌, ◌⊎◌, ⊎_elim, inl, inr, List, [], ◌∷◌, ◌++◌, length, map, set, Bool, true, false, Option, Some, None, refl, sym, ap, subst, arith}
 use Rattle.std.specs.Prelude.{slice_get, replicate, Contains, ℤ, is_some}
 use Rattle.std.specs.Global.{Vec}
@@ -47,7 +47,7 @@ use Rattle.om_misfit.proofs.SaidLemmas.{some_token}
 abbrev held_type : Made → ℕ
 held_type object = type_or_none object.type
 
--- the numbers that are held for what a token makes
+-- The type numbers that are recorded for the objects of a token.
 types_made : (type : Option ℕ) (trail : List (ℕ × ℕ)) (token : Token) → IsToken token → map held_type (made_in type trail token) ≡ replicate (made_by token) (type_or_none type)
 types_made type trail (integer z) is = refl
 types_made type trail (atom tag) is = refl
@@ -59,7 +59,7 @@ module _ (made : List Made) (type : Option ℕ) (trail : List (ℕ × ℕ)) (tok
   abbrev after : List Made
   after = made ++ made_in type trail token
 
-  -- an object that is there was there, or is the token's
+  -- Each object is an earlier one or the token's object.
   there : (o : ℕ) (object : Made) → slice_get after o ≡ Some object → (slice_get made o ≡ Some object) ⊎ (object ≡ record { type = type; trail = trail })
   there o object at = ⊎_elim
       (λ before. inl (kept o object before at))
@@ -86,7 +86,7 @@ module _ (made : List Made) (type : Option ℕ) (trail : List (ℕ × ℕ)) (tok
         (there o record { type = Some t; trail = way } at)),
   )
 
--- no reference comes
+-- If the token is no reference, then the marks stay.
 marked_still : (back : List ℕ) (old new : Again) → AreMarked back old.marks.items → new ≡ old → AreMarked (back ++ []) new.marks.items
 marked_still back old new are same =
     subst (λ bs. AreMarked bs new.marks.items) (sym (append-nil back)) (subst (λ (a : Again). AreMarked back a.marks.items) (sym same) are)
@@ -95,13 +95,13 @@ many_types : (made : List Made) → length (map held_type made) ≡ length made
 many_types [] = refl
 many_types (object ∷ made) = ap suc (many_types made)
 
--- as many types are held as objects were made
+-- There are as many recorded types as objects.
 pub many_held : (types : List ℕ) (made : List Made) → AreTypes types made → length types ≡ length made
 many_held types made are = ap length are.0 ∙ many_types made
 
 module _ (table : Table) (back : List ℕ) (tokens : List Token) (made : List Made) (missed : List Missed) (token : Token) (is : IsToken token)
     (old new : Finding) (said : Said) (left : Left) (its : IsSaid said token) (held : IsHeld back made missed old) (front : List ℕ) (known : Knows table front tokens old.seconds) where
-  -- what is held after an object, or none, was added
+  -- The state after an object, or none, was added.
   held_after : (n : ℕ) (type : Option ℕ) (trail : List (ℕ × ℕ)) (later : List Missed) → Adds old n said left new → n ≡ type_or_none type → ((t : ℕ) → type ≡ Some t → t < no_type) → AreMissedAt new.found later → IsHeld (back ++ []) (made ++ made_in type trail token) later new
   held_after n type trail later adds same some found = record {
     is_way = (adds.opens held.is_way).0;
@@ -110,7 +110,7 @@ module _ (table : Table) (back : List ℕ) (tokens : List Token) (made : List Ma
     found = found;
   }
 
-  -- the next object's number
+  -- The number of the next object.
   many_made : length old.types.items ≡ length made
   many_made = many_held old.types.items made held.types
 
@@ -119,7 +119,7 @@ module _ (table : Table) (back : List ℕ) (tokens : List Token) (made : List Ma
       subst (λ (ps : List Place). PassedBut (back ++ []) table (tokens ++ token ∷ []) (made ++ made_in type trail token) ps later) (sym same)
       (subst (λ bs. PassedBut bs table (tokens ++ token ∷ []) (made ++ made_in type trail token) places later) (sym (append-nil back)) passed)
 
-  -- it has what is asked for
+  -- Case: the token matches the expected type.
   pub fits_leads : (t : ℕ) → t < no_type → Adds old t said left new → Takes back table (IsPlain table tokens) made (trail_in old.way) (of_type t) token (opened_places (length made) (trail_in old.way) left)
       → PassedBut back table tokens made (record { asks = Some (of_type t); trail = trail_in old.way } ∷ way_places old.way) missed → LeadsTo back table front tokens made token new
   fits_leads t some adds takes passed =
@@ -136,7 +136,7 @@ module _ (table : Table) (back : List ℕ) (tokens : List Token) (made : List Ma
         known = subst (Knows table front tokens) (sym adds.seconds) known;
       }
 
-  -- nothing is asked of it
+  -- Case: nothing is expected.
   pub below_leads : Adds old no_type said left new → unasked_in left token → PassedBut back table tokens made (unasked_place ∷ way_places old.way) missed → LeadsTo back table front tokens made token new
   below_leads adds fields passed =
       let places : way_places new.way ≡ unasked token ++ way_places old.way = (adds.opens held.is_way).1 ∙ ap (λ ps. ps ++ way_places old.way) (fields (length old.types.items) (trail_in old.way)) in
@@ -150,7 +150,7 @@ module _ (table : Table) (back : List ℕ) (tokens : List Token) (made : List Ma
         known = subst (Knows table front tokens) (sym adds.seconds) known;
       }
 
--- it does not have what is asked for, and is the first that does not
+-- Case: the token does not match, and is the first mismatch.
 pub miss_leads :
     (table : Table) (back : List ℕ) (tokens : List Token) (made : List Made) (missed : List Missed) (token : Token) → IsToken token → (old middle new : Finding) (said : Said) (left : Left) → IsSaid said token → IsHeld back made missed old
     → (t : ℕ) (found : Found) → old.found ≡ None → middle.found ≡ Some found → found.links.items ≡ old.way.links.items → found.ty ≡ t → found.said ≡ said
@@ -187,7 +187,7 @@ miss_leads table back tokens made missed token is old middle new said left its h
 
 -- ---- what is added
 
--- no object is made
+-- Case: the token makes no object.
 pub adds_none : (old : Finding) (type : ℕ) (said : Said) (left : Left) → HasRoom said left → ((token : Token) → IsSaid said token → measure_of token ≡ None) → Adds old type said left old
 adds_none old type said left room none =
     let some = some_token said in
@@ -203,7 +203,7 @@ adds_none old type said left room none =
       w64 = λ token its. let plain : of_object words64 (measure_of token) ≡ 0 = ap (of_object words64) (none token its) in omega (arith, plain);
     }
 
--- one object is made
+-- Case: the token makes one object.
 pub adds_one :
     (old new : Finding) (type : ℕ) (said : Said) (left : Left) (measure : Measure) → ((token : Token) → IsSaid said token → measure_of token ≡ Some measure)
     → (IsWay old.way → IsWay new.way × OpensAt old.way (length old.types.items) left new.way)
@@ -220,7 +220,7 @@ adds_one old new type said left measure is opens found seconds types again spend
       w64 = λ token its. let own : of_object words64 (measure_of token) ≡ words64 measure = ap (of_object words64) (is token its) in let left' = spends.w64 in omega (arith, own, left');
     }
 
--- the fields of which nothing is asked
+-- The fields that expect nothing.
 fields_unasked : (said : Said) (token : Token) → IsSaid said token → unasked_in (lefts.Unasked (said_fields said)) token
 fields_unasked (sayings.Integer z) token its object trail = ap unasked (sym its)
 fields_unasked (sayings.Atom tag) token its object trail = ap unasked (sym its)
@@ -247,12 +247,12 @@ fields_none (sayings.Custom kind) token its none = refl
 pub unasked_room : (said : Said) (n : ℕ) → n ≡ said_fields said → HasRoom said (lefts.Unasked n)
 unasked_room said n is token its none = is ∙ fields_none said token its none
 
--- ---- a token in each place
+-- ---- a token at each kind of position
 
 abbrev May : ℕ → ℕ → Token → Type 0
 May n stated token = RefersBack token n × (stated ≡ 0 → IsNoReference token)
 
--- what is no reference may come anywhere
+-- If a token is no reference, then its position does not matter.
 refers_by : (said : Said) (n stated : ℕ) → IsNoBack said → (token : Token) → IsSaid said token → May n stated token
 refers_by (sayings.Integer z) n stated plain token its = subst (May n stated) (sym its) (tt, λ _. tt)
 refers_by (sayings.Atom tag) n stated plain token its = subst (May n stated) (sym its) (tt, λ _. tt)
@@ -263,7 +263,7 @@ refers_by sayings.Double n stated plain token its = subst (May n stated) (sym it
 refers_by (sayings.Doubles m) n stated plain token its = subst (May n stated) (sym its.2) (tt, λ _. tt)
 refers_by (sayings.Custom kind) n stated plain token its = subst (May n stated) (sym its.1) (tt, λ _. tt)
 
--- what is not said to be a reference is none
+-- If the summary is no reference, then the token is none.
 pub no_back_said : (said : Said) → ((offset : ℕ) → said ≡ sayings.Shared offset → ⊥) → IsNoBack said
 no_back_said (sayings.Integer z) plain = tt
 no_back_said (sayings.Atom tag) plain = tt
@@ -301,7 +301,7 @@ comes_below table stated front old new said left refers fields adds = record {
   w64 = adds.w64;
 }
 
--- a reference in a place of which nothing is asked
+-- A reference at a position that expects nothing.
 pub comes_below_back :
     (table : Table) (stated : ℕ) (front : List ℕ) (old : Finding) (said : Said) (offset : ℕ) → said ≡ sayings.Shared offset → 0 < stated → 1 ≤ offset → offset ≤ length old.types.items → Comes table stated front old asks.Nothing said old
 comes_below_back table stated front old said offset same some first few =
@@ -328,7 +328,7 @@ comes_miss table stated front old middle new t said left found misses none some 
   w32 = λ token its. adds.w32 token its ∙ ap (λ (w : Words). w.w32) words;
   w64 = λ token its. adds.w64 token its ∙ ap (λ (w : Words). w.w64) words;
 } where
-  -- a reference is no misfit
+  -- A reference is no mismatch.
   no_back : (s : Said) → ((token : Token) → IsSaid s token → Misses table t token) → IsNoBack s
   no_back (sayings.Integer z) each = tt
   no_back (sayings.Atom tag) each = tt
@@ -339,7 +339,7 @@ comes_miss table stated front old middle new t said left found misses none some 
   no_back (sayings.Doubles m) each = tt
   no_back (sayings.Custom kind) each = tt
 
--- ---- no object is made, and no place is opened but what is asked for next
+-- ---- no object is made, and no position is opened except the next one
 
 held_kept : (back : List ℕ) (made : List Made) (missed : List Missed) (old new : Finding) → IsHeld back made missed old → IsWay new.way → new.types ≡ old.types → new.again ≡ old.again → new.found ≡ old.found → IsHeld (back ++ []) (made ++ []) missed new
 held_kept back made missed old new held is types again found =
@@ -351,7 +351,7 @@ held_kept back made missed old new held is types again found =
       found = subst (λ f. AreMissedAt f missed) (sym found) held.found;
     }
 
--- the hash of a tag
+-- The hash of a tag.
 pub comes_hash :
     (table : Table) (stated : ℕ) (front : List ℕ) (old new : Finding) (tags : Bor (List (PolyTag ℕ))) (said : Said) (z : ℤ) (tag : PolyTag ℕ) (t : ℕ) → said ≡ sayings.Integer z → tag_with tags.now z ≡ Some tag → tag.arg ≡ Some t
     → (IsWay old.way → IsWay new.way) → way_places new.way ≡ place_of (asks.Type t) (field_after (trail_in old.way)) ∷ way_places old.way → new.types ≡ old.types → new.again ≡ old.again → new.seconds ≡ old.seconds → new.words ≡ old.words → new.found ≡ old.found
@@ -380,7 +380,7 @@ comes_hash table stated front old new tags said z tag t same has_hash has_argume
             known = subst (Knows table front tokens) (sym seconds) known;
           }
 
--- an integer in a place to which no link leads
+-- An integer at a position to which no link leads.
 module _ (table : Table) (old new : Finding) (said : Said) (token : Token) (its : IsSaid said token) (p : Passes table old said new) where
   is_integer : token ≡ integer p.z
   is_integer = subst (λ s. IsSaid s token) p.its its
@@ -419,7 +419,7 @@ passes_follows table stated front old new said p = record {
   w64 = λ token its. passes_w64 table old new said token its p;
 }
 
--- a token that comes in the place that was first
+-- A token that is consumed at the first position.
 pub came_follows :
     (table : Table) (stated : ℕ) (front : List ℕ) (old new : Finding) (taken : Way) (asked : Asked) (said : Said) → IsWay taken → way_places old.way ≡ place_of asked (trail_in taken) ∷ way_places taken
     → Comes table stated front (record old { way = taken }) asked said new → Follows table stated front old said new
@@ -432,7 +432,7 @@ came_follows table stated front old new taken asked said is places c = record {
   w64 = c.w64;
 }
 
--- by what it is
+-- By the summary of the token.
 pub hastens_by : (table : Table) (bytes : List ℕ) (old new : Finding) (said : Said) (len : ℕ) (quick : Quick) → IsSaidBy bytes said len → Hastens table old said len new quick → HastensBy table bytes old new quick
 hastens_by table bytes old new said len (quicks.Took n) by h = (said, subst (IsSaidBy bytes said) (sym h.0) by, h.1)
 hastens_by table bytes old new said len quicks.Kept by h = h
@@ -444,7 +444,7 @@ module _ (table : Table) (stated : ℕ) (front : List ℕ) (old : Finding) (t of
   refers_back : (token : Token) → IsSaid (sayings.Shared offset) token → May (length old.types.items) stated token
   refers_back token its = subst (May (length old.types.items) stated) (sym its) ((first, few), λ none. absurd (omega (arith, some, none)))
 
-  -- where nothing is asked of what it leads to
+  -- Case: nothing is expected of its target.
   pub comes_hidden : IsHidden table t → Comes table stated front old (asks.Type t) (sayings.Shared offset) old
   comes_hidden hidden = record {
     leads = λ back tokens made missed token is_token its held known passed.
@@ -466,7 +466,7 @@ module _ (table : Table) (stated : ℕ) (front : List ℕ) (old : Finding) (t of
           known = known;
         }
 
--- the type of an object that has one
+-- The type of an object that has one.
 type_there : (made : List Made) (o n : ℕ) → slice_get (map held_type made) o ≡ Some n → (n ≡ no_type → ⊥) → (trail : List (ℕ × ℕ)) × (slice_get made o ≡ Some record { type = Some n; trail = trail })
 type_there [] o n at some = absurd (none-some n at)
 type_there (object ∷ made) zero n at some = (object.trail, by object.type refl) where
@@ -489,7 +489,7 @@ mark_there [] o short = absurd (omega (arith, short))
 mark_there (mark ∷ marks) zero short = refl
 mark_there (mark ∷ marks) (suc o) short = mark_there marks o (omega (arith, short))
 
--- one object more is led back to
+-- One more target of a reference.
 marked_more : (back : List ℕ) (marks new : List Bool) (o : ℕ) → AreMarked back marks → AlsoMarks marks o new → AreMarked (back ++ o ∷ []) new
 marked_more back marks new o are also p among =
     let far = also.reaches in
@@ -503,7 +503,7 @@ marked_more back marks new o are also p among =
     subst (λ q. slice_get (set also.all o true) q ≡ Some true) own (mark_there also.all o far.within))
     (Contains-append_cases back (o ∷ []) p among))
 
--- where it leads to an object that has the type, which is marked
+-- Case: its target has the type and is marked.
 pub comes_back :
     (table : Table) (stated : ℕ) (front : List ℕ) (old new : Finding) (t offset object : ℕ) → 0 < stated → 1 ≤ offset → offset ≤ length old.types.items
     → object ≡ length old.types.items - offset
@@ -546,7 +546,7 @@ comes_back table stated front old new t offset object some first few its_object 
         known = both.1;
       }
 
--- by the type that its place asked for
+-- The target has the type by its first type.
 pub has_first :
     (table : Table) (front : List ℕ) (types : List ℕ) (old new : Seconds) (t object own : ℕ) → slice_get types object ≡ Some own → (own ≡ no_type → ⊥) → (table_shapes table).equal own t → new ≡ old
     → (tokens : List Token) (made : List Made) → AreTypes types made → Knows table front tokens old → (HasFirst table made object t ⊎ IsPlain table tokens object t) × Knows table front tokens new
@@ -554,7 +554,7 @@ has_first table front types old new t object own at typed equal same tokens made
     let there = type_there made object own (ap (λ ts. slice_get ts object) (sym are.0) ∙ at) typed in
     (inl record { type = own; trail = there.0; at = there.1; equal = equal }, subst (Knows table front tokens) (sym same) known)
 
--- by its tokens
+-- The target has the type by its tokens.
 pub has_second :
     (table : Table) (front : List ℕ) (types : List ℕ) (old new : Seconds) (t object : ℕ) → Shows table front old object t new
     → (tokens : List Token) (made : List Made) → AreTypes types made → Knows table front tokens old → (HasFirst table made object t ⊎ IsPlain table tokens object t) × Knows table front tokens new

@@ -1,4 +1,4 @@
--- From the header through the tokens to the misfit.
+-- From the header through the tokens to the mismatch.
 use Rattle.std.proofs.Common.{ℕ, ◌+◌, ◌<◌, ◌≤◌, ◌≡◌, ◌∙◌, ◌⊎◌, ⊎_elim, take-add, Bool, true, false, List, [], ◌∷◌, ◌++◌, length, take, drop, map, Option, Some, refl, sym, ap, subst, subst₂, arith}
 use Rattle.std.specs.Prelude.{slice_get, Contains, All}
 use Rattle.std.specs.Global.{Vec}
@@ -76,7 +76,7 @@ finds_start table limit bytes head start finding b by begins =
       w64 = omega (arith, w64');
     }
 
--- the header comes first
+-- The header precedes the tokens.
 pub finds_from : (table : Table) (limit : ℕ) (bytes : List ℕ) (head : Head) (start n : ℕ) (taken : List Place) (finding : Finding) → Finds table limit bytes head start n taken finding → start ≤ n
 finds_from table limit bytes head start n taken finding f =
     let p = f.passing in
@@ -86,9 +86,10 @@ finds_from table limit bytes head start n taken finding f =
     let begins = p.begins in
     omega (arith, front, both, same, begins)
 
--- ---- the way goes on
+-- ---- the search continues
 
--- what is taken and what is open are the same places, and nothing else has changed
+-- If the taken and open positions together are the same, and nothing else changes, then the bytes
+-- lead to the new state.
 pub finds_moved :
     (table : Table) (limit : ℕ) (bytes : List ℕ) (head : Head) (start n : ℕ) (taken taken' : List Place) (old new : Finding) → Finds table limit bytes head start n taken old → IsWay new.way → taken ++ way_places old.way ≡ taken' ++ way_places new.way
     → new.types ≡ old.types → new.again ≡ old.again → new.seconds.marks ≡ old.seconds.marks → new.seconds.notes ≡ old.seconds.notes → new.words ≡ old.words → new.found ≡ old.found → Finds table limit bytes head start n taken' new
@@ -112,7 +113,7 @@ finds_moved table limit bytes head start n taken taken' old new f is places type
   w64 = subst (λ (w : Words). w.w64 + all_words64 (map measure_of f.tokens) ≡ head.w64) (sym words) f.w64;
 }
 
--- more bytes change nothing
+-- If more bytes are appended, then the state stays valid.
 pub finds_longer :
     (table : Table) (limit : ℕ) (bytes more : List ℕ) (head : Head) (start n : ℕ) (taken : List Place) (finding : Finding) → Finds table limit bytes head start n taken finding → Finds table limit (bytes ++ more) head start n taken finding
 finds_longer table limit bytes more head start n taken finding f =
@@ -147,13 +148,13 @@ finds_longer table limit bytes more head start n taken finding f =
       w64 = f.w64;
     }
 
--- a place is open where its block has one
+-- If the current block has an open position, then a value is pending.
 pub some_open : (way : Way) → 0 < left_values way.now.left → 0 < values_at (way_places way)
 some_open way some = let many = way_many way in omega (arith, many, some)
 
 -- ---- a mark
 
--- the byte is marked where so many objects were made before it
+-- The offset is marked according to the number of objects before it.
 marked_there :
     (table : Table) (limit : ℕ) (bytes : List ℕ) (head : Head) (start n made : ℕ) (finding : Finding) (new : Seconds) → (f : Finds table limit bytes head start n [] finding) → made ≡ length finding.types.items → Marks finding.seconds n made new
     → Knows table (take n bytes) f.tokens new
@@ -185,9 +186,9 @@ finds_marked table limit bytes head start n made finding seconds f many m = reco
   w64 = f.w64;
 }
 
--- ---- one token more
+-- ---- one more token
 
--- by what it leads to
+-- By the state to which the token leads.
 finds_led :
     (table : Table) (limit : ℕ) (bytes : List ℕ) (head : Head) (start n m : ℕ) (taken : List Place) (old new : Finding) (said : Said) → (f : Finds table limit bytes head start n taken old) → (by : IsSaidBy (drop n bytes) said m)
     → LeadsTo f.back table (take n bytes) f.tokens f.made by.token new → RefersBack by.token (length old.types.items) × (head.objects ≡ 0 → IsNoReference by.token)
@@ -218,7 +219,7 @@ finds_further table limit bytes head start n m old new asked said f by c =
     finds_led table limit bytes head start n m (place_of asked (trail_in old.way) ∷ []) old new said f by (c.leads f.back f.tokens f.made f.missed by.token by.is_token by.is_said f.held f.known f.passing.passed)
     (c.refers by.token by.is_said) (c.w32 by.token by.is_said) (c.w64 by.token by.is_said)
 
--- in the first open place
+-- At the first open position.
 pub finds_followed :
     (table : Table) (limit : ℕ) (bytes : List ℕ) (head : Head) (start n m : ℕ) (old new : Finding) (said : Said) → Finds table limit bytes head start n [] old → IsSaidBy (drop n bytes) said m
     → Follows table head.objects (take n bytes) old said new → Finds table limit bytes head start (n + m) [] new
@@ -228,7 +229,7 @@ finds_followed table limit bytes head start n m old new said f by g =
 
 -- ---- the end
 
--- nothing leads back to the blocks of links that are alone
+-- If the links are alone, then no reference leads back to their blocks.
 alone_links : (back : List ℕ) (marks : List Bool) → ((o : ℕ) → Contains back o → slice_get marks o ≡ Some true) → (links : List Link) → All (IsAlone marks) links → All (λ (link : ℕ × ℕ). ¬ Contains back link.0) (trail_of links)
 alone_links back marks each [] alone = All-nil (λ (link : ℕ × ℕ). ¬ Contains back link.0)
 alone_links back marks each (link ∷ links) alone =
@@ -236,7 +237,7 @@ alone_links back marks each (link ∷ links) alone =
     (alone_links back marks each links (All-tail (IsAlone marks) link links alone))
     (λ among. let marked = each link.object among in let lone = All-head (IsAlone marks) link links alone in lone marked)
 
--- the one misfit
+-- The only mismatch.
 one_missed : (found : Option Found) (its : Found) (missed : List Missed) → found ≡ Some its → AreMissedAt found missed → (one : Missed) × (missed ≡ one ∷ []) × IsMissedAt its one
 one_missed found its missed is are = subst (λ f. AreMissedAt f missed) is are
 

@@ -1,4 +1,4 @@
--- What comes of a token in a place of a type.
+-- The result of testing a token against a type.
 use Rattle.std.proofs.Common.{ℕ, ◌≡◌, ◌∙◌, Bool, true, false, length, Option, Some, None, refl, sym, ap, subst, arith}
 use Rattle.std.specs.Prelude.{ℤ, is_some, option_map}
 use Rattle.om_model.specs.declared.code.CustomKind.{CustomKind}
@@ -24,7 +24,7 @@ use Rattle.om_misfit.specs.declared.way.Left.{Left}
 use Rattle.om_misfit.specs.Judge.{IsSaid, IsNoBack, IsApt, IsJudged, has_custom, judged_by}
 use Rattle.om_misfit.specs.Find.{HasRoom}
 
--- both clauses on what is judged
+-- Both clauses of the contract of `judge`.
 abbrev pub AreJudged : Table → ℕ → Said → Judged → Type 0
 AreJudged table t said result = IsApt said result × ((token : Token) → IsSaid said token → IsJudged table t token result)
 
@@ -32,7 +32,7 @@ apt_by : (said : Said) → IsNoBack said → (fits : Bool) → IsApt said (judge
 apt_by said plain true = plain
 apt_by said plain false = tt
 
--- it is judged by whether it fits
+-- The result for a token without fields, by whether it matches.
 module _ (table : Table) (t : ℕ) where
   int_judged : (z : ℤ) (fits : Bool) → fits_int (shape_at table t) z ≡ fits → IsJudged table t (integer z) (judged_by fits)
   int_judged z true is = λ back tokens made trail. (is, refl)
@@ -46,7 +46,7 @@ module _ (table : Table) (t : ℕ) where
   leaf_judged object true is = λ back tokens made trail. (ap is_some is, refl)
   leaf_judged object false is = is
 
-  -- by what the code found
+  -- By what the code computed.
   module _ (said : Said) (shape : ShapeOf ℕ) (fits : Bool) (result : Judged) (own : shape ≡ shape_at table t) (by : result ≡ judged_by fits) where
     judged_said : (other : Said) → said ≡ other → IsNoBack other → ((token : Token) → IsSaid other token → IsJudged table t token (judged_by fits)) → AreJudged table t said result
     judged_said other is plain each =
@@ -87,7 +87,7 @@ module _ (table : Table) (t : ℕ) where
         (λ token its. subst (λ u. IsJudged table t u (judged_by fits)) (sym its.1)
         (leaf_judged (custom_leaf kind its.0) fits (ap (λ s. object_fields s (custom_leaf kind its.0)) (sym own) ∙ custom_fields kind its.0 ∙ ap none_if (sym test))))
 
-  -- a block, by its places
+  -- A block, by its positions.
   pub judged_opens : (said : Said) (shape : ShapeOf ℕ) (tag size : ℕ) (places : Option Open) (open' : Open) → said ≡ sayings.Block tag size → shape ≡ shape_at table t → option_map open_needs places ≡ shape_asks shape t tag size → places ≡ Some open'
       → AreJudged table t said (judged.Opens open')
   judged_opens said shape tag size places open' is own asks some =
@@ -106,7 +106,7 @@ module _ (table : Table) (t : ℕ) where
         λ token said'. subst (λ u. IsJudged table t u judged.Misses) (sym (subst (λ s. IsSaid s token) is said')) its,
       )
 
--- only a block has places
+-- Only a block has positions.
 pub room_of_block : (said : Said) (left : Left) (tag size : ℕ) → said ≡ sayings.Block tag size → HasRoom said left
 room_of_block said left tag size is token its none =
     let same : token ≡ block tag size = subst (λ s. IsSaid s token) is its in

@@ -1,4 +1,4 @@
--- What was found tells the line.
+-- The mismatch determines the output line.
 use Rattle.std.proofs.Common.{ℕ, ◌≡◌, ◌∙◌, List, [], ◌∷◌, ◌++◌, map, Some, refl, ap, subst}
 use Rattle.std.specs.Prelude.{ℤ, codes, decimal}
 use Rattle.om_model.specs.PathText.{path_text}
@@ -32,7 +32,7 @@ path_said : (links : List Link) → path_of (trail_of links) ≡ map (λ (link :
 path_said [] = refl
 path_said (link ∷ links) = path_push (trail_of links) (link.object, link.field) ∙ ap (λ path. link.field ∷ path) (path_said links)
 
--- ---- what was found
+-- ---- the token
 
 text_said : (said : Said) (token : Token) → IsSaid said token → token_text token ≡ said_text said
 text_said (sayings.Integer z) token its = ap token_text its
@@ -55,7 +55,7 @@ text_found type_text found missed at =
     ∙ ap (λ t. path_text (path_in found) ++ codes ": expected " ++ type_text t ++ codes ", found " ++ token_text missed.token) at.type
     ∙ ap (λ text. path_text (path_in found) ++ codes ": expected " ++ type_text found.ty ++ codes ", found " ++ text) (text_said found.said missed.token at.said)
 
--- the line of the value that begins the bytes, by what was found alone
+-- The output line of the value at the start of the bytes, from the mismatch alone.
 pub found_line : FoundHasLine
 found_line table limit n bytes found type_text f =
     subst (λ text. IsNoLine (table_shapes table) type_text (objects_of f.front.tree 0) (root f.front.tree 0) 0 (codes "no " ++ text))

@@ -1,4 +1,4 @@
--- What a token says, by its kind and the bytes after its code.
+-- The summary of a token, by its kind and the bytes after its code.
 use Rattle.std.proofs.Common.{ℕ, suc, pos, ◌+◌, ◌-◌, ◌%◌, ◌<◌, ◌≤◌, ◌≡◌, ◌∙◌, Bool, List, [], ◌∷◌, length, take, drop, get_or, Option, Some, Ok, refl, sym, ap, subst, arith, take_all, length-drop}
 use Rattle.std.specs.Prelude.{ℤ, slice_index, replicate}
 use Rattle.std.proofs.lemmas.List.{length-replicate}
@@ -91,7 +91,7 @@ module _ (kind : CodeKind) (piece : List ℕ) (known : IsKind kind) (bytes : Are
       subst (IsSaidAfter kind piece) (sym same)
       (said_by (kinds.Custom by) is data' (sayings.Custom named) (λ t s. data_said named piece t (data_at (Some named) piece t s (sym its))))
 
--- with the code in front
+-- With the code before them.
 pub with_code : (rest : List ℕ) (kind : CodeKind) (len : ℕ) (said : Said) → 0 < length rest → kind_of (get_or rest 0 0) ≡ Ok kind → len ≤ length (drop 1 rest) → IsSaidAfter kind (take len (drop 1 rest)) said → IsSaidBy rest said (1 + len)
 with_code [] kind len said some is within p = absurd (omega arith)
 with_code (code ∷ rest) kind len said some is within p =
@@ -105,7 +105,7 @@ with_code (code ∷ rest) kind len said some is within p =
       is_said = p.is_said;
     }
 
--- ---- what is said is of some token
+-- ---- each summary is that of some token
 
 pub some_token : (said : Said) → (token : Token) × IsSaid said token
 some_token (sayings.Integer z) = (integer z, refl)
@@ -117,7 +117,7 @@ some_token sayings.Double = (leaf (objects.Double 0), (0, refl))
 some_token (sayings.Doubles n) = (leaf (objects.Doubles (replicate n 0)), (replicate n 0, length-replicate n 0, refl))
 some_token (sayings.Custom kind) = (leaf (custom_leaf kind (pos 0)), (pos 0, refl))
 
--- ---- what is said tells the measure
+-- ---- the summary determines the measure
 
 measure_said : (said : Said) (token : Token) → IsSaid said token → measure_of token ≡ said_measure said
 measure_said (sayings.Integer z) token its = ap measure_of its

@@ -1,4 +1,4 @@
--- Links and the places that they lead to.
+-- Links and the positions to which they lead.
 use Rattle.std.proofs.Common.{ℕ, zero, suc, ◌+◌, ◌-◌, ◌^◌, ◌<◌, ◌≤◌, ◌≡◌, ◌∙◌, ◌⊎◌, ⊎_elim, inl, inr, List, [], ◌∷◌, ◌++◌, length, map, get_or, take, drop, drop-cons, set, Option, Some, None, refl, sym, ap, subst, arith, vec_len}
 use Rattle.std.specs.Prelude.{slice_get, replicate, All, MatchOption}
 use Rattle.std.specs.Global.{Vec}
@@ -26,14 +26,14 @@ use Rattle.om_misfit.specs.Way.{trail_of, trail_in, own_field, place_trail, plac
 abbrev pair : Link → ℕ × ℕ
 pair link = (link.object, link.field)
 
--- the last link comes first
+-- The path lists the last link first.
 pub trail_of_push : (links : List Link) (last : Link) → trail_of (links ++ last ∷ []) ≡ pair last ∷ trail_of links
 trail_of_push [] last = refl
 trail_of_push (link ∷ links) last = ap (λ trail. trail ++ pair link ∷ []) (trail_of_push links last)
 
--- ---- links that lead to the same places
+-- ---- links that lead to the same positions
 
--- up to this depth the blocks are the same, and below it the fields too
+-- Up to this depth the blocks are the same, and below it the fields are, too.
 pub record AreAlike (depth : ℕ) (xs ys : List Link) : Type 0 where
   pub trails : (d k : ℕ) → d ≤ depth → place_trail xs d k ≡ place_trail ys d k
 
@@ -60,7 +60,7 @@ module _ (depth : ℕ) (xs ys : List Link) (alike : AreAlike depth xs ys) where
       ap (λ ps. ps ++ wait_places xs wait) (waiting_alike waits around.2)
       ∙ ap (λ ps. waiting_places ys waits ++ ps) (wait_alike wait (omega (arith, first)))
 
--- ---- one link more
+-- ---- one more link
 
 got_front : (xs ys : List Link) (d : ℕ) → d < length xs → slice_get (xs ++ ys) d ≡ slice_get xs d
 got_front [] ys d short = absurd (omega (arith, short))
@@ -75,7 +75,7 @@ push_alike links more = record { trails = trails } where
       ap (λ own. own_field own k ++ trail_of (take d (links ++ more))) (got_front links more d (omega (arith, within)))
       ∙ ap (λ front. own_field (slice_get links d) k ++ trail_of front) (take-append-le d links more (omega (arith, within)))
 
--- the places of the object to which the last link leads
+-- The positions of the object to which the last link leads.
 pushed_trail : (links : List Link) (last : Link) (k : ℕ) → place_trail (links ++ last ∷ []) (suc (length links)) k ≡ (last.object, k) ∷ trail_of links
 pushed_trail links last k =
     ap (λ own. own_field own k ++ trail_of (take (length links) (links ++ last ∷ []))) (slice_get-last links last)
@@ -96,9 +96,9 @@ pub pushed_places : (links : List Link) (last : Link) (left : Left) → places_l
 pushed_places links last (lefts.Asked open') = pushed_asked links last 0 (open_needs open')
 pushed_places links last (lefts.Unasked count) = refl
 
--- ---- the last block's field
+-- ---- the field of the last block
 
--- of the same links but the field of the last one
+-- The links are the same except for the field of the last one.
 pub turned_alike : (links : List Link) (one two : Link) → one.object ≡ two.object → AreAlike (length links + 1) (links ++ two ∷ []) (links ++ one ∷ [])
 turned_alike links one two same = record { trails = trails } where
   trails : (d k : ℕ) → d ≤ length links + 1 → place_trail (links ++ two ∷ []) d k ≡ place_trail (links ++ one ∷ []) d k
@@ -120,7 +120,7 @@ turned_alike links one two same = record { trails = trails } where
         subst (λ n. place_trail (links ++ two ∷ []) (suc n) k ≡ place_trail (links ++ one ∷ []) (suc n) k) (sym is)
         (pushed_trail links two k ∙ ap (λ o. (o, k) ∷ trail_of links) (sym same) ∙ sym (pushed_trail links one k))
 
--- ---- the blocks that wait
+-- ---- the waiting blocks
 
 pub around_within : (waits : List Wait) (d e : ℕ) → d ≤ e → AreAround waits d → AreAround waits e
 around_within [] d e less around = tt
@@ -148,7 +148,7 @@ waiting_push links [] last = sym (append-nil (wait_places links last))
 waiting_push links (first ∷ waits) last =
     ap (λ places. places ++ wait_places links first) (waiting_push links waits last) ∙ append_assoc (wait_places links last) (waiting_places links waits) (wait_places links first)
 
--- ---- where nothing is to come
+-- ---- no pending value
 
 no_needs : (needs : List Need) → values_in needs ≡ 0 → needs ≡ []
 no_needs [] none = refl
@@ -163,9 +163,9 @@ pub none_opened : (o : ℕ) (trail : List (ℕ × ℕ)) (left : Left) → left_v
 none_opened o trail (lefts.Asked open') none = ap (λ needs. places_of o trail 0 needs) (no_needs (open_needs open') none)
 none_opened o trail (lefts.Unasked count) none = ap (λ n. replicate n unasked_place) none
 
--- ---- a place is pointed to
+-- ---- pointing to a position
 
--- the links are cut after the block of this depth, whose field is changed
+-- The links are truncated after the block of this depth, and its field is changed.
 record IsCut (old : List Link) (d : ℕ) (one two : Link) : Type 0 where
   front : List Link
   rest : List Link
@@ -234,7 +234,7 @@ points_at old cut new d depth field one two is next at written same own =
     let its : new ≡ set (take (suc d) old) d two = written ∙ ap (λ ls. set ls d two) all in
     subst (λ n. ArePointed old new n field) next (subst (λ ls. ArePointed old ls (suc d) field) (sym its) (pointed_at old d field one two there same own))
 
--- the places stay
+-- The positions stay the same.
 module _ (old new : List Link) (depth field : ℕ) (pointed : ArePointed old new depth field) where
   pointed_alike : AreAlike depth new old
   pointed_alike = record { trails = pointed.alike }
@@ -245,7 +245,7 @@ module _ (old new : List Link) (depth field : ℕ) (pointed : ArePointed old new
   pub pointed_left : (k : ℕ) (left : Left) → places_left new depth k left ≡ places_left old depth k left
   pointed_left k left = left_alike depth new old pointed_alike depth k left (omega arith)
 
--- ---- the first place of a block
+-- ---- the first position of a block
 
 pub first_listed : (types : List ℕ) → 0 < length types → map of_type types ≡ of_type (get_or types 0 0) ∷ map of_type (drop 1 types)
 first_listed [] some = absurd (omega (arith, some))
@@ -272,7 +272,7 @@ split_tagged left tags is = subst (λ l. IsSplit l (asks.Hash tags) (lefts.Asked
 pub split_hash : (places : Open) (tags : Bor (List (PolyTag ℕ))) → places ≡ opens.Tagged tags → IsSplit (lefts.Asked places) (asks.Hash tags) (lefts.Asked (opens.Each 0 0)) 2
 split_hash places tags is = split_tagged (lefts.Asked places) tags (ap lefts.Asked is)
 
--- what is known of the places of a block
+-- The result for the positions of a block.
 pub split_same : (left : Left) (places : Open) (result : Option (Asked × Left × ℕ)) → left ≡ lefts.Asked places
     → MatchOption result (left_values (lefts.Asked places) ≡ 0) (λ first. IsSplit (lefts.Asked places) first.0 first.1 first.2) → MatchOption result (left_values left ≡ 0) (λ first. IsSplit left first.0 first.1 first.2)
 split_same left places None is none = ap left_values is ∙ none
@@ -289,9 +289,9 @@ split_unasked left count is some = subst (λ l. IsSplit l asks.Nothing (lefts.Un
   hash = tt;
 }
 
--- ---- the first open place is taken
+-- ---- the first open position is taken
 
--- what is asked for in the place that was first, and the links lead to it
+-- The first position is taken, `asked` is what it expects, and the links lead to it.
 pub record IsTaken (old : Way) (asked : Asked) (new : Way) : Type 0 where
   pub is_way : IsWay new
   pub places : way_places old ≡ place_of asked (trail_in new) ∷ way_places new
@@ -300,7 +300,7 @@ pub record IsTaken (old : Way) (asked : Asked) (new : Way) : Type 0 where
 abbrev pub taken_way : Way → ℕ → Left → Way
 taken_way pointed next others = record { now = record { depth = pointed.now.depth; next = next; left = others }; waiting = pointed.waiting; links = pointed.links }
 
--- the field after that of a block is the next one
+-- The field after a field of a block is its next field.
 after_own : (links : List Link) (d k : ℕ) → d ≤ length links → place_trail links d (suc k) ≡ field_after (place_trail links d k)
 after_own links zero k within = refl
 after_own links (suc d) k within = by (slice_get links d) refl where
@@ -330,7 +330,7 @@ module _ (old pointed : Way) (asked : Asked) (others : Left) (values : ℕ) (is 
     all_small = subst (λ (v : Vec Wait). All IsSmall v.items) (sym points.waiting) is.all_small;
   }
 
-  -- the other places, by the links as they were
+  -- The other positions, by the old links.
   others_same : way_places new ≡ places_left old.links.items old.now.depth next others ++ waiting_places old.links.items old.waiting.items
   others_same =
       ap (λ d. places_left pointed.links.items d next others ++ waiting_places pointed.links.items pointed.waiting.items) same_depth
@@ -366,7 +366,7 @@ module _ (old pointed : Way) (asked : Asked) (others : Left) (values : ℕ) (is 
   pub taken_first : IsTaken old asked new
   taken_first = record { is_way = taken_is_way; places = taken_places; hash = on_hash asked split.hash }
 
--- the same, and the links stay
+-- The first position is taken, and the links do not change.
 pub passed_first : (old : Way) (asked : Asked) (others : Left) (values : ℕ) → IsWay old → IsSplit old.now.left asked others values
     → IsWay (taken_way old (old.now.next + values) others) × (way_places old ≡ place_of asked (place_trail old.links.items old.now.depth old.now.next) ∷ way_places (taken_way old (old.now.next + values) others))
 passed_first old asked others values is split = (
@@ -379,7 +379,7 @@ passed_first old asked others values is split = (
   ap (λ ps. ps ++ waiting_places old.links.items old.waiting.items) (split.places old.links.items old.now.depth old.now.next),
 )
 
--- ---- a block is done
+-- ---- a block is complete
 
 abbrev pub popped_way : Way → Wait → Vec Wait → Way
 popped_way old block waiting = record { now = block; waiting = waiting; links = old.links }
@@ -414,7 +414,7 @@ all_done old waiting is none split empty =
           ∙ ap (waiting_places old.links.items) (sym same ∙ nothing),
     )
 
--- ---- how many values are to come
+-- ---- the number of pending values
 
 needs_many : (links : List Link) (depth k : ℕ) (needs : List Need) → values_at (places_asked links depth k needs) ≡ values_in needs
 needs_many links depth k [] = refl
@@ -432,7 +432,7 @@ way_many way =
     let own = left_many links way.now.depth way.now.next way.now.left in
     omega (arith, both, own)
 
--- one block less is to be counted
+-- One block fewer remains to be counted.
 pub waiting_less :
     (links : List Link) (waits : List Wait) (at n : ℕ) (default : Wait) → at < length waits → n ≡ left_values (get_or waits at default).left
     → values_at (waiting_places links (drop at waits)) ≡ values_at (waiting_places links (drop (at + 1) waits)) + n

@@ -1,4 +1,4 @@
--- What is known on the way to the one misfit of a value, and what is found.
+-- The state of the search for the only mismatch of a value, and its result.
 use Rattle.std.specs.Prelude.{ℕ, ◌+◌, ◌-◌, ◌^◌, ◌<◌, ◌≡◌, ◌⊎◌, List, [], ◌∷◌, ◌++◌, length}
 use Rattle.std.specs.Prelude.{map, take, set, slice_get, Option, Some, None, All, Contains, Bool}
 use Rattle.std.specs.Prelude.{true, false, replicate, ℤ, IsTrue}
@@ -32,60 +32,61 @@ use Rattle.om_misfit.specs.declared.way.Left.{Left}
 use Rattle.om_misfit.specs.Way.{trail_of, trail_in, place_of, root_place, way_places, IsWay}
 use Rattle.om_misfit.specs.Way.{left_values, opened_places, OpensAt}
 
--- ---- what is held
+-- ---- the state
 
--- no type has this number
+-- No type has this number.
 abbrev pub no_type : ℕ
 no_type = 2 ^ 16 - 1
 
--- the number that is held for a type: that of no type at the misfit and below
+-- The number that is recorded for a type. At the mismatch and below it, this is `no_type`.
 abbrev pub type_or_none : Option ℕ → ℕ
 type_or_none None = no_type
 type_or_none (Some t) = t
 
--- a type that an object has is not mistaken for none
+-- The recorded numbers are the types of the objects, and no type of an object is recorded as
+-- `no_type`.
 abbrev pub AreTypes : List ℕ → List Made → Type 0
 AreTypes types made =
     (types ≡ map (λ (object : Made). type_or_none object.type) made)
     × ((o t : ℕ) (trail : List (ℕ × ℕ))
     → slice_get made o ≡ Some record { type = Some t; trail = trail } → t < no_type)
 
--- each object that is led back to has its mark
+-- Each target of a reference has its mark.
 abbrev pub AreMarked : List ℕ → List Bool → Type 0
 AreMarked back marks = (o : ℕ) → Contains back o → slice_get marks o ≡ Some true
 
--- there is a mark for the object, and none more is set
+-- The object has a mark, and no further mark is set.
 pub record Reaches (old : List Bool) (object : ℕ) (new : List Bool) : Type 0 where
   pub more : ℕ
   pub marks : new ≡ old ++ replicate more false
   pub within : object < length new
 
--- the object's mark is set, and no other
+-- The mark of the object is set, and no other mark changes.
 pub record AlsoMarks (old : List Bool) (object : ℕ) (new : List Bool) : Type 0 where
   pub all : List Bool
   pub reaches : Reaches old object all
   pub marks : new ≡ set all object true
 
--- no reference leads back to the object
+-- No reference leads back to the object.
 abbrev pub IsClear : List Bool → ℕ → Type 0
 IsClear marks object = ¬ (slice_get marks object ≡ Some true)
 
--- no reference leads back to the block of the link
+-- No reference leads back to the block of the link.
 abbrev pub IsAlone : List Bool → Link → Type 0
 IsAlone marks link = IsClear marks link.object
 
--- the misfit: its links, the type that is asked for, and what its token says
+-- `found` is the mismatch: its path, the expected type, and its token.
 pub record IsMissedAt (found : Found) (missed : Missed) : Type 0 where
   pub trail : missed.trail ≡ trail_of found.links.items
   pub type : missed.type ≡ found.ty
   pub said : IsSaid found.said missed.token
 
--- none as yet, or the one
+-- There is no mismatch yet, or exactly this one.
 abbrev pub AreMissedAt : Option Found → List Missed → Type 0
 AreMissedAt None missed = missed ≡ []
 AreMissedAt (Some found) missed = (one : Missed) × (missed ≡ one ∷ []) × IsMissedAt found one
 
--- what tokens that lead to these objects, places and misfits left
+-- The state agrees with these objects, references and mismatches.
 pub record IsHeld
     (back : List ℕ) (made : List Made) (missed : List Missed) (finding : Finding)
     : Type 0 where
@@ -94,7 +95,7 @@ pub record IsHeld
   pub marked : AreMarked back finding.again.marks.items
   pub found : AreMissedAt finding.found missed
 
--- so many bytes lead to here; the taken places come before those that are open
+-- The first `n` bytes lead to this state. The positions `taken` precede the open ones.
 pub record Finds
     (table : Table) (limit : ℕ) (bytes : List ℕ) (head : Head) (start n : ℕ) (taken : List Place)
     (finding : Finding)
@@ -111,7 +112,7 @@ pub record Finds
   pub w32 : finding.words.w32 + all_words32 (map measure_of tokens) ≡ stated32 head
   pub w64 : finding.words.w64 + all_words64 (map measure_of tokens) ≡ head.w64
 
--- before the first token
+-- The state before the first token.
 pub record Begins (head : Head) (finding : Finding) : Type 0 where
   pub is_way : IsWay finding.way
   pub places : way_places finding.way ≡ root_place ∷ []
@@ -122,7 +123,7 @@ pub record Begins (head : Head) (finding : Finding) : Type 0 where
   pub w32 : finding.words.w32 ≡ stated32 head
   pub w64 : finding.words.w64 ≡ head.w64
 
--- the type of the object is held, and equal
+-- The type of the object is recorded and equal to this type.
 pub record IsFirst (table : Table) (types : List ℕ) (object type : ℕ) : Type 0 where
   pub own : ℕ
   pub at : slice_get types object ≡ Some own
@@ -131,7 +132,8 @@ pub record IsFirst (table : Table) (types : List ℕ) (object type : ℕ) : Type
 
 -- ---- one token
 
--- what was said is an integer that has the type of the first open place, which is taken
+-- The token is an integer that has the type of the first open position, and that position is
+-- consumed.
 pub record Passes (table : Table) (old : Finding) (said : Said) (new : Finding) : Type 0 where
   pub z : ℤ
   pub its : said ≡ sayings.Integer z
@@ -146,17 +148,17 @@ pub record Passes (table : Table) (old : Finding) (said : Said) (new : Finding) 
   pub words : new.words ≡ old.words
   pub found : new.found ≡ old.found
 
--- the places are those of the token's fields, of which nothing is asked
+-- The positions are those of the token's fields, and they expect nothing.
 abbrev pub unasked_in : Left → Token → Type 0
 unasked_in left token =
     (object : ℕ) (trail : List (ℕ × ℕ)) → opened_places object trail left ≡ unasked token
 
--- only an object has places
+-- Only a token that makes an object has positions.
 abbrev pub HasRoom : Said → Left → Type 0
 HasRoom said left =
     (token : Token) → IsSaid said token → made_by token ≡ 0 → left_values left ≡ 0
 
--- the object that the token makes, if it makes one, has the type, and these places are open
+-- The object that the token makes, if it makes one, has the type, and these positions are open.
 pub record Adds (old : Finding) (type : ℕ) (said : Said) (left : Left) (new : Finding)
     : Type 0 where
   pub opens :
@@ -174,7 +176,7 @@ pub record Adds (old : Finding) (type : ℕ) (said : Said) (left : Left) (new : 
       (token : Token) → IsSaid said token
       → new.words.w64 + of_object words64 (measure_of token) ≡ old.words.w64
 
--- what the token leads to, from these, after these bytes
+-- The token leads from these tokens and objects, after the bytes `front`, to the new state.
 pub record LeadsTo
     (back : List ℕ) (table : Table) (front : List ℕ) (tokens : List Token) (made : List Made)
     (token : Token) (new : Finding)
@@ -189,8 +191,8 @@ pub record LeadsTo
   pub held : IsHeld (back ++ more) (made ++ made_in type trail token) missed new
   pub known : Knows table front tokens new.seconds
 
--- A token that is what was said came after these bytes, in the first of these places, in a value
--- whose header states so many objects.
+-- A token with the summary `said` is consumed after these bytes, at the first of these positions.
+-- The header of the value states `stated` objects.
 pub record ComesIn
     (places : List Place) (table : Table) (stated : ℕ) (front : List ℕ) (old : Finding)
     (said : Said) (new : Finding)
@@ -210,27 +212,27 @@ pub record ComesIn
       (token : Token) → IsSaid said token
       → new.words.w64 + of_object words64 (measure_of token) ≡ old.words.w64
 
--- the same in the place that was taken last, before those that are open
+-- The token is consumed at the position taken last, before the open ones.
 abbrev pub Comes : Table → ℕ → List ℕ → Finding → Asked → Said → Finding → Type 0
 Comes table stated front old asked said new =
     ComesIn (place_of asked (trail_in old.way) ∷ way_places old.way) table stated front old said
     new
 
--- the same in the first open place
+-- The token is consumed at the first open position.
 abbrev pub Follows : Table → ℕ → List ℕ → Finding → Said → Finding → Type 0
 Follows table stated front old said new =
     ComesIn (way_places old.way) table stated front old said new
 
--- what was said came in the first open place, and has this length; or it is still to come, and
--- nothing has changed; or nothing is said
+-- The token is consumed at the first open position and has this length; or nothing changed; or the
+-- result is inconclusive.
 abbrev pub Hastens : Table → Finding → Said → ℕ → Finding → Quick → Type 0
 Hastens table old said len new (quicks.Took n) =
     (n ≡ len) × ((stated : ℕ) (front : List ℕ) → Follows table stated front old said new)
 Hastens table old said len new quicks.Kept = new ≡ old
 Hastens table old said len new quicks.Untold = Unit {0}
 
--- a token that begins the bytes came in the first open place, and has this length; or none came,
--- and nothing has changed; or nothing is said
+-- A token at the start of the bytes is consumed at the first open position and has this length; or
+-- nothing changed; or the result is inconclusive.
 abbrev pub HastensBy : Table → List ℕ → Finding → Finding → Quick → Type 0
 HastensBy table bytes old new (quicks.Took n) =
     (said : Said) × IsSaidBy bytes said n
@@ -240,33 +242,34 @@ HastensBy table bytes old new quicks.Untold = Unit {0}
 
 -- ---- the end
 
--- all came that the header states
+-- Exactly what the header states was read.
 pub record IsSpent (head : Head) (start n : ℕ) (finding : Finding) : Type 0 where
   pub whole : n ≡ start + head.length
   pub w32 : head.big ≡ false → finding.words.w32 ≡ 0
   pub w64 : finding.words.w64 ≡ 0
   pub count : (head.objects ≡ 0) ⊎ (head.objects ≡ length finding.types.items)
 
--- all came, and the misfit is this one, alone on its way
+-- Everything was read, the mismatch is `found`, and no reference leads back to a block on the path
+-- to it.
 pub record Ends (head : Head) (start n : ℕ) (finding : Finding) (found : Found) : Type 0 where
   pub its : finding.found ≡ Some found
   pub alone : All (IsAlone finding.again.marks.items) found.links.items
   pub spent : IsSpent head start n finding
 
--- the first n bytes are a value under the limit whose least fault is this misfit
+-- The first `n` bytes are a value under the limit whose first fault is this mismatch.
 pub record IsFound (table : Table) (limit n : ℕ) (bytes : List ℕ) (found : Found) : Type 0 where
   pub missed : Missed
   pub front : IsMissedFront table limit n bytes missed
   pub at : IsMissedAt found missed
 
--- ---- bytes in pieces
+-- ---- bytes in chunks
 
--- the bytes lead to what was looked at
+-- The bytes lead to the state of the search.
 abbrev pub IsSought : Table → ℕ → List ℕ → Seeking → Type 0
 IsSought table limit bytes s = Finds table limit bytes s.head s.start s.at [] s.finding
 
--- where the search stopped: at the end of a value whose least fault was found; or where a value is
--- to come
+-- The result of a search step: either the end of a value whose first fault was found, or an offset
+-- where a value is pending, or inconclusive.
 abbrev pub Seeks : Table → ℕ → List ℕ → Seeking → End → Type 0
 Seeks table limit bytes s (ends.Found n) =
     (found : Found) × (s.finding.found ≡ Some found) × IsFound table limit n bytes found

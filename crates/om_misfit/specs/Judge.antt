@@ -1,4 +1,4 @@
--- What a token says, and what comes of it in a place of a type.
+-- The summary of a token, and the result of testing it against a type.
 use Rattle.std.specs.Prelude.{ℕ, ◌^◌, ◌<◌, ◌≤◌, ◌≡◌, List, [], ◌++◌, length, take, Option, ℤ, codes}
 use Rattle.std.specs.Prelude.{decimal, Bool, true, false, Some, None}
 use Rattle.std.specs.Fmt.{signed_decimal}
@@ -22,7 +22,7 @@ use Rattle.om_misfit.specs.declared.said.Said.TheVariants as sayings
 use Rattle.om_misfit.specs.declared.judge.Judged.{Judged}
 use Rattle.om_misfit.specs.declared.judge.Judged.TheVariants as judged
 
--- the token is what was said
+-- The token has this summary.
 abbrev pub IsSaid : Said → Token → Type 0
 IsSaid (sayings.Integer z) token = token ≡ integer z
 IsSaid (sayings.Atom tag) token = token ≡ atom tag
@@ -35,7 +35,7 @@ IsSaid (sayings.Doubles n) token =
     (all : List ℕ) × (length all ≡ n) × (token ≡ leaf (objects.Doubles all))
 IsSaid (sayings.Custom kind) token = (z : ℤ) × (token ≡ leaf (custom_leaf kind z))
 
--- no object is too large to be counted
+-- The object is small enough to be counted.
 abbrev pub IsFair : Said → Type 0
 IsFair (sayings.Integer z) = Unit {0}
 IsFair (sayings.Atom tag) = Unit {0}
@@ -46,14 +46,14 @@ IsFair sayings.Double = Unit {0}
 IsFair (sayings.Doubles n) = n < 2 ^ 60
 IsFair (sayings.Custom kind) = Unit {0}
 
--- the bytes after a code of this kind spell a token that is what was said
+-- The bytes after a code of this kind encode a token with this summary.
 pub record IsSaidAfter (kind : CodeKind) (piece : List ℕ) (said : Said) : Type 0 where
   pub token : Token
   pub spells : SpellsAfter kind piece token
   pub is_token : IsToken token
   pub is_said : IsSaid said token
 
--- the first n bytes spell a token that is what was said
+-- The first `n` bytes encode a token with this summary.
 pub record IsSaidBy (bytes : List ℕ) (said : Said) (n : ℕ) : Type 0 where
   pub some : 0 < n
   pub within : n ≤ length bytes
@@ -62,7 +62,7 @@ pub record IsSaidBy (bytes : List ℕ) (said : Said) (n : ℕ) : Type 0 where
   pub is_token : IsToken token
   pub is_said : IsSaid said token
 
--- what the line of a misfit calls what was said
+-- The text of the token in the output line of a mismatch.
 abbrev pub said_text : Said → List ℕ
 said_text (sayings.Integer z) = codes "int " ++ signed_decimal z
 said_text (sayings.Atom tag) = codes "atom " ++ decimal tag
@@ -75,12 +75,12 @@ said_text (sayings.Custom customs.Int32) = codes "int32"
 said_text (sayings.Custom customs.Int64) = codes "int64"
 said_text (sayings.Custom customs.Native) = codes "nativeint"
 
--- how many fields it has
+-- The number of fields of the token.
 abbrev pub said_fields : Said → ℕ
 said_fields (sayings.Block tag size) = size
 said_fields said = 0
 
--- how large the object is that such a token makes
+-- The measure of a custom.
 abbrev pub custom_measure : CustomKind → Measure
 custom_measure customs.Int32 = measures.Custom 4 4
 custom_measure customs.Int64 = measures.Custom 8 8
@@ -96,7 +96,7 @@ said_measure sayings.Double = Some measures.Double
 said_measure (sayings.Doubles n) = Some (measures.Doubles n)
 said_measure (sayings.Custom kind) = Some (custom_measure kind)
 
--- whether a custom fits
+-- Returns true if a custom matches the shape.
 abbrev pub has_custom : ShapeOf ℕ → CustomKind → Bool
 has_custom shape customs.Int32 = is_int32 shape
 has_custom shape customs.Int64 = is_int64 shape
@@ -106,12 +106,12 @@ abbrev pub judged_by : Bool → Judged
 judged_by true = judged.Fits
 judged_by false = judged.Misses
 
--- it is no reference
+-- The token is no reference.
 abbrev pub IsNoBack : Said → Type 0
 IsNoBack (sayings.Shared offset) = ⊥
 IsNoBack said = Unit {0}
 
--- what of this may come: only a block has places
+-- The result is possible for the token: only a block has positions.
 abbrev pub IsApt : Said → Judged → Type 0
 IsApt said judged.Fits = IsNoBack said
 IsApt said (judged.Opens open') =
@@ -121,8 +121,8 @@ IsApt said (judged.Back offset) = said ≡ sayings.Shared offset
 IsApt said judged.Misses = Unit {0}
 IsApt said judged.Unknown = Unit {0}
 
--- It fits and brings no places, or those of a block; it is a reference; or it does not fit. Of any
--- other nothing is said.
+-- The token matches the type and opens no positions or those of a block; or it is a reference; or
+-- it does not match. `Unknown` states nothing.
 abbrev pub IsJudged : Table → ℕ → Token → Judged → Type 0
 IsJudged table t token judged.Fits =
     (back : List ℕ) (tokens : List Token) (made : List Made) (trail : List (ℕ × ℕ))

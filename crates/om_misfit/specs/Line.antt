@@ -1,4 +1,4 @@
--- The line of a value whose least fault was found.
+-- The output line of a value whose first fault was found.
 use Rattle.std.specs.Prelude.{ℕ, List, ◌++◌, map, codes}
 use Rattle.om_model.specs.PathText.{path_text}
 use Rattle.om_types.specs.Table.{Table, table_shapes}
@@ -9,17 +9,17 @@ use Rattle.om_misfit.specs.declared.way.Link.{Link}
 use Rattle.om_misfit.specs.Judge.{said_text}
 use Rattle.om_misfit.specs.Find.{IsFound}
 
--- the steps to the misfit
+-- The path to the mismatch, as field indices.
 abbrev pub path_in : Found → List ℕ
 path_in found = map (λ (link : Link). link.field) found.links.items
 
--- where it is, which type was asked for, and what was found
+-- The path to the mismatch, the expected type, and what was found.
 abbrev pub found_text : (ℕ → List ℕ) → Found → List ℕ
 found_text type_text found =
     path_text (path_in found) ++ codes ": expected " ++ type_text found.ty ++ codes ", found "
     ++ said_text found.said
 
--- what was found tells the line, with no look at the value
+-- The mismatch alone determines the output line; the value is not needed.
 abbrev pub FoundHasLine : Type 0
 FoundHasLine =
     (table : Table) (limit n : ℕ) (bytes : List ℕ) (found : Found) (type_text : ℕ → List ℕ)

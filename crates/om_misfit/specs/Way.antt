@@ -1,4 +1,4 @@
--- The open places of a value, each with its trail.
+-- The open positions of a value, each with its path.
 use Rattle.std.specs.Prelude.{ℕ, zero, suc, ◌+◌, ◌-◌, ◌<◌, ◌≤◌, ◌^◌, ◌≡◌, List, [], ◌∷◌, ◌++◌}
 use Rattle.std.specs.Prelude.{length, take, replicate, slice_get, Option, Some, None, All}
 use Rattle.om_pass_law.specs.Asked.{Need, of_type, hash_of, values_in}
@@ -12,7 +12,8 @@ use Rattle.om_misfit.specs.declared.way.Link.{Link}
 use Rattle.om_misfit.specs.declared.way.Wait.{Wait}
 use Rattle.om_misfit.specs.declared.way.Way.{Way}
 
--- the links, which go from the root on, as a trail
+-- The path that the links describe. The links are ordered from the root on; the path lists the last
+-- link first.
 abbrev pub trail_of : List Link → List (ℕ × ℕ)
 trail_of [] = []
 trail_of (link ∷ links) = trail_of links ++ (link.object, link.field) ∷ []
@@ -21,12 +22,12 @@ abbrev pub own_field : Option Link → ℕ → List (ℕ × ℕ)
 own_field None k = []
 own_field (Some link) k = (link.object, k) ∷ []
 
--- the trail of field k of the block to which so many links lead; none leads to the root
+-- The path of field `k` of the block to which the first `d` links lead. No link leads to the root.
 abbrev pub place_trail : List Link → ℕ → ℕ → List (ℕ × ℕ)
 place_trail links zero k = []
 place_trail links (suc d) k = own_field (slice_get links d) k ++ trail_of (take d links)
 
--- where nothing is asked no trail is kept
+-- A position that expects nothing. Its path is not recorded.
 abbrev pub unasked_place : Place
 unasked_place = record { asks = None; trail = [] }
 
@@ -38,7 +39,7 @@ place_of (asks.Type t) trail = record { asks = Some (of_type t); trail = trail }
 place_of (asks.Hash tags) trail = record { asks = Some (hash_of tags.now); trail = trail }
 place_of asks.Nothing trail = unasked_place
 
--- the places of a block from number k on
+-- The positions of a block from field `k` on.
 abbrev pub places_asked : List Link → ℕ → ℕ → List Need → List Place
 places_asked links depth k [] = []
 places_asked links depth k (need ∷ needs) =
@@ -53,7 +54,7 @@ abbrev pub left_values : Left → ℕ
 left_values (lefts.Asked open') = values_in (open_needs open')
 left_values (lefts.Unasked count) = count
 
--- the places of all blocks, the last one's first
+-- The positions of all blocks, those of the last block first.
 abbrev pub wait_places : List Link → Wait → List Place
 wait_places links wait = places_left links wait.depth wait.next wait.left
 
@@ -68,11 +69,11 @@ way_places way =
 abbrev pub trail_in : Way → List (ℕ × ℕ)
 trail_in way = trail_of way.links.items
 
--- the numbers of fields have 32 bits
+-- The field indices fit in 32 bits.
 abbrev pub IsSmall : Wait → Type 0
 IsSmall wait = wait.next + left_values wait.left < 2 ^ 32
 
--- each block that waits is around those after it, and around the one of this depth
+-- Each waiting block encloses the blocks after it, and the block of this depth.
 abbrev pub AreAround : List Wait → ℕ → Type 0
 AreAround [] depth = Unit {0}
 AreAround (wait ∷ waits) depth =
@@ -85,19 +86,20 @@ pub record IsWay (way : Way) : Type 0 where
   pub around : AreAround way.waiting.items way.now.depth
   pub all_small : All IsSmall way.waiting.items
 
--- links that lead to the field of the block of this depth, as the others led to the block
+-- The new links lead to the field of the block of this depth, and they agree with the old links up
+-- to that block.
 pub record ArePointed (old new : List Link) (depth field : ℕ) : Type 0 where
   pub deep : length new ≡ depth
   pub trail : trail_of new ≡ place_trail old depth field
   pub alike : (d k : ℕ) → d ≤ depth → place_trail new d k ≡ place_trail old d k
 
--- the links lead to the field of the innermost block, and nothing else has changed
+-- The links lead to the field of the innermost block, and nothing else changes.
 pub record PointsTo (old : Way) (field : ℕ) (new : Way) : Type 0 where
   pub now : new.now ≡ old.now
   pub waiting : new.waiting ≡ old.waiting
   pub links : ArePointed old.links.items new.links.items old.now.depth field
 
--- the open places of the innermost block are among those that wait, if there are any
+-- The open positions of the innermost block, if there are any, are moved to the waiting ones.
 pub record Keeps (old new : Way) : Type 0 where
   pub links : new.links ≡ old.links
   pub places :
@@ -107,20 +109,20 @@ pub record Keeps (old new : Way) : Type 0 where
   pub around : AreAround new.waiting.items (old.now.depth + 1)
   pub all_small : All IsSmall new.waiting.items
 
--- the place that was taken last is that of a hash, and the field after it is free
+-- The position taken last is that of a hash, and the field after it is free.
 pub record IsAfterHash (way : Way) : Type 0 where
   pub none : left_values way.now.left ≡ 0
   pub some : 1 ≤ way.now.next
   pub after :
       place_trail way.links.items way.now.depth (way.now.next - 1) ≡ field_after (trail_in way)
 
--- where the hash of a tag is asked for
+-- `P` holds if the hash of a tag is expected.
 abbrev pub OnHash : Asked → Type 0 → Type 0
 OnHash (asks.Type t) P = Unit {0}
 OnHash (asks.Hash tags) P = P
 OnHash asks.Nothing P = Unit {0}
 
--- what the first place asks for, and what is left after so many values
+-- The first position expects `asked`, and `others` are the positions after `many` values.
 pub record IsSplit (left : Left) (asked : Asked) (others : Left) (many : ℕ) : Type 0 where
   pub values : left_values left ≡ many + left_values others
   pub places :
@@ -130,7 +132,7 @@ pub record IsSplit (left : Left) (asked : Asked) (others : Left) (many : ℕ) : 
       ∷ places_left links depth (next + many) others
   pub hash : OnHash asked ((many ≡ 2) × (left_values others ≡ 0))
 
--- the places of an object that is opened at the end of the trail
+-- The positions of an object that is opened at the end of the path.
 abbrev pub opened_places : ℕ → List (ℕ × ℕ) → Left → List Place
 opened_places object trail (lefts.Asked open') = places_of object trail 0 (open_needs open')
 opened_places object trail (lefts.Unasked count) = replicate count unasked_place

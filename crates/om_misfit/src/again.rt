@@ -1,4 +1,4 @@
-//! Which objects references lead back to.
+//! Records which objects are targets of references.
 
 ghost use Rattle.std.specs.Prelude.{◌≡◌, ◌<◌, [], OnOk, All};
 ghost use Rattle.std.specs.Bool.{OnTrue};
@@ -8,15 +8,15 @@ use crate::way::Link;
 use om_model::Memory;
 use std::alloc::Global;
 
-/// Marks of the first objects: whether a reference that is asked for leads back to each. None leads
-/// to the others.
+/// One mark for each of the first objects: whether a reference at a position with an expected type
+/// leads back to the object. No such reference leads to an object without a mark.
 #[derive(Drop)]
 pub struct Again {
     pub marks: Vec<bool>,
 }
 
 impl Again {
-    /// No reference was met.
+    /// Creates a record without references.
     pub fn new(alloc: Global) -> Again
         ensures { result.marks.items ≡ [] }
     {
@@ -25,14 +25,15 @@ impl Again {
         }
     }
 
-    /// No reference was met, in the same memory.
+    /// Resets the record: it contains no references. It keeps its memory.
     pub fn restart(&mut self)
         ensures { self.new.marks.items ≡ [] }
     {
         self.marks.clear();
     }
 
-    /// There is a mark for the object, of so many that were made.
+    /// Extends the marks so that the object, one of `made` objects, has a mark. Fails with `Memory`
+    /// if memory runs out.
     fn reach(&mut self, object: usize, made: usize) -> Result<(), Memory>
         requires { object < made }
         ensures { OnOk result (Reaches self.old.marks.items object self.new.marks.items) }
@@ -44,7 +45,8 @@ impl Again {
         Ok(())
     }
 
-    /// A reference leads back to the object, of so many that were made.
+    /// Marks the object, one of `made` objects, as the target of a reference. Fails with `Memory`
+    /// if memory runs out.
     pub fn mark(&mut self, object: usize, made: usize) -> Result<(), Memory>
         requires { object < made }
         ensures { OnOk result (AlsoMarks self.old.marks.items object self.new.marks.items) }
@@ -54,7 +56,7 @@ impl Again {
         Ok(())
     }
 
-    /// Whether no reference leads back to the object.
+    /// Returns true if no reference leads back to the object.
     fn is_clear(&self, object: usize) -> bool
         ensures { OnTrue result (IsClear self.now.marks.items object) }
     {
@@ -67,7 +69,7 @@ impl Again {
         true
     }
 
-    /// Whether no reference leads back to any block of the links.
+    /// Returns true if no reference leads back to any block of the links.
     pub fn are_alone(&self, links: &[Link]) -> bool
         ensures { OnTrue result (All (IsAlone self.now.marks.items) links.now) }
     {

@@ -1,4 +1,4 @@
-//! A token in a place of a type.
+//! Tests a token against an expected type.
 
 ghost use Rattle.std.specs.Prelude.{◌≡◌};
 ghost use Rattle.om_types.specs.Fitting as fitting;
@@ -13,22 +13,22 @@ use om_pass::fits::{fits_atom, fits_doubles, fits_int, places_at, shape_of};
 use om_type_table::TypeTable;
 use om_types::shape::ShapeOf;
 
-/// What comes of a token in a place.
+/// The result of testing a token against an expected type.
 #[derive(Clone, Copy)]
 pub enum Judged<'a> {
-    /// It has what is asked for, and no fields.
+    /// The token matches the type and has no fields.
     Fits,
-    /// It is a block that has it, with these places.
+    /// The token is a block that matches the type. Its fields have these expected types.
     Opens(Open<'a>),
-    /// It is a reference, back by so many.
+    /// The token is a reference with this offset.
     Back(u64),
-    /// It does not have what is asked for.
+    /// The token does not match the type.
     Misses,
-    /// Nothing is said of it.
+    /// The result is inconclusive.
     Unknown,
 }
 
-/// Whether a string fits.
+/// Returns true if a string matches the shape.
 fn fits_bytes(shape: &ShapeOf<usize>) -> bool
     ensures { result ≡ fitting.is_bytes shape.now }
 {
@@ -39,7 +39,7 @@ fn fits_bytes(shape: &ShapeOf<usize>) -> bool
     }
 }
 
-/// Whether a double fits.
+/// Returns true if a double matches the shape.
 fn fits_double(shape: &ShapeOf<usize>) -> bool
     ensures { result ≡ fitting.is_double shape.now }
 {
@@ -50,7 +50,7 @@ fn fits_double(shape: &ShapeOf<usize>) -> bool
     }
 }
 
-/// Whether an `int32` fits.
+/// Returns true if an `int32` matches the shape.
 fn fits_int32(shape: &ShapeOf<usize>) -> bool
     ensures { result ≡ fitting.is_int32 shape.now }
 {
@@ -61,7 +61,7 @@ fn fits_int32(shape: &ShapeOf<usize>) -> bool
     }
 }
 
-/// Whether an `int64` fits.
+/// Returns true if an `int64` matches the shape.
 fn fits_int64(shape: &ShapeOf<usize>) -> bool
     ensures { result ≡ fitting.is_int64 shape.now }
 {
@@ -72,7 +72,7 @@ fn fits_int64(shape: &ShapeOf<usize>) -> bool
     }
 }
 
-/// Whether a `nativeint` fits.
+/// Returns true if a `nativeint` matches the shape.
 fn fits_native(shape: &ShapeOf<usize>) -> bool
     ensures { result ≡ fitting.is_native shape.now }
 {
@@ -83,7 +83,7 @@ fn fits_native(shape: &ShapeOf<usize>) -> bool
     }
 }
 
-/// Whether a custom fits.
+/// Returns true if a custom of this kind matches the shape.
 fn fits_custom(shape: &ShapeOf<usize>, kind: CustomKind) -> bool
     ensures { result ≡ has_custom shape.now kind }
 {
@@ -94,14 +94,14 @@ fn fits_custom(shape: &ShapeOf<usize>, kind: CustomKind) -> bool
     }
 }
 
-/// It has what is asked for, or it does not.
+/// Returns `Fits` or `Misses`.
 fn by<'a>(fits: bool) -> Judged<'a>
     ensures { result ≡ judged_by fits }
 {
     if fits { Judged::Fits } else { Judged::Misses }
 }
 
-/// What comes of a token in a place of the type.
+/// Tests a token, given by its summary, against the type `ty` of the table.
 #[inline(always)]
 pub fn judge<'a>(table: &'a TypeTable, ty: usize, said: Said) -> Judged<'a>
     ensures apt { IsApt said result }

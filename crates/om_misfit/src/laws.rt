@@ -1,8 +1,9 @@
-//! The law, as a contract.
+//! The law of the output line, as the contract of a lemma function.
 
 ghost use Rattle.om_misfit.specs.Line.{FoundHasLine};
 
-/// The line of a value whose least fault was found is told by what was found.
+/// Proves that a mismatch that was found determines the output line of its value. This is a lemma
+/// function: it does nothing at run time.
 pub fn found_has_line()
     ensures { FoundHasLine }
 {}

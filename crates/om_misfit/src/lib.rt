@@ -1,5 +1,7 @@
-//! The one place of a value that does not have what is asked for, and the way to it, by one look at
-//! each of its bytes, without a heap.
+//! Finds the type mismatch in a value directly from its bytes, without building a heap, if the
+//! value has exactly one. `Seeking::go` reads the bytes in chunks and returns the path to the
+//! mismatch. A mismatch that it returns is the first fault of the value (`IsFound`). Otherwise the
+//! result is inconclusive. `found_has_line` proves that the mismatch determines the output line.
 #![tactic(auto)]
 
 mod again;

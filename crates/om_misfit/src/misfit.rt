@@ -1,4 +1,4 @@
-//! The one misfit of a value: token after token, to its end.
+//! Searches for the only mismatch of a value, token by token up to its end.
 
 ghost use Rattle.std.specs.Prelude.{◌≡◌, ◌<◌, ◌≤◌, ℕ, List, length, IfOk, IsTrue, Ok};
 ghost use Rattle.std.specs.Prelude.{slice_index};
@@ -33,11 +33,10 @@ use om_types::shape::PolyTag;
 use std::alloc::Global;
 use std::mem;
 
-/// No type has this number.
+/// A number that stands for "no type".
 const NO_TYPE: usize = 65535;
 
-/// The misfit: the links that lead to it, the type that is asked for there, and what its token
-/// says.
+/// A mismatch: the links of the path to it, the expected type, and the summary of its token.
 #[derive(Drop)]
 pub struct Found {
     pub links: Vec<Link>,
@@ -45,8 +44,10 @@ pub struct Found {
     pub said: Said,
 }
 
-/// The open places, the types of the objects met, which of them are met again and what is known of
-/// second types, the words still to come, the misfit, if it was met, and memory for its links.
+/// The state of the search. It contains the open positions, the types of the objects so far, and
+/// the objects that are targets of references. It also contains what is known about objects with a
+/// second type, the remaining words, and the mismatch, if one was found. The last field is spare
+/// memory for the links of a mismatch.
 #[derive(Drop)]
 pub struct Finding<'a> {
     pub way: Way<'a>,
@@ -58,18 +59,18 @@ pub struct Finding<'a> {
     pub room: Vec<Link>,
 }
 
-/// What came of a token that is looked at in haste.
+/// The result of the fast path for one token.
 #[derive(Clone, Copy)]
 pub enum Quick {
-    /// It came, and has so many bytes.
+    /// The token was consumed. It has this many bytes.
     Took(usize),
-    /// It is still to come, and nothing has changed.
+    /// The token was not consumed, and nothing changed.
     Kept,
-    /// Nothing is said.
+    /// The result is inconclusive.
     Untold,
 }
 
-/// The fields of a token of which nothing is asked.
+/// Returns the fields of a token below a mismatch. They have no expected types.
 #[inline(always)]
 fn unasked<'a>(said: Said) -> Left<'a>
     ensures fields { (token : Token) → IsSaid said token → unasked_in result token }
@@ -80,7 +81,7 @@ fn unasked<'a>(said: Said) -> Left<'a>
 }
 
 impl<'a> Finding<'a> {
-    /// Before the first token.
+    /// Creates the state before the first token.
     fn new(alloc: Global, head: &Head) -> Finding<'a>
         ensures { Begins head.now result }
     {
@@ -95,7 +96,7 @@ impl<'a> Finding<'a> {
         }
     }
 
-    /// Before the first token of another value, in the same memory.
+    /// Resets the state to the one before the first token of another value. It keeps its memory.
     fn restart(&mut self, head: &Head)
         ensures { Begins head.now self.new }
     {
@@ -109,8 +110,8 @@ impl<'a> Finding<'a> {
         }
     }
 
-    /// The token comes in the first open place, if it is an integer that has the type that is asked
-    /// for there. The place is taken, but the links do not lead to it.
+    /// Consumes the token if it is an integer of the type that the first open position expects. The
+    /// links do not point to that position afterwards.
     #[inline(always)]
     fn fill(
         &mut self,
@@ -139,7 +140,8 @@ impl<'a> Finding<'a> {
         true
     }
 
-    /// The token comes, if it is an integer that has the type that the first open place asks for.
+    /// Consumes the token if it is an integer of the type that the first open position expects.
+    /// Returns whether it did; otherwise nothing changes.
     #[inline(always)]
     fn pass(&mut self, table: &TypeTable, said: Said) -> bool
         requires { IsWay self.old.way }
@@ -155,8 +157,9 @@ impl<'a> Finding<'a> {
         self.fill(table, ty, others, values, said)
     }
 
-    /// The object that the token makes, if it makes one, has this type, and its places are open, in
-    /// which so many values are to come.
+    /// Adds the object that the token makes, if it makes one, with this type, and opens the
+    /// positions of its fields, in which `values` values are pending. Returns false if the words or
+    /// the numbers do not suffice.
     #[inline(always)]
     fn add(&mut self, ty: usize, said: Said, left: Left<'a>, values: u64) -> Result<bool, Memory>
         requires room { HasRoom said left }
@@ -174,7 +177,7 @@ impl<'a> Finding<'a> {
         if !self.words.spend(measure) {
             return Ok(false);
         }
-        // The places come first: what was taken last is still at hand.
+        // The positions are opened first, while the position taken last is still the current one.
         let object = self.types.len();
         let opened = self.way.open(object, left, values)?;
         if !opened {
@@ -184,10 +187,11 @@ impl<'a> Finding<'a> {
         Ok(true)
     }
 
-    /// The token comes in the first open place: it has the type that is asked for there, or misses
-    /// it. Kept are references, integers that miss, objects at types whose numbers are not noted,
-    /// and each 64th object, whose byte is to be marked; the first one's is marked at the begin.
-    /// Where the token cannot come, for want of words or since one missed before, nothing is said.
+    /// Consumes the token at the first open position: it matches the expected type, or it is the
+    /// mismatch. Does not consume references, integers that do not match, objects at types whose
+    /// numbers are not recorded, and every 64th object, whose offset must be marked. (The first
+    /// object's offset is marked at the start.) If the words do not suffice, or if there already is
+    /// a mismatch, then the result is inconclusive.
     #[inline(always)]
     fn settle(
         &mut self,
@@ -238,7 +242,7 @@ impl<'a> Finding<'a> {
         Ok(Quick::Untold)
     }
 
-    /// The token of this kind, which begins the bytes, comes if `settle` takes it.
+    /// Consumes the token of this kind at the start of the bytes, if `settle` consumes it.
     #[inline(always)]
     fn hasten_kind(
         &mut self,
@@ -263,7 +267,7 @@ impl<'a> Finding<'a> {
         Ok(quick)
     }
 
-    /// The same of the codes of doubles and of integers of more bytes.
+    /// As `hasten_kind`, for the codes of doubles and of integers of several bytes.
     #[tactic(auto, unfolding(om_format::specs::Code::kind_of))]
     #[inline(always)]
     fn hasten_large(
@@ -289,7 +293,7 @@ impl<'a> Finding<'a> {
         }
     }
 
-    /// The same of the codes below those of small blocks.
+    /// As `hasten_kind`, for the codes below those of small blocks.
     #[tactic(auto, unfolding(om_format::specs::Code::kind_of))]
     #[inline(always)]
     fn hasten_other(
@@ -331,8 +335,9 @@ impl<'a> Finding<'a> {
         }
     }
 
-    /// The first token of the bytes comes, if it is a common one that `settle` takes, and the
-    /// places of the innermost block are listed. Each kind gets code of its own.
+    /// Fast path. Consumes the first token of the bytes, if `settle` consumes it. The token must be
+    /// common, and the types of the innermost block's fields must be listed one by one. Each kind
+    /// gets specialized code.
     #[tactic(auto, unfolding(om_format::specs::Code::kind_of))]
     #[inline(always)]
     fn hasten(&mut self, alloc: Global, table: &'a TypeTable, rest: &[u8]) -> Result<Quick, Memory>
@@ -355,7 +360,7 @@ impl<'a> Finding<'a> {
         }
     }
 
-    /// Whether the type that the object's place asked for is equal.
+    /// Returns true if the type is equal to the first type of the object.
     fn is_first(&self, table: &TypeTable, object: usize, ty: usize) -> bool
         requires { object < length self.now.types.items }
         ensures { OnTrue result
@@ -368,7 +373,8 @@ impl<'a> Finding<'a> {
         is_equal(table, own, ty)
     }
 
-    /// A reference comes where the type is asked for.
+    /// Consumes a reference at a position that expects type `ty`. Returns false if the result is
+    /// inconclusive.
     #[inline(never)]
     fn back(
         &mut self,
@@ -398,7 +404,8 @@ impl<'a> Finding<'a> {
         self.seconds.show(table, front, object, ty)
     }
 
-    /// A token comes of which nothing is asked.
+    /// Consumes a token at a position without an expected type. Returns false if the result is
+    /// inconclusive.
     #[inline(always)]
     fn below(&mut self, stated: u64, said: Said) -> Result<bool, Memory>
         requires { IsFair said }
@@ -417,7 +424,8 @@ impl<'a> Finding<'a> {
         self.add(NO_TYPE, said, unasked(said), fields_of(said))
     }
 
-    /// The token does not have the type that is asked for. It is the misfit, if it is the first.
+    /// Consumes a token that does not match the expected type. It becomes the mismatch. Returns
+    /// false if there already is one.
     #[inline(never)]
     fn miss(&mut self, alloc: Global, ty: usize, said: Said) -> Result<bool, Memory>
         requires { IsFair said }
@@ -436,7 +444,8 @@ impl<'a> Finding<'a> {
         self.add(NO_TYPE, said, unasked(said), fields_of(said))
     }
 
-    /// The hash of a tag comes, after which its argument is asked for.
+    /// Consumes the hash of a tag (`btype.ml`, `hash_variant`). The next position expects the
+    /// argument of that tag.
     fn hash(&mut self, tags: &'a [PolyTag<usize>], said: Said) -> bool
         requires { IsAfterHash self.old.way }
         ensures { OnTrue result
@@ -456,7 +465,8 @@ impl<'a> Finding<'a> {
         true
     }
 
-    /// The token comes where the type is asked for.
+    /// Consumes the token at a position that expects a type. Returns false if the result is
+    /// inconclusive.
     #[inline(always)]
     fn typed(
         &mut self,
@@ -484,7 +494,7 @@ impl<'a> Finding<'a> {
         }
     }
 
-    /// The token comes in the place that was taken last, if what it is there is known.
+    /// Consumes the token at the position taken last. Returns false if the result is inconclusive.
     #[inline(always)]
     fn come(
         &mut self,
@@ -503,7 +513,7 @@ impl<'a> Finding<'a> {
     {
         match asked {
             Asked::Type(ty) => match said {
-                // Blocks get code of their own.
+                // Blocks get specialized code.
                 Said::Block(tag, size) => {
                     let block = Said::Block(tag, size);
                     self.typed(alloc, table, stated, front, ty, block)
@@ -515,8 +525,9 @@ impl<'a> Finding<'a> {
         }
     }
 
-    /// Nothing is open any more: whether there is a misfit, all came that the header states, and no
-    /// reference leads back to a block on the way to it.
+    /// Tests the state at the end, when no position is open. Returns true if there is a mismatch,
+    /// if all that the header states was read, and if no reference leads back to a block on its
+    /// path.
     fn end(&self, head: &Head, start: usize, at: usize) -> bool
         requires { start ≤ at }
         ensures { OnTrue result ((found : Found) × Ends head.now start at self.now found) }
@@ -530,7 +541,7 @@ impl<'a> Finding<'a> {
         self.again.are_alone(found.links.as_slice())
     }
 
-    /// Whether all came that the header states.
+    /// Returns true if exactly what the header states was read.
     fn is_spent(&self, head: &Head, start: usize, at: usize) -> bool
         requires { start ≤ at }
         ensures { OnTrue result (IsSpent head.now start at self.now) }
@@ -542,34 +553,37 @@ impl<'a> Finding<'a> {
     }
 }
 
-/// A search for the one misfit of a value whose bytes come in pieces: what the header states, where
-/// the tokens begin, and how far they were looked at.
+/// A search for the only mismatch of a value whose bytes arrive in chunks. `head` is the header,
+/// `start` is the offset in bytes of the first token, and `at` is the offset up to which the bytes
+/// were read.
 #[derive(Drop)]
 pub struct Seeking<'a> {
     pub head: Head,
     pub start: usize,
     pub at: usize,
     pub finding: Finding<'a>,
-    /// How many bytes came.
+    /// The number of bytes received.
     pub seen: usize,
-    /// So many open blocks may be looked at again: as many as bytes came.
+    /// The number of open blocks that may still be counted again. It grows by one for each byte
+    /// received.
     pub left: u64,
 }
 
-/// Where a search stopped.
+/// The result of a search step.
 #[derive(Clone, Copy)]
 pub enum End {
-    /// The value has so many bytes, and its one misfit was found, which is its least fault: it has
-    /// what is asked for everywhere else, and no reference leads back to a block on the way there.
+    /// The value has this many bytes, and its only mismatch was found. It is the value's first
+    /// fault: all other parts have their types, and no reference leads back to a block on the path
+    /// to it.
     Found(usize),
-    /// Before a token that is not whole, or is none.
+    /// The bytes end before a complete token, or no token begins there.
     Cut,
-    /// Nothing is said.
+    /// The result is inconclusive.
     Untold,
 }
 
 impl<'a> Seeking<'a> {
-    /// Nothing is looked at. It takes no memory.
+    /// Creates a search that has read nothing. It allocates no memory.
     pub fn new(alloc: Global) -> Seeking<'a> {
         let head = Head {
             big: false,
@@ -588,8 +602,8 @@ impl<'a> Seeking<'a> {
         }
     }
 
-    /// Begins with the value whose header begins the bytes, in the same memory, if the header is
-    /// whole and states no more than may be.
+    /// Starts a search at the value whose header begins the bytes, and reuses the memory. Returns
+    /// false if the header is incomplete or states more than the limit of 64-bit words allows.
     pub fn begin(&mut self, bytes: &[u8], limit: u64) -> Result<bool, Memory>
         ensures { IfOk result
             (λ begun. OnTrue begun ((table : Table) → IsSought table limit bytes.now self.new)) }
@@ -608,7 +622,7 @@ impl<'a> Seeking<'a> {
         Ok(true)
     }
 
-    /// Goes on, with the bytes that were looked at and those that came since.
+    /// Continues the search. `bytes` are all bytes of the value so far.
     pub fn go(
         &mut self,
         alloc: Global,
@@ -662,8 +676,8 @@ impl<'a> Seeking<'a> {
         }
     }
 
-    /// Whether no more values are to come than so many. It gives up where more blocks would be
-    /// looked at than may be, and counts these down.
+    /// Returns true if at most `most` values are pending. Subtracts the blocks that it counts from
+    /// `left`, and returns false if `left` does not suffice.
     pub fn are_within(&self, most: u64, left: &mut u64) -> bool
         ensures { OnTrue result (values_at (way_places self.now.finding.way) ≤ most) }
     {

@@ -1,10 +1,11 @@
-//! One item more.
+//! Appends one item to a vector.
 
 ghost use Rattle.std.specs.Prelude.{◌≡◌, ◌++◌, ◌∷◌, [], OnOk};
 
 use om_model::Memory;
 
-/// The item comes last. Where there is room for it, nothing is called.
+/// Appends the item. If the capacity suffices, it calls no function. Fails with `Memory` if memory
+/// runs out.
 #[inline(always)]
 pub fn push<T: Copy>(items: &mut Vec<T>, item: T) -> Result<(), Memory>
     ensures { OnOk result (items.new.items ≡ items.old.items ++ item ∷ []) }
@@ -16,7 +17,7 @@ pub fn push<T: Copy>(items: &mut Vec<T>, item: T) -> Result<(), Memory>
     push_more(items, item)
 }
 
-/// The same, where no room is left for it.
+/// Appends the item when the capacity does not suffice.
 #[inline(never)]
 fn push_more<T: Copy>(items: &mut Vec<T>, item: T) -> Result<(), Memory>
     ensures { OnOk result (items.new.items ≡ items.old.items ++ item ∷ []) }

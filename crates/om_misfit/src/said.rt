@@ -1,4 +1,4 @@
-//! What a token says, and how many bytes it has.
+//! The summary of a token and its length in bytes.
 
 ghost use Rattle.std.specs.Prelude.{◌≡◌, ◌<◌, ◌≤◌, ◌+◌, ◌%◌, ◌^◌, length, take, slice_index};
 ghost use Rattle.std.specs.Prelude.{Ok, Some, IfSome};
@@ -17,23 +17,24 @@ use om_model::bytes::{big_endian, signed};
 use om_model::code::{CodeKind, CustomKind, Measure};
 use om_pass::piece::{custom_at, piece_len};
 
-/// What a token says: of an object without fields, as much as its type and its words depend on.
+/// The summary of a token. For an object without fields it contains only what its type and its
+/// number of words depend on.
 #[derive(Clone, Copy)]
 pub enum Said {
     Integer(i64),
     Atom(u8),
     Shared(u64),
-    /// Its tag and its size.
+    /// A block with its tag and its number of fields.
     Block(u8, u64),
-    /// So many bytes.
+    /// A string with its length in bytes.
     Bytes(u64),
     Double,
-    /// So many of them.
+    /// An array of doubles with their number.
     Doubles(u64),
     Custom(CustomKind),
 }
 
-/// A block, or an atom where it has no fields.
+/// Returns a block, or an atom if `size` is 0.
 fn said_block(tag: u8, size: u64) -> Said
     requires { size < 2 ^ 60 }
     ensures said { IsSaid result (block_or_atom tag size) }
@@ -46,7 +47,7 @@ fn said_block(tag: u8, size: u64) -> Said
     }
 }
 
-/// The same by the header word.
+/// Returns the block or atom that a header word describes. Returns `None` if the tag is too large.
 fn said_word(word: u64) -> Option<Said>
     ensures { IfSome result
         (λ said. (word % 256 ≤ 243) × IsSaid said (word_token word) × IsFair said) }
@@ -58,7 +59,7 @@ fn said_word(word: u64) -> Option<Said>
     Some(said_block(tag as u8, word / 1024))
 }
 
-/// An integer, which has 63 bits.
+/// Returns an integer. Returns `None` if it needs more than 63 bits.
 fn said_integer(z: i64) -> Option<Said>
     ensures { IfSome result (λ said. IsInteger z × (said ≡ sayings.Integer z)) }
 {
@@ -68,7 +69,7 @@ fn said_integer(z: i64) -> Option<Said>
     Some(Said::Integer(z))
 }
 
-/// An array of doubles, which has some.
+/// Returns an array of doubles. Returns `None` if it has no elements or too many.
 fn said_doubles(count: u64) -> Option<Said>
     ensures { IfSome result
         (λ said. (0 < count) × (count < 2 ^ 60) × (said ≡ sayings.Doubles count)) }
@@ -79,7 +80,7 @@ fn said_doubles(count: u64) -> Option<Said>
     Some(Said::Doubles(count))
 }
 
-/// A string of so many bytes.
+/// Returns a string of `len` bytes. Returns `None` if it is too long.
 fn said_bytes(len: u64) -> Option<Said>
     ensures { IfSome result (λ said. (len < 2 ^ 60) × (said ≡ sayings.Bytes len)) }
 {
@@ -89,7 +90,8 @@ fn said_bytes(len: u64) -> Option<Said>
     Some(Said::Bytes(len))
 }
 
-/// A custom of these bytes, which is known and has its data.
+/// Returns the custom that these bytes encode. Returns `None` if its identifier is unknown or its
+/// data are invalid.
 fn said_custom(piece: &[u8]) -> Option<Said>
     requires { length piece.now
         ≡ 3 + custom_bytes (custom_of (take 3 piece.now)) (slice_index piece.now 3) }
@@ -106,7 +108,7 @@ fn said_custom(piece: &[u8]) -> Option<Said>
     }
 }
 
-/// What the token of this kind says, after whose code stands the piece.
+/// Returns the summary of a token of this kind. `piece` contains the bytes after its code.
 #[inline(always)]
 fn said_of(kind: Known, piece: &[u8]) -> Option<Said>
     requires { length piece.now ≡ fixed_bytes kind.kind + variable_bytes kind.kind piece.now }
@@ -126,8 +128,8 @@ fn said_of(kind: Known, piece: &[u8]) -> Option<Said>
     }
 }
 
-/// What the first token of the bytes says, and how many bytes it has; nothing where it is not
-/// whole, or is none that may stand there.
+/// Returns the summary of the first token of the bytes and its length in bytes. Returns `None` if
+/// the token is incomplete or invalid.
 #[tactic(auto, unfolding(om_format::specs::Code::kind_of))]
 #[inline(always)]
 pub fn first_token(bytes: &[u8]) -> Option<(Said, usize)>
@@ -137,7 +139,7 @@ pub fn first_token(bytes: &[u8]) -> Option<(Said, usize)>
         return None;
     }
     let code = bytes[0];
-    // The common codes get code of their own.
+    // The common codes get specialized code.
     match code {
         0x80.. => said_kind(CodeKind::SmallBlock(code % 16, code / 16 % 8), bytes),
         0x40.. => said_kind(CodeKind::SmallInt(code % 64), bytes),
@@ -148,7 +150,7 @@ pub fn first_token(bytes: &[u8]) -> Option<(Said, usize)>
     }
 }
 
-/// The same of any code.
+/// As `first_token`, for any code.
 #[inline(never)]
 fn said_rare(bytes: &[u8]) -> Option<(Said, usize)>
     requires { 0 < length bytes.now }
@@ -160,7 +162,7 @@ fn said_rare(bytes: &[u8]) -> Option<(Said, usize)>
     }
 }
 
-/// The same of a known kind.
+/// As `first_token`, for a known kind.
 #[inline(always)]
 pub fn said_kind(kind: CodeKind, bytes: &[u8]) -> Option<(Said, usize)>
     requires some { 0 < length bytes.now }
@@ -178,7 +180,7 @@ pub fn said_kind(kind: CodeKind, bytes: &[u8]) -> Option<(Said, usize)>
     Some((said, 1 + len))
 }
 
-/// How many fields the token has.
+/// Returns the number of fields of the token.
 #[inline(always)]
 pub fn fields_of(said: Said) -> u64
     ensures { result ≡ said_fields said }
@@ -189,7 +191,7 @@ pub fn fields_of(said: Said) -> u64
     }
 }
 
-/// How large a custom is.
+/// Returns the measure of a custom.
 fn custom_measure(kind: CustomKind) -> Measure
     ensures measured { result ≡ custom_measure kind }
     ensures countable { IsCountable result }
@@ -201,7 +203,7 @@ fn custom_measure(kind: CustomKind) -> Measure
     }
 }
 
-/// How large the object is that the token makes, if it makes one.
+/// Returns the measure of the object that the token makes, if it makes one.
 #[inline(always)]
 pub fn measure_of(said: Said) -> Option<Measure>
     requires { IsFair said }

@@ -1,4 +1,4 @@
-//! Objects that are met at a second type.
+//! Objects that are referenced at a second type.
 
 ghost use Rattle.std.specs.Prelude.{IfOk, OnOk};
 ghost use Rattle.std.specs.Bool.{OnTrue};
@@ -11,8 +11,8 @@ use om_pass::mark;
 use om_type_table::TypeTable;
 use std::alloc::Global;
 
-/// The bytes where 64 objects more had been made, some objects and second types that they are known
-/// to have, and how many tokens may be looked at again.
+/// The offsets of every 64th object, some objects with second types that they are known to have,
+/// and the number of tokens that may be read again.
 #[derive(Drop)]
 pub struct Seconds {
     pub marks: Vec<usize>,
@@ -21,7 +21,7 @@ pub struct Seconds {
 }
 
 impl Seconds {
-    /// No object was made.
+    /// Creates the state without objects.
     pub fn new(alloc: Global) -> Seconds
         ensures { IsFresh result }
     {
@@ -32,7 +32,7 @@ impl Seconds {
         }
     }
 
-    /// No object was made, in the same memory.
+    /// Resets the state: there are no objects. It keeps its memory.
     pub fn restart(&mut self)
         ensures { IsFresh self.new }
     {
@@ -41,7 +41,8 @@ impl Seconds {
         self.left = 0;
     }
 
-    /// So many objects were made before the byte, which is marked where 64 more were.
+    /// Marks the offset `at` if the number of objects before it, `made`, calls for a mark (every 64
+    /// objects). Fails with `Memory` if memory runs out.
     pub fn mark(&mut self, at: usize, made: usize) -> Result<(), Memory>
         ensures { OnOk result (Marks self.old at made self.new) }
     {
@@ -49,7 +50,8 @@ impl Seconds {
         Ok(())
     }
 
-    /// Whether the tokens up to here show that the object has the type, too.
+    /// Returns true if the tokens up to this offset prove that the object has the type, too. The
+    /// answer false is inconclusive.
     pub fn show(
         &mut self,
         table: &TypeTable,

@@ -1,4 +1,4 @@
-//! The open places of a value, and the way to each.
+//! The open positions of a value, and the path to each.
 
 ghost use Rattle.std.specs.Prelude.{◌≡◌, ◌<◌, ◌≤◌, ◌∷◌, [], MatchBool, MatchOption, IfOk, OnOk};
 ghost use Rattle.std.specs.Prelude.{IfSome};
@@ -18,7 +18,7 @@ use om_pass::Open;
 use om_types::shape::PolyTag;
 use std::alloc::Global;
 
-/// What a place asks for: nothing, where it is below a misfit.
+/// What a position expects: a type, the hash of a tag, or nothing (below a mismatch).
 #[derive(Clone, Copy)]
 pub enum Asked<'a> {
     Type(usize),
@@ -26,23 +26,24 @@ pub enum Asked<'a> {
     Nothing,
 }
 
-/// What is asked in the open places of a block.
+/// What the open positions of a block expect.
 #[derive(Clone, Copy)]
 pub enum Left<'a> {
     Asked(Open<'a>),
-    /// Nothing, in so many: the block is the misfit, or below it.
+    /// This many positions expect nothing: the block is the mismatch or is below it.
     Unasked(u64),
 }
 
-/// An open block, and the number of its field that is in work.
+/// An open block and the index of its current field.
 #[derive(Clone, Copy)]
 pub struct Link {
     pub object: u32,
     pub field: u32,
 }
 
-/// The open places of one block: how many links lead to them, of which its own is the last; the
-/// number of the first one; and what is asked there.
+/// The open positions of one block. `depth` is the number of links that lead to them; the last of
+/// these links belongs to this block. `next` is the index of the first open position, and `left` is
+/// what the positions expect.
 #[derive(Clone, Copy)]
 pub struct Wait<'a> {
     pub depth: usize,
@@ -50,9 +51,9 @@ pub struct Wait<'a> {
     pub left: Left<'a>,
 }
 
-/// The open places of all blocks, those of the innermost at hand, and the links from the root on to
-/// the place that was taken last. A link stays where its block has no open place any more, as long
-/// as one inside it has.
+/// The open positions of all blocks. `now` contains those of the innermost block, `waiting` those
+/// of the enclosing blocks. `links` leads from the root to the position taken last. The link of a
+/// block without open positions stays as long as a block inside it has some.
 #[derive(Drop)]
 pub struct Way<'a> {
     pub now: Wait<'a>,
@@ -60,7 +61,8 @@ pub struct Way<'a> {
     pub links: Vec<Link>,
 }
 
-/// The first of the places that are left, the others, and how many values they come after.
+/// Returns what the first remaining position expects, the other positions, and the number of values
+/// before them.
 fn split<'a>(left: Left<'a>) -> Option<(Asked<'a>, Left<'a>, u32)>
     ensures { MatchOption result
         (left_values left.entry ≡ 0)
@@ -77,7 +79,7 @@ fn split<'a>(left: Left<'a>) -> Option<(Asked<'a>, Left<'a>, u32)>
     }
 }
 
-/// The same where something is asked.
+/// As `split`, for positions with expected types.
 fn split_asked<'a>(places: Open<'a>) -> Option<(Asked<'a>, Left<'a>, u32)>
     ensures { MatchOption result
         (left_values (lefts.Asked places.entry) ≡ 0)
@@ -102,8 +104,8 @@ fn split_asked<'a>(places: Open<'a>) -> Option<(Asked<'a>, Left<'a>, u32)>
     }
 }
 
-/// The type that the first of the places that are left asks for, if it asks for one, the others,
-/// and how many values they come after.
+/// If the first remaining position expects a type, returns that type, the other positions, and the
+/// number of values before them.
 #[inline(always)]
 pub fn first_type<'a>(left: Left<'a>) -> Option<(usize, Left<'a>, u32)>
     ensures { IfSome result (λ first. IsSplit left.entry (asks.Type first.0) first.1 first.2) }
@@ -114,8 +116,8 @@ pub fn first_type<'a>(left: Left<'a>) -> Option<(usize, Left<'a>, u32)>
     }
 }
 
-/// The type that the first of the places that are left asks for, and the others, if the places are
-/// listed.
+/// If the types of the remaining positions are listed one by one, returns the first of these types
+/// and the other positions.
 #[inline(always)]
 pub fn split_listed<'a>(left: Left<'a>) -> Option<(usize, Left<'a>)>
     ensures { IfSome result (λ first. IsSplit left.entry (asks.Type first.0) first.1 1) }
@@ -129,7 +131,8 @@ pub fn split_listed<'a>(left: Left<'a>) -> Option<(usize, Left<'a>)>
     Some((types[0], Left::Asked(Open::Listed(&types[1..]))))
 }
 
-/// Whether values are to come in the places that are left. Listed places come first.
+/// Returns true if values are pending in the remaining positions. Tests the frequent case of listed
+/// types first.
 #[tactic(auto, using(om_pass_law::proofs::BlockLemmas::values_of_types))]
 #[inline(always)]
 fn is_open(left: Left<'_>) -> bool
@@ -144,7 +147,7 @@ fn is_open(left: Left<'_>) -> bool
     values_left(left) > 0
 }
 
-/// How many values are to come in the places that are left.
+/// Returns the number of pending values in the remaining positions.
 pub fn values_left(left: Left<'_>) -> u64
     ensures { result ≡ left_values left.entry }
 {
@@ -154,7 +157,7 @@ pub fn values_left(left: Left<'_>) -> u64
     }
 }
 
-/// The same where something is asked.
+/// As `values_left`, for positions with expected types.
 fn values_asked(places: Open<'_>) -> u64
     ensures { result ≡ values_in (open_needs places.entry) }
 {
@@ -165,7 +168,7 @@ fn values_asked(places: Open<'_>) -> u64
     }
 }
 
-/// The links once more, in place of what was there.
+/// Replaces the contents of `copy` by the links. Fails with `Memory` if memory runs out.
 pub fn copy_to(copy: &mut Vec<Link>, links: &[Link]) -> Result<(), Memory>
     ensures { OnOk result (copy.new.items ≡ links.now) }
 {
@@ -177,7 +180,7 @@ pub fn copy_to(copy: &mut Vec<Link>, links: &[Link]) -> Result<(), Memory>
 }
 
 impl<'a> Way<'a> {
-    /// The place of the value, which asks for the first type; no link leads to it.
+    /// Creates the position of the root, which expects type 0. No link leads to it.
     pub fn root(alloc: Global) -> Way<'a>
         ensures is_way { IsWay result }
         ensures places { way_places result ≡ root_place ∷ [] }
@@ -193,7 +196,7 @@ impl<'a> Way<'a> {
         }
     }
 
-    /// The links lead to the place of this number in the innermost block.
+    /// Makes the links lead to field `field` of the innermost block.
     #[inline(always)]
     fn point(&mut self, field: u32)
         requires { IsWay self.old }
@@ -207,7 +210,7 @@ impl<'a> Way<'a> {
         self.links[depth - 1].field = field;
     }
 
-    /// The place of another value, in the same memory.
+    /// Resets to the position of the root of another value. It keeps its memory.
     pub fn restart(&mut self)
         ensures is_way { IsWay self.new }
         ensures places { way_places self.new ≡ root_place ∷ [] }
@@ -221,7 +224,7 @@ impl<'a> Way<'a> {
         self.links.clear();
     }
 
-    /// Whether a place is open. Blocks that have none any more are left behind.
+    /// Returns true if a position is open. Discards blocks without open positions.
     #[inline(always)]
     pub fn ready(&mut self) -> bool
         requires { IsWay self.old }
@@ -242,7 +245,8 @@ impl<'a> Way<'a> {
         }
     }
 
-    /// What the first open place asks for. It is taken, and the links lead to it.
+    /// Takes the first open position and returns what it expects. The links lead to that position
+    /// afterwards.
     #[inline(always)]
     pub fn take(&mut self) -> Asked<'a>
         requires is_way { IsWay self.old }
@@ -265,7 +269,8 @@ impl<'a> Way<'a> {
         asked
     }
 
-    /// The first open place, which asks for the type, is taken, and the links lead to it.
+    /// Takes the first open position, which expects the type. The links lead to that position
+    /// afterwards.
     #[inline(always)]
     pub fn take_type(&mut self, ty: usize, others: Left<'a>)
         requires is_way { IsWay self.old }
@@ -280,8 +285,8 @@ impl<'a> Way<'a> {
         self.now.left = others;
     }
 
-    /// Whether no more values are to come in the open places than so many. It gives up where more
-    /// blocks would be looked at than may be, and counts these down.
+    /// Returns true if at most `most` values are pending in the open positions. Subtracts the
+    /// blocks that it counts from `left`, and returns false if `left` does not suffice.
     pub fn are_within(&self, most: u64, left: &mut u64) -> bool
         ensures { OnTrue result (values_at (way_places self.entry.now) ≤ most) }
     {
@@ -302,7 +307,7 @@ impl<'a> Way<'a> {
         true
     }
 
-    /// The open places of the innermost block wait, if it has any.
+    /// Moves the open positions of the innermost block to `waiting`, if it has any.
     #[inline(always)]
     fn keep(&mut self) -> Result<(), Memory>
         ensures { OnOk result (IsWay self.old → Keeps self.old self.new) }
@@ -318,7 +323,7 @@ impl<'a> Way<'a> {
         self.keep_more()
     }
 
-    /// The same, where no room is left for it.
+    /// As `keep`, when the capacity does not suffice.
     #[inline(never)]
     fn keep_more(&mut self) -> Result<(), Memory>
         ensures { OnOk result (IsWay self.old → Keeps self.old self.new) }
@@ -327,8 +332,9 @@ impl<'a> Way<'a> {
         Ok(())
     }
 
-    /// The object of this number comes in the place that was taken last, and its places, in which
-    /// so many values are to come, come before all others, if the numbers have room.
+    /// Places the object with this number at the position taken last, and opens its positions, in
+    /// which `values` values are pending, before all others. Returns false if the numbers do not
+    /// fit in 32 bits.
     #[inline(always)]
     pub fn open(&mut self, object: usize, left: Left<'a>, values: u64) -> Result<bool, Memory>
         requires { left_values left ≡ values }
@@ -356,7 +362,8 @@ impl<'a> Way<'a> {
         Ok(true)
     }
 
-    /// The argument of a tag comes next, in the field after the hash, which was taken last.
+    /// Opens the position of the argument of a tag, next. It is the field after the hash, which was
+    /// taken last.
     pub fn argument(&mut self, ty: usize)
         requires { IsAfterHash self.old }
         ensures is_way { IsWay self.old → IsWay self.new }

@@ -1,4 +1,4 @@
--- From what is known of each object that was made, its type and its trail, to the least fault.
+-- From the type and the trail of each object to the first fault.
 use Rattle.std.proofs.Common.{ℕ, zero, suc, ◌+◌, ◌≡◌, ◌∙◌, ◌⊎◌, ⊎_elim, inl, inr, List, [], ◌∷◌, ◌++◌}
 use Rattle.std.proofs.Common.{Option, Some, None, refl, sym, ap, subst, arith}
 use Rattle.std.specs.Prelude.{Contains, IsTrue, IsSomeAnd, slice_get, All}
@@ -87,7 +87,7 @@ abbrev first_link : List (ℕ × ℕ) → ℕ × ℕ
 first_link [] = (0, 0)
 first_link (link ∷ trail) = link
 
--- ---- what is known of each object
+-- ---- the invariant of each object
 
 module _ (table : Table) (graph : List Obj) (made : List Made) (back : List ℕ) (noted : List (ℕ × ℕ)) (root : Val) (missed : List (ℕ × ℕ)) where
   abbrev NotBack : ℕ × ℕ → Type 0
@@ -96,18 +96,18 @@ module _ (table : Table) (graph : List Obj) (made : List Made) (back : List ℕ)
   abbrev pairs : List (ℕ × ℕ)
   pairs = typed_of made ++ noted
 
-  -- an object that has the type, which is led back to
+  -- An object that has the type and to which a reference leads back.
   pub record IsMetAgain (o t : ℕ) : Type 0 where
     pub typed : HasFirst table made o t ⊎ Contains noted (o, t)
     pub led : Contains back o
 
-  -- the value has what its place asks for
+  -- The value satisfies the requirement of its position.
   abbrev pub IsFine : List (ℕ × ℕ) → Val → ℕ → Type 0
   IsFine trail (vals.Int z) t = IsTrue (fits_int (shape_at table t) z)
   IsFine trail (vals.Atom tag) t = IsTrue (fits_atom (shape_at table t) tag)
   IsFine trail (vals.Ref o) t = IsMadeAt made o t trail ⊎ IsMetAgain o t
 
-  -- or it is the misfit
+  -- The value is the mismatch.
   pub record IsMissedHere (trail : List (ℕ × ℕ)) (v : Val) : Type 0 where
     pub here : missed ≡ trail
     pub object : (o : ℕ) → v ≡ vals.Ref o → (type : Option ℕ) × (slice_get made o ≡ Some record { type = type; trail = trail })
@@ -115,7 +115,7 @@ module _ (table : Table) (graph : List Obj) (made : List Made) (back : List ℕ)
   abbrev pub IsPlaced : List (ℕ × ℕ) → Val → ℕ → Type 0
   IsPlaced trail v t = IsFine trail v t ⊎ IsMissedHere trail v
 
-  -- the trail leads to the object by its last step
+  -- The last step of the trail leads to the object.
   abbrev pub IsFrom : List (ℕ × ℕ) → ℕ → ℕ → Type 0
   IsFrom [] o t = (root ≡ vals.Ref o) × (0 ≡ t)
   IsFrom (link ∷ trail) o t =
@@ -156,7 +156,7 @@ module _ (table : Table) (graph : List Obj) (made : List Made) (back : List ℕ)
     fine_held trail (vals.Ref o) t (inl at) = record { fits = are.fits o t trail at; listed = (t, first_in o t trail at, lawful.reflexive t tt) }
     fine_held trail (vals.Ref o) t (inr again) = again_held o t again
 
-    -- a field of a pair
+    -- A field of a pair.
     held_first : (o i : ℕ) (trail : List (ℕ × ℕ)) → missed ≡ (o, i) ∷ trail → (p s : ℕ) (way : List (ℕ × ℕ)) (j u : ℕ) → IsMadeAt made p s way → Contains ((table_shapes table).needs graph (vals.Ref p) s) (j, u) → Contains {X = ℕ × ℕ} ((o, i) ∷ []) (p, j) ⊎ IsSomeAnd (field_at graph p j) (λ v. IsHeld (table_shapes table) graph pairs v u)
     held_first o i trail is p s way j u at need =
         let f = are.fields p s way j u at need in
@@ -181,7 +181,8 @@ module _ (table : Table) (graph : List Obj) (made : List Made) (back : List ℕ)
           (Contains-append_cases (typed_of made) noted (p, s) among);
     }
 
-    -- an object that nothing leads back to has the trail of each place that holds it
+    -- If no reference leads back to an object, then the object has the trail of each position that
+    -- holds it.
     fine_trail : (o s a : ℕ) (trail place : List (ℕ × ℕ)) → IsMadeAt made o s trail → (Contains back o → ⊥) → IsFine place (vals.Ref o) a → trail ≡ place
     fine_trail o s a trail place at not (inl at') =
         ap (λ (m : Made). m.trail) (same_Some record { type = Some s; trail = trail } record { type = Some a; trail = place } (sym at ∙ at'))
@@ -193,7 +194,7 @@ module _ (table : Table) (graph : List Obj) (made : List Made) (back : List ℕ)
         let r = missed'.object o refl in
         ap (λ (m : Made). m.trail) (same_Some record { type = Some s; trail = trail } record { type = r.0; trail = place } (sym at ∙ r.1))
 
-    -- a field at a second type is no reference
+    -- A field at a second type is no reference.
     not_again : (o p j t a : ℕ) → Contains noted (p, t) → Contains ((table_shapes table).needs graph (vals.Ref p) t) (j, a) → field_at graph p j ≡ Some (vals.Ref o) → ⊥
     not_again o p j t a among needed field =
         subst (λ x. IsSomeAnd x (λ v. FitsAlone table v a)) field ((are.again p t among).fields j a needed)
@@ -214,7 +215,7 @@ module _ (table : Table) (graph : List Obj) (made : List Made) (back : List ℕ)
       IsEmpty [] = Unit {0}
       IsEmpty (link ∷ trail) = ⊥
 
-    -- what trails are, the innermost step first
+    -- The trails of objects lead to them.
     pub way_of : (trail : List (ℕ × ℕ)) (o s : ℕ) → IsMadeAt made o s trail → IsTrue (is_asked_in table s) → IsWay (table_shapes table) graph root 0 trail o s
     way_of [] o s at asked = are.ways o s [] at asked
     way_of (link ∷ trail) o s at asked =

@@ -1,4 +1,4 @@
--- The last step: the one misfit, whose place was met, is the least fault.
+-- The last step: if the one mismatch was found, then it is the first fault.
 use Rattle.std.proofs.Common.{ℕ, ◌≡◌, List, [], ◌∷◌, ◌++◌, Some, sym, ap, subst}
 use Rattle.std.specs.Prelude.{Contains, IsTrue, All}
 use Rattle.std.proofs.lemmas.List.Elements.{All-head, All-tail}
@@ -18,7 +18,7 @@ use Rattle.om_misfit_law.proofs.BridgeLemmas.{IsMadeAt, typed_of, AreMade, held_
 use Rattle.om_misfit_law.proofs.MissLemmas.{misses_do_not_fit}
 
 module _ (table : Table) (graph : List Obj) (root : Val) (missed : Missed) where
-  -- the misfit is a field of an object that was made
+  -- The mismatch is a field of an object of the value.
   pub record IsMet (made : List Made) (o i : ℕ) (trail : List (ℕ × ℕ)) : Type 0 where
     pub is : missed.trail ≡ (o, i) ∷ trail
     pub type : ℕ
@@ -47,7 +47,7 @@ module _ (table : Table) (graph : List Obj) (root : Val) (missed : Missed) where
             (only_misfit shapes lawful graph (typed_of made ++ noted) root 0 trail o i met.type missed.type met.value held way only met.stepped not);
       }
 
-  -- the misfit is the root
+  -- The mismatch is the root.
   pub root_least : missed.trail ≡ [] → missed.type ≡ 0 → Misses table missed.type missed.token → IsSpelledBy graph root missed.token → IsLeastMissed table graph root missed
   root_least is type misses spelled =
       let shapes = table_shapes table in

@@ -1,4 +1,4 @@
--- The fields of a block at its type, from what they ask for; and a step to one of them.
+-- The fields of a block at its type, from their requirements; a step to one of them.
 use Rattle.std.proofs.Common.{ℕ, ◌≡◌, ◌∙◌, ⊎_elim, List, [], ◌∷◌, length, Bool, true, false, Option, Some, None, refl, sym, ap, subst}
 use Rattle.std.specs.Prelude.{slice_get, IsTrue, ◌==◌, ◌&&◌, if◌then◌else◌, map, replicate, option_and_then, option_map, Contains, ℤ}
 use Rattle.std.proofs.lemmas.Bool.Decides.{Decides-eqb}
@@ -22,9 +22,9 @@ use Rattle.om_typing.proofs.NeedLemmas.{needed_is_named}
 use Rattle.om_scan.proofs.ScanLemmas.{pair_at, pair_there}
 use Rattle.om_pass_law.specs.Asked.{Need, of_type, hash_of, shape_at, needs_if, constr_needs, block_needs}
 
--- ---- what the fields are
+-- ---- the fields
 
--- what is asked for one after another, and the fields' types; or a hash and its argument
+-- The requirements are those of the fields' types in order, or that of a hash with an argument.
 pub data AreFields (values : List Val) (needs : List Need) (fields : Option (List (ℕ × ℕ))) : Type 0 where
   numbered : (ts : List ℕ) → needs ≡ map of_type ts → fields ≡ Some (numbered_from 0 ts) → AreFields values needs fields
   tagged : (tags : List (PolyTag ℕ)) → needs ≡ hash_of tags ∷ [] → fields ≡ tag_fields tags values → length values ≡ 2 → AreFields values needs fields
@@ -42,7 +42,7 @@ poly_are true true tags values needs two is = tagged tags (sym (same_Some (hash_
 poly_are true false tags values needs two is = absurd (none-some needs is)
 poly_are false second tags values needs two is = absurd (none-some needs is)
 
--- the fields of a block at the shape
+-- The fields of a block at the shape.
 pub fields_are : (shape : ShapeOf ℕ) (tag : ℕ) (values : List Val) (needs : List Need) → block_needs shape tag (length values) ≡ Some needs → AreFields values needs (block_fields shape tag values)
 fields_are shapes.AnyInt tag values needs is = absurd (none-some needs is)
 fields_are (shapes.Below k) tag values needs is = absurd (none-some needs is)
@@ -76,7 +76,7 @@ argument_once t i a b first second = its i a first ∙ sym (its i b second) wher
       (Contains-cases {X = ℕ × ℕ} (1, t) [] (i, a) among)
 
 module _ (table : Table) where
-  -- the type of a field of which something is asked is the one that is needed
+  -- If a field is not a wildcard, then its type is the required one.
   named_once : (fields : List (ℕ × ℕ)) (i t : ℕ) → AreOnce fields → Contains fields (i, t) → IsTrue (is_asked_in table t) → type_of_field (asked_of (shape_at table) fields) i ≡ Some t
   named_once fields i t once among asked =
       let needs = asked_of (shape_at table) fields in
@@ -84,7 +84,7 @@ module _ (table : Table) where
       let other = asked_is (shape_at table) fields i named.0 (named_is_needed needs i named.0 named.1) in
       subst (λ u. type_of_field needs i ≡ Some u) (once i named.0 t other.0 among) named.1
 
-  -- a step from a block to a field of which something is asked
+  -- A step from a block to a field that is not a wildcard.
   pub step_there : (graph : List Obj) (p s tag : ℕ) (values : List Val) (fields : List (ℕ × ℕ)) (i t : ℕ) (v : Val) → slice_get graph p ≡ Some (objects.Block tag values) → block_fields (shape_at table s) tag values ≡ Some fields → AreOnce fields → Contains fields (i, t) → IsTrue (is_asked_in table t) → slice_get values i ≡ Some v → step (table_shapes table) graph (vals.Ref p) s i ≡ Some (v, t)
   step_there graph p s tag values fields i t v at its once among asked at_i =
       let named = named_once fields i t once among asked in
@@ -96,12 +96,12 @@ module _ (table : Table) where
       ap (option_and_then (λ w. option_map (λ u. (w, u)) (type_of_field ((table_shapes table).needs graph (vals.Ref p) s) i))) field
       ∙ ap (option_map (λ u. (v, u))) type
 
-  -- to a field that is asked for by its number
+  -- A step to a field by its index.
   pub step_to_field : (graph : List Obj) (p s tag : ℕ) (values : List Val) (ts : List ℕ) (i t : ℕ) (v : Val) → slice_get graph p ≡ Some (objects.Block tag values) → block_fields (shape_at table s) tag values ≡ Some (numbered_from 0 ts) → slice_get ts i ≡ Some t → IsTrue (is_asked_in table t) → slice_get values i ≡ Some v → step (table_shapes table) graph (vals.Ref p) s i ≡ Some (v, t)
   step_to_field graph p s tag values ts i t v at its at_t asked at_i =
       step_there graph p s tag values (numbered_from 0 ts) i t v at its (numbered_once ts) (pair_there ts i t at_t) asked at_i
 
-  -- to the argument of a tag
+  -- A step to the argument of a tag.
   pub step_to_argument : (graph : List Obj) (p s tag : ℕ) (tags : List (PolyTag ℕ)) (z : ℤ) (its : PolyTag ℕ) (t : ℕ) (v : Val) → slice_get graph p ≡ Some (objects.Block tag (vals.Int z ∷ v ∷ [])) → block_fields (shape_at table s) tag (vals.Int z ∷ v ∷ []) ≡ tag_fields tags (vals.Int z ∷ v ∷ []) → tag_with tags z ≡ Some its → its.arg ≡ Some t → IsTrue (is_asked_in table t) → step (table_shapes table) graph (vals.Ref p) s 1 ≡ Some (v, t)
   step_to_argument graph p s tag tags z its t v at fields hash argument asked =
       let same : tag_fields tags (vals.Int z ∷ v ∷ []) ≡ Some ((1, t) ∷ []) =

@@ -1,4 +1,4 @@
--- Tokens that lead from the start to the end, told from the front.
+-- Tokens that lead from the start to the end, described from the beginning.
 use Rattle.std.proofs.Common.{ℕ, ◌≡◌, ◌⊎◌, ⊎_elim, inl, inr, List, [], ◌∷◌, ◌++◌, length, Some, None, refl, sym, subst, subst₂, ◌-◌}
 use Rattle.std.specs.Prelude.{Contains}
 use Rattle.std.proofs.lemmas.List.{append_assoc, append-nil}
@@ -10,12 +10,13 @@ use Rattle.om_pass_law.specs.Asked.{Need, of_type, hash_of}
 use Rattle.om_misfit_law.specs.PassedBut.{Place, Made, Missed, unasked, made_in, type_of_need, IsPlain, IsLedBack, Takes, Misses, PassedBut, begin, fitting, missing, below}
 use Rattle.om_misfit_law.proofs.PlainLemmas.{plain_more}
 
--- the object has the second type
+-- The object has the second type.
 abbrev pub Among : List (ℕ × ℕ) → ℕ → ℕ → Type 0
 Among noted o t = Contains noted (o, t)
 
 module _ (back : List ℕ) (table : Table) (noted : List (ℕ × ℕ)) (all : List Made) where
-  -- From these objects and open places on, the tokens lead to all objects, and have these misfits.
+  -- Starting with these objects and open positions, the tokens lead to all objects and have these
+  -- mismatches.
   abbrev pub PassesBut : List Made → List Place → List Token → List Missed → Type 0
   PassesBut made [] [] missed = (made ≡ all) × (missed ≡ [])
   PassesBut made [] (token ∷ tokens) missed = ⊥
@@ -36,19 +37,19 @@ module _ (back : List ℕ) (table : Table) (noted : List (ℕ × ℕ)) (all : Li
   rejoined : (front : List Token) (token : Token) (rest : List Token) (missed : List Missed) → FromStart (front ++ token ∷ rest) missed → FromStart ((front ++ token ∷ []) ++ rest) missed
   rejoined front token rest missed h = subst (λ ts. FromStart ts missed) (sym (append_assoc front (token ∷ []) rest)) h
 
--- ---- the second types that are taken
+-- ---- the second types that are used
 
 abbrev Keeps : List (ℕ × ℕ) → List (ℕ × ℕ) → Type 0
 Keeps pairs noted = (o t : ℕ) → Contains pairs (o, t) → Contains noted (o, t)
 
 module _ (back : List ℕ) (table : Table) (Second : ℕ → ℕ → Type 0) (made : List Made) where
-  -- with these pairs noted the token is taken
+  -- If these pairs are recorded, then the token satisfies its requirement.
   record IsTaken (trail : List (ℕ × ℕ)) (need : Need) (token : Token) (next : List Place) : Type 0 where
     pairs : List (ℕ × ℕ)
     each : (o t : ℕ) → Contains pairs (o, t) → Second o t
     takes : (noted : List (ℕ × ℕ)) → Keeps pairs noted → Takes back table (Among noted) made trail need token next
 
-  -- no object is met again
+  -- The token uses no second type.
   plain_taken : (trail : List (ℕ × ℕ)) (need : Need) (token : Token) (next : List Place) → ((noted : List (ℕ × ℕ)) → Takes back table (Among noted) made trail need token next) → IsTaken trail need token next
   plain_taken trail need token next takes = record { pairs = []; each = λ o t among. absurd (Contains-none {X = ℕ × ℕ} (o, t) among); takes = λ noted kept. takes noted }
 
@@ -80,10 +81,10 @@ module _ (back : List ℕ) (table : Table) (Second : ℕ → ℕ → Type 0) (ma
   taken trail (hash_of tags) (block tag size) next takes = absurd takes
   taken trail (hash_of tags) (leaf object) next takes = absurd takes
 
--- ---- from the front
+-- ---- from the beginning
 
 module _ (back : List ℕ) (table : Table) (all : List Made) where
-  -- the objects that have a second type by these tokens, and what the tokens lead to with them
+  -- The second types that these tokens use, and where the tokens lead with them.
   record IsFronted (front : List Token) (made : List Made) (places : List Place) (missed : List Missed) : Type 0 where
     pairs : List (ℕ × ℕ)
     each : (o t : ℕ) → Contains pairs (o, t) → IsPlain table front o t
@@ -128,7 +129,7 @@ module _ (back : List ℕ) (table : Table) (all : List Made) where
             rejoined back table noted all tokens token rest (missed ++ later) (r.passes noted kept (token ∷ rest) later (inr (inr (refl, h))));
       }
 
-  -- to the end
+  -- The tokens lead to the end.
   pub record IsFromStart (tokens : List Token) (missed : List Missed) : Type 0 where
     pub noted : List (ℕ × ℕ)
     pub each : (o t : ℕ) → Contains noted (o, t) → IsPlain table tokens o t

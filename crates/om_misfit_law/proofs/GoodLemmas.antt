@@ -1,4 +1,5 @@
--- What is known of an object that was made: it fits, its fields are placed, and its trail is real.
+-- The invariant of an object: it matches its type, its fields are placed, and its trail leads to
+-- it.
 use Rattle.std.proofs.Common.{ℕ, ◌≡◌, ◌∙◌, List, [], ◌∷◌, length, Bool, true, false, Option, Some, refl, sym, ap, subst}
 use Rattle.std.specs.Prelude.{slice_get, IsSome, IsTrue, Contains, map, replicate, option_and_then, if◌then◌else◌}
 use Rattle.std.proofs.lemmas.Bool.{false≢true}
@@ -23,7 +24,7 @@ use Rattle.om_misfit_law.proofs.FieldLemmas.{AreFields, numbered, tagged, fields
 use Rattle.om_misfit_law.proofs.PlacedLemmas.{ArePlaced, fields_placed}
 use Rattle.om_misfit_law.proofs.RealLemmas.{IsRealIf, real_from}
 
--- a block of which nothing is asked has no fields that are needed
+-- A block at a wildcard has no required fields.
 hidden_fields : (shape : ShapeOf ℕ) (tag : ℕ) (values : List Val) → is_asked shape ≡ false → block_fields shape tag values ≡ Some []
 hidden_fields shapes.Anything tag values hidden = refl
 hidden_fields shape tag values hidden = absurd (false≢true (sym hidden))
@@ -35,7 +36,7 @@ module _ (table : Table) (graph : List Obj) (all : List Made) (back : List ℕ) 
     pub way : IsTrue (is_asked_in table t) → IsFrom table graph all back noted whole missed trail o t
 
   module _ (o t : ℕ) (trail : List (ℕ × ℕ)) (real : IsRealIf table graph all whole trail (vals.Ref o) t) where
-    -- an object, from what it is
+    -- An object, by its parts.
     object_good : (object : Obj) → slice_get graph o ≡ Some object → IsSome (object_fields (shape_at table t) object) → ((i a : ℕ) → Contains (or_none (object_fields (shape_at table t) object)) (i, a) → IsTrue (is_asked_in table a) → IsField table graph all back noted whole missed o i trail a) → IsGoodBut o t trail
     object_good object at some each = record {
       fits = subst (λ x. IsSome (option_and_then (object_fields (shape_at table t)) x)) (sym at) some;
@@ -49,7 +50,7 @@ module _ (table : Table) (graph : List Obj) (all : List Made) (back : List ℕ) 
     leaf_good object at is some = object_good object at some (λ i a typed asked. absurd (leaf_needs (shape_at table t) object i a is typed))
 
     module _ (tag : ℕ) (values : List Val) (needs : List Need) (placed : ArePlaced table graph all back noted whole missed o trail 0 values needs) where
-      -- the fields of a tag that has an argument
+      -- The fields of a tag with an argument.
       tag_some : (tags : List (PolyTag ℕ)) (vs : List Val) → ArePlaced table graph all back noted whole missed o trail 0 vs (hash_of tags ∷ []) → IsSome (tag_fields tags vs)
       tag_some tags [] are = absurd are
       tag_some tags (v ∷ []) are = absurd are.2
@@ -65,7 +66,7 @@ module _ (table : Table) (graph : List Obj) (all : List Made) (back : List ℕ) 
       fields_some fields (tagged tags asks its two) =
           subst IsSome (sym its) (tag_some tags values (subst (ArePlaced table graph all back noted whole missed o trail 0 values) asks placed))
 
-      -- a block, hidden or not
+      -- A block, at a wildcard too.
       pub block_good : slice_get graph o ≡ Some (objects.Block tag values) → fields_ask table t tag (length values) ≡ Some needs → IsGoodBut o t trail
       block_good at is = by (is_asked_in table t) refl is where
         by : (asked : Bool) → is_asked_in table t ≡ asked → (if asked then block_needs (shape_at table t) tag (length values) else Some (map of_type (replicate (length values) t))) ≡ Some needs → IsGoodBut o t trail

@@ -1,4 +1,4 @@
--- The one misfit that was met is the least fault.
+-- The one mismatch that was found is the first fault.
 use mathlib.Core.List.{cons≢nil}
 use Rattle.std.proofs.Common.{ℕ, ◌≡◌, ◌∙◌, ⊎_elim, List, [], ◌∷◌, ◌++◌, length, Some, refl, sym, ap, subst, arith}
 use Rattle.std.specs.Prelude.{Contains, IsTrue, All}
@@ -33,7 +33,7 @@ module _ (table : Table) (lawful : AreLawful (table_shapes table) Everything) (b
   from : IsFromStart back table made (tokens tree) (m ∷ [])
   from = passes_from_start back table made (tokens tree) (m ∷ []) passed
 
-  -- the objects that have a second type
+  -- The objects with a second type.
   abbrev noted : List (ℕ × ℕ)
   noted = from.noted
 
@@ -53,7 +53,7 @@ module _ (table : Table) (lawful : AreLawful (table_shapes table) Everything) (b
   met : IsMetAs back table noted made graph whole m m
   met = ⊎_elim (λ same. absurd (cons≢nil (same ∙ read.passes.1))) (λ is. is) read.met
 
-  -- something is asked of the root, where the trail begins with it
+  -- If a trail begins with the root, then the root's type is no wildcard.
   root_asked : (trail : List (ℕ × ℕ)) (o t : ℕ) → IsMadeAt made o t trail → IsTrue (is_asked_in table t) → IsTrue (is_asked_in table 0)
   root_asked [] o t at asked =
       let from = (good o t [] at).way asked in
@@ -62,7 +62,7 @@ module _ (table : Table) (lawful : AreLawful (table_shapes table) Everything) (b
       let from = (good o t (link ∷ trail) at).way asked in
       root_asked trail link.0 from.0 from.1 from.2
 
-  -- where the misfit is not the root, the root has what is asked for
+  -- If the mismatch is not the root, then the root satisfies its requirement.
   all_made : (link : ℕ × ℕ) (trail : List (ℕ × ℕ)) → m.trail ≡ link ∷ trail → IsTrue (is_asked_in table 0) → AreMade table graph made back noted whole m.trail
   all_made link trail its asked = record {
     root_fine = ⊎_elim (λ fine. fine) (λ missed. absurd (cons≢nil (sym its ∙ missed.here))) (read.value asked);

@@ -1,4 +1,4 @@
--- The line of a misfit, told by its token.
+-- The output line of a mismatch, from its token.
 use Rattle.std.proofs.Common.{◌≡◌, ◌∙◌, List, ◌++◌, refl, sym, ap}
 use Rattle.std.specs.Prelude.{codes, decimal}
 use Rattle.om_model.specs.PathText.{path_text}
@@ -11,7 +11,7 @@ use Rattle.om_misfit_law.specs.OnlyWay.{path_of}
 use Rattle.om_misfit_law.specs.MissedLaw.{IsSpelledBy}
 use Rattle.om_misfit_law.specs.MissedLine.{token_text, missed_text, MissedHasLine}
 
--- what a token says of a value is its kind
+-- The text of a token is the text of the value's kind.
 kind_is : (graph : List Obj) (v : Val) (token : Token) → IsSpelledBy graph v token → kind_text graph v ≡ token_text token
 kind_is graph v (integer z) is = ap (λ w. kind_text graph w) is
 kind_is graph v (atom tag) is = ap (λ w. kind_text graph w) is

@@ -1,4 +1,4 @@
--- What certainly does not fit does not fit.
+-- If a token certainly does not match a type, then its value does not match it.
 use Rattle.std.proofs.Common.{ℕ, ◌≡◌, ◌∙◌, List, [], ◌∷◌, length, Bool, true, false, Option, Some, None, refl, sym, subst}
 use Rattle.std.specs.Prelude.{ℤ, slice_get, IsSome, IsTrue, ◌==◌, ◌&&◌, if◌then◌else◌, map, replicate, option_and_then}
 use Rattle.std.proofs.lemmas.Bool.{false≢true}
@@ -70,7 +70,7 @@ block_missed table t tag values is some = by (is_asked_in table t) refl is where
   by true asked is = shape_missed (shape_at table t) tag values asked is some
   by false asked is = none-some (map of_type (replicate (length values) t)) (sym is)
 
--- a value that its token says to miss the type does not fit it
+-- If the token of a value mismatches a type, then the value does not match the type.
 pub misses_do_not_fit : (table : Table) (graph : List Obj) (w : Val) (t : ℕ) (token : Token) → Misses table t token → IsSpelledBy graph w token → (table_shapes table).fits graph w t → ⊥
 misses_do_not_fit table graph w t (integer z) misses is fits =
     not_some_if (fits_int (shape_at table t) z) misses (subst (λ v. (table_shapes table).fits graph v t) is fits)
@@ -86,7 +86,7 @@ misses_do_not_fit table graph w t (leaf object) misses (o, is, at) fits =
     let some = subst (λ x. IsSome (option_and_then (object_fields (shape_at table t)) x)) at there in
     false≢true (subst IsSome misses some)
 
--- ---- where nothing is asked no token misses
+-- ---- no token mismatches a wildcard
 
 accepts_int : (shape : ShapeOf ℕ) (z : ℤ) → is_asked shape ≡ false → fits_int shape z ≡ false → ⊥
 accepts_int shapes.Anything z hidden is = false≢true (sym is)
@@ -104,7 +104,7 @@ accepts_leaf : (shape : ShapeOf ℕ) (object : Obj) → is_asked shape ≡ false
 accepts_leaf shapes.Anything object hidden is = none-some [] (sym is ∙ any_object object)
 accepts_leaf shape object hidden is = false≢true (sym hidden)
 
--- a token misses only a type of whose values something is asked
+-- If a token mismatches a type, then the type is no wildcard.
 pub missed_is_asked : (table : Table) (t : ℕ) (token : Token) → Misses table t token → IsTrue (is_asked_in table t)
 missed_is_asked table t token misses = by (is_asked_in table t) refl where
   never : (token : Token) → Misses table t token → is_asked_in table t ≡ false → ⊥

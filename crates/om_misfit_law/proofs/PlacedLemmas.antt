@@ -1,4 +1,4 @@
--- Where each value of a block is placed, so is each field of which something is asked.
+-- If each value of a block is placed, then each field that is not a wildcard is placed.
 use Rattle.std.proofs.Common.{ℕ, zero, suc, ◌+◌, ◌≡◌, ◌∙◌, ⊎_elim, List, [], ◌∷◌, length, Some, refl, ap, subst, arith}
 use Rattle.std.specs.Prelude.{slice_get, map, Contains, IsTrue, option_and_then, ℤ}
 use Rattle.std.proofs.lemmas.Option.{same_Some, none-some}
@@ -16,7 +16,7 @@ use Rattle.om_misfit_law.specs.PassedBut.{Made}
 use Rattle.om_misfit_law.proofs.BridgeLemmas.{IsPlaced}
 use Rattle.om_misfit_law.proofs.FieldLemmas.{AreFields, numbered, tagged, fields_are}
 
--- the value is the hash of a tag with an argument of the type
+-- The value is the hash of a tag with an argument of the type.
 pub record IsHashOf (tags : List (PolyTag ℕ)) (v : Val) (type : ℕ) : Type 0 where
   pub hash : ℤ
   pub is_hash : v ≡ vals.Int hash
@@ -25,12 +25,12 @@ pub record IsHashOf (tags : List (PolyTag ℕ)) (v : Val) (type : ℕ) : Type 0 
   pub has_argument : tag.arg ≡ Some type
 
 module _ (table : Table) (graph : List Obj) (made : List Made) (back : List ℕ) (noted : List (ℕ × ℕ)) (root : Val) (missed : List (ℕ × ℕ)) where
-  -- a value of which nothing is asked may be anything
+  -- A value at a wildcard is arbitrary.
   abbrev pub IsPlacedIf : List (ℕ × ℕ) → Val → ℕ → Type 0
   IsPlacedIf place v t = IsTrue (is_asked_in table t) → IsPlaced table graph made back noted root missed place v t
 
 module _ (table : Table) (graph : List Obj) (made : List Made) (back : List ℕ) (noted : List (ℕ × ℕ)) (root : Val) (missed : List (ℕ × ℕ)) (p : ℕ) (trail : List (ℕ × ℕ)) where
-  -- the values from number k on have what their places ask for, or are the misfit
+  -- The values from field `k` on satisfy their requirements, or are the mismatch.
   abbrev pub ArePlaced : ℕ → List Val → List Need → Type 0
   ArePlaced k [] [] = Unit {0}
   ArePlaced k [] (need ∷ needs) = ⊥
@@ -72,7 +72,7 @@ module _ (table : Table) (graph : List Obj) (made : List Made) (back : List ℕ)
       (λ none. absurd (Contains-none {X = ℕ × ℕ} (i, a) none))
       (Contains-cases {X = ℕ × ℕ} (1, are.0) [] (i, a) among')
 
-  -- each field for which the shape has a type
+  -- Each field for which the shape has a type is placed.
   pub fields_placed : (shape : ShapeOf ℕ) (tag : ℕ) (values : List Val) (needs : List Need) (i a : ℕ) → block_needs shape tag (length values) ≡ Some needs → ArePlaced 0 values needs → Contains (or_none (block_fields shape tag values)) (i, a) → IsPlacedAt values i i a
   fields_placed shape tag values needs i a is are among = by (fields_are shape tag values needs is) where
     by : AreFields values needs (block_fields shape tag values) → IsPlacedAt values i i a

@@ -1,4 +1,4 @@
--- From tokens that have what their places ask for but at one to the objects of their tree.
+-- From tokens all of which but one satisfy their requirements to the objects of their tree.
 use Rattle.std.proofs.Common.{ℕ, suc, ◌+◌, ◌-◌, ◌<◌, ◌≤◌, ◌≡◌, ◌∙◌, ◌⊎◌, ⊎_elim, inl, inr, List, [], ◌∷◌, ◌++◌, length, Option, Some, None, refl, sym, ap, subst, arith}
 use Rattle.std.specs.Prelude.{slice_get, ℤ}
 use Rattle.std.proofs.lemmas.Bool.{false≢true, cases_lt}
@@ -26,7 +26,7 @@ use Rattle.om_misfit_law.proofs.PlacedLemmas.{IsHashOf, IsPlacedIf, ArePlaced}
 use Rattle.om_misfit_law.proofs.RealLemmas.{IsReal, IsRealIf, AreReal, block_real}
 use Rattle.om_misfit_law.proofs.UnaskedLemmas.{after_token, kept_at, made_long, made_there}
 
--- ---- what is told apart
+-- ---- cases of requirements
 
 abbrev IsHash : Need → Type 0
 IsHash (of_type t) = ⊥
@@ -47,10 +47,10 @@ number_of (vals.Int z) = None
 number_of (vals.Atom tag) = None
 number_of (vals.Ref o) = Some o
 
--- ---- objects that are in the graph
+-- ---- objects of the graph
 
 module _ (graph : List Obj) where
-  -- from number c on
+  -- The objects are in the graph from number `c` on.
   abbrev pub AreIn : ℕ → List Obj → Type 0
   AreIn c [] = Unit {0}
   AreIn c (x ∷ xs) = (slice_get graph c ≡ Some x) × AreIn (suc c) xs
@@ -65,7 +65,7 @@ module _ (graph : List Obj) where
       let same : suc c + length xs ≡ c + suc (length xs) = omega arith in
       subst (λ n. AreIn n ys) same (in_back (suc c) xs ys are.1)
 
--- all of them are
+-- All objects of the graph are in it.
 pub all_in : (front xs : List Obj) → AreIn (front ++ xs) (length front) xs
 all_in front [] = tt
 all_in front (x ∷ xs) = (there front, subst (λ n. AreIn (front ++ x ∷ xs) n xs) (length-append front (x ∷ []) ∙ next) (subst (λ g. AreIn g (length (front ++ x ∷ [])) xs) (append_assoc front (x ∷ []) xs) (all_in (front ++ x ∷ []) xs))) where
@@ -77,12 +77,12 @@ all_in front (x ∷ xs) = (there front, subst (λ n. AreIn (front ++ x ∷ xs) n
   there (y ∷ front) = there front
 
 module _ (back : List ℕ) (table : Table) (noted : List (ℕ × ℕ)) (all : List Made) (graph : List Obj) (whole : Val) (m : Missed) where
-  -- each of them is the misfit
+  -- Each of them is the mismatch.
   abbrev pub AreIt : List Missed → Type 0
   AreIt [] = Unit {0}
   AreIt (one ∷ later) = (one ≡ m) × AreIt later
 
-  -- the misfit's place is real, and its token stands there
+  -- The trail leads to the mismatch, and its token encodes the value there.
   pub record IsMetAs (one : Missed) : Type 0 where
     pub value : Val
     pub real : IsReal table graph all whole one.trail value one.type
@@ -95,7 +95,7 @@ module _ (back : List ℕ) (table : Table) (noted : List (ℕ × ℕ)) (all : Li
   abbrev pub Good : ℕ → ℕ → List (ℕ × ℕ) → Type 0
   Good o t trail = IsGoodBut table graph all back noted whole m.trail o t trail
 
-  -- what is known of the objects from number c on
+  -- The invariant of the objects from number `c` on.
   abbrev pub AreGoodBut : ℕ → ℕ → Type 0
   AreGoodBut c n = (o : ℕ) → c ≤ o → o < c + n → (t : ℕ) (trail : List (ℕ × ℕ)) → IsMadeAt all o t trail → Good o t trail
 
@@ -145,7 +145,7 @@ module _ (back : List ℕ) (table : Table) (noted : List (ℕ × ℕ)) (all : Li
       let same : c ≡ o = omega (arith, from, to) in
       subst (λ n. (s : ℕ) (way : List (ℕ × ℕ)) → IsMadeAt all n s way → Good n s way) same (one_good c t trail at good)
 
-  -- ---- what the first token does in its place
+  -- ---- the effect of the first token at its position
 
   abbrev Fits : Need → List (ℕ × ℕ) → List Made → List Place → Token → List Token → List Missed → Type 0
   Fits need trail made places token ts ms =
@@ -174,7 +174,7 @@ module _ (back : List ℕ) (table : Table) (noted : List (ℕ × ℕ)) (all : Li
     told_hash tags (inr (inl (u, asks, misses, later, its, h))) = absurd (hash_is_no_type tags u (same_Some (hash_of tags) (of_type u) asks))
     told_hash tags (inr (inr (asks, h))) = absurd (none-some (hash_of tags) (sym asks))
 
-  -- ---- a token that misses
+  -- ---- a token that mismatches
 
   spelled_there : (token : Token) (f : Forest) (c t : ℕ) → IsTree (node token f) → Misses table t token → AreIn graph c (objects_of (node token f) c) → IsSpelledBy graph (value_of token c) token
   spelled_there (integer z) f c t is misses are = refl
@@ -183,7 +183,7 @@ module _ (back : List ℕ) (table : Table) (noted : List (ℕ × ℕ)) (all : Li
   spelled_there (block tag size) f c t is misses are = (c, roots f (c + 1), refl, are.0, length-roots f (c + 1) ∙ is.1)
   spelled_there (leaf object) f c t is misses are = (c, refl, are.0)
 
-  -- the object that it makes is the value
+  -- The object that the token creates is the value.
   its_object : (token : Token) (c t o : ℕ) → IsToken token → Misses table t token → value_of token c ≡ vals.Ref o → (c ≡ o) × (o < c + made_by token)
   its_object (integer z) c t o is misses same = absurd (none-some o (ap number_of same))
   its_object (atom tag) c t o is misses same = absurd (none-some o (ap number_of same))
@@ -216,7 +216,7 @@ module _ (back : List ℕ) (table : Table) (noted : List (ℕ × ℕ)) (all : Li
         passes = over.passes;
       }
 
-  -- ---- a token without fields that fits
+  -- ---- a token without fields that matches
 
   flat_read : (token : Token) (t : ℕ) (trail : List (ℕ × ℕ)) (made : List Made) (places : List Place) (rest : List Token) (ms : List Missed) → IsToken token → AreIt ms → (next : List Place) → next ≡ [] → Goes (made ++ made_in (Some t) trail token) (next ++ places) rest ms → IsPlacedIf table graph all back noted whole m.trail trail (value_of token (length made)) t → AreGoodBut (length made) (made_by token) → IsReadBut (length made) t trail (node token none) places rest ms
   flat_read token t trail made places rest ms is only next ends h placed good = record {
@@ -233,7 +233,7 @@ module _ (back : List ℕ) (table : Table) (noted : List (ℕ × ℕ)) (all : Li
   no_object : (c : ℕ) → AreGoodBut c 0
   no_object c o from to = absurd (omega (arith, from, to))
 
-  -- the object that a token makes is there in the end
+  -- The object that a token creates is among the objects in the end.
   made_at : (token : Token) (t : ℕ) (trail : List (ℕ × ℕ)) (made : List Made) (places : List Place) (ts : List Token) (ms : List Missed) → IsToken token → 0 < made_by token → Goes (made ++ made_in (Some t) trail token) places ts ms → IsMadeAt all (length made) t trail
   made_at token t trail made places ts ms is some h =
       kept_at back table noted all (made ++ made_in (Some t) trail token) places ts ms (length made) record { type = Some t; trail = trail } h
@@ -248,7 +248,7 @@ module _ (back : List ℕ) (table : Table) (noted : List (ℕ × ℕ)) (all : Li
     led = led.noted;
   }
 
-  -- ---- a block that fits
+  -- ---- a block that matches
 
   module _ (tag size : ℕ) (f : Forest) (t : ℕ) (trail : List (ℕ × ℕ)) (made : List Made) (places : List Place) (rest : List Token) (ms : List Missed)
       (is : IsTree (node (block tag size) f)) (are : AreIn graph (length made) (objects_of (node (block tag size) f) (length made)))

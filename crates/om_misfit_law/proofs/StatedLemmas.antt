@@ -1,5 +1,5 @@
--- Bytes that were passed but for one misfit: the law, and what is known at the beginning and after
--- one token more.
+-- Bytes with exactly one mismatch: the theorem, and the invariant at the start and after one more
+-- token.
 use Rattle.std.proofs.Common.{ℕ, zero, suc, ◌+◌, ◌-◌, ◌<◌, ◌≤◌, ◌^◌, ◌≡◌, ◌∙◌, ⊎_elim, inl, inr, refl, List, [], ◌∷◌, ◌++◌, length, map, Option, Some, None, sym, ap, subst, subst₂, arith, take-add}
 use Rattle.std.specs.Prelude.{replicate, take, drop}
 use Rattle.std.specs.List.{concat, AllZip}
@@ -26,7 +26,7 @@ use Rattle.om_misfit_law.specs.PassedBut.{Place, Made, Missed, places_of, unaske
 use Rattle.om_misfit_law.proofs.LawLemmas.{only_missed}
 use Rattle.om_misfit_law.proofs.UnaskedLemmas.{nothing, unasked_are, made_long}
 
--- ---- the open places are the values to come
+-- ---- open positions and values still to be read
 
 pub values_at-append : (xs ys : List Place) → values_at (xs ++ ys) ≡ values_at xs + values_at ys
 values_at-append [] ys = omega arith
@@ -48,7 +48,7 @@ need_some (of_type t) = omega arith
 need_some (hash_of tags) = omega arith
 
 module _ (back : List ℕ) (table : Table) where
-  -- the places that a token brings, and its own
+  -- The positions that a token opens, and its own position.
   taken_many : (Second : ℕ → ℕ → Type 0) (made : List Made) (trail : List (ℕ × ℕ)) (need : Need) (token : Token) (next : List Place) → Takes back table Second made trail need token next → values_at next + 1 ≡ values_in (need ∷ []) + of_object fields (measure_of token)
   taken_many Second made trail (of_type t) (integer z) next takes = let is = ap values_at takes.1 in omega (arith, is)
   taken_many Second made trail (of_type t) (atom tag) next takes = let is = ap values_at takes.1 in omega (arith, is)
@@ -69,7 +69,7 @@ module _ (back : List ℕ) (table : Table) where
   unasked_many : (token : Token) → values_at (unasked token) ≡ of_object fields (measure_of token)
   unasked_many token = ap values_at (unasked_are token) ∙ values_at-unasked (of_object fields (measure_of token))
 
-  -- one token more
+  -- One more token.
   pushed : (ts : List Token) (token : Token) (place : Place) (places next : List Place) → pending (map measure_of ts) ≡ values_at (place ∷ places) → 0 < values_of place.asks → values_at next + 1 ≡ values_of place.asks + of_object fields (measure_of token) → pending (map measure_of (ts ++ token ∷ [])) ≡ values_at (next ++ places)
   pushed ts token place places next earlier some many =
       let push = pending_push (map measure_of ts) (measure_of token) (omega (arith, earlier, some)) in
@@ -109,9 +109,9 @@ module _ (back : List ℕ) (table : Table) where
       let place : Place = record { asks = None; trail = trail } in
       opened tokens token place places' (passed_many tokens made' (place ∷ places') missed before) (omega arith) (passed_open tokens made' (place ∷ places') missed before)
 
--- ---- the law
+-- ---- the theorem
 
--- what the tokens take is stated
+-- The header states the sizes of the tokens.
 states_from : (back : List ℕ) (table : Table) (limit : ℕ) (bytes : List ℕ) (head : Head) (start n : ℕ) (ts : List Token) (made : List Made) (missed : List Missed) → IsPassingBut back table limit bytes head start n ts made [] missed → IsStated head start n ts (length made) → States head ts
 states_from back table limit bytes head start n ts made missed p stated = record {
   w32 = stated.w32;
@@ -119,7 +119,7 @@ states_from back table limit bytes head start n ts made missed p stated = record
   objects = ⊎_elim (λ none. inr (none, p.unshared none)) (λ same. inl (same ∙ sym p.many)) stated.count;
 }
 
--- the data bytes are those of the tokens
+-- The data bytes are those of the tokens.
 data_length : (back : List ℕ) (table : Table) (limit : ℕ) (bytes : List ℕ) (head : Head) (start n : ℕ) (ts : List Token) (made : List Made) (missed : List Missed) (p : IsPassingBut back table limit bytes head start n ts made [] missed) → IsStated head start n ts (length made) → head.length ≡ length (concat p.pieces)
 data_length back table limit bytes head start n ts made missed p stated =
     let front = length-take-le n bytes p.within in
@@ -155,7 +155,7 @@ one_missed_fronts table limit bytes head start n ts back made missed lawful p st
           (subst (λ us. PassedBut back table us made [] (missed ∷ [])) (sym t.tokens_are) p.passed) others;
     }
 
--- ---- at the beginning, and after one token more
+-- ---- the start, and one more token
 
 pub but_start :
     (table : Table) (limit : ℕ) (bytes : List ℕ) (head : Head) (n : ℕ) → n ≤ length bytes → IsHeader (take n bytes)
@@ -178,7 +178,8 @@ but_start table limit bytes head n within is_header head_is begins words small =
   small = small;
 }
 
--- by what the token does to the objects, the places and the misfits; more objects may be led back to
+-- After one more token, given its effect on the objects, positions and mismatches. References may
+-- lead back to more objects.
 pub but_further :
     (back more : List ℕ) (table : Table) (limit : ℕ) (bytes : List ℕ) (head : Head) (first n : ℕ) (tokens : List Token) (made : List Made) (places : List Place) (missed : List Missed)
     → (p : IsPassingBut back table limit bytes head first n tokens made places missed)
@@ -210,7 +211,7 @@ but_further back more table limit bytes head first n tokens made places missed p
       small = p.small;
     }
 
--- ---- one more object is led back to
+-- ---- references lead back to one more object
 
 module _ (table : Table) (back : List ℕ) (more : List ℕ) where
   led_more : (Second : ℕ → ℕ → Type 0) (made : List Made) (t offset : ℕ) → IsLedBack back table Second made t offset → IsLedBack (back ++ more) table Second made t offset

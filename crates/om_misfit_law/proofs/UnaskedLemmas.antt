@@ -1,4 +1,4 @@
--- A tree of which nothing is asked: its objects have no type.
+-- A tree below a mismatch: its objects have no type.
 use Rattle.std.proofs.Common.{ℕ, zero, suc, ◌+◌, ◌<◌, ◌≤◌, ◌≡◌, ◌∙◌, ◌⊎◌, ⊎_elim, inl, inr, List, [], ◌∷◌, ◌++◌, length, Option, Some, None, refl, sym, ap, subst, arith}
 use Rattle.std.specs.Prelude.{slice_get, replicate}
 use Rattle.std.proofs.lemmas.List.{append_assoc, append-nil, length-append}
@@ -26,7 +26,7 @@ unasked_are (block tag size) = refl
 unasked_are (leaf object) = ap (λ n. replicate n nothing) (sym (leaf_fields object))
 
 module _ (type : Option ℕ) (trail : List (ℕ × ℕ)) (made : List Made) where
-  -- a token makes as many objects as it makes
+  -- The number of objects that a token creates.
   pub made_long : (token : Token) → IsToken token → length (made ++ made_in type trail token) ≡ length made + made_by token
   made_long (integer z) is = length-append made []
   made_long (atom tag) is = length-append made []
@@ -39,7 +39,7 @@ module _ (type : Option ℕ) (trail : List (ℕ × ℕ)) (made : List Made) wher
       let is : length made ≡ o = omega (arith, from, to) in
       subst (λ k. slice_get (made ++ record { type = type; trail = trail } ∷ []) k ≡ Some record { type = type; trail = trail }) is (slice_get-last made record { type = type; trail = trail })
 
-  -- and it is there
+  -- The object that a token creates is at its index.
   pub made_there : (token : Token) → IsToken token → (o : ℕ) → length made ≤ o → o < length made + made_by token → slice_get (made ++ made_in type trail token) o ≡ Some record { type = type; trail = trail }
   made_there (integer z) is o from to = absurd (omega (arith, from, to))
   made_there (atom tag) is o from to = absurd (omega (arith, from, to))
@@ -48,7 +48,7 @@ module _ (type : Option ℕ) (trail : List (ℕ × ℕ)) (made : List Made) wher
   made_there (leaf object) is o from to = let one = leaf_made object is in last_there o from (omega (arith, to, one))
 
 module _ (back : List ℕ) (table : Table) (noted : List (ℕ × ℕ)) (all : List Made) where
-  -- what was made is there in the end
+  -- The objects so far are a prefix of the objects in the end.
   pub front : (made : List Made) (places : List Place) (tokens : List Token) (missed : List Missed) → PassesBut back table noted all made places tokens missed → (later : List Made) × (made ++ later ≡ all)
   front made [] [] missed h = ([], append-nil made ∙ h.0)
   front made [] (token ∷ tokens) missed h = absurd h
@@ -71,14 +71,14 @@ module _ (back : List ℕ) (table : Table) (noted : List (ℕ × ℕ)) (all : Li
       let r = front made places tokens missed h in
       subst (λ xs. slice_get xs k ≡ Some object) r.1 (slice_get-append_left made r.0 k object at_k)
 
-  -- From object c on n objects without a type were made, and then the rest of the tokens goes on.
+  -- From object `c` on, `n` objects without a type were created, and the remaining tokens follow.
   pub record IsPassedOver (c n : ℕ) (places : List Place) (rest : List Token) (missed : List Missed) : Type 0 where
     pub after : List Made
     pub many : length after ≡ c + n
     pub untyped : (o : ℕ) → c ≤ o → o < c + n → (trail : List (ℕ × ℕ)) × (slice_get all o ≡ Some record { type = None; trail = trail })
     pub passes : PassesBut back table noted all after places rest missed
 
-  -- where nothing is asked of a token's fields they are passed over
+  -- If nothing is required of a token's fields, then they are passed over.
   fields_next : (token : Token) (f : Forest) (made : List Made) (places : List Place) (rest : List Token) (missed : List Missed) → PassesBut back table noted all made (unasked token ++ places) (forest_tokens f ++ rest) missed → PassesBut back table noted all made (replicate (of_object fields (measure_of token)) nothing ++ places) (forest_tokens f ++ rest) missed
   fields_next token f made places rest missed h = subst (λ xs. PassesBut back table noted all made (xs ++ places) (forest_tokens f ++ rest) missed) (unasked_are token) h
 
@@ -129,7 +129,7 @@ module _ (back : List ℕ) (table : Table) (noted : List (ℕ × ℕ)) (all : Li
           passes = later.passes;
         }
 
-  -- after a token at which nothing is asked, or which misses
+  -- After a token of which nothing is required, or which mismatches.
   pub after_token : (token : Token) (f : Forest) (trail : List (ℕ × ℕ)) (made : List Made) (places : List Place) (rest : List Token) (missed : List Missed) → IsTree (node token f) → PassesBut back table noted all (made ++ made_in None trail token) (unasked token ++ places) (forest_tokens f ++ rest) missed → IsPassedOver (length made) (made_by token + all_made f) places rest missed
   after_token token f trail made places rest missed is h =
       let made' = made ++ made_in None trail token in

@@ -1,4 +1,4 @@
--- Each path leads to a value that is held, by the only way that there is, or goes through a hole.
+-- Each path leads to a value that is held, by its only trail, or passes through a hole.
 use Rattle.std.proofs.Common.{ℕ, ◌≡◌, ◌∙◌, ◌⊎◌, ⊎_elim, inl, inr, List, [], ◌∷◌, ◌++◌}
 use Rattle.std.proofs.Common.{Some, refl, sym, ap, subst, arith}
 use Rattle.std.specs.Prelude.{Contains, IsSomeAnd, option_map}
@@ -20,7 +20,7 @@ use Rattle.om_typing.proofs.PathLemmas.{value_at-push}
 use Rattle.om_typing.proofs.SearchedLemmas.{never_before_itself, never_before_root}
 use Rattle.om_misfit_law.specs.OnlyWay.{AreHeldBut, IsNeededOf, path_of, IsWay, IsOnlyWay, HasOnlyWay}
 
--- a path is not before another where its front is not
+-- If a prefix of a path does not come before another path, then the whole path does not.
 pub front_not_before : (front more path : List ℕ) → (IsBefore front path → ⊥) → IsBefore (front ++ more) path → ⊥
 front_not_before front [] path not before = not (subst (λ p. IsBefore p path) (append-nil front) before)
 front_not_before front (i ∷ more) path not (inl shorter) = not (inl (omega (arith, shorter, length-append front (i ∷ more))))
@@ -31,7 +31,7 @@ module _ {T : Type 0} (shapes : Shapes T) (graph : List Obj) (root : Val) (t : T
   root_misfit not =
       least_misfit shapes graph root t [] not (λ other is before. never_before_root other before)
 
-  -- a trail's path leads to its object
+  -- The path of a trail leads to the trail's object.
   pub way_leads : (trail : List (ℕ × ℕ)) (o : ℕ) (u : T) → IsWay shapes graph root t trail o u → value_at shapes graph root t (path_of trail) ≡ Some (vals.Ref o, u)
   way_leads [] o u way = cc (way.0, way.1)
   way_leads (link ∷ trail) o u way =
@@ -40,11 +40,12 @@ module _ {T : Type 0} (shapes : Shapes T) (graph : List Obj) (root : Val) (t : T
 module _ {T : Type 0} (shapes : Shapes T) (lawful : AreLawful shapes Everything) (graph : List Obj)
     (pairs : List (ℕ × T)) (holes : List (ℕ × ℕ)) (root : Val) (t : T)
     (are : AreHeldBut shapes graph pairs holes root t) where
-  -- each only way to the value is the path
+  -- If only one trail leads to the value, then its path is this path.
   abbrev Tracked : List ℕ → Val → Type 0
   Tracked path v = (o : ℕ) (trail : List (ℕ × ℕ)) → v ≡ vals.Ref o → IsOnlyWay shapes graph pairs root trail o → path_of trail ≡ path
 
-  -- the path goes through a hole, and its front there is each only way to it
+  -- The path passes through a hole. If only one trail leads to the hole, then its path is the
+  -- prefix up to the hole.
   pub record IsThrough (path : List ℕ) : Type 0 where
     pub object : ℕ
     pub field : ℕ
@@ -73,7 +74,7 @@ module _ {T : Type 0} (shapes : Shapes T) (lawful : AreLawful shapes Everything)
       let front = tracked o trail refl only' in
       subst (λ j. path_of trail ++ j ∷ [] ≡ path ++ i ∷ []) same.1 (ap (λ q. q ++ i ∷ []) front)
 
-  -- what is known of a step from an object that is listed
+  -- The invariant of a step from a listed object.
   record IsStep (path : List ℕ) (o i : ℕ) (w : Val) (a : T) : Type 0 where
     tracked : Tracked (path ++ i ∷ []) w
     next : Contains holes (o, i) ⊎ IsHeld shapes graph pairs w a
@@ -124,7 +125,7 @@ module _ {T : Type 0} (shapes : Shapes T) (lawful : AreLawful shapes Everything)
         let found = IsSomeAnd-some (value_at shapes graph root t other) (λ place. shapes.fits graph place.0 place.1 → ⊥) is in
         ⊎_elim (λ fits. found.2 fits) (λ h. through other h before) (walk [] other root t found.0 are.root_held root_tracked found.1)
 
--- one hole
+-- One hole.
 module _ {T : Type 0} (shapes : Shapes T) (lawful : AreLawful shapes Everything) (graph : List Obj)
     (pairs : List (ℕ × T)) (root : Val) (t : T) (trail : List (ℕ × ℕ)) (o i : ℕ) (u a : T) (w : Val)
     (are : AreHeldBut shapes graph pairs ((o, i) ∷ []) root t)

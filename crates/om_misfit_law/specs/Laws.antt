@@ -1,4 +1,5 @@
--- A misfit to which one way alone leads is the least fault. Types are the numbers of a table.
+-- If only one trail leads to a mismatch, then it is the first fault. Types are the numbers of a
+-- table.
 use Rattle.std.specs.Prelude.{ℕ, ◌≡◌, List, [], ◌∷◌, Some, Contains}
 use Rattle.om_model.specs.declared.value.Val.{Val}
 use Rattle.om_model.specs.declared.value.Val.TheVariants as vals
@@ -10,14 +11,15 @@ use Rattle.om_types.specs.LeastFault.{IsLeastFault}
 use Rattle.om_types.specs.Table.{Table, table_shapes}
 use Rattle.om_misfit_law.specs.OnlyWay.{AreHeldBut, path_of, IsWay, IsOnlyWay, HasOnlyWay}
 
--- a value that does not fit itself
+-- If the root does not match its type, then the mismatch at the root is the first fault.
 abbrev pub RootMisfitIsLeast : Type 0
 RootMisfitIsLeast =
     (table : Table) (graph : List Obj) (root : Val) (t : ℕ)
     → ¬ (table_shapes table).fits graph root t
     → IsLeastFault (table_shapes table) graph root t (Misfit [])
 
--- of many holes, to each of which one way alone leads, that with the least way
+-- If there are several holes, and only one trail leads to each of them, then a mismatch whose path
+-- comes first is the first fault.
 abbrev pub OnlyWaysAreLeast : Type 0
 OnlyWaysAreLeast =
     (table : Table) → AreLawful (table_shapes table) Everything
@@ -28,7 +30,8 @@ OnlyWaysAreLeast =
     → HasOnlyWay (table_shapes table) graph pairs root o i path)
     → IsLeastFault (table_shapes table) graph root t (Misfit path)
 
--- one hole: what stands there, what is asked there, and that it is the least fault
+-- If there is one hole, this definition states which value is there, which type is required there,
+-- and that the mismatch is the first fault.
 abbrev pub OnlyMisfitIsLeast : Type 0
 OnlyMisfitIsLeast =
     (table : Table) → AreLawful (table_shapes table) Everything

@@ -1,5 +1,5 @@
--- Bytes that begin with a value that has what its places ask for but at one, and what a pass over
--- them knows on its way.
+-- Bytes that begin with a value with exactly one mismatch, and the invariant of the streaming check
+-- over them.
 use Rattle.std.specs.Prelude.{ℕ, ◌+◌, ◌≤◌, ◌<◌, ◌^◌, ◌≡◌, ◌⊎◌}
 use Rattle.std.specs.Prelude.{List, [], ◌∷◌, ◌++◌, length, map, take, All, Contains}
 use Rattle.std.specs.List.{concat, AllZip}
@@ -15,8 +15,8 @@ use Rattle.om_format.specs.Spelled.{SpelledUnder, IsHeader, IsNoReference, State
 use Rattle.om_misfit_law.specs.MissedLaw.{IsLeastMissed}
 use Rattle.om_misfit_law.specs.PassedBut.{Place, Made, Missed, PassedBut}
 
--- the first n bytes spell a value under the limit, of which the misfit is the least fault at type 0
--- of the table
+-- The first `n` bytes encode a value within the limit, and `missed` is its first fault at type 0 of
+-- the table.
 pub record IsMissedFront (table : Table) (limit n : ℕ) (bytes : List ℕ) (missed : Missed)
     : Type 0 where
   pub within : n ≤ length bytes
@@ -24,8 +24,8 @@ pub record IsMissedFront (table : Table) (limit n : ℕ) (bytes : List ℕ) (mis
   pub spelled : SpelledUnder limit (take n bytes) tree
   pub least : IsLeastMissed table (objects_of tree 0) (root tree 0) missed
 
--- Of the first n bytes a header, of so many bytes, and the tokens' spellings were taken; they lead
--- to these objects, open places and misfits.
+-- The invariant. The first `n` bytes are a header, of `start` bytes, and the encodings of the
+-- tokens. The tokens lead to these objects, open positions and mismatches.
 pub record IsPassingBut
     (back : List ℕ) (table : Table) (limit : ℕ) (bytes : List ℕ) (head : Head) (start n : ℕ)
     (tokens : List Token) (made : List Made) (places : List Place) (missed : List Missed)
@@ -45,16 +45,19 @@ pub record IsPassingBut
   pub words : head.w64 ≤ limit
   pub small : head.length < 2 ^ 48
 
--- the header states what was taken after n bytes: the data bytes, the words, and the number of
--- objects, or 0 for it
+-- The header agrees with the `n` bytes that were read: it states the number of data bytes, the
+-- sizes in words, and the number of objects, or 0 instead of this number.
 pub record IsStated (head : Head) (start n : ℕ) (tokens : List Token) (many : ℕ) : Type 0 where
   pub whole : n ≡ start + head.length
   pub w32 : StatesWords32 head.big head.w32 (all_words32 (map measure_of tokens))
   pub w64 : head.w64 ≡ all_words64 (map measure_of tokens)
   pub count : (head.objects ≡ 0) ⊎ (head.objects ≡ many)
 
--- what was passed but for one misfit, with nothing open after it, is a value with this least fault,
--- where no reference leads back to a block of its trail
+-- The bytes begin with a value whose first fault is this mismatch if:
+--
+-- - the streaming check finds only this mismatch,
+-- - no position is open,
+-- - no reference leads back to a block of the mismatch's trail.
 abbrev pub OneMissedFronts : Type 0
 OneMissedFronts =
     (table : Table) (limit : ℕ) (bytes : List ℕ) (head : Head) (start n : ℕ) (tokens : List Token)

@@ -1,4 +1,4 @@
--- What the tokens of a value show that has what its places ask for but at one.
+-- The first fault of a value all of whose tokens but one satisfy their requirements.
 use Rattle.std.specs.Prelude.{ℕ, ◌≡◌, List, [], ◌∷◌, length, slice_get, Some, All, Contains}
 use Rattle.om_model.specs.declared.value.Val.{Val}
 use Rattle.om_model.specs.declared.value.Val.TheVariants as vals
@@ -14,7 +14,7 @@ use Rattle.om_format.specs.Tree.{Tree, IsTree, tokens, root, objects_of}
 use Rattle.om_misfit_law.specs.OnlyWay.{path_of}
 use Rattle.om_misfit_law.specs.PassedBut.{Made, Missed, PassedBut}
 
--- the value is what the token says
+-- The token encodes this value.
 abbrev pub IsSpelledBy : List Obj → Val → Token → Type 0
 IsSpelledBy graph w (integer z) = w ≡ vals.Int z
 IsSpelledBy graph w (atom tag) = w ≡ vals.Atom tag
@@ -25,7 +25,8 @@ IsSpelledBy graph w (block tag size) =
 IsSpelledBy graph w (leaf object) =
     (o : ℕ) × (w ≡ vals.Ref o) × (slice_get graph o ≡ Some object)
 
--- the misfit is the least fault of the value, and what is asked and found there is what was noted
+-- The mismatch is the first fault of the value. The type and the token that were recorded are the
+-- required type and the value there.
 pub record IsLeastMissed (table : Table) (graph : List Obj) (root : Val) (missed : Missed)
     : Type 0 where
   pub value : Val
@@ -34,7 +35,8 @@ pub record IsLeastMissed (table : Table) (graph : List Obj) (root : Val) (missed
   pub spelled : IsSpelledBy graph value missed.token
   pub least : IsLeastFault (table_shapes table) graph root 0 (Misfit (path_of missed.trail))
 
--- the one misfit, where no reference leads back to a block of its trail
+-- If there is one mismatch, and no reference leads back to a block of its trail, then it is the
+-- first fault.
 abbrev pub OnlyMissedIsLeast : Type 0
 OnlyMissedIsLeast =
     (table : Table) → AreLawful (table_shapes table) Everything

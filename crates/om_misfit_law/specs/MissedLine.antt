@@ -1,4 +1,4 @@
--- The line of a value whose least fault is a misfit that tokens showed.
+-- The output line of a value whose first fault is a mismatch that the tokens determine.
 use Rattle.std.specs.Prelude.{ℕ, List, [], ◌++◌, Some, codes, decimal}
 use Rattle.std.specs.Fmt.{signed_decimal}
 use Rattle.om_model.specs.PathText.{path_text}
@@ -11,7 +11,7 @@ use Rattle.om_misfit_law.specs.OnlyWay.{path_of}
 use Rattle.om_misfit_law.specs.PassedBut.{Missed}
 use Rattle.om_misfit_law.specs.MissedLaw.{IsLeastMissed}
 
--- what the token is; a reference is never the misfit
+-- The text of the token's kind. A reference is never the mismatch.
 abbrev pub token_text : Token → List ℕ
 token_text (integer z) = codes "int " ++ signed_decimal z
 token_text (atom tag) = codes "atom " ++ decimal tag
@@ -24,7 +24,7 @@ missed_text type_text missed =
     path_text (path_of missed.trail) ++ codes ": expected " ++ type_text missed.type
     ++ codes ", found " ++ token_text missed.token
 
--- the line is told by the trail, the type and the token alone
+-- The trail, the type and the token determine the line.
 abbrev pub MissedHasLine : Type 0
 MissedHasLine =
     (table : Table) (graph : List Obj) (root : Val) (missed : Missed) (type_text : ℕ → List ℕ)

@@ -1,5 +1,6 @@
--- Tokens of a value that has what its places ask for, but at some of them: there, and below,
--- nothing is asked. Each place knows its trail, and each object that of its place.
+-- Tokens of a value that satisfy their requirements except at mismatches. At and below a mismatch
+-- nothing is required. Each open position has its trail, and each object has the trail of its
+-- position.
 use Rattle.std.specs.Prelude.{ℕ, suc, ◌+◌, ◌-◌, ◌≤◌, ◌≡◌, ◌⊎◌, false, IsTrue, IsSome, ℤ}
 use Rattle.std.specs.Prelude.{List, [], ◌∷◌, ◌++◌, length, replicate, slice_get, Option, Some, None}
 use Rattle.std.specs.Prelude.{Contains}
@@ -11,13 +12,13 @@ use Rattle.om_pass_law.specs.Asked.{Need, of_type, hash_of, values_in, shape_at,
 use Rattle.om_pass_law.specs.Asked.{fields_ask}
 use Rattle.om_pass_law.specs.Noted.{IsFlatNoted}
 
--- an open place: what it asks for, or None below a misfit; its trail begins with the object and the
--- field that the place is, and that of the root is empty
+-- An open position: its requirement, or `None` below a mismatch, and its trail. The trail begins
+-- with the object and the field at this position. The trail of the root is empty.
 pub record Place : Type 0 where
   pub asks : Option Need
   pub trail : List (ℕ × ℕ)
 
--- how many values come in a place: a hash comes before its argument
+-- The number of values to be read for a position. A hash comes before its argument.
 abbrev pub values_of : Option Need → ℕ
 values_of None = 1
 values_of (Some need) = values_in (need ∷ [])
@@ -26,31 +27,33 @@ abbrev pub values_at : List Place → ℕ
 values_at [] = 0
 values_at (place ∷ places) = values_of place.asks + values_at places
 
--- an object: the type that its place asked for, or None at a misfit and below, and the trail of
--- that place
+-- An object: the type that its position requires, or `None` at or below a mismatch, and the trail
+-- of this position.
 pub record Made : Type 0 where
   pub type : Option ℕ
   pub trail : List (ℕ × ℕ)
 
--- a misfit: its place's trail, the type that is asked for there, and the token that is found
+-- A mismatch: the trail of its position, the type that is required there, and the token that was
+-- found.
 pub record Missed : Type 0 where
   pub trail : List (ℕ × ℕ)
   pub type : ℕ
   pub token : Token
 
--- the places of an object's fields from number k on; a hash and its argument are two
+-- The positions of an object's fields from field `k` on. A requirement for a hash covers two
+-- fields.
 abbrev pub places_of : ℕ → List (ℕ × ℕ) → ℕ → List Need → List Place
 places_of o trail k [] = []
 places_of o trail k (need ∷ needs) =
     record { asks = Some need; trail = (o, k) ∷ trail }
     ∷ places_of o trail (k + values_in (need ∷ [])) needs
 
--- the trail of the field after
+-- The trail of the next field.
 abbrev pub field_after : List (ℕ × ℕ) → List (ℕ × ℕ)
 field_after [] = []
 field_after (link ∷ trail) = (link.0, suc link.1) ∷ trail
 
--- the places of a token's fields where nothing is asked
+-- The positions of a token's fields if nothing is required of them.
 abbrev pub unasked : Token → List Place
 unasked (integer z) = []
 unasked (atom tag) = []
@@ -58,7 +61,7 @@ unasked (shared offset) = []
 unasked (block tag size) = replicate size record { asks = None; trail = [] }
 unasked (leaf object) = []
 
--- the object that a token makes in a place
+-- The object that a token creates at a position, if it creates one.
 abbrev pub made_in : Option ℕ → List (ℕ × ℕ) → Token → List Made
 made_in type trail (integer z) = []
 made_in type trail (atom tag) = []
@@ -66,25 +69,25 @@ made_in type trail (shared offset) = []
 made_in type trail (block tag size) = record { type = type; trail = trail } ∷ []
 made_in type trail (leaf object) = record { type = type; trail = trail } ∷ []
 
--- a hash makes no object
+-- A hash creates no object.
 abbrev pub type_of_need : Need → Option ℕ
 type_of_need (of_type t) = Some t
 type_of_need (hash_of tags) = None
 
--- The block of the object is flat, and has what the type asks for, too. No object's type is known:
--- its fields are integers, atoms and what is hidden.
+-- Object `o` is a flat block that also satisfies the requirements of the type `t`. No type of
+-- another object is used, so its fields are integers, atoms and wildcards.
 abbrev pub IsPlain : Table → List Token → ℕ → ℕ → Type 0
 IsPlain table tokens o t = IsFlatNoted table [] [] tokens o t
 
--- the type that the object's place asked for is equal
+-- The type that the object's first position required equals `t`.
 pub record HasFirst (table : Table) (made : List Made) (o t : ℕ) : Type 0 where
   pub type : ℕ
   pub trail : List (ℕ × ℕ)
   pub at : slice_get made o ≡ Some record { type = Some type; trail = trail }
   pub equal : (table_shapes table).equal type t
 
--- a reference leads back to an object that has the type, at first or a second time, and that is
--- noted
+-- A reference leads back to an object that has the type, as its first or as a second type. The
+-- object is recorded in `back`.
 pub record IsLedBack
     (back : List ℕ) (table : Table) (Second : ℕ → ℕ → Type 0) (made : List Made) (t offset : ℕ)
     : Type 0 where
@@ -93,7 +96,7 @@ pub record IsLedBack
   pub typed : HasFirst table made (length made - offset) t ⊎ Second (length made - offset) t
   pub noted : Contains back (length made - offset)
 
--- a tag with this hash has an argument, whose place is the next
+-- The tag with this hash has an argument, and the argument's position is the next one.
 pub record IsTaggedBut (tags : List (PolyTag ℕ)) (z : ℤ) (trail : List (ℕ × ℕ)) (next : List Place)
     : Type 0 where
   pub tag : PolyTag ℕ
@@ -102,8 +105,8 @@ pub record IsTaggedBut (tags : List (PolyTag ℕ)) (z : ℤ) (trail : List (ℕ 
   pub has_argument : tag.arg ≡ Some type
   pub argument : next ≡ record { asks = Some (of_type type); trail = field_after trail } ∷ []
 
--- the token has what its place asks for, where objects have second types, and these places come
--- with it
+-- The token satisfies the requirement of its position, given second types of objects, and opens
+-- these positions.
 abbrev pub Takes :
     List ℕ → Table → (ℕ → ℕ → Type 0) → List Made → List (ℕ × ℕ) → Need → Token → List Place
     → Type 0
@@ -124,7 +127,7 @@ Takes back table Second made trail (hash_of tags) (shared offset) next = ⊥
 Takes back table Second made trail (hash_of tags) (block tag size) next = ⊥
 Takes back table Second made trail (hash_of tags) (leaf object) next = ⊥
 
--- the token certainly does not fit a place of the type; of a reference this is never known
+-- The token certainly does not match a position of the type. For a reference this is never known.
 abbrev pub Misses : Table → ℕ → Token → Type 0
 Misses table t (integer z) = fits_int (shape_at table t) z ≡ false
 Misses table t (atom tag) = fits_atom (shape_at table t) tag ≡ false
@@ -132,8 +135,8 @@ Misses table t (shared offset) = ⊥
 Misses table t (block tag size) = fields_ask table t tag size ≡ None
 Misses table t (leaf object) = object_fields (shape_at table t) object ≡ None
 
--- these tokens lead from the start to these objects, open places and misfits; the objects that
--- references of places of asked types lead back to are noted
+-- The tokens lead from the start to these objects, open positions and mismatches. The objects to
+-- which references lead back, from positions with a requirement, are recorded in `back`.
 pub data PassedBut
     (back : List ℕ) (table : Table)
     : List Token → List Made → List Place → List Missed → Type 0 where

@@ -1,30 +1,32 @@
-//! The laws, as contracts.
+//! The theorems as contracts of lemma functions.
 
 ghost use Rattle.om_misfit_law.specs.Laws.{RootMisfitIsLeast, OnlyWaysAreLeast, OnlyMisfitIsLeast};
 ghost use Rattle.om_misfit_law.specs.MissedLaw.{OnlyMissedIsLeast};
 ghost use Rattle.om_misfit_law.specs.MissedFront.{OneMissedFronts};
 ghost use Rattle.om_misfit_law.specs.MissedLine.{MissedHasLine};
 
-/// A misfit is the least fault where it is the root, and where one way alone leads to it and to
-/// each other one, and its own is not after theirs.
+/// States when a mismatch is the first (least) fault: if the root itself mismatches, or if only one
+/// trail leads to each mismatch and none of these trails has a smaller path.
 pub fn only_misfits_are_least()
     ensures root { RootMisfitIsLeast }
     ensures many { OnlyWaysAreLeast }
     ensures one { OnlyMisfitIsLeast }
 {}
 
-/// Where the tokens of a value have what their places ask for but one, and no reference leads back
-/// to a block that this one's trail goes through, it is the least fault.
+/// States when a mismatch of one token is the first fault: all other tokens satisfy their
+/// requirements, and no reference leads back to a block of that token's trail.
 pub fn only_missed_is_least()
     ensures { OnlyMissedIsLeast }
 {}
 
-/// Bytes that were passed but for one such misfit begin with a value whose least fault it is.
+/// States that bytes begin with a value whose first fault is a given mismatch. The streaming check
+/// must find exactly this mismatch, and no reference may lead back to a block of its trail.
 pub fn one_missed_fronts()
     ensures { OneMissedFronts }
 {}
 
-/// The line of such a value is told by the misfit's trail, type and token.
+/// States that the trail, the type and the token of the mismatch determine the output line of such
+/// a value.
 pub fn missed_has_line()
     ensures { MissedHasLine }
 {}

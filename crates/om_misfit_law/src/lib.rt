@@ -1,5 +1,7 @@
-//! A value that fits its type but at one place, to which one way alone leads: that place is its
-//! least fault. The functions do nothing: what each ensures is the law.
+//! Theorems about values with exactly one type mismatch. If only one trail leads to the mismatch,
+//! then it is the first (least) fault, so the tool can report it without building a heap
+//! (`one_missed_fronts`, `missed_has_line`). The functions are lemma functions: they do nothing,
+//! and their contracts state the theorems.
 #![tactic(auto)]
 
 mod laws;

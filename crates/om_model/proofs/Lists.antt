@@ -1,4 +1,4 @@
--- Lists: what stands at a place, what holds of each element, and what a test leaves.
+-- Lemmas on lists: elements at an index, predicates of each element, and filters.
 use Rattle.std.proofs.Common.{ℕ, zero, suc, ◌+◌, ◌<◌, ◌≡◌, ◌≢◌, ◌∙◌, ◌⊎◌, ⊎_elim, inl, inr, List, [], ◌∷◌, ◌++◌, length, take, set, get_or, Bool, cond, true, false, Some, refl, sym, ap, subst, arith}
 use Rattle.std.specs.Prelude.{slice_get, slice_index, map, filter, replicate, Contains}
 use Rattle.std.specs.List.{AllByRecursion, AllZip, find}
@@ -6,7 +6,7 @@ use Rattle.std.proofs.Math.Seq.{take-length}
 use Rattle.std.proofs.lemmas.Option.{none-some, same_Some, slice_get-get_or}
 use Rattle.om_model.proofs.Options.{Contains-none, Contains-cases}
 
--- ---- places
+-- ---- indices
 
 pub slice_get-append_left :
     {X : Type 0} (xs ys : List X) (k : ℕ) (x : X) → slice_get xs k ≡ Some x
@@ -20,7 +20,7 @@ pub slice_get-last :
 slice_get-last [] y = refl
 slice_get-last (x ∷ xs) y = slice_get-last xs y
 
--- what stands behind the first of two lists
+-- An index beyond the first of two lists reads from the second list.
 pub slice_get-append_right :
     {X : Type 0} (xs ys : List X) (i : ℕ) → slice_get (xs ++ ys) (length xs + i) ≡ slice_get ys i
 slice_get-append_right [] ys i = ap (slice_get ys) (omega arith)
@@ -28,7 +28,7 @@ slice_get-append_right (x ∷ xs) ys i =
     let e : suc (length xs) + i ≡ suc (length xs + i) = omega arith in
     rw e (slice_get-append_right xs ys i)
 
--- an element of a list with one more at its end
+-- If a list is extended by one element, then an element of the result is an old one or the new one.
 pub slice_get-push_cases :
     {X : Type 0} (xs : List X) (y : X) (k : ℕ) (x : X) → slice_get (xs ++ y ∷ []) k ≡ Some x
     → (slice_get xs k ≡ Some x) ⊎ ((k ≡ length xs) × (y ≡ x))
@@ -40,7 +40,7 @@ slice_get-push_cases (z ∷ xs) y (suc k) x at_k = ⊎_elim
     (λ last. inr (ap suc last.0, last.1))
     (slice_get-push_cases xs y k x at_k)
 
--- an element of a list whose elements are all replaced
+-- Each element of a mapped list is the image of the element at the same index.
 pub map-slice_get :
     {X Y : Type 0} (f : X → Y) (xs : List X) (k : ℕ) (y : Y) → slice_get (map f xs) k ≡ Some y
     → (x : X) × (slice_get xs k ≡ Some x) × (f x ≡ y)
@@ -53,7 +53,7 @@ slice_index-zeros zero k = refl
 slice_index-zeros (suc n) zero = refl
 slice_index-zeros (suc n) (suc k) = slice_index-zeros n k
 
--- what is read below the length stands there
+-- If `get_or` reads below the length, then the list has that element at the index.
 pub slice_get-read :
     {X : Type 0} (xs : List X) (i : ℕ) (x : X) → i < length xs → x ≡ get_or xs i x
     → slice_get xs i ≡ Some x
@@ -75,7 +75,7 @@ slice_get-set_other (x ∷ xs) (suc i) zero y other = refl
 slice_get-set_other (x ∷ xs) (suc i) (suc j) y other =
     slice_get-set_other xs i j y (λ same. other (ap suc same))
 
--- what is among the elements has a place
+-- Each element of a list has an index.
 pub Contains-place :
     {X : Type 0} (xs : List X) (x : X) → Contains xs x → (k : ℕ) × (slice_get xs k ≡ Some x)
 Contains-place [] x among = absurd (Contains-none x among)
@@ -87,7 +87,7 @@ Contains-place (z ∷ xs) x among = ⊎_elim
 pub take-whole : {X : Type 0} (xs : List X) (i : ℕ) → i ≡ length xs → take i xs ≡ xs
 take-whole xs i end = ap (λ k. take k xs) end ∙ take-length xs
 
--- ---- each element
+-- ---- predicates of each element
 
 pub AllByRecursion-append :
     {X : Type 0} (P : X → Type 0) (xs ys : List X) → AllByRecursion P xs → AllByRecursion P ys
@@ -123,7 +123,7 @@ AllZip-length R [] (y ∷ ys) all = absurd all
 AllZip-length R (x ∷ xs) [] all = absurd all
 AllZip-length R (x ∷ xs) (y ∷ ys) all = ap suc (AllZip-length R xs ys all.1)
 
--- one more of each
+-- If two related lists are each extended by related elements, then the results are related.
 pub AllZip-push :
     {A B : Type 0} (R : A → B → Type 0) (xs : List A) (ys : List B) (x : A) (y : B) → AllZip R xs ys
     → R x y → AllZip R (xs ++ x ∷ []) (ys ++ y ∷ [])
@@ -132,9 +132,9 @@ AllZip-push R [] (b ∷ ys) x y all more = absurd all
 AllZip-push R (a ∷ xs) [] x y all more = absurd all
 AllZip-push R (a ∷ xs) (b ∷ ys) x y all more = (all.0, AllZip-push R xs ys x y all.1 more)
 
--- ---- a test
+-- ---- filters
 
--- what is found passes
+-- If `find` returns an element, then the element satisfies the predicate.
 pub found_passes :
     {X : Type 0} (p : X → Bool) (xs : List X) (x : X) → find p xs ≡ Some x → p x ≡ true
 found_passes p [] x found = absurd (none-some x found)
@@ -145,7 +145,7 @@ found_passes p (y ∷ ys) x found = by_test (found_passes p ys x) (p y) refl fou
   by_test others true is found = ap p (sym (same_Some y x found)) ∙ is
   by_test others false is found = others found
 
--- what is of the list and passes is kept
+-- If an element satisfies the predicate, then the filter keeps it.
 pub Contains-filter :
     {X : Type 0} (p : X → Bool) (xs : List X) (x : X) → Contains xs x → p x ≡ true
     → Contains (filter p xs) x

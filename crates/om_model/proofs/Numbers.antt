@@ -1,4 +1,5 @@
--- Two numbers, and the numbers that bytes spell: of bytes one after another, of a front and of a rest, and how large they are.
+-- Lemmas on numbers that bytes encode: of a concatenation, of a prefix and a suffix, and their
+-- bounds.
 use Rattle.std.proofs.Common.{◌≡◌, ℕ, zero, suc, ◌+◌, ◌-◌, ◌*◌, ◌%◌, ◌^◌, ◌<◌, ◌≤◌, List, [], ◌∷◌, ◌++◌, length, get_or, take, drop, Fits, w8, refl, pos, negsuc, arith, ◌⊎◌, ⊎_elim, inl, inr}
 use Rattle.std.proofs.Math.Nat.{pow-suc, mul-le-mul_right, pow-le-pow_right}
 use Rattle.std.proofs.lemmas.Nat.{pow-add, one_shl}
@@ -18,14 +19,14 @@ pub number-append : (xs ys : List ℕ) → number (xs ++ ys) ≡ number xs * 256
 number-append [] ys = omega arith
 number-append (x ∷ xs) ys = rw (length-append xs ys, number-append xs ys, pow-add 256 (length xs) (length ys)) (omega arith)
 
--- one byte more than the first i, and than those after the first i + 1
+-- The numbers of the prefix of `i` + 1 bytes and of the suffix from `i`, by those of one byte less.
 pub number_more : (bytes : List ℕ) (i : ℕ) → i < length bytes → number (take (i + 1) bytes) ≡ number (take i bytes) * 256 + get_or bytes i 0
 number_more bytes i h = rw (take_more bytes i 0 h, number-append (take i bytes) (get_or bytes i 0 ∷ [])) (omega arith)
 
 pub little_number_more : (bytes : List ℕ) (i : ℕ) → i < length bytes → little_number (drop i bytes) ≡ little_number (drop (i + 1) bytes) * 256 + get_or bytes i 0
 little_number_more bytes i h = rw (drop_more bytes i 0 h) (omega arith)
 
--- n bytes spell a number below 256 ^ n
+-- `n` bytes encode a number below 256 ^ `n`.
 digit_below : (x n power : ℕ) → x < 256 → n < power → x * power + n < power * 256
 digit_below x n power digit rest = omega (arith, mul-le-mul_right power digit)
 
@@ -42,7 +43,7 @@ little_number_below (x ∷ xs) h =
     let rest = little_number_below xs (All-tail (λ b. b < 256) x xs h) in
     rw (pow-suc 256 (length xs)) (omega arith)
 
--- at most k bytes spell a number below 256 ^ k
+-- At most `k` bytes encode a number below 256 ^ `k`.
 power_le : (n k : ℕ) → n ≤ k → 256 ^ n ≤ 256 ^ k
 power_le n k h = let positive : 0 < 256 = omega arith in pow-le-pow_right positive h
 
@@ -52,11 +53,12 @@ number_fits bytes k are_bytes few = omega (arith, number_below bytes are_bytes, 
 pub little_number_fits : (bytes : List ℕ) (k : ℕ) → AreBytes bytes → length bytes ≤ k → little_number bytes < 256 ^ k
 little_number_fits bytes k are_bytes few = omega (arith, little_number_below bytes are_bytes, power_le (length bytes) k few)
 
--- what the type of a slice of bytes says of them
+-- The type invariant of a slice of bytes implies `AreBytes`.
 pub are_bytes : (bytes : List ℕ) → ((i : ℕ) → Fits w8 (get_or bytes i 0)) → AreBytes bytes
 are_bytes bytes each = All-from_get_or (λ b. b < 256) bytes 0 (λ i h. omega (arith, each i))
 
--- at most eight bytes: a front of them with one byte more, and a rest of them
+-- If there are at most eight bytes, then extending a prefix or a suffix by one byte does not
+-- overflow.
 pub number_step : (bytes : List ℕ) (i : ℕ) → AreBytes bytes → i < length bytes → length bytes ≤ 8 → number (take i bytes) * 256 + get_or bytes i 0 < 2 ^ 64
 number_step bytes i are_bytes inside few =
     rw (← number_more bytes i inside)
@@ -71,14 +73,14 @@ little_number_step bytes i are_bytes some inside few =
 
 -- ---- two's complement
 
--- half as many numbers as n bytes spell
+-- Half as many numbers as `n` bytes encode.
 pub half_of : (n : ℕ) → 2 ^ (8 * suc n - 1) * 2 ≡ 256 ^ suc n
 half_of zero = refl
 half_of (suc n) =
     let e : 8 * suc (suc n) - 1 ≡ (8 * suc n - 1) + 8 = omega arith in
     rw (e, pow-add 2 (8 * suc n - 1) 8, pow-suc 256 (suc n)) (omega (arith, half_of n))
 
--- the code's shift
+-- The shift in the code is that half.
 pub half_shifted : (n : ℕ) → 1 ≤ n → n ≤ 8 → (1 * 2 ^ (8 * n - 1)) % 2 ^ 64 * 2 ≡ 256 ^ n
 half_shifted zero some few = absurd (omega arith)
 half_shifted (suc n) some few =

@@ -1,4 +1,4 @@
--- Options, what a list contains, and tests.
+-- Lemmas on options, membership in lists, and boolean tests.
 use Rattle.std.proofs.Common.{ℕ, zero, suc, ◌≡◌, ◌<◌, ◌⊎◌, ⊎_elim, inl, inr, List, [], ◌∷◌, length, Bool, true, false, Option, Some, None, refl, sym, subst, arith}
 use Rattle.std.specs.Prelude.{slice_get, map, flat_map, Contains, IsSome, IsSomeAnd, IsTrue, ◌==◌}
 use Rattle.std.proofs.lemmas.Bool.{false≢true}
@@ -84,7 +84,7 @@ flat_map-Contains f (z ∷ xs) y among = ⊎_elim
     (λ later. let r = flat_map-Contains f xs y later in (r.0, Contains-later z xs r.0 r.1, r.2))
     (Contains-append_cases (f z) (flat_map f xs) y among)
 
--- ---- tests
+-- ---- boolean tests
 
 pub true_or_not : (test : Bool) → IsTrue test ⊎ (¬ IsTrue test)
 true_or_not true = inl refl

@@ -1,4 +1,5 @@
--- A graph: a list of objects, each named by its place, and values that refer to them (`intext.h`).
+-- A graph: a list of objects, each named by its index, and values that refer to the objects
+-- (`intext.h`).
 use Rattle.std.specs.Prelude.{ℕ, ◌^◌, ◌<◌, ◌≤◌, List, length, All, ℤ, pos, negsuc}
 use Rattle.om_model.specs.declared.value.Val.{Val}
 use Rattle.om_model.specs.declared.value.Val.TheVariants as vals
@@ -6,22 +7,22 @@ use Rattle.om_model.specs.declared.value.Obj.{Obj}
 use Rattle.om_model.specs.declared.value.Obj.TheVariants as objects
 use Rattle.om_model.specs.Bytes.{AreBytes}
 
--- from -2 ^ k up to 2 ^ k - 1
+-- The integer lies between -2 ^ `k` and 2 ^ `k` - 1.
 abbrev pub IsSigned : ℕ → ℤ → Type 0
 IsSigned k (pos n) = n < 2 ^ k
 IsSigned k (negsuc n) = n < 2 ^ k
 
--- an integer of 63 bits
+-- The integer fits 63 bits.
 abbrev pub IsInteger : ℤ → Type 0
 IsInteger z = IsSigned 62 z
 
--- a value among n objects
+-- A valid value in a graph of `n` objects.
 abbrev pub IsValue : ℕ → Val → Type 0
 IsValue n (vals.Int z) = IsInteger z
 IsValue n (vals.Atom tag) = tag ≤ 243
 IsValue n (vals.Ref k) = k < n
 
--- an object among n
+-- A valid object in a graph of `n` objects.
 abbrev pub IsObject : ℕ → Obj → Type 0
 IsObject n (objects.Block tag values) = (tag ≤ 243) × (0 < length values) × All (IsValue n) values
 IsObject n (objects.Bytes bytes) = AreBytes bytes

@@ -1,11 +1,11 @@
 -- The text of a path.
 use Rattle.std.specs.Prelude.{ℕ, List, [], ◌∷◌, ◌++◌, flat_map, codes, decimal}
 
--- a dot and the number for each step
+-- A dot and the number for each step.
 abbrev pub steps_text : List ℕ → List ℕ
 steps_text steps = flat_map (λ step. codes "." ++ decimal step) steps
 
--- the root is a dot alone
+-- The root's path is a single dot.
 abbrev pub path_text : List ℕ → List ℕ
 path_text [] = codes "."
 path_text (step ∷ steps) = steps_text (step ∷ steps)

@@ -1,9 +1,10 @@
-//! Numbers that bytes spell, as `intern.c` reads them.
+//! Decodes numbers from bytes, as `intern.c` reads them.
 
 ghost use Rattle.std.specs.Prelude.{◌≡◌, ◌≤◌, drop, length};
 ghost use Rattle.om_model.specs.Bytes.{number, little_number, number_in, signed as signed_number};
 
-/// The number of at most eight bytes, the most significant first (`intern.c`).
+/// Returns the number that at most eight bytes encode, with the most significant byte first
+/// (`intern.c`).
 pub fn big_endian(bytes: &[u8]) -> u64
     requires { length bytes.now ≤ 8 }
     ensures { result ≡ number bytes.now }
@@ -15,7 +16,8 @@ pub fn big_endian(bytes: &[u8]) -> u64
     value
 }
 
-/// The number of at most eight bytes, the least significant first (`intern.c`).
+/// Returns the number that at most eight bytes encode, with the least significant byte first
+/// (`intern.c`).
 pub fn little_endian(bytes: &[u8]) -> u64
     requires { length bytes.now ≤ 8 }
     ensures { result ≡ little_number bytes.now }
@@ -27,7 +29,8 @@ pub fn little_endian(bytes: &[u8]) -> u64
     value
 }
 
-/// The integer of one to eight bytes, the most significant first, in two's complement (`intern.c`).
+/// Returns the integer that one to eight bytes encode in two's complement, with the most
+/// significant byte first (`intern.c`).
 pub fn signed(bytes: &[u8]) -> i64
     requires some { 1 ≤ length bytes.now }
     requires few { length bytes.now ≤ 8 }
@@ -42,7 +45,7 @@ pub fn signed(bytes: &[u8]) -> i64
     }
 }
 
-/// The bits of a double, whose eight bytes stand in either order (`intern.c`).
+/// Returns the bits of a double from its eight bytes. `little` selects the byte order (`intern.c`).
 pub fn double(bytes: &[u8], little: bool) -> u64
     requires { length bytes.now ≡ 8 }
     ensures { result ≡ number_in little bytes.now }
@@ -54,7 +57,7 @@ pub fn double(bytes: &[u8], little: bool) -> u64
     }
 }
 
-/// The bytes after the first `n`, or none.
+/// Returns the bytes after the first `n`. If there are at most `n` bytes, returns the empty slice.
 pub fn skip(bytes: &[u8], n: usize) -> &[u8]
     ensures { result.now ≡ drop n bytes.now }
 {

@@ -1,5 +1,6 @@
-//! Plain data that several subjects share: lists, values and objects of a graph, codes, headers,
-//! refusals and paths; what a graph is; and numbers from bytes.
+//! Plain data that several crates share: lists, the values and objects of a graph, codes, headers,
+//! read errors and paths. The crate also defines when a graph is valid, and decodes numbers from
+//! bytes.
 #![tactic(auto)]
 
 pub mod bytes;

@@ -1,4 +1,4 @@
-//! A list of the project's own, which contracts see as a list.
+//! A list type of this project, whose model in contracts is a list.
 
 ghost use Rattle.std.specs.Prelude.{◌≡◌, ◌++◌, ◌∷◌, [], ◌<◌, length, OnOk, OnErr};
 
@@ -6,7 +6,7 @@ use crate::Memory;
 use std::alloc::Global;
 use std::marker::Model;
 
-/// A list of values inside a public type.
+/// A list of values for use inside a public type.
 #[derive(Drop)]
 pub struct List<T> {
     items: Vec<T>,
@@ -21,14 +21,14 @@ impl<T> Model for List<T> {
 }
 
 impl<T> List<T> {
-    /// The list of a vector's items.
+    /// Returns the list of a vector's items.
     pub fn of(items: Vec<T>) -> List<T>
         ensures { result ≡ items.items }
     {
         List { items }
     }
 
-    /// The empty list.
+    /// Returns the empty list.
     pub fn new(alloc: Global) -> List<T>
         ensures { result ≡ [] }
     {
@@ -37,21 +37,21 @@ impl<T> List<T> {
         }
     }
 
-    /// How many there are.
+    /// Returns the number of items.
     pub fn len(&self) -> usize
         ensures { result ≡ length self.now }
     {
         self.items.len()
     }
 
-    /// The items, lent.
+    /// Returns the items as a slice.
     pub fn as_slice(&self) -> &[T]
         ensures { result.now ≡ self.now }
     {
         self.items.as_slice()
     }
 
-    /// Adds one at the end. After `Memory` nothing has changed.
+    /// Appends one item. If it returns `Memory`, the list is unchanged.
     pub fn push(&mut self, item: T) -> Result<(), Memory>
     where
         T: Drop,

@@ -1,8 +1,8 @@
-//! Running out of memory, as an answer.
+//! The error for running out of memory.
 
 use std::alloc::{AllocError, AllocFailed};
 
-/// Out of memory.
+/// The error for a failed allocation.
 #[derive(Clone, Copy, Debug)]
 pub struct Memory;
 

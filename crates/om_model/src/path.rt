@@ -1,4 +1,4 @@
-//! A path into a value: the numbers of the fields that lead from the root.
+//! A path into a value: the field numbers from the root to a part.
 
 ghost use Rattle.std.specs.Prelude.{◌≡◌, ◌<◌, ◌++◌, ◌∷◌, [], length, slice_index, OnOk, OnErr};
 ghost use Rattle.std.specs.Prelude.{IfOk, codes, decimal};
@@ -9,7 +9,7 @@ use crate::list::List;
 use std::alloc::{AllocError, Global};
 use std::marker::Model;
 
-/// The numbers of fields, from the root on.
+/// A list of field numbers, beginning at the root.
 #[derive(Drop)]
 pub struct Path {
     steps: Vec<u64>,
@@ -24,7 +24,7 @@ impl Model for Path {
 }
 
 impl Path {
-    /// The path to the root.
+    /// Returns the path to the root.
     pub fn new(alloc: Global) -> Path
         ensures { result ≡ [] }
     {
@@ -33,14 +33,14 @@ impl Path {
         }
     }
 
-    /// How many steps there are.
+    /// Returns the number of steps.
     pub fn len(&self) -> usize
         ensures { result ≡ length self.now }
     {
         self.steps.len()
     }
 
-    /// Step i, from the root.
+    /// Returns step `i`, counted from the root.
     pub fn step(&self, i: usize) -> u64
         requires { i < length self.now }
         ensures { result ≡ slice_index self.now i }
@@ -48,7 +48,7 @@ impl Path {
         self.steps[i]
     }
 
-    /// Adds a step at the end. After `Memory` nothing has changed.
+    /// Appends one step. If it returns `Memory`, the path is unchanged.
     pub fn push(&mut self, step: u64) -> Result<(), Memory>
         ensures ok { OnOk result (self.new ≡ self.old ++ step ∷ []) }
         ensures err { OnErr result (self.new ≡ self.old) }
@@ -59,7 +59,7 @@ impl Path {
         }
     }
 
-    /// The path's text: `.` for the root, else `.` and the number for each step.
+    /// Returns the path's text: `.` for the root, otherwise `.` and the number for each step.
     pub fn text(&self, alloc: Global) -> Result<List<u8>, Memory>
         ensures { IfOk result (λ text. text ≡ path_text self.now) }
     {

@@ -1,4 +1,4 @@
-//! Why bytes are refused as a value.
+//! The reasons why bytes are refused as a value.
 
 ghost use Rattle.std.specs.Prelude.{◌≡◌};
 ghost use Rattle.om_model.specs.declared.refusal.ReadRefusal.TheVariants as refusals;
@@ -6,57 +6,61 @@ ghost use Rattle.om_model.specs.declared.refusal.ReadRefusal.TheVariants as refu
 use crate::Memory;
 use std::alloc::{AllocError, AllocFailed};
 
-/// What a header states too large.
+/// The number in a header that exceeds its limit.
 #[derive(Clone, Copy, Debug, PartialEq, Eq)]
 pub enum Stated {
     Words,
     Length,
 }
 
-/// A sum of words: on 32 or on 64 bits.
+/// The sum of words on 32 bits or on 64 bits.
 #[derive(Clone, Copy, Debug, PartialEq, Eq)]
 pub enum WordSum {
     W32,
     W64,
 }
 
-/// Why bytes are no value. The first number is the place, counted from the header's first byte,
-/// where there is one.
+/// The reason why bytes are not a value. In a variant with an offset, the first number is the
+/// offset in bytes from the header's first byte.
 #[derive(Clone, Copy, Debug)]
 pub enum ReadRefusal {
-    /// The first four bytes.
+    /// The first four bytes are no magic number: those bytes.
     BadMagic(u32),
-    /// The magic of compressed data.
+    /// The magic number is that of compressed data.
     Compressed,
-    /// What is stated, and the limit.
+    /// A number in the header is too large: which number, its value, and the limit.
     TooLarge(Stated, u64, u64),
-    /// A code that begins no token.
+    /// A code does not begin a token: the offset and the code.
     BadCode(u64, u8),
-    /// A code or infix pointer.
+    /// A code of a code pointer or infix pointer: the offset and the code.
     PointerCode(u64, u8),
-    /// A custom that is not read.
+    /// A custom block that is not read: the offset and the code.
     OtherCustom(u64, u8),
-    /// A block's tag above 243.
+    /// A block has a tag above 243: the offset and the tag.
     BadTag(u64, u8),
-    /// The offset, and how many objects there are.
+    /// A reference leads to no earlier object: the offset in bytes, the reference's offset, and the
+    /// number of objects so far.
     BadShared(u64, u64, u64),
-    /// A reference in a value whose header counts no objects.
+    /// A reference occurs in a value whose header counts no objects.
     NoTable(u64),
-    /// The kind byte of a `Nativeint`.
+    /// The kind byte of a `Nativeint` is invalid: the offset and the byte.
     BadNative(u64, u8),
-    /// An integer of more than 63 bits.
+    /// An integer does not fit 63 bits: the offset and the integer.
     IntRange(u64, i64),
-    /// A double array of no elements.
+    /// A double array has no elements.
     ZeroArray(u64),
-    /// What is needed, and how many data bytes are left.
+    /// More is needed than there are data bytes left: the offset, the number needed, and the number
+    /// left.
     Overlong(u64, u128, u64),
-    /// Which sum of words, what the header states, and the sum.
+    /// A sum of words differs from the header: the offset, which sum, the header's number, and the
+    /// sum.
     SizeMismatch(u64, WordSum, u64, u64),
-    /// The objects that the header states, and those that there are.
+    /// The number of objects differs from the header: the offset, the header's number, and the
+    /// objects found.
     CountMismatch(u64, u64, u64),
-    /// How many data bytes are left after the value.
+    /// Data bytes are left after the value: the offset and the number of bytes left.
     LengthMismatch(u64, u64),
-    /// Out of memory.
+    /// An allocation failed.
     Memory,
 }
 

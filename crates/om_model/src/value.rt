@@ -1,4 +1,4 @@
-//! Values and objects of a graph (`intext.h`).
+//! The values and objects of a graph (`intext.h`).
 
 use crate::list::List;
 

@@ -1,5 +1,5 @@
--- The command line as a table: what `clap` is told of it, which words are accepted, and what plain
--- words ask for.
+-- The command line as a table: the configuration of `clap`, the arguments that are accepted, and
+-- the request of each command line in plain form.
 use Rattle.std.specs.Prelude.{ℕ, ◌-◌, ◌^◌, ◌≤◌, ◌≡◌, ◌≢◌, ◌⊎◌, Bool, true, false, if◌then◌else◌}
 use Rattle.std.specs.Prelude.{List, [], ◌∷◌, ◌++◌, map, find, Option, None, Some, is_some}
 use Rattle.std.specs.Prelude.{option_map, unwrap_or, not, codes}
@@ -14,25 +14,26 @@ use Rattle.clap.specs.declared.builder.value_parser.ValueParser.TheVariants.{Uns
 use Rattle.om_outcome.specs.declared.reading.Reading.{Reading}
 use Rattle.om_outcome.specs.declared.style.Style.{Style}
 
--- ---- what is asked for
+-- ---- requests
 
--- a text on one line, with its doubles by their bits
+-- The default style: one line, doubles printed as their bits.
 abbrev pub plain : Style
 plain = record { pretty = false; decimal = false }
 
--- all of the input is read, and each value is told of
+-- Reads all of the input under this limit, and reports each value.
 abbrev pub all_under : (limit : ℕ) → Reading
 all_under limit = record { limit = limit; skip = 0; only = None }
 
--- what is said of a value at a type: whether it has the type, its text, the text of the part at a
--- path, or whether its search trees are sound; where it has not the type, that and why
+-- The query about a value at a type: whether it has the type, its text, the text of the part at a
+-- path, or whether its search trees are valid. If the value does not have the type, the output
+-- reports that and the reason.
 pub data Saying : Type 0 where
   the_verdict : Saying
   the_text : Style → Saying
   the_part : (path : List ℕ) → Style → Saying
   the_trees : Saying
 
--- what is asked of a command that is a set of commands of its own, beside those on values
+-- The request of a command that is defined in a command set of its own.
 pub data OwnRequest : Type 0 where
   build : (file type : List ℕ) → (lines decimal : Bool) → OwnRequest
   generate : (number count : ℕ) → (type : List ℕ) → OwnRequest
@@ -40,9 +41,9 @@ pub data OwnRequest : Type 0 where
   certify : (file type : List ℕ) → (lines : Bool) → Reading → OwnRequest
   scan : (limit : ℕ) → OwnRequest
 
--- what is asked for: where texts are read, with whether a place in one is told by its line and
--- column; where texts of values are, with whether decimals in them stand for doubles; where values
--- are read, with how they are
+-- The request of a command line. `lines` is true if positions in texts are reported by line and
+-- column. `decimal` is true if decimals stand for doubles in the texts of values that are read. The
+-- `Reading` holds the options for reading values.
 pub data Request : Type 0 where
   tell : Saying → (file type : List ℕ) → (lines : Bool) → Reading → Request
   get : (file type path : List ℕ) → Style → (lines : Bool) → Reading → Request
@@ -51,8 +52,9 @@ pub data Request : Type 0 where
   compare : Reading → Request
   own : OwnRequest → Request
 
--- TYPE, whether a place in FILE, TYPE or SCRIPT that is refused is told by line and column, and
--- whether decimals stand for doubles in the texts of values that are read
+-- TYPE with two options. If `lines` is true, a refusal of FILE, TYPE or SCRIPT reports its position
+-- by line and column. If `decimal` is true, decimals stand for doubles in the texts of values that
+-- are read.
 pub record AskedType : Type 0 where
   pub text : List ℕ
   pub lines : Bool
@@ -61,11 +63,11 @@ pub record AskedType : Type 0 where
 abbrev pub asked_with : List ℕ → (lines decimal : Bool) → AskedType
 asked_with text lines decimal = record { text = text; lines = lines; decimal = decimal }
 
--- the same where no texts of values are read
+-- TYPE for a command that reads no texts of values: `decimal` is false.
 abbrev pub asked_type : List ℕ → Bool → AskedType
 asked_type text lines = asked_with text lines false
 
--- FILE and TYPE, where the command reads values at them
+-- FILE and TYPE, if the command reads values at that type.
 abbrev pub typed_by : Request → Option (List ℕ × AskedType)
 typed_by (tell saying file type lines reading) = Some (file, asked_type type lines)
 typed_by (get file type path style lines reading) = Some (file, asked_type type lines)
@@ -75,17 +77,17 @@ typed_by (dump reading) = None
 typed_by (compare reading) = None
 typed_by (own request) = None
 
--- PATH, where the command has one
+-- PATH, if the command has one.
 abbrev pub path_of : Request → Option (List ℕ)
 path_of (get file type path style lines reading) = Some path
 path_of request = None
 
--- SCRIPT, where the command has one
+-- SCRIPT, if the command has one.
 abbrev pub script_of : Request → Option (List ℕ)
 script_of (edit file type script compat lines decimal reading) = Some script
 script_of request = None
 
--- how values are read, where they are
+-- The options for reading values, if the command reads values; otherwise `all_under 0`.
 abbrev pub reading_of : Request → Reading
 reading_of (tell saying file type lines reading) = reading
 reading_of (get file type path style lines reading) = reading
@@ -96,20 +98,25 @@ reading_of (own (verify file type certificate lines reading)) = reading
 reading_of (own (certify file type lines reading)) = reading
 reading_of request = all_under 0
 
--- the limit of words on 64 bits in a value, where values are read
+-- The limit of 64-bit words in a value, if the command reads values.
 abbrev pub limit_of : Request → ℕ
 limit_of request = (reading_of request).limit
 
--- that limit, where it is asked where values stand
+-- The limit of 64-bit words in a value, if the command is `scan`, which searches the input for
+-- values.
 abbrev pub searched_by : Request → Option ℕ
 searched_by (own (scan limit)) = Some limit
 searched_by request = None
 
 -- ---- the commands
 
--- An argument of a command: `--NAME`, which is used or not; `--NAME N`, a number up to the
--- greatest, or the usual one where it is not used; the same without a usual one; a word that is
--- known by its place, and has to be there; or such a number.
+-- An argument of a command:
+--
+-- - `flag`: `--NAME`, which is used or not;
+-- - `option`: `--NAME N`, a number up to `greatest`, with the default `usual`;
+-- - `optional`: `--NAME N`, a number up to `greatest`, without a default;
+-- - `wanted`: a required positional argument;
+-- - `number`: a required positional number up to `greatest`.
 pub data Argument : Type 0 where
   flag : (name : List ℕ) → Argument
   option : (name : List ℕ) → (greatest : ℕ) → (usual : List ℕ) → Argument
@@ -117,7 +124,7 @@ pub data Argument : Type 0 where
   wanted : (name : List ℕ) → Argument
   number : (name : List ℕ) → (greatest : ℕ) → Argument
 
--- what is asked for, by the values of the arguments, one after another
+-- A function from the values of the arguments, in order, to the request.
 abbrev pub Asking : List Argument → Type 0
 Asking [] = Request
 Asking (flag name ∷ rest) = Bool → Asking rest
@@ -126,7 +133,7 @@ Asking (optional name greatest ∷ rest) = Option ℕ → Asking rest
 Asking (wanted name ∷ rest) = List ℕ → Asking rest
 Asking (number name greatest ∷ rest) = ℕ → Asking rest
 
--- a command: its name, its arguments, and what it asks for
+-- A command: its name, its arguments and its request.
 pub record Form : Type 0 where
   pub name : List ℕ
   pub arguments : List Argument
@@ -135,23 +142,23 @@ pub record Form : Type 0 where
 abbrev pub row : (name : List ℕ) (arguments : List Argument) → Asking arguments → Form
 row name arguments asks = record { name = name; arguments = arguments; asks = asks }
 
--- the greatest limit of words on 64 bits in a value, and the limit where none is asked for
+-- The maximum and the default of the limit of 64-bit words in a value.
 abbrev pub greatest_limit : ℕ
 greatest_limit = 2 ^ 40
 
 abbrev pub usual_limit : List ℕ
 usual_limit = codes "134217728"
 
--- the greatest number of bytes that are passed over
+-- The maximum number of bytes to skip.
 abbrev pub greatest_skip : ℕ
 greatest_skip = 2 ^ 48
 
--- the greatest number of a value that is told of alone: the greatest that a script has
+-- The maximum number of a value for `--only`. It is the maximum number of a value in a script.
 abbrev pub greatest_only : ℕ
 greatest_only = 2 ^ 63 - 1
 
--- `--limit N`, `--skip N`, `--only K`, `--compat32`, `--cert`, `--pretty`, `--decimal` and
--- `--lines`
+-- The options `--limit N`, `--skip N`, `--only K`, `--compat32`, `--cert`, `--pretty`, `--decimal`
+-- and `--lines`.
 abbrev pub limit_option : Argument
 limit_option = option (codes "limit") greatest_limit usual_limit
 
@@ -176,34 +183,34 @@ decimal_flag = flag (codes "decimal")
 abbrev pub lines_flag : Argument
 lines_flag = flag (codes "lines")
 
--- how texts are put, where these flags are used or not
+-- The style for these two flags.
 abbrev pub styled_by : (pretty decimal : Bool) → Style
 styled_by pretty decimal = record { pretty = pretty; decimal = decimal }
 
--- how values are read, where these are used or not
+-- The reading options for these three arguments.
 abbrev pub read_by : (limit skip : ℕ) → (only : Option ℕ) → Reading
 read_by limit skip only = record { limit = limit; skip = skip; only = only }
 
--- how values are read, before other arguments
+-- Prepends `--limit` and `--skip` to other arguments.
 abbrev pub valued : List Argument → List Argument
 valued more = limit_option ∷ skip_option ∷ more
 
--- FILE and TYPE
+-- Prepends FILE and TYPE to other arguments.
 abbrev pub file_and_type : List Argument → List Argument
 file_and_type more = wanted (codes "FILE") ∷ wanted (codes "TYPE") ∷ more
 
--- FILE and TYPE, after how places in texts are told, and how values are read
+-- Prepends `--lines`, `--limit`, `--skip`, FILE and TYPE to other arguments.
 abbrev pub typed : List Argument → List Argument
 typed more = lines_flag ∷ valued (file_and_type more)
 
--- the greatest NUMBER of a value that is made, and the greatest COUNT of its items
+-- The maximum NUMBER of a generated value, and the maximum COUNT of its items.
 abbrev pub greatest_number : ℕ
 greatest_number = 2147483647
 
 abbrev pub greatest_count : ℕ
 greatest_count = 1000000
 
--- the commands
+-- All commands.
 abbrev pub forms : List Form
 forms =
     row (codes "check") (cert_flag ∷ only_option ∷ typed [])
@@ -236,13 +243,13 @@ forms =
     ∷ row (codes "scan") (limit_option ∷ []) (λ n. own (scan n))
     ∷ []
 
--- the command of this name
+-- The command with this name.
 abbrev pub form_of : List ℕ → Option Form
 form_of name = find (λ form. bytes_eq form.name name) forms
 
--- ---- what clap is told
+-- ---- the configuration of clap
 
--- what clap is told of an argument
+-- The clap rule of an argument.
 abbrev pub rule_for : Argument → Rule
 rule_for (flag name) = record (new_rule name) { long = Some name; action = Some SetTrue }
 rule_for (option name greatest usual) = record (new_rule name) {
@@ -256,11 +263,12 @@ rule_for (wanted name) = record (new_rule name) { required = true }
 rule_for (number name greatest) =
     record (new_rule name) { parser = Some (Unsigned 0 greatest); required = true }
 
--- what it is told of a command
+-- The clap description of a command.
 abbrev pub shape_for : List ℕ → List Argument → Shape
 shape_for name arguments = record (new_shape name) { rules = map rule_for arguments }
 
--- a command is wanted; the words do not begin with the program's name, and none asks for help
+-- The clap description of the program. A command is required. The arguments do not begin with the
+-- program's name. There is no help command or flag.
 abbrev pub command_set : App
 command_set = record {
   top = record (new_shape (codes "omarshal")) {
@@ -273,33 +281,35 @@ command_set = record {
   subs = map (λ form. shape_for form.name form.arguments) forms;
 }
 
--- ---- accepted words
+-- ---- accepted arguments
 
--- clap finds no fault in the words, and reads a command with these arguments
+-- clap reports no error, and parses the arguments as this command with these values.
 abbrev pub Accepted : List (List ℕ) → List ℕ → List Row → Type 0
 Accepted words command rows =
     (fault_of command_set words ≡ []) × (subcommand_of command_set words ≡ Some (command, rows))
 
--- the word of this name
+-- The argument with this name has this text.
 abbrev pub HasWord : List Row → List ℕ → List ℕ → Type 0
 HasWord rows name text = first_of name rows ≡ Some text
 
--- whether the flag of this name is used, which clap tells in a word
+-- The flag with this name is used if `used` is true. clap represents it by the text `true` or
+-- `false`.
 abbrev pub HasFlag : List Row → List ℕ → Bool → Type 0
 HasFlag rows name used = HasWord rows name (if used then codes "true" else codes "false")
 
--- the number of this name, up to the greatest: decimal digits, where a plus may stand first
+-- The argument with this name is the number `n`, at most `greatest`: decimal digits, optionally
+-- after a plus sign.
 abbrev pub HasNumber : List Row → List ℕ → ℕ → ℕ → Type 0
 HasNumber rows name greatest n =
     (text : List ℕ) × (one_of name rows ≡ Some text) × IsNumeral 10 (without_leading_plus text)
     × (digits_value 10 (without_leading_plus text) ≡ n) × (n ≤ greatest)
 
--- the same, where the option of this name is used
+-- The option with this name is not used, or is a number as in `HasNumber`.
 abbrev pub MayHaveNumber : List Row → List ℕ → ℕ → Option ℕ → Type 0
 MayHaveNumber rows name greatest None = one_of name rows ≡ None
 MayHaveNumber rows name greatest (Some n) = HasNumber rows name greatest n
 
--- the arguments are there, and this is asked for by their values
+-- All arguments are present, and their values give this request.
 abbrev pub HasArguments : (arguments : List Argument) → Asking arguments → List Row → Request
     → Type 0
 HasArguments [] asked rows request = asked ≡ request
@@ -314,54 +324,54 @@ HasArguments (wanted name ∷ rest) asks rows request =
 HasArguments (number name greatest ∷ rest) asks rows request =
     (n : ℕ) × HasNumber rows name greatest n × HasArguments rest (asks n) rows request
 
--- what a command with these arguments asks for
+-- The command with these argument values makes this request.
 abbrev pub AsksBy : List ℕ → List Row → Request → Type 0
 AsksBy command rows request =
     (form : Form) × (form_of command ≡ Some form)
     × HasArguments form.arguments form.asks rows request
 
--- clap accepts the words, and this is what it reads of them
+-- clap accepts the arguments, and they parse to this request.
 unfoldable pub AreReadAs : List (List ℕ) → Request → Type 0
 AreReadAs words request =
     (command : List ℕ) × (rows : List Row) × Accepted words command rows
     × AsksBy command rows request
 
--- where it is a certificate, it is one of all values
+-- Returns false only if the request is a certificate of a single value.
 abbrev pub is_whole : Request → Bool
 is_whole (own (certify file type lines reading)) = not (is_some reading.only)
 is_whole request = true
 
--- the words are read as this; and no certificate of one value can be asked for
+-- The arguments make this request. A certificate of a single value cannot be requested.
 unfoldable pub Asks : List (List ℕ) → Request → Type 0
 Asks words request = AreReadAs words request × (is_whole request ≡ true)
 
--- words that ask for nothing
+-- The arguments make no request.
 abbrev pub IsUsage : List (List ℕ) → Type 0
 IsUsage words = (request : Request) → Asks words request → ⊥
 
--- ---- plain words
+-- ---- command lines in plain form
 
--- an argument that is not empty, and does not begin with `-`
+-- An argument that is not empty and does not begin with `-`.
 abbrev pub IsArgument : List ℕ → Type 0
 IsArgument [] = ⊥
 IsArgument (first ∷ rest) = first ≢ 45
 
--- the use of an option: `--NAME`, or `--NAME TEXT`
+-- One use of an option: `--NAME`, or `--NAME TEXT`.
 pub data Use : Type 0 where
   alone : (name : List ℕ) → Use
   given : (name text : List ℕ) → Use
 
--- the words of a use
+-- The arguments that a use of an option consists of.
 abbrev pub words_of : Use → List (List ℕ)
 words_of (alone name) = (codes "--" ++ name) ∷ []
 words_of (given name text) = (codes "--" ++ name) ∷ text ∷ []
 
--- the option that is used
+-- The name of the option that is used.
 abbrev pub used_in : Use → List ℕ
 used_in (alone name) = name
 used_in (given name text) = name
 
--- the use is of this argument: of a flag, or of an option with decimal digits
+-- This is a use of this argument: a flag alone, or an option with decimal digits up to its maximum.
 abbrev pub IsUse : Use → Argument → Type 0
 IsUse (alone name) (flag other) = name ≡ other
 IsUse (given name text) (option other greatest usual) =
@@ -370,29 +380,29 @@ IsUse (given name text) (optional other greatest) =
     (name ≡ other) × IsNumeral 10 text × (digits_value 10 text ≤ greatest)
 IsUse one argument = ⊥
 
--- the use is of one of the arguments
+-- This is a use of one of the arguments.
 abbrev pub IsUseAmong : List Argument → Use → Type 0
 IsUseAmong [] one = ⊥
 IsUseAmong (argument ∷ rest) one = IsUse one argument ⊎ IsUseAmong rest one
 
--- whether the option is used
+-- Returns true if the option is used.
 abbrev pub is_used : List ℕ → List Use → Bool
 is_used name uses = list_any (λ one. bytes_eq (used_in one) name) uses
 
--- uses of the arguments, none of them twice
+-- All uses are of these arguments, and no option is used twice.
 abbrev pub ArePlainUses : List Argument → List Use → Type 0
 ArePlainUses arguments [] = Unit {0}
 ArePlainUses arguments (one ∷ more) =
     IsUseAmong arguments one × (is_used (used_in one) more ≡ false) × ArePlainUses arguments more
 
--- the text after the option, where it is used
+-- The text after the option, if the option is used with a text.
 abbrev pub text_after : List ℕ → List Use → Option (List ℕ)
 text_after name [] = None
 text_after name (alone other ∷ uses) = text_after name uses
 text_after name (given other text ∷ uses) =
     if bytes_eq other name then Some text else text_after name uses
 
--- this is asked for by the uses of options, and exactly these words after them
+-- These uses of options, followed by exactly these positional arguments, make this request.
 abbrev pub ArePlainArguments : (arguments : List Argument) → Asking arguments → List Use
     → List (List ℕ) → Request → Type 0
 ArePlainArguments [] asked uses [] request = asked ≡ request
@@ -413,8 +423,8 @@ ArePlainArguments (number name greatest ∷ rest) asks uses (text ∷ texts) req
     IsNumeral 10 text × (digits_value 10 text ≤ greatest)
     × ArePlainArguments rest (asks (digits_value 10 text)) uses texts request
 
--- the words that are written plainly, with what they ask for: a command's name, uses of its
--- options, and then its other arguments
+-- A command line in plain form and its request. It consists of a command's name, uses of its
+-- options, and then its positional arguments.
 abbrev pub ArePlain : List (List ℕ) → Request → Type 0
 ArePlain words request =
     (form : Form) × (form_of form.name ≡ Some form)

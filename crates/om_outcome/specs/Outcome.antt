@@ -1,6 +1,7 @@
--- What a run says: the stages in their order, then a text of each value, and a last reply. A
--- command adds its plain words, the files that it opens, what it says of a value, what stops it
--- there, and its last reply; the stages, the stops, their lines and their statuses stand here once.
+-- The specification of a run: its stages in order, then an output for each value, and a final
+-- output. Each command adds the syntax of its arguments, the files that it opens and its output for
+-- a value. It also adds its exit reasons at a value and its final output. The stages, the exit
+-- reasons, their error lines and their statuses are defined once, here.
 use Rattle.std.specs.Prelude.{ℕ, ◌<◌, ◌≡◌, ◌≢◌, ◌↔◌, ◌⊎◌, Bool, true, false, IsTrue, ◌&&◌, not}
 use Rattle.std.specs.Prelude.{nat_lt, if◌then◌else◌, List, [], ◌∷◌, ◌++◌, length, find, Option}
 use Rattle.std.specs.Prelude.{Some, None, Result, Ok, Err, MatchResult, codes, decimal}
@@ -34,49 +35,49 @@ use Rattle.om_format.specs.Iso.{Iso}
 use Rattle.om_format.specs.Tree.{Tree, root, objects_of}
 use Rattle.om_format.specs.Stream.{SpellAll, End, clean, refused, cut, IsTail}
 
--- ---- what the outside gives
+-- ---- input from the environment
 
--- why no more bytes were taken: none was left, a call failed, there were 2^48 or more, or no more
--- were asked for
+-- Why reading ended: at the end of the data, after a failed call, at 2^48 bytes or more, or because
+-- no more bytes were requested.
 pub data InputEnd : Type 0 where
   at_end : InputEnd
   at_fault : InputEnd
   at_length : InputEnd
   unasked : InputEnd
 
--- the bytes that were taken from the input or from a file
+-- The bytes that were read from the input or from a file.
 pub record Taken : Type 0 where
   pub bytes : List ℕ
   pub until : InputEnd
 
--- nothing was taken
+-- Nothing was read.
 abbrev pub nothing : Taken
 nothing = record { bytes = []; until = unasked }
 
--- all the bytes there are
+-- All bytes were read, up to the end.
 abbrev pub whole : List ℕ → Taken
 whole bytes = record { bytes = bytes; until = at_end }
 
--- what came of fetching a file: its bytes, no such file, a fault, or nothing, where it was not
--- fetched or memory ran out
+-- The result of fetching a file: its bytes, no such file, a failure, or nothing. It is `unfetched`
+-- if the file was not requested or memory ran out.
 pub data Found : Type 0 where
   opened : Taken → Found
   missing : Found
   failed : Found
   unfetched : Found
 
--- What comes of fetching FILE and SCRIPT, by their names. They are fetched one after the other, so
--- that one name may be found in two ways.
+-- The results of fetching FILE and SCRIPT by name. The two files are fetched one after the other,
+-- so the same name may give two different results.
 pub record Fetches : Type 0 where
   pub file : List ℕ → Found
   pub script : List ℕ → Found
 
--- what is given to a run: what comes of fetching its files, and the input
+-- Everything that a run receives: the results of fetching its files, and the input.
 pub record Given : Type 0 where
   pub files : Fetches
   pub input : Taken
 
--- ---- why a run stops: the stops of the code
+-- ---- exit reasons
 
 abbrev pub status_of : Stop → Status
 status_of usage = statuses.Usage
@@ -99,7 +100,7 @@ status_of read_fault = statuses.ReadFault
 status_of too_long = statuses.TooLong
 status_of out_of_memory = statuses.Memory
 
--- what is wrong with a value, by its number
+-- The error text for the value with this number.
 abbrev pub value_text : ℕ → List ℕ → List ℕ
 value_text number text = codes "value " ++ decimal number ++ codes ": " ++ text
 
@@ -126,73 +127,75 @@ stop_text read_fault = codes "read fault"
 stop_text too_long = codes "input too long"
 stop_text out_of_memory = codes "out of memory"
 
--- ---- how a run ends
+-- ---- the end of a run
 
--- a text as a line
+-- A text as a line.
 abbrev pub line : List ℕ → List ℕ
 line text = text ++ 10 ∷ []
 
--- the line on err
+-- A text as a line on standard error.
 abbrev pub err_line : List ℕ → List ℕ
 err_line text = codes "omarshal: " ++ line text
 
--- that of a stop; a run that is finished has none
+-- The error line of an exit reason. `finished` has none.
 abbrev pub stop_line : Stop → List ℕ
 stop_line (finished well) = []
 stop_line stop = err_line (stop_text stop)
 
--- what is put on out and on err, and the status
+-- The bytes written to standard output and to standard error, and the exit status.
 pub record Ending : Type 0 where
   pub out : List ℕ
   pub err : List ℕ
   pub status : Status
 
--- what is put of a value, and whether nothing is wrong with it
+-- The output for a value. `well` is true if the value has no fault.
 pub record Said : Type 0 where
   pub text : List ℕ
   pub well : Bool
 
--- nothing is put, and nothing is wrong
+-- Empty output without faults.
 abbrev pub nothing_said : Said
 nothing_said = record { text = []; well = true }
 
--- the last reply: something is said after all values, and the run goes to its end; or it stops
+-- The final reply. `says` is output after all values, and the run reaches its end. `stops` is an
+-- exit reason.
 pub data Reply : Type 0 where
   says : Said → Reply
   stops : Stop → Reply
 
--- what is said of the values, in their order, and the last reply
+-- The outputs for the values, in order, and the final reply.
 pub record Replies : Type 0 where
   pub said : List Said
   pub last : Reply
 
--- both together
+-- Constructs a `Replies`.
 abbrev pub replies : List Said → Reply → Replies
 replies said last = record { said = said; last = last }
 
--- a run that stops before the values
+-- A run that ends before the first value.
 abbrev pub stopped : Stop → Replies
 stopped stop = replies [] (stops stop)
 
--- all that is put on out, one after another
+-- All outputs in order, including that of the final reply.
 abbrev pub all_said : Replies → List Said
 all_said all = all.said ++ said_last all.last where
   said_last : Reply → List Said
   said_last (says said) = said ∷ []
   said_last (stops stop) = []
 
--- the texts, one after another
+-- The texts of the outputs, concatenated.
 abbrev pub texts_of : List Said → List ℕ
 texts_of [] = []
 texts_of (said ∷ rest) = said.text ++ texts_of rest
 
--- nothing is wrong with any of them
+-- No output reports a fault.
 abbrev pub all_well : List Said → Bool
 all_well [] = true
 all_well (said ∷ rest) = said.well && all_well rest
 
--- The texts are on out. A stop has its line and its status; without one, and where all was said
--- that was asked for, the run ends well, or with a no.
+-- The end of a run. Standard output holds the texts of all outputs. If there is an exit reason, it
+-- determines the error line and the status. Otherwise the status is `Well` if no output reports a
+-- fault, and `No` if one does.
 abbrev pub ending_of : Replies → Ending
 ending_of all = ends all.last where
   ends : Reply → Ending
@@ -210,35 +213,36 @@ ending_of all = ends all.last where
 
 -- ---- stages
 
--- a stage gives something to the next one, or stops the run
+-- Two stages in sequence. The first passes its result to the second, or ends the run with an exit
+-- reason.
 abbrev pub Then : {X Y : Type 0} → (Result X Stop → Type 0) → (X → Result Y Stop → Type 0)
     → Result Y Stop → Type 0
 Then {X} first next result =
     (given : Result X Stop) × first given
     × MatchResult given (λ x. next x result) (λ stop. result ≡ Err stop)
 
--- what is read of a text, or its refusal, which the stop tells
+-- The result of reading a text. `stop` turns a refusal into an exit reason.
 abbrev pub OrRefusal : {X R : Type 0} → (Result X R → Type 0) → (R → Stop) → Result X Stop → Type 0
 OrRefusal Reads stop (Ok x) = Reads (Ok x)
 OrRefusal {X} {R} Reads stop (Err s) = (refusal : R) × Reads (Err refusal) × (s ≡ stop refusal)
 
--- ---- the words
+-- ---- the arguments
 
--- the first stage
+-- The first stage: parses the arguments to a request, or ends with `usage`.
 abbrev pub ReadsWords : List (List ℕ) → Result Request Stop → Type 0
 ReadsWords words (Ok request) = Asks words request
 ReadsWords words (Err stop) = IsUsage words × (stop ≡ usage)
 
 -- ---- the files
 
--- why the bytes are not all there
+-- The exit reason if reading failed or the data is too long.
 abbrev pub fault_of : InputEnd → Option Stop
 fault_of at_end = None
 fault_of at_fault = Some read_fault
 fault_of at_length = Some too_long
 fault_of unasked = None
 
--- a file is opened and read to its end
+-- Opens a file and reads it to its end.
 abbrev pub ReadsFile : List ℕ → Found → Result (List ℕ) Stop → Type 0
 ReadsFile name found (Ok bytes) = found ≡ opened (whole bytes)
 ReadsFile name (opened taken) (Err stop) = fault_of taken.until ≡ Some stop
@@ -248,22 +252,29 @@ ReadsFile name unfetched (Err stop) = ⊥
 
 -- ---- the types
 
--- why a value is not edited: it has not the type; a line of the script is refused, by its number;
--- or what it was edited to is too large for a reader on 32 bits
+-- Why a value is not edited: it does not have the type, a script line is refused (with its number),
+-- or the edited value is too large for a 32-bit reader.
 pub data Unedited : Type 0 where
   untyped : (fault : List ℕ) → Unedited
   refused_line : (number : ℕ) → (refusal : List ℕ) → Unedited
   too_large : (refusal : List ℕ) → Unedited
 
--- What the run takes from the declarations D, the types T and the lines of scripts E: what a FILE,
--- a TYPE and a SCRIPT are read as, or the texts of their refusals, of a SCRIPT with the number of
--- its line; the path that a PATH is, if it is one; the number of a line, and of the value that it
--- edits; the line that is said of a value at a type, which tells whether nothing is wrong with it;
--- what a script makes of a value at a type that comes after these, its bytes, where a reader on 32
--- bits can hold it if that is asked for, or why there are none; and the lines of a value as it is.
--- A refusal tells its place in a text by line and column, where that is asked for; a type keeps
--- whether it is, for what is refused at it. Decimals stand for doubles in a SCRIPT where that is
--- asked for.
+-- The languages of a run, with declarations `D`, types `T` and script lines `E`.
+--
+-- - `ReadsDeclarations`, `ReadsType` and `ReadsScript` give the result of parsing FILE, TYPE and
+--   SCRIPT, or the text of the refusal. For SCRIPT, a refusal includes the number of its line.
+-- - `ReadsPath` gives the path that PATH denotes, if it denotes one.
+-- - `line_number` and `line_value` give the number of a script line and the number of the value
+--   that it edits.
+-- - `LineOf` gives the output line for a value at a type, and a flag that is true if the value has
+--   no fault.
+-- - `BytesOf` gives the bytes of the value after the script's edits, or the reason why it is not
+--   edited. The earlier values determine the number of the value. If `compat` is true, a 32-bit
+--   reader must be able to hold the result.
+-- - `lines_of` gives the lines of a value without a type.
+--
+-- If `lines` is true, a refusal reports its position by line and column. A type keeps this option
+-- for refusals at that type. If `decimal` is true, decimals stand for doubles in SCRIPT.
 pub record Language (D T E : Type 0) : Type 1 where
   pub ReadsDeclarations : (lines : Bool) → List ℕ → Result D (List ℕ) → Type 0
   pub ReadsType : D → AskedType → Result T (List ℕ) → Type 0
@@ -276,7 +287,7 @@ pub record Language (D T E : Type 0) : Type 1 where
       → Result (List ℕ) Unedited → Type 0
   pub lines_of : Tree → List ℕ
 
--- FILE is opened and read, then its declarations, then TYPE
+-- Opens and reads FILE, parses its declarations, then parses TYPE.
 abbrev pub ReadsTypeOf : {D T E : Type 0} → Language D T E → (List ℕ → Found) → List ℕ × AskedType
     → Result T Stop → Type 0
 ReadsTypeOf language file typed =
@@ -284,12 +295,12 @@ ReadsTypeOf language file typed =
     Then (OrRefusal (language.ReadsDeclarations typed.1.lines text) declarations) (λ decls.
     OrRefusal (language.ReadsType decls typed.1) requested_type))
 
--- PATH is a path, or the run stops
+-- Parses PATH, or ends the run with `bad_path`.
 abbrev pub ReadsPathOf : {D T E : Type 0} → Language D T E → List ℕ → Result (List ℕ) Stop → Type 0
 ReadsPathOf language text (Ok path) = language.ReadsPath text (Some path)
 ReadsPathOf language text (Err stop) = language.ReadsPath text None × (stop ≡ bad_path)
 
--- SCRIPT is opened and read, then its lines
+-- Opens and reads SCRIPT, then parses its lines.
 abbrev pub ReadsScriptOf : {D T E : Type 0} → Language D T E → (lines decimal : Bool)
     → (List ℕ → Found) → List ℕ → Result (List E) Stop → Type 0
 ReadsScriptOf language lines decimal script name =
@@ -297,20 +308,20 @@ ReadsScriptOf language lines decimal script name =
     OrRefusal (language.ReadsScript lines decimal text)
     (λ refusal. script_line refusal.0 refusal.1))
 
--- what is done with each value, where the words, the files and the type are read
+-- The operation for each value, after the arguments, the files and the type have been read.
 pub data Work (T E : Type 0) : Type 0 where
   tells : Saying → T → Work T E
   edits : T → (script : List E) → (compat : Bool) → Work T E
   dumps : Work T E
   compares : Work T E
 
--- this is told of the values at the type
+-- The operation answers this query for each value at the type.
 abbrev pub TellsAt : {D T E : Type 0} → Language D T E → (List ℕ → Found) → List ℕ × AskedType
     → Saying → Result (Work T E) Stop → Type 0
 TellsAt language file typed saying result =
     Then (ReadsTypeOf language file typed) (λ type found. found ≡ Ok (tells saying type)) result
 
--- the values at the type are edited by the lines of SCRIPT
+-- The operation edits the values at the type by the lines of SCRIPT.
 abbrev pub EditsBy : {D T E : Type 0} → Language D T E → Fetches → List ℕ × AskedType → List ℕ
     → Bool → Result (Work T E) Stop → Type 0
 EditsBy language files typed script_name compat result =
@@ -318,8 +329,9 @@ EditsBy language files typed script_name compat result =
     Then (ReadsScriptOf language typed.1.lines typed.1.decimal files.script script_name)
     (λ script found. found ≡ Ok (edits type script compat))) result
 
--- PATH comes before FILE, and SCRIPT after TYPE; `dump` and `same` have none of these. A command
--- that is a set of its own finds no work here.
+-- The stage that finds the operation of a request. PATH is parsed before FILE is read, and SCRIPT
+-- is read after TYPE. `dump` and `same` read none of these. A command in a command set of its own
+-- has no operation here.
 abbrev pub FindsWork : {D T E : Type 0} → Language D T E → Fetches → Request
     → Result (Work T E) Stop → Type 0
 FindsWork language files (tell saying name type_text lines reading) result =
@@ -336,7 +348,7 @@ FindsWork language files (own request) result = ⊥
 
 -- ---- all stages before the values
 
--- what is to be done with the values, and how many words on 64 bits each may have
+-- The operation for the values, and the limit of 64-bit words in each.
 pub record Task (T E : Type 0) : Type 0 where
   pub work : Work T E
   pub limit : ℕ
@@ -353,12 +365,12 @@ Prepares language words files =
 
 -- ---- the values
 
--- the first line of a script that edits none of the first n values
+-- The first script line that does not edit any of the first `n` values.
 abbrev pub line_past : {D T E : Type 0} → Language D T E → List E → ℕ → Option E
 line_past language script n = find (λ line. not (nat_lt (language.line_value line) n)) script
 
--- what is said of a value that comes after these; after a stop nothing is: `same` takes two, and
--- says nothing of them before the input's end
+-- The output for a value after the values `earlier`. `same` reads two values and has no output for
+-- them before the end of the input.
 abbrev pub Says : {D T E : Type 0} → Language D T E → Work T E → (earlier : List Tree) → Tree → Said
     → Type 0
 Says language (tells saying type) earlier tree said =
@@ -368,7 +380,7 @@ Says language (edits type script compat) earlier tree said =
 Says language dumps earlier tree said = (said.text ≡ language.lines_of tree) × (said.well ≡ true)
 Says language compares earlier tree said = (length earlier < 2) × (said ≡ nothing_said)
 
--- what is said of the values that come after these
+-- The outputs for the values `trees` after the values `earlier`.
 abbrev pub AllSay : {D T E : Type 0} → Language D T E → Work T E → (earlier trees : List Tree)
     → List Said → Type 0
 AllSay language work earlier [] [] = Unit {0}
@@ -377,13 +389,13 @@ AllSay language work earlier (tree ∷ trees) [] = ⊥
 AllSay language work earlier (tree ∷ trees) (said ∷ more) =
     Says language work earlier tree said × AllSay language work (earlier ++ tree ∷ []) trees more
 
--- the stop at value k that is not edited
+-- The exit reason if value `k` is not edited.
 abbrev pub unedited_stop : ℕ → Unedited → Stop
 unedited_stop k (untyped fault) = untyped_value k fault
 unedited_stop k (refused_line number refusal) = script_line number refusal
 unedited_stop k (too_large refusal) = large_value k refusal
 
--- after these values one comes that is not edited
+-- The bytes after the values `earlier` begin with a value that is not edited.
 pub record IsUnedited {D T E : Type 0} (language : Language D T E) (type : T) (script : List E)
     (compat : Bool) (limit : ℕ) (earlier : List Tree) (bytes : List ℕ) (stop : Stop)
     : Type 0 where
@@ -394,8 +406,8 @@ pub record IsUnedited {D T E : Type 0} (language : Language D T E) (type : T) (s
   pub refused : language.BytesOf type script compat earlier tree (Err why)
   pub stops : stop ≡ unedited_stop (length earlier) why
 
--- After these values the command stops at the bytes that come there, whatever comes after them:
--- `edit` at a value that is not edited, and `same` at any bytes after two values.
+-- After these values the command ends at the bytes `rest`, whatever comes after the part that it
+-- reads. `edit` ends at a value that is not edited. `same` ends at any bytes after two values.
 abbrev pub StopsAt : {D T E : Type 0} → Language D T E → Work T E → ℕ → List Tree → List ℕ → Stop
     → Type 0
 StopsAt language (tells saying type) limit trees rest stop = ⊥
@@ -405,21 +417,21 @@ StopsAt language dumps limit trees rest stop = ⊥
 StopsAt language compares limit trees rest stop =
     (length trees ≡ 2) × (rest ≢ []) × (stop ≡ not_two_values)
 
--- the values of the two trees are the same
+-- The values of the two trees are equal: their graphs are isomorphic.
 abbrev pub AreSame : Tree → Tree → Type 0
 AreSame first second = Iso (objects_of first 0) (root first 0) (objects_of second 0) (root second 0)
 
--- the line on two values; nothing is wrong where they are the same
+-- The line for two compared values. `well` is true if they are the same.
 abbrev pub comparison : Bool → Said
 comparison true = record { text = line (codes "same"); well = true }
 comparison false = record { text = line (codes "differ"); well = false }
 
--- a line that edits no value of the input stops the run
+-- If a script line edits no value of the input, the run ends with that line as its exit reason.
 abbrev pub ends_script : {D T E : Type 0} → Language D T E → Option E → Reply
 ends_script language None = says nothing_said
 ends_script language (Some line) = stops (script_line (language.line_number line) (codes "NoValue"))
 
--- the command's last reply, once the input's end is found after all values
+-- The command's final reply, if the input ends cleanly after these values.
 abbrev pub Finishes : {D T E : Type 0} → Language D T E → Work T E → List Tree → Reply → Type 0
 Finishes language (tells saying type) trees last = last ≡ says nothing_said
 Finishes language (edits type script compat) trees last =
@@ -429,9 +441,9 @@ Finishes language compares (first ∷ second ∷ []) last =
     (alike : Bool) × (IsTrue alike ↔ AreSame first second) × (last ≡ says (comparison alike))
 Finishes language compares trees last = last ≡ stops not_two_values
 
--- The last reply after these values. Bytes that are refused stop the run where no call on the input
--- failed, and no more than allowed were taken: it asks for no more then. Otherwise it asks on, so
--- what happened to the input comes next.
+-- The final reply after these values. If bytes are refused as a value, the run reads no more and
+-- ends with the refusal. In that case no call on the input has failed, and the input is not too
+-- long. Otherwise the run continues to read, so the end of the input or its failure decides.
 abbrev pub Closes : {D T E : Type 0} → Language D T E → Work T E → List Tree → InputEnd → End
     → Reply → Type 0
 Closes language work trees at_end clean last = Finishes language work trees last
@@ -450,14 +462,14 @@ Closes language work trees at_length (refused refusal) last = ⊥
 Closes language work trees at_length clean last = last ≡ stops too_long
 Closes language work trees at_length (cut n) last = last ≡ stops too_long
 
--- these are the first values of the bytes, each with what is said of it; and the rest comes after
--- them
+-- The bytes begin with the values `trees`, which have the outputs `said`; `rest` follows them.
 pub record SayFirst {D T E : Type 0} (language : Language D T E) (task : Task T E) (bytes : List ℕ)
     (trees : List Tree) (said : List Said) (rest : List ℕ) : Type 0 where
   pub spelled : SpellAll task.limit bytes trees rest
   pub all_say : AllSay language task.work [] trees said
 
--- the values before the last reply, and what leads to it
+-- The values and outputs before the final reply, and the reason for that reply: an exit reason of
+-- the command, or the end of the values in the input.
 pub record ValuesReply {D T E : Type 0} (language : Language D T E) (task : Task T E)
     (input : Taken) (all : Replies) : Type 0 where
   pub trees : List Tree
@@ -472,14 +484,14 @@ pub record ValuesReply {D T E : Type 0} (language : Language D T E) (task : Task
 
 -- ---- the whole run
 
--- what is said of what is given, where memory suffices and all is put
+-- The replies of a run, if memory suffices and all output is written.
 abbrev pub RunReplies : {D T E : Type 0} → Language D T E → List (List ℕ) → Given → Replies → Type 0
 RunReplies {D} {T} {E} language words given all =
     (prepared : Result (Task T E) Stop) × Prepares language words given.files prepared
     × MatchResult prepared (λ task. ValuesReply language task given.input all)
     (λ stop. all ≡ stopped stop)
 
--- what is said of the first values of what is given
+-- The outputs for some first values of the input.
 abbrev pub SaysOfFirst : {D T E : Type 0} → Language D T E → List (List ℕ) → Given → List Said
     → Type 0
 SaysOfFirst {D} {T} {E} language words given said =
@@ -487,19 +499,19 @@ SaysOfFirst {D} {T} {E} language words given said =
     × (trees : List Tree) × (rest : List ℕ)
     × SayFirst language task given.input.bytes trees said rest
 
--- ---- the outcome of words, files and an input that are told
+-- ---- the outcome for known arguments, files and input
 
 abbrev pub found_of : Option (List ℕ) → Found
 found_of None = missing
 found_of (Some bytes) = opened (whole bytes)
 
--- one look-up is all that is fetched
+-- Both fetches use the same lookup.
 abbrev pub fetches_of : (List ℕ → Option (List ℕ)) → Fetches
 fetches_of files =
     record { file = λ name. found_of (files name); script = λ name. found_of (files name) }
 
--- The files are a look-up from names to bytes. Where FILE or SCRIPT is not there, it cannot be
--- opened.
+-- The outcome of a run. `files` maps names to bytes. If `files` does not contain FILE or SCRIPT,
+-- then that file cannot be opened.
 abbrev pub Outcome : {D T E : Type 0} → Language D T E → List (List ℕ) → (List ℕ → Option (List ℕ))
     → List ℕ → Replies → Type 0
 Outcome language words files bytes =

@@ -1,4 +1,4 @@
--- The texts of refusals: the name, the numbers in parentheses and the place.
+-- The texts of refusals: a name, numbers in parentheses, and the position.
 use Rattle.std.specs.Prelude.{ℕ, ◌/◌, ◌%◌, List, [], ◌∷◌, ◌++◌, length, flat_map, slice_index}
 use Rattle.std.specs.Prelude.{codes, decimal}
 use Rattle.std.specs.Fmt.{signed_decimal}
@@ -19,16 +19,16 @@ use Rattle.om_model.specs.declared.refusal.Stated.TheVariants.{Words, Length}
 use Rattle.om_model.specs.declared.refusal.WordSum.{WordSum}
 use Rattle.om_model.specs.declared.refusal.WordSum.TheVariants.{W32, W64}
 
--- ---- hexadecimal numbers, in lower case
+-- ---- hexadecimal numbers in lower case
 
 abbrev pub hex_digit : ℕ → ℕ
 hex_digit n = slice_index (codes "0123456789abcdef") n
 
--- two digits
+-- Two digits.
 abbrev pub hex_byte : ℕ → List ℕ
 hex_byte n = hex_digit (n / 16) ∷ hex_digit (n % 16) ∷ []
 
--- eight digits
+-- Eight digits.
 abbrev pub hex_word : ℕ → List ℕ
 hex_word n = flat_map hex_byte (to_be_bytes w32 n)
 
@@ -42,7 +42,8 @@ abbrev pub sum_text : WordSum → List ℕ
 sum_text W32 = codes "w32"
 sum_text W64 = codes "w64"
 
--- out of memory has no text of its own here: it is no refusal of the bytes
+-- The text of a refusal. Out of memory has no text of its own here, because it is not a refusal of
+-- the bytes.
 unfoldable pub refusal_text : ReadRefusal → List ℕ
 refusal_text (BadMagic magic) = codes "BadMagic(" ++ hex_word magic ++ codes ")"
 refusal_text Compressed = codes "Compressed"
@@ -78,11 +79,12 @@ refusal_text (LengthMismatch place left) =
     codes "LengthMismatch(" ++ decimal left ++ codes ") at " ++ decimal place
 refusal_text Memory = []
 
--- the input ended after so many bytes of a value
+-- The input ended after `taken` bytes of a value.
 abbrev pub truncated_text : ℕ → List ℕ
 truncated_text taken = codes "Truncated(" ++ decimal taken ++ codes ")"
 
--- what is too large for a reader on 32 bits; nothing else is
+-- The text for an item that is too large for a 32-bit reader. Items of other kinds are never too
+-- large.
 abbrev pub compat_text : TooLargeFor32 → List ℕ
 compat_text (token (integer z)) = codes "Compat(int, " ++ signed_decimal z ++ codes ")"
 compat_text (token (block tag size)) = codes "Compat(block, " ++ decimal size ++ codes ")"

@@ -1,4 +1,4 @@
--- The numbers of the statuses.
+-- The exit codes of the statuses.
 use Rattle.std.specs.Prelude.{ℕ}
 use Rattle.om_outcome.specs.declared.status.Status.{Status}
 use Rattle.om_outcome.specs.declared.status.Status.TheVariants.{Well, No, Usage, Types, Value}

@@ -1,5 +1,8 @@
-//! What a run says: its words, stages and stops, what it says of each value, and the text, the line
-//! and the status of its end, as definitions.
+//! The outcome of a run, as definitions: the command line (`CommandLine`), the stages of a run, its
+//! exit reasons, the output for each value, and the final output, error line and exit status
+//! (`Outcome`). It also owns the data types that these share (`Reading`, `Style`, `Status`, `Stop`)
+//! and the texts of refusals (`RefusalText`). The meaning of types, scripts and paths is a
+//! parameter (`Language`) and is defined elsewhere.
 #![tactic(auto)]
 
 pub mod reading;

@@ -1,7 +1,8 @@
-//! How values are read.
+//! Options that control how values are read from the input.
 
-/// How values are read: the limit of words on 64 bits in each, how many bytes of the input are
-/// passed over before the first, and the number of the one that is told of alone, if it is one.
+/// Options for reading values. `limit` is the largest allowed number of 64-bit words in each value.
+/// `skip` is the number of input bytes before the first value. `only` is the number of the single
+/// value to report, if the option `--only` is used.
 #[derive(Clone, Copy)]
 pub struct Reading {
     pub limit: u64,

@@ -1,41 +1,41 @@
-//! How the program ends.
+//! The exit status of the program.
 
 ghost use Rattle.std.specs.Prelude.{◌≡◌};
 ghost use Rattle.om_outcome.specs.Status.{code_of};
 
-/// The status that the program ends with.
+/// The exit status of the program.
 #[derive(Clone, Copy)]
 pub enum Status {
-    /// Nothing was wrong.
+    /// The run ended without errors.
     Well,
-    /// Some value does not have the type.
+    /// Some value does not have the type, or two compared values differ.
     No,
-    /// The words are none of the command set.
+    /// The arguments do not form a valid command.
     Usage,
     /// The declarations or the type are refused.
     Types,
-    /// Bytes are refused as a value.
+    /// Some input bytes are refused as a value.
     Value,
     /// A script is refused.
     Script,
-    /// The input or a file failed while it was read.
+    /// Reading the input or a file failed.
     ReadFault,
-    /// What was to be written could not be.
+    /// Writing the output failed.
     WriteFault,
-    /// A file was not opened.
+    /// A file could not be opened.
     OpenFault,
-    /// Out of memory.
+    /// The program ran out of memory.
     Memory,
     /// The input or a file has 2^48 bytes or more.
     TooLong,
-    /// A value is too large for a reader on 32 bits.
+    /// A value is too large for a 32-bit reader.
     Compat,
-    /// A certificate is none, or does not show of each value what it states.
+    /// A certificate has a syntax error, or does not prove its statement about each value.
     Certificate,
 }
 
 impl Status {
-    /// The number that the process ends with.
+    /// Returns the exit code of the process for this status.
     pub fn code(self) -> u8
         ensures { result ≡ code_of self }
     {

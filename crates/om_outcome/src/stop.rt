@@ -1,12 +1,12 @@
-//! Why a run stops before its end.
+//! The reasons why a run ends.
 
 use om_model::list::List;
 
-/// Why a run stops. The first number of a value, or of a line of a script, of a certificate or of
-/// the input, is its own; a text is a name, or that of a fault, or of why a file, a type, a value
-/// or a line is refused. An input is short by what is to be passed over of it: there are so many
-/// bytes. A run is finished that said all that was asked for, and no more is to be read: with
-/// whether nothing is wrong with it.
+/// Exit reason of a run. A number is that of a value or of a line in a script, certificate or input
+/// text; in `Short` it is the number of bytes of an input that ends before the bytes to skip. A
+/// text is a file name, the text of a fault, or the text of a refusal. `Finished` means that the
+/// run has written all requested output and reads no more; its flag is true if there were no
+/// errors.
 #[derive(Drop)]
 pub enum Stop {
     Usage,

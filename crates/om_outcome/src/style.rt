@@ -1,7 +1,7 @@
-//! How the text of a value is put.
+//! Options that control how values are printed.
 
-/// How the text of a value is put: over lines, if that is asked for, or else on one line; and with
-/// its doubles as decimals, if that is asked for, or else by their bits.
+/// Options for printing a value. If `pretty` is true, the text spans several lines; otherwise it is
+/// on one line. If `decimal` is true, doubles are printed as decimals; otherwise as their bits.
 #[derive(Clone, Copy)]
 pub struct Style {
     pub pretty: bool,

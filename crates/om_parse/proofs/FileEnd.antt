@@ -1,4 +1,4 @@
--- A file that ends: by the table and by the code.
+-- The end of a file, in the table and in the code.
 use Rattle.std.proofs.Common.{◌≡◌, ◌∙◌, Bool, false, List, [], ◌∷◌, ◌++◌, map, Option, Some, None, refl, sym, ap, subst}
 use Rattle.om_grammar.specs.Grammar.{Name, Texpr, App, single, starred, no_arguments, inline, listed, RecordTree, ConstrTree, FieldTree, FileTree, type_body, record_body}
 use Rattle.om_grammar.specs.Holes.{due, read, name_due, tag_read, outside, first_part, next_part, whole, alone}
@@ -98,7 +98,7 @@ inside_ends s ns fs phase h =
     (type_ends h.bottom s (whole_code ns fs h.inner) (whole_ends h.bottom s ns fs h.inner h.ordered
     h.shown)))
 
--- the nodes of a whole type
+-- The nodes of a complete type are ordered.
 inside_written : (s : FileState) (ns : List Node) (fs : List Frame) (phase : FilePhase)
     (h : IsInType ns fs phase s) (all : List Node) → whole_code ns fs h.inner ≡ Some all →
     AreOrdered all
@@ -119,7 +119,7 @@ readable_closed ns fs around phase r all e =
     inside_written r.0 ns fs (files.InType around phase) h all
     (subst (λ q. whole_code ns fs q ≡ Some all) p e)
 
--- ---- everywhere
+-- ---- in every state
 
 outside_ends : (q : Outside) → EndsFile (accepted_outside q) (file_whole_code [] [] (phase_of q))
 outside_ends (file_due gs) = (gs, refl, refl)

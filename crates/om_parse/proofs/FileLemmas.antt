@@ -1,4 +1,4 @@
--- The code's step on declarations so far is the table's step on their trees.
+-- The code's step on the declarations so far agrees with the table's step on their trees.
 use Rattle.std.proofs.Common.{◌≡◌, ◌∙◌, min, Bool, true, false, List, [], ◌∷◌, ◌++◌, length, map, Option, Some, None, refl, sym, ap, subst, append-nil, append_assoc}
 use Rattle.om_lex.specs.declared.lexeme.LexemeKind.{LexemeKind}
 use Rattle.om_lex.specs.declared.lexeme.LexemeKind.TheVariants as kinds
@@ -25,7 +25,7 @@ use Rattle.om_parse.specs.FileShown.{row_list, group_of, declared_of, constructo
 use Rattle.om_parse.proofs.TypeLemmas.{none_outside, EndsAt, Follows, begin_follows, step_follows, depth_follows}
 use Rattle.om_parse.proofs.WrittenLemmas.{row_more, row_map, group_ends}
 
--- both go on, or neither
+-- Either both continue or both fail.
 abbrev pub FollowsOut : Option FileState → Option FilePhase → Type 0
 FollowsOut next (Some phase) = (n : FileState) × (next ≡ Some n) × file_shown [] [] phase n
 FollowsOut next None = next ≡ None
@@ -40,7 +40,7 @@ from_outside : (next : Option FileState) (c : Option FilePhase) → FollowsOut n
 from_outside next (Some phase) f = f
 from_outside next None f = f
 
--- a state outside of types
+-- A state outside of types.
 goes_out : (q : Outside) (phase : FilePhase) → phase ≡ phase_of q → FollowsOut (Some (outside q))
     (Some phase)
 goes_out q phase e = (outside q, refl, (refl, refl, e))
@@ -317,7 +317,7 @@ argument_alone (at_type (body_type b)) = refl
 argument_alone (at_type (field_type r b mutable x)) = refl
 argument_alone (at_part (listed_part c x b)) = refl
 
--- the step of the type that is being read
+-- The step of the type that is being read.
 pub inner_follows : (ns : List Node) (fs : List Frame) (phase : FilePhase) (s : FileState)
     (kind : LexemeKind) (h : IsInType ns fs phase s) → Follows declarations h.bottom
     (step declarations s kind) kind (step_code (is_argument h.around) ns fs h.inner kind)

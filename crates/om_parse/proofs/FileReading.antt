@@ -28,7 +28,7 @@ pub file_reached_first : (lexemes : Kinds) → FileReached lexemes [] [] (files.
 file_reached_first lexemes = reached_first file_table lexemes (file_shown [] [] (files.FileDue []))
     (refl, refl, refl)
 
--- the code goes on
+-- If the code continues, then the table continues.
 goes_on : (s : FileState) (kind : LexemeKind) (field : Option FilePhase) (next : FilePhase)
     (ns : List Node) (fs : List Frame) (code : FileStep) → field ≡ Some next →
     FileStepIs field ns fs code → FollowsFile (step declarations s kind) code →
@@ -38,7 +38,7 @@ goes_on s kind field next ns fs code e i f =
     let h = subst (FollowsFile (step declarations s kind)) g f in
     record { next = h.0; moved = h.1; shown = h.2 }
 
--- or does not
+-- If the code fails, then the table fails.
 stops_here : (s : FileState) (kind : LexemeKind) (field : Option FilePhase) (ns : List Node)
     (fs : List Frame) (code : FileStep) → field ≡ None → FileStepIs field ns fs code →
     FollowsFile (step declarations s kind) code → step declarations s kind ≡ None

@@ -1,4 +1,4 @@
--- Nodes that types are added to.
+-- Lemmas about appending nodes.
 use Rattle.std.proofs.Common.{ℕ, suc, ◌≡◌, ◌∙◌, List, [], ◌∷◌, ◌++◌, length, refl, sym, ap, subst, arith, length-append, append-nil, append_assoc, ◌-◌}
 use Rattle.om_grammar.specs.Grammar.{Name, Texprs}
 use Rattle.om_grammar.specs.Grammar as trees
@@ -31,7 +31,7 @@ all_at_end ns [] [] a b = (b, tt)
 all_at_end ns (m ∷ all) (u ∷ ts) a b = (a.0, all_at_end ns all ts a.1 b)
 all_at_end ns all ts a b = absurd a
 
--- the node that is added
+-- The appended node.
 pub at_last : (ns : List Node) (node : Node) → IsAt (ns ++ node ∷ []) (length ns)
     (type_of_node (types_of ns) node)
 at_last ns node = record {
@@ -47,7 +47,7 @@ at_last_as ns node t e = subst (IsAt (ns ++ node ∷ []) (length ns)) e (at_last
 pub is_last : (ns : List Node) (node : Node) → suc (length ns) ≡ length (ns ++ node ∷ [])
 is_last ns node = omega (arith, length-append ns (node ∷ []))
 
--- a part more
+-- One more part.
 pub part_last : {ns : List Node} {n m : ℕ} {t u : Ty} → IsAt ns n t → IsAt ns m u →
     IsAt (ns ++ nodes.Part n m ∷ []) (length ns) (part t u)
 part_last {ns} {n} {m} {t} {u} a b = at_last_as ns (nodes.Part n m) (part t u)
@@ -79,7 +79,7 @@ pub arguments_as : (name : Name) (ts : Texprs) (u : Ty) → parts_with (named na
 arguments_as name ts u = parts_with-end (named name) (types_of_texprs ts) u ∙ ap (λ x. part x u)
     (applied_as name ts)
 
--- nodes after these parts are added
+-- The nodes after these parts are added.
 pub record Added (ns : List Node) (all : List ℕ) (t : Ty) (n : ℕ) : Type 0 where
   pub extra : List Node
   pub nodes_are : parts_nodes ns n all ≡ ns ++ extra
@@ -110,7 +110,7 @@ adds_parts (m ∷ all) (u ∷ us) ns n t their a l o =
     }
 adds_parts all us ns n t their a l o = absurd their
 
--- the type of the last node
+-- The type of the last node.
 pub last_type : (ns : List Node) (n : ℕ) (t : Ty) → IsAt ns n t → suc n ≡ length ns → type_of ns ≡ t
 unfolding type_of
 last_type ns n t a l = let e : length ns - 1 ≡ n = omega arith in ap (type_at (types_of ns)) e

@@ -1,4 +1,4 @@
--- A step of a type, in what stands round it.
+-- A step of a type, in its context.
 use Rattle.std.proofs.Common.{◌≡◌, List, Option, Result, sym, ap, subst}
 use Rattle.om_lex.specs.declared.lexeme.LexemeKind.{LexemeKind}
 use Rattle.om_grammar.specs.File.{TypeOutside, PartOutside, Outside, file_due, decl_due, param_due, param_read, params_read, name_read, body_due, constr_due, upper_read, of_read, field_due, mutable_read, field_named, record_read, FileState, declarations}
@@ -33,7 +33,7 @@ pub steps_in_type : {E : Type 0} (result : Result (Option FilePhase) E) (step : 
 steps_in_type result step ns all fs c around kind h i = subst (FileSteps result all fs)
     (step_is step ns fs c around kind h) i
 
--- ---- where a type ends, its nodes are a type
+-- ---- if a type ends, its nodes are ordered
 
 abbrev step_of : FileState → LexemeKind → Option FileState
 step_of s kind = table_step declarations s kind
@@ -53,7 +53,7 @@ inside_written ns fs phase s h kind steps.Ended all frames i = let f =
     (inner_follows ns fs phase s kind h) in ends_written h.bottom (step_of s kind) kind all f.0
 inside_written ns fs phase s h kind steps.Stops all frames i = tt
 
--- outside of types nothing is in a type
+-- Outside of types, no phase is inside a type.
 never_in_type : (q : Outside) (around : Around) (phase : Phase) → files.InType around phase
     ≡ phase_of q → ⊥
 never_in_type (file_due gs) around phase e = absurd (cc)

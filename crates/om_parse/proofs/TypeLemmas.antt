@@ -1,4 +1,4 @@
--- The code's step on numbers of nodes is the table's step on trees.
+-- The code's step on indices of nodes agrees with the table's step on trees.
 use Rattle.std.proofs.Common.{ℕ, suc, ◌≡◌, ◌∙◌, min, max, Bool, true, false, List, [], ◌∷◌, ◌++◌, length, Option, Some, None, refl, sym, ap, subst, arith}
 use Rattle.om_parse.specs.declared.open.Item.{Item as ItemRead}
 use Rattle.om_lex.specs.declared.lexeme.LexemeKind.{LexemeKind}
@@ -25,7 +25,7 @@ use Rattle.om_parse.specs.TypeCode.{StepCode, goes, ended, stops, deeper, part, 
 use Rattle.om_parse.specs.TypeShown.{IsAt, Has, HasAll, HasLast, types_of_texprs, Bottom, at_type, at_part, is_alone, type_frames, part_frames, item_frames, type_shown}
 use Rattle.om_parse.proofs.NodeLemmas.{at_more, all_at_more, all_at_end, at_last, at_last_as, is_last, part_last, part_ordered, parts_with, arguments_as, Added, adds_parts, last_type}
 
--- ---- more nodes change nothing
+-- ---- further nodes change nothing
 
 has_more : {ns : List Node} {t : Ty} {depth : ℕ} {r : Part} (extra : List Node) → Has ns t depth r →
     Has (ns ++ extra) t depth r
@@ -84,7 +84,7 @@ module _ {W P O : Type 0} (b : Bottom W P) where
   none_outside q ns fs (phases.NameDue all d) r = r
   none_outside q ns fs (phases.TagRead x) r = r
 
--- ---- what the code does, beside what the table does
+-- ---- the code's steps beside the table's steps
 
 module _ {W P O Text : Type 0} (o : Outer W P O Text) where
   pub record WholeEnds (w : W) (next : Option (State W P O)) (kind : LexemeKind)
@@ -118,7 +118,7 @@ module _ {W P O Text : Type 0} (o : Outer W P O Text) (b : Bottom W P) where
   Follows next kind (ended ns fs) = EndsAt o b next kind ns × (fs ≡ [])
   Follows next kind stops = next ≡ None
 
-  -- ---- step by step
+  -- ---- steps
 
   no_item_here : (h : TypeHole W P) (ns : List Node) (fs : List Frame) (kind : LexemeKind) →
       type_frames b h ns fs → Follows None kind (begin_item_code ns fs kind)
@@ -168,7 +168,7 @@ module _ {W P O Text : Type 0} (o : Outer W P O Text) (b : Bottom W P) where
   begin_item_follows (alone q) ns [] kind i r = refl
   begin_item_follows p ns fs kind i r = absurd r
 
-  -- a new node is what was read
+  -- A new node is what was read last.
   reads_new : (p : PartHole W P) (a : App) (ns : List Node) (fs : List Frame) (node : Node)
       (d : ℕ) → IsAt (ns ++ node ∷ []) (length ns) (type_of_app a) → d ≡ min 201 (app_depth a) →
       AreOrdered (ns ++ node ∷ []) → part_frames b p ns fs →
@@ -453,7 +453,7 @@ module _ {W P O Text : Type 0} (o : Outer W P O Text) (b : Bottom W P) where
       })
       (part_ordered v.at s.at i) (type_frames_more b h ns (nodes.Part w.node q.node ∷ []) fs r)
 
-  -- a component of nothing
+  -- An outermost component.
   type_outermost : (w : W) (a : App) (ns : List Node) (q : Part) (kind : LexemeKind) →
       b ≡ at_type w → HasLast ns (type_of_app a) (app_depth a) q → AreOrdered ns →
       Follows (after_type o (whole w) (single a) kind) kind (outermost_code (is_alone b) ns q kind)
@@ -570,7 +570,7 @@ module _ {W P O Text : Type 0} (o : Outer W P O Text) (b : Bottom W P) where
   step_follows (outside q) ns fs phase kind i r = absurd (none_outside b q ns fs phase r)
   step_follows s ns fs phase kind i r = absurd r
 
-  -- ---- what a state tells
+  -- ---- depths of a state
 
   part_depth_follows : (p : PartHole W P) (a : App) (ns : List Node) (fs : List Frame) (q : Part) →
       Has ns (type_of_app a) (app_depth a) q → part_frames b p ns fs → part_depth_code fs q

@@ -26,7 +26,7 @@ use Rattle.om_parse.proofs.WholeLemmas.{may_end, Ends, whole_ends}
 abbrev bottom : Bottom End Nowhere
 bottom = at_type end
 
--- what nodes, frames and a phase are
+-- The nodes, frames and phase represent this state.
 pub record IsShown (ns : List Node) (fs : List Frame) (phase : Phase) (s : TypeState) : Type 0 where
   pub shown : type_shown (at_type end) ns fs phase s
   pub ordered : AreOrdered ns
@@ -39,7 +39,7 @@ pub type_reached_first : (lexemes : Kinds) → TypeReached lexemes [] [] phases.
 type_reached_first lexemes = reached_first type_table lexemes (IsShown [] [] phases.Due)
     (record { shown = refl; ordered = AreOrdered-none })
 
--- the code goes on
+-- If the code continues, then the table continues.
 goes_on : (s : TypeState) (kind : LexemeKind) (field : Step) (next : Phase) (ns : List Node)
     (fs : List Frame) (code : StepCode) → field ≡ steps.Goes next → StepIs field ns fs code →
     Follows types (at_type end) (step types s kind) kind code →
@@ -54,7 +54,7 @@ goes_on s kind field next ns fs code e i f =
           record { shown = h.shown; ordered = h.ordered };
     }
 
--- or does not
+-- If the code fails, then the table fails.
 stops_here : (s : TypeState) (kind : LexemeKind) (field : Step) (ns : List Node) (fs : List Frame)
     (code : StepCode) → ((next : Phase) → field ≡ steps.Goes next → ⊥) → StepIs field ns fs code →
     Follows types (at_type end) (step types s kind) kind code → step types s kind ≡ None

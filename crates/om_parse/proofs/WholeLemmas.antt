@@ -1,4 +1,4 @@
--- Where all of a type is closed, by the table and by the code.
+-- Complete types, in the table and in the code.
 use Rattle.std.proofs.Common.{◌≡◌, Bool, true, false, List, [], ◌∷◌, ◌++◌, length, Option, Some, None, refl, subst, sym}
 use Rattle.om_grammar.specs.Grammar.{Texpr, App, single, starred}
 use Rattle.om_grammar.specs.Depths.{app_depth}
@@ -19,7 +19,7 @@ use Rattle.om_parse.proofs.NodeLemmas.{is_last, part_last, part_ordered, last_ty
 use Rattle.om_parse.proofs.TypeLemmas.{none_outside}
 
 module _ {W P O : Type 0} where
-  -- a table may accept only here
+  -- The states in which a table may accept.
   abbrev pub may_end : State W P O → Bool
   may_end (read (first_part (whole w)) a) = true
   may_end (read (next_part (whole w) t) a) = true
@@ -100,7 +100,7 @@ module _ {W P O : Type 0} (b : Bottom W P) where
   whole_ends (outside q) ns fs phase i r = absurd (none_outside b q ns fs phase r)
   whole_ends s ns fs phase i r = absurd r
 
--- ---- what the code answers
+-- ---- the result of the code
 
 pub whole_found : (all : Bool) (ns : List Node) (found : Option (List Node)) →
     WholeIs all ns found → all ≡ true → found ≡ Some ns

@@ -1,4 +1,4 @@
--- The table of declarations on what they stand for: what the code does at a lexeme.
+-- The parsing table of declarations on the data of the code: what the code does at a lexeme.
 use Rattle.std.specs.Prelude.{ℕ, ◌≡◌, Bool, true, false, Option, Some, None, Result, Ok, Err, List}
 use Rattle.std.specs.Prelude.{[], ◌∷◌, ◌++◌, length, ⊤}
 use Rattle.om_lex.specs.declared.lexeme.LexemeKind.{LexemeKind}
@@ -40,7 +40,7 @@ abbrev pub outside_of : List Node → List Frame → Option FilePhase → FileSt
 outside_of ns fs (Some phase) = file_goes ns fs phase
 outside_of ns fs None = file_stops
 
--- ---- what is made
+-- ---- results
 
 abbrev pub group_code : List Decl → Group
 group_code decls = record { decls = decls; group = length decls }
@@ -106,7 +106,7 @@ listed_code c x all (kinds.Symbol symbols.Star) =
     Some (files.InType (arounds.Argument c x all) phases.Due)
 listed_code c x all kind = after_constr_code c (constr_code x (arguments.Listed all)) kind
 
--- a whole type, in what stands round it
+-- After a complete type, in its context.
 abbrev pub after_type_code : Around → Ty → LexemeKind → Option FilePhase
 after_type_code (arounds.Body b) t kind = after_decl_code b.group
     (decl_code b (bodies.Abbreviation t)) kind
@@ -123,7 +123,7 @@ in_type_code around kind (goes ns fs phase) = file_goes ns fs (files.InType arou
 in_type_code around kind (ended ns fs) = outside_of [] fs (after_type_code around (type_of ns) kind)
 in_type_code around kind stops = file_stops
 
--- ---- lexeme by lexeme
+-- ---- steps on a lexeme
 
 abbrev pub begin_file_code : List Decl → LexemeKind → Option FilePhase
 begin_file_code ds (kinds.Keyword keywords.Type) = Some (files.DeclDue (group_code ds))
@@ -176,7 +176,7 @@ begin_arguments_code ns fs c x (kinds.Symbol symbols.OpenBrace) =
 begin_arguments_code ns fs c x kind = in_type_code (arounds.Argument c x []) kind
     (begin_code ns fs kind)
 
--- the brace that ends fields, after a semicolon
+-- The brace that closes the fields after a semicolon.
 abbrev pub close_record_code : Fields → List Field → Option FilePhase
 close_record_code f [] = None
 close_record_code f (field ∷ more) = Some (files.RecordRead f)
@@ -220,7 +220,7 @@ abbrev pub file_depth_code : List Frame → FilePhase → ℕ
 file_depth_code fs (files.InType around phase) = depth_code fs phase
 file_depth_code fs phase = 0
 
--- ---- the end
+-- ---- the end of the file
 
 abbrev pub closed_record_code : RecordOf → List Field → List Decl
 closed_record_code (places.Body b) all = more_decls b.group (decl_code b (bodies.Record all))
@@ -232,7 +232,7 @@ abbrev pub closed_constr_code : Constructors → Constructor → List Decl
 closed_constr_code c k = more_decls c.declared.group
     (decl_code c.declared (bodies.Variant (c.constructors ++ k ∷ [])))
 
--- a whole type at the end of the file
+-- A complete type at the end of the file.
 abbrev pub closed_type_code : Around → Ty → Option (List Decl)
 closed_type_code (arounds.Body b) t =
     Some (more_decls b.group (decl_code b (bodies.Abbreviation t)))
@@ -240,7 +240,7 @@ closed_type_code (arounds.Field f mutable x) t = None
 closed_type_code (arounds.Argument c x all) t =
     Some (closed_constr_code c (constr_code x (arguments.Listed (all ++ t ∷ []))))
 
--- ---- a step's answer, unless memory runs out
+-- ---- the result of a step, unless memory runs out
 
 abbrev pub FileStepIs : Option FilePhase → List Node → List Frame → FileStep → Type 0
 FileStepIs (Some phase) ns fs next = next ≡ file_goes ns fs phase
@@ -251,14 +251,14 @@ abbrev pub FileSteps : {E : Type 0} → Result (Option FilePhase) E → List Nod
 FileSteps (Ok phase) ns fs next = FileStepIs phase ns fs next
 FileSteps (Err e) ns fs next = ⊤
 
--- a step of a type, in what stands round it
+-- A step of the type parser, in the context of the type.
 abbrev pub after_step : Around → LexemeKind → List Frame → Step → List Node → FileStep
 after_step around kind fs (steps.Goes phase) ns = file_goes ns fs (files.InType around phase)
 after_step around kind fs steps.Ended ns =
     outside_of [] fs (after_type_code around (type_of ns) kind)
 after_step around kind fs steps.Stops ns = file_stops
 
--- the declarations of a whole file
+-- The declarations of a complete file.
 abbrev pub in_type_whole : Around → Option (List Node) → Option (List Decl)
 in_type_whole around (Some all) = closed_type_code around (type_of all)
 in_type_whole around None = None

@@ -1,4 +1,4 @@
--- What a state of the table of declarations stands for.
+-- The state of the table of declarations that the data of the code represent.
 use Rattle.std.specs.Prelude.{◌≡◌, List, [], ◌∷◌, ◌++◌, length, map, ⊤}
 use Rattle.om_grammar.specs.Grammar.{FieldTree}
 use Rattle.om_grammar.specs.Holes.{outside}
@@ -54,7 +54,7 @@ use Rattle.om_parse.specs.declared.so_far.FilePhase.{FilePhase}
 use Rattle.om_parse.specs.declared.so_far.FilePhase.TheVariants as files
 use Rattle.om_parse.specs.TypeShown.{Bottom, at_type, at_part, type_shown}
 
--- the items of a row so far
+-- The items of a list so far.
 abbrev pub row_list : {X : Type 0} → Before X → List X
 row_list nothing = []
 row_list (so_far x more) = x ∷ more
@@ -113,7 +113,7 @@ phase_of (field_named r b mutable x) = files.FieldNamed (fields_of r b) mutable 
 phase_of (record_read r t) = files.RecordRead
     (record { place = record_of r; fields = fields_of_tree t })
 
--- a type is being read, in what stands round it
+-- A type is being read, in its context.
 pub record IsInType (ns : List Node) (fs : List Frame) (phase : FilePhase) (s : FileState) : Type 0
   where
     pub bottom : Bottom TypeOutside PartOutside
@@ -128,11 +128,11 @@ abbrev pub file_shown : List Node → List Frame → FilePhase → FileState →
 file_shown ns fs phase (outside q) = (ns ≡ []) × (fs ≡ []) × (phase ≡ phase_of q)
 file_shown ns fs phase s = IsInType ns fs phase s
 
--- nodes, frames and a phase are some state of the table
+-- The nodes, the frames and the phase represent some state of the table.
 abbrev pub IsReadable : List Node → List Frame → FilePhase → Type 0
 IsReadable ns fs phase = (s : FileState) × file_shown ns fs phase s
 
--- where a type ended, its nodes are a type
+-- If a type ended, its nodes are ordered.
 abbrev pub IfEnded : Step → List Node → Type 0
 IfEnded steps.Ended ns = AreOrdered ns
 IfEnded step ns = ⊤

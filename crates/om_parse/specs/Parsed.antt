@@ -1,4 +1,4 @@
--- What is answered about lexemes.
+-- The results of the parsers.
 use Rattle.std.specs.Prelude.{ℕ, ◌≡◌, List, ⊤, unwrap_or, option_map, slice_get}
 use Rattle.om_lex.specs.declared.lexeme.Lexeme.{Lexeme}
 use Rattle.om_grammar.specs.Grammar.{Kinds, Texpr, texpr, FileTree, file_kinds}
@@ -10,25 +10,27 @@ use Rattle.om_types.specs.declared.decl.Decl.{Decl}
 use Rattle.om_parse.specs.declared.refused.Fault.{Fault}
 use Rattle.om_parse.specs.declared.refused.Fault.TheVariants as faults
 
--- the fault that the grammar's reading tells
+-- The fault is the error that the grammar's reading reports.
 abbrev pub IsFault : {Text : Type 0} → (Text → Kinds) → (Text → List ℕ) → Kinds → Fault → Type 0
 IsFault spelled ends lexemes (faults.Syntax k) = IsReading spelled ends lexemes (syntax_at k)
 IsFault spelled ends lexemes (faults.TooDeep k) = IsReading spelled ends lexemes (too_deep_at k)
 IsFault spelled ends lexemes faults.Memory = ⊤
 
--- the lexemes are a type that is nowhere too deep, and stands for this one
+-- The lexemes are a type of the grammar that is nowhere too deep, and this type is its meaning.
 pub record IsTypeOf (lexemes : Kinds) (t : Ty) : Type 0 where
   pub tree : Texpr
   pub reads : IsText texpr texpr_ends lexemes tree
   pub stands : t ≡ type_of_texpr tree
 
--- the lexemes are a file in which nothing is too deep, and stand for these declarations
+-- The lexemes are a file of the grammar in which nothing is too deep, and these declarations are
+-- its meaning.
 pub record AreDeclarationsOf (lexemes : Kinds) (all : List Decl) : Type 0 where
   pub tree : FileTree
   pub reads : IsText file_kinds file_ends lexemes tree
   pub stand : all ≡ declarations_of tree
 
--- where lexeme k begins in a text of so many bytes; what comes after the last lexeme is its end
+-- The byte offset at which lexeme `k` begins in a text of `end` bytes. After the last lexeme, it is
+-- `end`.
 abbrev pub byte_of : List Lexeme → ℕ → ℕ → ℕ
 byte_of lexemes end k =
     unwrap_or (option_map (λ (l : Lexeme). l.span.first) (slice_get lexemes k)) end

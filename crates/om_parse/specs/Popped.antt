@@ -1,4 +1,4 @@
--- The innermost frame, taken off or looked at.
+-- The innermost frame, removed or inspected.
 use Rattle.std.specs.Prelude.{◌≡◌, List, [], ◌∷◌, Option, Some, None}
 use Rattle.om_parse.specs.declared.open.Frame.{Frame}
 

@@ -1,4 +1,4 @@
--- The table of types on numbers of nodes: what the code does at a lexeme.
+-- The parsing table of types on indices of nodes: what the code does at a lexeme.
 use Rattle.std.specs.Prelude.{ℕ, suc, ◌≡◌, min, max, Bool, true, false, Option, Some, None, Result}
 use Rattle.std.specs.Prelude.{Ok, Err, List, [], ◌∷◌, ◌++◌, length, ⊤}
 use Rattle.om_lex.specs.declared.lexeme.LexemeKind.{LexemeKind}
@@ -28,7 +28,7 @@ deeper depth = min 201 (suc depth)
 abbrev pub part : ℕ → ℕ → Part
 part node depth = record { node = node; depth = depth }
 
--- with one node more, which is the last thing read
+-- One more node, which is what was read last.
 abbrev pub reads : List Node → List Frame → Node → ℕ → StepCode
 reads ns fs node depth = goes (ns ++ node ∷ []) fs (phases.Read (part (length ns) depth))
 
@@ -49,7 +49,7 @@ begin_code ns fs (kinds.Symbol symbols.OpenBracket) = goes (ns ++ nodes.Bracket 
     (frames.Opened false (length ns) ∷ fs) phases.Due
 begin_code ns fs kind = begin_item_code ns fs kind
 
--- an item added to a bracket
+-- An item added to a bracket.
 abbrev pub item_node : ℕ → Item → Node
 item_node whole (items.Tag x) = nodes.Tag whole x
 item_node whole (items.TagOf x t) = nodes.TagOf whole x t.node
@@ -108,7 +108,7 @@ after_tuple_code ns fs r a (kinds.Symbol symbols.Star) = goes (ns ++ nodes.Part 
 after_tuple_code ns fs r a kind = close_type_code (ns ++ nodes.Part r.node a.node ∷ []) fs
     (part (length ns) (deeper (max r.depth a.depth))) kind
 
--- a component of nothing, which may be the first of a tuple, or stands alone
+-- A component outside of every frame. It may be the first of a tuple, unless it stands alone.
 abbrev pub outermost_code : Bool → List Node → Part → LexemeKind → StepCode
 outermost_code true ns a kind = ended ns []
 outermost_code false ns a kind = after_single_code ns [] a kind
@@ -127,7 +127,7 @@ after_part_code alone ns fs a (kinds.Lower x) = reads (ns ++ nodes.Named x ∷ [
     (nodes.Part (length ns) a.node) (deeper a.depth)
 after_part_code alone ns fs a kind = close_part_code alone ns fs a kind
 
--- these parts added to what node n is
+-- The nodes after these parts are added to node `n`.
 abbrev pub parts_nodes : List Node → ℕ → List ℕ → List Node
 parts_nodes ns n [] = ns
 parts_nodes ns n (a ∷ more) = parts_nodes (ns ++ nodes.Part n a ∷ []) (length ns) more
@@ -152,7 +152,7 @@ step_code alone ns fs (phases.Read a) kind = after_part_code alone ns fs a kind
 step_code alone ns fs (phases.NameDue all depth) kind = take_name_code ns fs all depth kind
 step_code alone ns fs (phases.TagRead x) kind = after_tag_code ns fs x kind
 
--- the depth of the deepest type that ends at the last lexeme, up to 201
+-- The depth of the deepest type that ends at the last lexeme. Depths above 200 become 201.
 abbrev pub part_depth_code : List Frame → Part → ℕ
 part_depth_code (frames.Component r ∷ fs) a = deeper (max r.depth a.depth)
 part_depth_code fs a = a.depth
@@ -161,7 +161,7 @@ abbrev pub depth_code : List Frame → Phase → ℕ
 depth_code fs (phases.Read a) = part_depth_code fs a
 depth_code fs phase = 0
 
--- the nodes of the whole type, where all is closed
+-- The nodes of the complete type, if every construct is closed.
 abbrev pub whole_part_code : List Node → List Frame → Part → Option (List Node)
 whole_part_code ns [] a = Some ns
 whole_part_code ns (frames.Component r ∷ []) a = Some (ns ++ nodes.Part r.node a.node ∷ [])
@@ -171,7 +171,7 @@ abbrev pub whole_code : List Node → List Frame → Phase → Option (List Node
 whole_code ns fs (phases.Read a) = whole_part_code ns fs a
 whole_code ns fs phase = None
 
--- ---- a step's answer, unless memory runs out
+-- ---- the result of a step, unless memory runs out
 
 abbrev pub StepIs : Step → List Node → List Frame → StepCode → Type 0
 StepIs (steps.Goes phase) ns fs next = next ≡ goes ns fs phase

@@ -1,4 +1,4 @@
--- Which state of the table nodes, frames and a phase are.
+-- The state of the table that nodes, frames and a phase represent.
 use Rattle.std.specs.Prelude.{ℕ, suc, ◌≡◌, ◌<◌, min, max, Bool, true, false, List, [], ◌∷◌, ◌++◌}
 use Rattle.std.specs.Prelude.{length, ⊤}
 use Rattle.om_grammar.specs.Grammar.{Texprs, Items}
@@ -17,30 +17,30 @@ use Rattle.om_parse.specs.declared.open.Frame.TheVariants as frames
 use Rattle.om_parse.specs.declared.open.Phase.{Phase}
 use Rattle.om_parse.specs.declared.open.Phase.TheVariants as phases
 
--- ---- numbers of nodes
+-- ---- indices of nodes
 
--- node n is this type
+-- Node `n` is this type.
 pub record IsAt (ns : List Node) (n : ℕ) (t : Ty) : Type 0 where
   pub below : n < length ns
   pub is : type_at (types_of ns) n ≡ t
 
--- these nodes are these types
+-- These nodes are these types.
 abbrev pub AreAt : List Node → List ℕ → List Ty → Type 0
 AreAt ns [] [] = ⊤
 AreAt ns (n ∷ all) (t ∷ ts) = IsAt ns n t × AreAt ns all ts
 AreAt ns all ts = ⊥
 
--- a type so far, with its depth
+-- A type so far, with its depth.
 pub record Has (ns : List Node) (t : Ty) (depth : ℕ) (r : Part) : Type 0 where
   pub at : IsAt ns r.node t
   pub capped : r.depth ≡ min 201 depth
 
--- arguments so far, with their depth
+-- Arguments so far, with their depth.
 pub record HasAll (ns : List Node) (ts : List Ty) (depth : ℕ) (all : List ℕ) (d : ℕ) : Type 0 where
   pub at : AreAt ns all ts
   pub capped : d ≡ min 201 depth
 
--- what was read last is the last node
+-- What was read last is the last node.
 pub record HasLast (ns : List Node) (t : Ty) (depth : ℕ) (r : Part) : Type 0 where
   pub has : Has ns t depth r
   pub last : suc r.node ≡ length ns
@@ -49,9 +49,9 @@ abbrev pub types_of_texprs : Texprs → List Ty
 types_of_texprs (trees.first t) = type_of_texpr t ∷ []
 types_of_texprs (trees.further ts t) = types_of_texprs ts ++ type_of_texpr t ∷ []
 
--- ---- what stands round a type is open
+-- ---- the frames represent the context of a type
 
--- what stands round the outermost type, or round one that is no part of a tuple
+-- The context of the outermost type, or of an outermost component that cannot begin a tuple.
 pub data Bottom (W P : Type 0) : Type 0 where
   at_type : W → Bottom W P
   at_part : P → Bottom W P

@@ -1,5 +1,5 @@
--- The types and declarations that trees of the grammar stand for. Parentheses and leading bars
--- leave nothing.
+-- The types and declarations that the trees of the grammar mean. Parentheses and leading bars have
+-- no meaning.
 use Rattle.std.specs.Prelude.{ℕ, List, [], ◌∷◌, ◌++◌, length, map}
 use Rattle.om_grammar.specs.Grammar.{
   Name,
@@ -52,7 +52,7 @@ abbrev mutual
   type_of_texpr (trees.single a) = type_of_app a
   type_of_texpr (trees.starred t a) = part (tuple_of t) (type_of_app a)
 
-  -- the tuple of the components so far
+  -- The tuple of the components so far.
   pub tuple_of : Texpr → Ty
   tuple_of (trees.single a) = part tuple (type_of_app a)
   tuple_of (trees.starred t a) = part (tuple_of t) (type_of_app a)
@@ -68,7 +68,7 @@ abbrev mutual
   type_of_simple (trees.arguments ts t name) = part (applied_to name ts) (type_of_texpr t)
   type_of_simple (trees.bracket bar all) = type_of_items all
 
-  -- the name with its first arguments
+  -- The type name applied to its first arguments.
   pub applied_to : Name → Texprs → Ty
   applied_to name (trees.first t) = part (named name) (type_of_texpr t)
   applied_to name (trees.further ts t) = part (applied_to name ts) (type_of_texpr t)
@@ -117,7 +117,7 @@ declaration_of_tree group d =
       group = group;
     }
 
--- a group is numbered by how many declarations come before it
+-- A group's number is the number of declarations before it.
 abbrev pub with_group : List Decl → GroupTree → List Decl
 with_group before g = before ++ map (declaration_of_tree (length before)) (g.first ∷ g.more)
 

@@ -1,4 +1,4 @@
-//! The end of a file.
+//! The end of a file of declarations.
 
 ghost use Rattle.std.specs.Prelude.{◌≡◌, IfOk};
 ghost use Rattle.om_parse.specs.declared.so_far.FilePhase.TheVariants as files;
@@ -18,7 +18,7 @@ use om_model::list::List;
 use om_types::decl::{Arguments, Body, Constructor, Decl};
 use om_types::ty::{Node, Ty};
 
-/// The declarations with this body.
+/// Returns all declarations, closed with this body.
 fn closed_body(declared: Declared, body: Body) -> Result<List<Decl>, Memory>
     ensures { IfOk result (λ all. all ≡ more_decls declared.group (decl_code declared body)) }
 {
@@ -39,7 +39,7 @@ fn closed_body(declared: Declared, body: Body) -> Result<List<Decl>, Memory>
     )
 }
 
-/// The declarations with this last constructor.
+/// Returns all declarations, closed with this last constructor.
 fn closed_constr(constructors: Constructors, constructor: Constructor) -> Result<List<Decl>, Memory>
     ensures { IfOk result (λ all. all ≡ closed_constr_code constructors constructor) }
 {
@@ -51,7 +51,7 @@ fn closed_constr(constructors: Constructors, constructor: Constructor) -> Result
     closed_body(declared, Body::Variant(constructors))
 }
 
-/// The declarations with this record.
+/// Returns all declarations, closed with this record.
 fn closed_record(fields: Fields) -> Result<List<Decl>, Memory>
     ensures { IfOk result (λ all. all ≡ closed_record_code fields.place fields.fields) }
 {
@@ -68,7 +68,7 @@ fn closed_record(fields: Fields) -> Result<List<Decl>, Memory>
     }
 }
 
-/// The declarations with this last type, unless a record is open.
+/// Returns all declarations, closed with this last type. Returns `None` if a record is open.
 fn closed_type(around: Around, ty: Ty) -> Result<Option<List<Decl>>, Memory>
     ensures { IfOk result (λ all. all ≡ closed_type_code around ty) }
 {
@@ -89,7 +89,8 @@ fn closed_type(around: Around, ty: Ty) -> Result<Option<List<Decl>>, Memory>
     }
 }
 
-/// The declarations with the type that is being read, if it may end here.
+/// Returns all declarations, closed with the type that is being read. Returns `None` if the type
+/// cannot end here.
 fn closed_in_type(
     mut nodes: Vec<Node>,
     mut frames: Stack,
@@ -113,7 +114,8 @@ fn closed_in_type(
     }
 }
 
-/// The declarations of the file, if it may end here.
+/// Returns the declarations of the file. Returns `None` if the file cannot end here, which is a
+/// syntax error at its end. Fails only if memory runs out.
 pub fn file_whole(
     nodes: Vec<Node>,
     frames: Stack,

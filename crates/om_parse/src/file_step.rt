@@ -1,4 +1,4 @@
-//! One lexeme of a file, outside of types.
+//! One step of the parser on a lexeme outside of types.
 
 ghost use Rattle.std.specs.Prelude.{◌≡◌, ◌++◌, ◌∷◌, [], Some, length, IfOk};
 ghost use Rattle.om_parse.specs.declared.so_far.FilePhase.TheVariants as files;
@@ -20,7 +20,7 @@ use om_types::decl::{Arguments, Body, Constructor, Decl, Field};
 use om_types::ty::Ty;
 use std::alloc::Global;
 
-/// The declarations with one more.
+/// Appends a declaration.
 pub fn with_decl(mut decls: List<Decl>, decl: Decl) -> Result<List<Decl>, Memory>
     ensures { IfOk result (λ all. all ≡ decls ++ decl ∷ []) }
 {
@@ -28,7 +28,7 @@ pub fn with_decl(mut decls: List<Decl>, decl: Decl) -> Result<List<Decl>, Memory
     Ok(decls)
 }
 
-/// The group that begins after these declarations.
+/// Returns the group that begins after these declarations.
 fn group_after(decls: List<Decl>) -> Group
     ensures { result ≡ record { decls = decls; group = length decls } }
 {
@@ -36,7 +36,7 @@ fn group_after(decls: List<Decl>) -> Group
     Group { decls, group }
 }
 
-/// What comes after a declaration.
+/// Returns the phase after a declaration and this lexeme, or `None` on a syntax error.
 fn after_decl(group: Group, decl: Decl, kind: &LexemeKind) -> Result<Option<FilePhase>, Memory>
     ensures { IfOk result (λ phase. phase ≡ after_decl_code group decl kind.now) }
 {
@@ -50,7 +50,7 @@ fn after_decl(group: Group, decl: Decl, kind: &LexemeKind) -> Result<Option<File
     }
 }
 
-/// What comes after a body.
+/// Returns the phase after a body and this lexeme, or `None` on a syntax error.
 fn after_body(
     declared: Declared,
     body: Body,
@@ -77,7 +77,7 @@ fn after_body(
     )
 }
 
-/// What comes after a constructor.
+/// Returns the phase after a constructor and this lexeme, or `None` on a syntax error.
 fn after_constr(
     constructors: Constructors,
     constructor: Constructor,
@@ -99,7 +99,7 @@ fn after_constr(
     }
 }
 
-/// What comes after a record.
+/// Returns the phase after a record and this lexeme, or `None` on a syntax error.
 pub fn after_record(fields: Fields, kind: &LexemeKind) -> Result<Option<FilePhase>, Memory>
     ensures { IfOk result (λ phase. phase ≡ after_record_code fields.place fields.fields kind.now) }
 {
@@ -117,7 +117,7 @@ pub fn after_record(fields: Fields, kind: &LexemeKind) -> Result<Option<FilePhas
     }
 }
 
-/// What comes after a field.
+/// Returns the phase after a field and this lexeme, or `None` on a syntax error.
 fn after_field(fields: Fields, field: Field, kind: &LexemeKind) -> Result<Option<FilePhase>, Memory>
     ensures { IfOk result (λ phase. phase ≡ after_field_code fields field kind.now) }
 {
@@ -136,7 +136,8 @@ fn after_field(fields: Fields, field: Field, kind: &LexemeKind) -> Result<Option
     }
 }
 
-/// What comes after arguments of a constructor.
+/// Returns the phase after an argument of a constructor and this lexeme, or `None` on a syntax
+/// error.
 fn after_argument(
     constructors: Constructors,
     name: List<u8>,
@@ -161,7 +162,7 @@ fn after_argument(
     }
 }
 
-/// What comes after a whole type.
+/// Returns the phase after a complete type and this lexeme, or `None` on a syntax error.
 pub fn after_type(around: Around, ty: Ty, kind: &LexemeKind) -> Result<Option<FilePhase>, Memory>
     ensures { IfOk result (λ phase. phase ≡ after_type_code around ty kind.now) }
 {
@@ -179,7 +180,7 @@ pub fn after_type(around: Around, ty: Ty, kind: &LexemeKind) -> Result<Option<Fi
     }
 }
 
-/// A group may begin.
+/// Parses the first lexeme of a group. Returns `None` unless it is the keyword `type`.
 pub fn begin_file(decls: List<Decl>, kind: &LexemeKind) -> Option<FilePhase>
     ensures { result ≡ begin_file_code decls kind.now }
 {
@@ -189,7 +190,7 @@ pub fn begin_file(decls: List<Decl>, kind: &LexemeKind) -> Option<FilePhase>
     }
 }
 
-/// One name.
+/// Returns a list of one name.
 fn one(alloc: Global, name: &List<u8>) -> Result<List<List<u8>>, Memory>
     ensures { IfOk result (λ all. all ≡ name.now ∷ []) }
 {
@@ -198,7 +199,7 @@ fn one(alloc: Global, name: &List<u8>) -> Result<List<List<u8>>, Memory>
     Ok(names)
 }
 
-/// A declaration begins.
+/// Parses the first lexeme of a declaration. Returns `None` on a syntax error.
 pub fn begin_decl(
     alloc: Global,
     group: Group,
@@ -221,7 +222,7 @@ pub fn begin_decl(
     }
 }
 
-/// A parameter in parentheses.
+/// Parses a type parameter in parentheses. Returns `None` on a syntax error.
 pub fn take_param(
     alloc: Global,
     group: Group,
@@ -239,7 +240,8 @@ pub fn take_param(
     }
 }
 
-/// What comes after a parameter in parentheses.
+/// Parses the comma or closing parenthesis after a type parameter. Returns `None` on a syntax
+/// error.
 pub fn after_param(group: Group, parameters: List<List<u8>>, kind: &LexemeKind) -> Option<FilePhase>
     ensures { result ≡ after_param_code group parameters kind.now }
 {
@@ -250,7 +252,7 @@ pub fn after_param(group: Group, parameters: List<List<u8>>, kind: &LexemeKind) 
     }
 }
 
-/// The name of a declaration with parameters.
+/// Parses the name of a declaration with parameters. Returns `None` on a syntax error.
 pub fn take_decl_name(
     alloc: Global,
     group: Group,
@@ -269,7 +271,7 @@ pub fn take_decl_name(
     }
 }
 
-/// The sign after a declaration's name.
+/// Parses the equals sign after a declaration's name. Returns `None` on a syntax error.
 pub fn take_equals(declared: Declared, kind: &LexemeKind) -> Option<FilePhase>
     ensures { result ≡ take_equals_code declared kind.now }
 {
@@ -279,7 +281,7 @@ pub fn take_equals(declared: Declared, kind: &LexemeKind) -> Option<FilePhase>
     }
 }
 
-/// The name of a constructor, after a bar.
+/// Parses the name of a constructor after a bar. Returns `None` on a syntax error.
 pub fn take_upper(
     alloc: Global,
     constructors: Constructors,
@@ -296,7 +298,7 @@ pub fn take_upper(
     }
 }
 
-/// What comes after the name of a constructor.
+/// Parses the lexeme after the name of a constructor. Returns `None` on a syntax error.
 pub fn after_upper(
     constructors: Constructors,
     name: List<u8>,
@@ -317,7 +319,7 @@ pub fn after_upper(
     }
 }
 
-/// A field's name was read.
+/// Returns the phase after a field's name.
 fn field_named(
     alloc: Global,
     fields: Fields,
@@ -330,7 +332,8 @@ fn field_named(
     Ok(Some(FilePhase::FieldNamed(fields, mutable, name)))
 }
 
-/// A field begins, or a record ends after a semicolon.
+/// Parses the first lexeme of a field, or the closing brace after a semicolon. Returns `None` on a
+/// syntax error.
 pub fn begin_field(
     alloc: Global,
     fields: Fields,
@@ -346,7 +349,8 @@ pub fn begin_field(
     }
 }
 
-/// The brace after a semicolon.
+/// Returns the phase after a closing brace where a field may begin, or `None` if the record has no
+/// field.
 fn close_record(fields: Fields) -> Option<FilePhase>
     ensures { result ≡ close_record_code fields fields.fields }
 {
@@ -356,7 +360,7 @@ fn close_record(fields: Fields) -> Option<FilePhase>
     }
 }
 
-/// The name of a field that may be changed.
+/// Parses the name of a mutable field. Returns `None` on a syntax error.
 pub fn take_field_name(
     alloc: Global,
     fields: Fields,
@@ -370,7 +374,7 @@ pub fn take_field_name(
     }
 }
 
-/// The sign after a field's name.
+/// Parses the colon after a field's name. Returns `None` on a syntax error.
 pub fn take_colon(
     fields: Fields,
     mutable: bool,

@@ -1,4 +1,4 @@
-//! Declarations from their lexemes.
+//! The parser for declarations.
 
 ghost use Rattle.std.specs.Prelude.{IfOk, IfErr};
 ghost use Rattle.om_grammar.specs.Grammar.{file_kinds};
@@ -17,7 +17,8 @@ use om_model::list::List;
 use om_types::decl::Decl;
 use std::alloc::Global;
 
-/// The declarations that these lexemes are.
+/// Parses declarations from the lexemes of a file. The error is a syntax error or a type that is
+/// too deep, each with the index of its lexeme, or out of memory.
 pub fn parse_file(alloc: Global, lexemes: &[Lexeme]) -> Result<List<Decl>, Fault>
     ensures declarations { IfOk result (AreDeclarationsOf (kinds_of lexemes.now)) }
     ensures fault { IfErr result (IsFault file_kinds file_ends (kinds_of lexemes.now)) }

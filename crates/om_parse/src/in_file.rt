@@ -1,4 +1,4 @@
-//! One lexeme of a file.
+//! One step of the parser on a lexeme of a file.
 
 ghost use Rattle.std.specs.Prelude.{List as Seq, ◌≡◌, Option, Some, None, Result, Ok, Err};
 ghost use Rattle.om_parse.specs.declared.open.Frame.{Frame as AFrame};
@@ -26,7 +26,7 @@ use om_types::ty::{Node, Ty};
 use std::alloc::Global;
 use std::mem;
 
-/// What a step of a type does in what stands round it.
+/// Returns the phase of the file after a step of the type parser, or `None` on a syntax error.
 fn after_type_step(
     alloc: Global,
     nodes: &mut Vec<Node>,
@@ -51,7 +51,7 @@ fn after_type_step(
     }
 }
 
-/// A type begins.
+/// Parses the first lexeme of a type. Returns `None` on a syntax error.
 fn begin_type(
     alloc: Global,
     nodes: &mut Vec<Node>,
@@ -71,14 +71,14 @@ fn begin_type(
     }
 }
 
-/// Whether a type is an argument of a constructor, which is no tuple.
+/// Returns true if the type is an argument of a constructor, which cannot be a tuple.
 fn is_argument(around: &Around) -> bool
     ensures { result ≡ is_argument around.now }
 {
     matches!(around, Around::Argument(_, _, _))
 }
 
-/// One lexeme of a type.
+/// Parses one lexeme while a type is open. Returns `None` on a syntax error.
 fn in_type(
     alloc: Global,
     nodes: &mut Vec<Node>,
@@ -101,7 +101,7 @@ fn in_type(
     }
 }
 
-/// A body begins.
+/// Parses the first lexeme of a declaration's body. Returns `None` on a syntax error.
 fn begin_body(
     alloc: Global,
     nodes: &mut Vec<Node>,
@@ -132,7 +132,7 @@ fn begin_body(
     }
 }
 
-/// The arguments of a constructor begin.
+/// Parses the first lexeme of a constructor's arguments. Returns `None` on a syntax error.
 fn begin_arguments(
     alloc: Global,
     nodes: &mut Vec<Node>,
@@ -159,7 +159,8 @@ fn begin_arguments(
     }
 }
 
-/// One lexeme.
+/// Parses one lexeme of a file and returns the next phase. Returns `None` if no file continues with
+/// this lexeme.
 pub fn file_step(
     alloc: Global,
     nodes: &mut Vec<Node>,
@@ -197,7 +198,8 @@ pub fn file_step(
     }
 }
 
-/// The depth of the deepest type that ends at the last lexeme, up to 201.
+/// Returns the depth of the deepest type that ends at the last lexeme. Depths above 200 are
+/// returned as 201.
 pub fn file_depth(frames: &Stack, phase: &FilePhase) -> usize
     ensures { result ≡ file_depth_code frames.now phase.now }
 {

@@ -1,4 +1,8 @@
-//! Types and declarations read from lexemes.
+//! The parser for OCaml types and declarations. It reads lexemes and builds types (`parse_type`) or
+//! declarations (`parse_file`). The results are proved to agree with the grammar of `om_grammar`:
+//! if parsing succeeds, the lexemes have exactly this tree (`IsTypeOf`, `AreDeclarationsOf`). If it
+//! fails, the fault is the first error (`IsFault`), unless memory ran out. The lexer is in
+//! `om_lex`.
 #![tactic(auto)]
 
 mod file_end;

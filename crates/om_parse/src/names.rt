@@ -1,4 +1,4 @@
-//! Names of one's own.
+//! Copies of names.
 
 ghost use Rattle.std.specs.Prelude.{◌≡◌, IfOk};
 
@@ -6,7 +6,7 @@ use om_model::Memory;
 use om_model::list::List;
 use std::alloc::Global;
 
-/// A name of its own.
+/// Returns a copy of a name.
 pub fn copied(alloc: Global, name: &List<u8>) -> Result<List<u8>, Memory>
     ensures { IfOk result (λ own. own ≡ name.now) }
 {

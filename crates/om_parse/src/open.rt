@@ -1,37 +1,37 @@
-//! What is kept while a type is read.
+//! The state of the parser while a type is read.
 
 use om_model::list::List;
 
-/// A type, a tuple or a bracket so far, by the number of its node; no depth above 201 is told
-/// apart.
+/// A type, or a tuple or bracket so far, as the index of its node. Depths above 200 are stored as
+/// 201.
 #[derive(Clone, Copy)]
 pub struct Part {
     pub node: usize,
     pub depth: usize,
 }
 
-/// What is open.
+/// A construct that is still open.
 #[derive(Drop)]
 pub enum Frame {
     Group,
-    /// Arguments so far by their numbers, and how deep they are.
+    /// The indices of the arguments so far, and their depth.
     Arguments(List<usize>, usize),
     /// The tuple so far.
     Component(Part),
-    /// A bracket without an item: whether a bar was read, and its number.
+    /// A bracket without items: whether a bar was read, and the index of its node.
     Opened(bool, usize),
     /// The bracket so far.
     Items(Part),
-    /// A tag whose argument is due.
+    /// A tag whose argument comes next.
     TagArgument(List<u8>),
 }
 
-/// What was read last.
+/// What the parser read last.
 #[derive(Drop)]
 pub enum Phase {
     Due,
     Read(Part),
-    /// Several arguments, whose name is due.
+    /// Several arguments, with their depth. The name of the type comes next.
     NameDue(List<usize>, usize),
     TagRead(List<u8>),
 }
@@ -44,12 +44,12 @@ pub enum Item {
     Included(Part),
 }
 
-/// What a lexeme does to a type.
+/// The result of a step on one lexeme inside a type.
 #[derive(Drop)]
 pub enum Step {
     Goes(Phase),
-    /// The type ended before the lexeme, and is the last node.
+    /// The type ended before this lexeme. The last node is the type.
     Ended,
-    /// No type goes on here.
+    /// Syntax error: no type continues with this lexeme.
     Stops,
 }

@@ -1,4 +1,4 @@
-//! Why lexemes are no text.
+//! The errors of the parsers.
 
 ghost use Rattle.std.specs.Prelude.{◌≡◌};
 ghost use Rattle.om_parse.specs.Parsed.{byte_of};
@@ -7,12 +7,14 @@ ghost use Rattle.om_parse.specs.declared.refused.Fault.TheVariants as faults;
 use om_lex::lexeme::Lexeme;
 use om_model::Memory;
 
-/// Why lexemes are no text, with the number of the lexeme that is refused.
+/// An error of a parser, with the index of the lexeme where it is.
 #[derive(Clone, Copy)]
 pub enum Fault {
-    /// The first lexeme at which no text goes on, or how many there are if that is their end.
+    /// Syntax error: the index of the first lexeme at which no text of the grammar continues. If
+    /// the lexemes end too early, the number of lexemes.
     Syntax(usize),
-    /// The first lexeme at which a type of depth above 200 ends, or the 201st bracket opens.
+    /// The index of the first lexeme at which a type of depth above 200 ends, or at which the 201st
+    /// bracket opens.
     TooDeep(usize),
     /// Out of memory.
     Memory,
@@ -26,7 +28,8 @@ impl From<Memory> for Fault {
     }
 }
 
-/// The place in a text of `end` bytes at which its lexeme `place` begins, or its end.
+/// Returns the byte offset at which the lexeme with index `place` begins. Returns `end`, the length
+/// of the text in bytes, if there is no such lexeme.
 pub fn byte_of(lexemes: &[Lexeme], end: usize, place: usize) -> usize
     ensures { result ≡ byte_of lexemes.now end place }
 {

@@ -1,11 +1,11 @@
-//! What is kept while declarations are read.
+//! The state of the parser while declarations are read.
 
 use crate::open::Phase;
 use om_model::list::List;
 use om_types::decl::{Constructor, Decl, Field};
 use om_types::ty::Ty;
 
-/// The declarations so far, and how many come before the group that is being read.
+/// The declarations so far, and the number of declarations before the current group.
 #[derive(Drop)]
 pub struct Group {
     pub decls: List<Decl>,
@@ -20,14 +20,14 @@ pub struct Declared {
     pub name: List<u8>,
 }
 
-/// A variant whose constructors are being read.
+/// A variant type whose constructors are being read.
 #[derive(Drop)]
 pub struct Constructors {
     pub declared: Declared,
     pub constructors: List<Constructor>,
 }
 
-/// Where a record stands: in a declaration, or after the `of` of a constructor.
+/// The owner of a record: a declaration, or a constructor after its `of`.
 #[derive(Drop)]
 pub enum RecordOf {
     Body(Declared),
@@ -41,16 +41,16 @@ pub struct Fields {
     pub fields: List<Field>,
 }
 
-/// What stands round a type.
+/// The context of a type.
 #[derive(Drop)]
 pub enum Around {
     Body(Declared),
     Field(Fields, bool, List<u8>),
-    /// An argument of a constructor, after these.
+    /// An argument of a constructor, after these arguments.
     Argument(Constructors, List<u8>, List<Ty>),
 }
 
-/// What was read last of a file.
+/// What the parser of files read last.
 #[derive(Drop)]
 pub enum FilePhase {
     FileDue(List<Decl>),

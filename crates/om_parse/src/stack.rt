@@ -1,4 +1,4 @@
-//! What is open, the innermost first.
+//! The stack of open constructs. The innermost construct comes first in the model.
 
 ghost use Rattle.std.specs.Prelude.{◌≡◌, List, [], ◌∷◌, reverse, IfOk, Option};
 ghost use Rattle.om_parse.specs.declared.open.Frame.{Frame};
@@ -10,7 +10,7 @@ use om_model::Memory;
 use std::alloc::Global;
 use std::marker::Model;
 
-/// The frames that are open, the innermost last in memory.
+/// The stack of open frames. In memory, the innermost frame comes last.
 #[derive(Drop)]
 pub struct Stack {
     items: Vec<Frame>,
@@ -47,7 +47,7 @@ impl Stack {
         self.items.pop()
     }
 
-    /// The innermost frame.
+    /// Returns the innermost frame, or `None` if no frame is open.
     pub fn top(&self) -> Option<&Frame>
         ensures { option_copied result ≡ first self.now }
     {

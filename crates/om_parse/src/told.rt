@@ -1,4 +1,4 @@
-//! What is told of a type that is being read.
+//! Properties of a type that is being read.
 
 ghost use Rattle.std.specs.Prelude.{◌≡◌, ◌≤◌, ◌<◌, ◌++◌, ◌∷◌, [], suc, length, take};
 ghost use Rattle.om_grammar.specs.Lexemes.{kinds_of};
@@ -12,7 +12,7 @@ use om_lex::lexeme::{Lexeme, LexemeKind, Symbol};
 use om_model::Memory;
 use om_types::ty::Node;
 
-/// What a lexeme is.
+/// Returns the kind of the lexeme with this index.
 pub fn kind_at(lexemes: &[Lexeme], place: usize) -> &LexemeKind
     requires { place < length lexemes.now }
     ensures { take (suc place) (kinds_of lexemes.now)
@@ -22,7 +22,7 @@ pub fn kind_at(lexemes: &[Lexeme], place: usize) -> &LexemeKind
     &lexeme.kind
 }
 
-/// How many brackets are open after a lexeme.
+/// Returns the number of open brackets after a lexeme, given the number before it.
 pub fn opened(kind: &LexemeKind, brackets: usize) -> usize
     requires { brackets ≤ 200 }
     ensures { result ≡ opened kind.now brackets }
@@ -36,7 +36,7 @@ pub fn opened(kind: &LexemeKind, brackets: usize) -> usize
     }
 }
 
-/// The depth of the deepest type that ends with this component.
+/// Returns the depth of the deepest type that ends with this component.
 fn part_depth(frames: &Stack, component: &Part) -> usize
     ensures { result ≡ part_depth_code frames.now component.now }
 {
@@ -46,7 +46,8 @@ fn part_depth(frames: &Stack, component: &Part) -> usize
     }
 }
 
-/// The depth of the deepest type that ends at the last lexeme, up to 201.
+/// Returns the depth of the deepest type that ends at the last lexeme. Depths above 200 are
+/// returned as 201.
 pub fn depth(frames: &Stack, phase: &Phase) -> usize
     ensures { result ≡ depth_code frames.now phase.now }
 {
@@ -56,7 +57,7 @@ pub fn depth(frames: &Stack, phase: &Phase) -> usize
     }
 }
 
-/// Whether all is closed. Then the last node is the whole type.
+/// Returns true if every construct is closed. Then the last node is the complete type.
 pub fn whole(nodes: &mut Vec<Node>, frames: &mut Stack, phase: Phase) -> Result<bool, Memory>
     ensures { Finds result nodes.new.items (whole_code nodes.old.items frames.old phase) }
 {

@@ -1,4 +1,4 @@
-//! One lexeme of a type.
+//! One step of the parser on a lexeme of a type.
 
 ghost use Rattle.std.specs.Prelude.{List as Seq, ◌≡◌, ◌++◌, ◌∷◌, [], max, length, IfOk, OnOk};
 ghost use Rattle.om_parse.specs.TypeCode.{deeper, part, reads, begin_item_code, begin_code};
@@ -22,21 +22,22 @@ use om_model::list::List;
 use om_types::ty::Node;
 use std::alloc::Global;
 
-/// The depth of what stands round a type of this depth, up to 201.
+/// Returns the depth of a type that directly contains a type of this depth. Depths above 200 are
+/// returned as 201.
 pub fn deeper(depth: usize) -> usize
     ensures { result ≡ deeper depth }
 {
     if depth < 200 { depth + 1 } else { 201 }
 }
 
-/// The greater of two depths.
+/// Returns the greater of two depths.
 pub fn deepest(a: usize, b: usize) -> usize
     ensures { result ≡ max a b }
 {
     if a < b { b } else { a }
 }
 
-/// Adds a node and answers its number.
+/// Appends a node and returns its index.
 pub fn add(nodes: &mut Vec<Node>, node: Node) -> Result<usize, Memory>
     ensures number { IfOk result (λ n. n ≡ length nodes.old.items) }
     ensures added { OnOk result (nodes.new.items ≡ nodes.old.items ++ node ∷ []) }
@@ -46,7 +47,7 @@ pub fn add(nodes: &mut Vec<Node>, node: Node) -> Result<usize, Memory>
     Ok(number)
 }
 
-/// A new node is what was read last.
+/// Appends a node. The new node is what was read last.
 fn reads(nodes: &mut Vec<Node>, node: Node, depth: usize) -> Result<Step, Memory>
     ensures { (fs : Seq AFrame)
         → Steps result nodes.new.items fs (reads nodes.old.items fs node depth) }
@@ -55,7 +56,7 @@ fn reads(nodes: &mut Vec<Node>, node: Node, depth: usize) -> Result<Step, Memory
     Ok(Step::Goes(Phase::Read(Part { node, depth })))
 }
 
-/// A new node, with its depth.
+/// Appends a node and returns it with its depth.
 fn part(nodes: &mut Vec<Node>, node: Node, depth: usize) -> Result<Part, Memory>
     ensures part { IfOk result (λ r. r ≡ part (length nodes.old.items) depth) }
     ensures added { OnOk result (nodes.new.items ≡ nodes.old.items ++ node ∷ []) }
@@ -64,7 +65,7 @@ fn part(nodes: &mut Vec<Node>, node: Node, depth: usize) -> Result<Part, Memory>
     Ok(Part { node, depth })
 }
 
-/// A bar may stand before the first item.
+/// Parses a bar before the first item of a bracket.
 fn begin_bar(frames: &mut Stack) -> Result<Step, Memory>
     ensures { (ns : Seq ANode)
         → Steps result ns frames.new (begin_item_code ns frames.old (kinds.Symbol symbols.Bar)) }
@@ -78,7 +79,7 @@ fn begin_bar(frames: &mut Stack) -> Result<Step, Memory>
     }
 }
 
-/// A tag may begin an item.
+/// Parses a tag at the beginning of an item.
 fn begin_tag(alloc: Global, frames: &Stack, name: &List<u8>) -> Result<Step, Memory>
     ensures { (ns : Seq ANode)
         → Steps result ns frames.now (begin_item_code ns frames.now (kinds.Tag name.now)) }
@@ -91,7 +92,7 @@ fn begin_tag(alloc: Global, frames: &Stack, name: &List<u8>) -> Result<Step, Mem
     }
 }
 
-/// An item may begin.
+/// Parses the first lexeme of an item.
 fn begin_item(
     alloc: Global,
     nodes: &mut Vec<Node>,
@@ -108,7 +109,7 @@ fn begin_item(
     }
 }
 
-/// A component, an argument or an included type may begin.
+/// Parses the first lexeme of a component, an argument or an included type.
 pub fn begin(
     alloc: Global,
     nodes: &mut Vec<Node>,
@@ -134,7 +135,7 @@ pub fn begin(
     }
 }
 
-/// An item more in a bracket.
+/// Returns the node for a bracket with one more item.
 fn item_node(whole: usize, item: Item) -> Node
     ensures { result ≡ item_node whole item }
 {
@@ -145,7 +146,7 @@ fn item_node(whole: usize, item: Item) -> Node
     }
 }
 
-/// How deep an item is.
+/// Returns the depth of an item.
 fn item_depth(item: &Item) -> usize
     ensures { result ≡ item_depth_code item.now }
 {
@@ -156,7 +157,7 @@ fn item_depth(item: &Item) -> usize
     }
 }
 
-/// What comes after the items of a bracket.
+/// Parses the lexeme after the items of a bracket.
 fn after_items(
     nodes: &mut Vec<Node>,
     frames: &mut Stack,
@@ -179,7 +180,7 @@ fn after_items(
     }
 }
 
-/// What comes after an item.
+/// Parses the lexeme after an item.
 fn after_item(
     nodes: &mut Vec<Node>,
     frames: &mut Stack,
@@ -204,7 +205,7 @@ fn after_item(
     }
 }
 
-/// What comes after the first type in parentheses.
+/// Parses the lexeme after the first type in parentheses.
 fn after_group(
     alloc: Global,
     nodes: &mut Vec<Node>,
@@ -230,7 +231,7 @@ fn after_group(
     }
 }
 
-/// What comes after a further type in parentheses.
+/// Parses the lexeme after a further type in parentheses.
 fn after_argument(
     nodes: &mut Vec<Node>,
     frames: &mut Stack,
@@ -254,7 +255,7 @@ fn after_argument(
     }
 }
 
-/// What comes after a type that does not go on.
+/// Parses the lexeme after a type that is complete.
 fn close_type(
     alloc: Global,
     nodes: &mut Vec<Node>,
@@ -276,7 +277,7 @@ fn close_type(
     }
 }
 
-/// What comes after the first component.
+/// Parses the lexeme after the first component of a type.
 fn after_single(
     alloc: Global,
     nodes: &mut Vec<Node>,
@@ -298,7 +299,7 @@ fn after_single(
     }
 }
 
-/// What comes after a further component.
+/// Parses the lexeme after a further component.
 fn after_tuple(
     alloc: Global,
     nodes: &mut Vec<Node>,
@@ -325,8 +326,8 @@ fn after_tuple(
     }
 }
 
-/// What comes after a component that does not go on. `alone` says that the outermost one may not
-/// begin a tuple.
+/// Parses the lexeme after a component that is complete. If `alone` is true, the outermost
+/// component cannot begin a tuple.
 fn close_part(
     alloc: Global,
     alone: bool,
@@ -356,7 +357,7 @@ fn close_part(
     }
 }
 
-/// What comes after the outermost component.
+/// Parses the lexeme after the outermost component.
 fn outermost(
     alloc: Global,
     alone: bool,
@@ -376,7 +377,7 @@ fn outermost(
     }
 }
 
-/// What comes after a component.
+/// Parses the lexeme after a component.
 fn after_part(
     alloc: Global,
     alone: bool,
@@ -401,7 +402,7 @@ fn after_part(
     }
 }
 
-/// Adds these parts to a node, and answers the last node.
+/// Appends these parts to a node one by one, and returns the index of the last node.
 fn add_parts(nodes: &mut Vec<Node>, whole: usize, parts: &[usize]) -> Result<usize, Memory>
     ensures node { IfOk result (λ n. n ≡ parts_node nodes.old.items whole parts.now) }
     ensures added { OnOk result (nodes.new.items ≡ parts_nodes nodes.old.items whole parts.now) }
@@ -413,7 +414,7 @@ fn add_parts(nodes: &mut Vec<Node>, whole: usize, parts: &[usize]) -> Result<usi
     Ok(last)
 }
 
-/// The name after several arguments.
+/// Parses the name after several arguments.
 fn take_name(
     alloc: Global,
     nodes: &mut Vec<Node>,
@@ -438,7 +439,7 @@ fn take_name(
     }
 }
 
-/// What comes after a tag.
+/// Parses the lexeme after a tag.
 fn after_tag(
     nodes: &mut Vec<Node>,
     frames: &mut Stack,
@@ -457,7 +458,7 @@ fn after_tag(
     }
 }
 
-/// One lexeme.
+/// Parses one lexeme of a type.
 pub fn step(
     alloc: Global,
     alone: bool,

@@ -1,4 +1,4 @@
-//! A type from its lexemes.
+//! The parser for types.
 
 ghost use Rattle.std.specs.Prelude.{IfOk, IfErr};
 ghost use Rattle.om_grammar.specs.Grammar.{texpr};
@@ -15,7 +15,8 @@ use om_lex::lexeme::Lexeme;
 use om_types::ty::Ty;
 use std::alloc::Global;
 
-/// The type that these lexemes are.
+/// Parses a type from its lexemes. The error is a syntax error or a type that is too deep, each
+/// with the index of its lexeme, or out of memory.
 pub fn parse_type(alloc: Global, lexemes: &[Lexeme]) -> Result<Ty, Fault>
     ensures ty { IfOk result (IsTypeOf (kinds_of lexemes.now)) }
     ensures fault { IfErr result (IsFault texpr texpr_ends (kinds_of lexemes.now)) }

@@ -1,4 +1,4 @@
--- Tokens that were passed, read again from a place among them.
+-- Re-reading tokens from a position among them.
 use Rattle.std.proofs.Common.{ℕ, suc, ◌+◌, ◌*◌, ◌/◌, ◌<◌, ◌≤◌, ◌≡◌, ◌∙◌, refl, inl, ⊎_elim, List, [], ◌∷◌, ◌++◌, length, map, take, drop, get_or, Some, Ok, sym, ap, subst, arith, take_at}
 use Rattle.std.specs.Prelude.{slice_get, IsTrue, IfSome, Option, None, ◌-◌}
 use Rattle.std.proofs.lemmas.List.{append_assoc, append-nil, length-append, length-drop, length-map, drop-append-le, drop-drop, drop_at, drop_all, take_rest}
@@ -24,7 +24,7 @@ use Rattle.om_pass_law.proofs.NotedLemmas.{stands_after}
 use Rattle.om_pass.specs.declared.again.Seen.{Seen}
 use Rattle.om_pass.specs.Again.{IsSeen, SpellAll, Looks, IsPlace, AreMarks, IsBlockAt, IsBlockIn, IsBlockSeen, AreFields}
 
--- ---- one token more
+-- ---- one more token
 
 spell_push : (ts : List Token) (t : Token) (bytes piece : List ℕ) → SpellAll ts bytes → Spells t piece → SpellAll (ts ++ t ∷ []) (bytes ++ piece)
 spell_push [] t bytes piece s p = (piece, [], ap (λ xs. xs ++ piece) s ∙ sym (append-nil piece), p, refl)
@@ -43,7 +43,7 @@ place_more front piece tokens t at c s p = record {
 pub marks_more : (front piece marks : List ℕ) (tokens : List Token) (t : Token) → Spells t piece → AreMarks front marks tokens → AreMarks (front ++ piece) marks (tokens ++ t ∷ [])
 marks_more front piece marks tokens t s are k at is = place_more front piece tokens t at (64 * k) s (are k at is)
 
--- where all tokens end
+-- The position after all tokens.
 place_here : (front : List ℕ) (tokens : List Token) (at c : ℕ) → at ≡ length front → objects (map measure_of tokens) ≡ c → IsPlace front tokens at c
 place_here front tokens at c here made = record {
   first = tokens;
@@ -64,9 +64,9 @@ marks_push front marks tokens at here made are k p is =
 pub no_marks : (front : List ℕ) (tokens : List Token) → AreMarks front [] tokens
 no_marks front tokens k p is = absurd (none-some p is)
 
--- ---- what a look says
+-- ---- the result of `look`
 
--- a token of the kind begins the bytes, and its length is known
+-- If a token of the kind begins the bytes, then its length is known.
 pub looked :
     (bytes : List ℕ) (kind : CodeKind) (len : ℕ) (seen : Seen) → 0 < length bytes → kind_of (get_or bytes 0 0) ≡ Ok kind → len ≤ length (drop 1 bytes) → len ≡ fixed_bytes kind + variable_bytes kind (drop 1 bytes)
     → ((t : Token) → SpellsAfter kind (take len (drop 1 bytes)) t → IsSeen seen t) → Looks bytes seen (1 + len)
@@ -91,7 +91,7 @@ looked (code ∷ after) kind len seen some is within whole each =
           };
     }
 
--- ---- the next token from a place
+-- ---- the next token from a position
 
 pub record Next (front : List ℕ) (tokens : List Token) (c : ℕ) (seen : Seen) (after : ℕ) : Type 0 where
   pub token : Token
@@ -126,7 +126,7 @@ next_from front tokens at c seen len first (t ∷ last) whole made within spells
 pub place_next : (front : List ℕ) (tokens : List Token) (at c : ℕ) (seen : Seen) (len : ℕ) → IsPlace front tokens at c → Looks (drop at front) seen len → Next front tokens c seen (at + len)
 place_next front tokens at c seen len p l = next_from front tokens at c seen len p.first p.last p.whole p.made p.within p.spells l
 
--- the place after it
+-- The position after it.
 pub place_after : (front : List ℕ) (tokens : List Token) (c : ℕ) (seen : Seen) (after d : ℕ) → (n : Next front tokens c seen after) → c + made_by n.token ≡ d → IsPlace front tokens after d
 place_after front tokens c seen after d n made =
     let both = objects-tokens-append n.first (n.token ∷ []) in
@@ -141,7 +141,7 @@ place_after front tokens c seen after d n made =
       spells = n.spells;
     }
 
--- a block that was seen
+-- A block that was read.
 pub block_next : (front : List ℕ) (tokens : List Token) (c : ℕ) (seen : Seen) (after o tag size : ℕ) → (n : Next front tokens c seen after) → c ≡ o → n.token ≡ block tag size → IsBlockAt front tokens o tag size after
 block_next front tokens c seen after o tag size n is same = record {
   first = n.first;
@@ -176,7 +176,7 @@ module _ (table : Table) (types : List ℕ) (o : ℕ) where
         at = (own.1, r.at);
       }
 
-  -- one field more of a list
+  -- One more field of a list.
   pub fields_more :
       (front : List ℕ) (start at i : ℕ) (fields : List ℕ) (seen : Seen) (len : ℕ) → i < length fields
       → (at ≤ length front) × (((ts : List Token) → SpellAll ts (drop at front) → AreFields table types o (drop i fields) ts) → (ts : List Token) → SpellAll ts (drop start front) → AreFields table types o fields ts)
@@ -193,7 +193,7 @@ module _ (table : Table) (types : List ℕ) (o : ℕ) where
             (next_field (drop at front) (get_or fields i 0) (drop (i + 1) fields) seen len l is_field (λ ts s. later ts (subst (SpellAll ts) (drop-drop len at front) s)))),
       )
 
--- a block whose fields are flat and have the types is so noted
+-- If the fields of a block are flat and have the types, then a note of this is valid.
 pub flat_block :
     (table : Table) (types front : List ℕ) (o t tag size start : ℕ) (fields : List ℕ) (tokens : List Token) → IsBlockAt front tokens o tag size start
     → ((last : List Token) → SpellAll last (drop start front) → AreFields table types o fields last)
@@ -224,7 +224,7 @@ flat_block table types front o t tag size start fields tokens b are asked many f
 pub looks_from : (front : List ℕ) (at : ℕ) (seen : Seen) (len : ℕ) → Looks (take (length front - at) (drop at front)) seen len → Looks (drop at front) seen len
 looks_from front at seen len l = subst (λ xs. Looks xs seen len) (take_rest front at) l
 
--- a token that makes so many objects was skipped
+-- After a token was skipped.
 pub skip_more :
     (front marks : List ℕ) (at made more made' : ℕ) (seen : Seen) (len : ℕ) → ((tokens : List Token) → AreMarks front marks tokens → IsPlace front tokens at made) → Looks (drop at front) seen len
     → ((t : Token) → IsToken t → IsSeen seen t → made_by t ≡ more) → made + more ≡ made'
@@ -244,7 +244,7 @@ block_found front marks object at made seen len tag size start places same l b =
       subst (IsBlockAt front tokens object tag size) (sym b.is_after) (block_next front tokens made seen (at + len) object tag size n same (subst (λ s. IsSeen s n.token) b.is_block n.is_seen));
 }
 
--- the place that a mark says
+-- The position of a mark.
 pub mark_place :
     (front marks : List ℕ) (object at : ℕ) → slice_get marks (object / 64) ≡ Some at
     → (object / 64 * 64 ≤ object) × ((tokens : List Token) → AreMarks front marks tokens → IsPlace front tokens at (object / 64 * 64))

@@ -1,4 +1,5 @@
--- The token that sound bytes after a code spell was taken, where what they say has what is asked for.
+-- If valid bytes after a code encode a token that satisfies the requirement, then the token is
+-- accepted.
 use Rattle.std.proofs.Common.{ℕ, suc, pos, ◌+◌, ◌*◌, ◌-◌, ◌%◌, ◌<◌, ◌≤◌, ◌≡◌, ◌∙◌, Bool, List, [], ◌∷◌, length, take, drop, get_or, Ok, refl, sym, subst, arith, take_all, length-drop}
 use Rattle.om_model.specs.declared.value.Obj.TheVariants as objects
 use Rattle.om_model.specs.declared.code.CodeKind.{CodeKind}
@@ -76,9 +77,9 @@ module _ (table : Table) (stated : ℕ) (old new : State) (need : Need) (piece :
   doubles width little known bytes whole some took =
       spelled (kinds.Doubles width little) known bytes whole some (λ t s. subst (Took table old new need) (sym s.4) (took s.0 s.2))
 
--- ---- customs
+-- ---- custom blocks
 
--- a number of a `Nativeint` has bytes
+-- The number of a `Nativeint` has at least one byte.
 pub known_data : (kind : CustomKind) (size b : ℕ) → 5 ≤ size → size ≡ 3 + custom_bytes (Some kind) b → IsKnownData (Some kind) b
 known_data customs.Int32 size b some whole = tt
 known_data customs.Int64 size b some whole = tt
@@ -140,11 +141,11 @@ module _ (table : Table) (stated : ℕ) (old new : State) (need : Need) (kind : 
       let long : length piece ≡ width + 0 = long_of (kinds.Shared width) is in
       subst (λ k. TookPiece table stated old new need k piece) (sym is) (back table stated old new need piece width (omega (arith, long)) some first few took)
 
--- what a slice from a place on is
+-- The slice from an offset on.
 pub rest_from : (n : ℕ) (bytes : List ℕ) → take (length bytes - n) (drop n bytes) ≡ drop n bytes
 rest_from n bytes = let long = length-drop n bytes in take_all (length bytes - n) (drop n bytes) (omega (arith, long))
 
--- with the code in front
+-- With the code before the bytes.
 pub with_code : (table : Table) (stated : ℕ) (old new : State) (need : Need) (rest : List ℕ) (kind : CodeKind) (len : ℕ) → 0 < length rest → kind_of (get_or rest 0 0) ≡ Ok kind → len ≤ length (drop 1 rest)
     → TookPiece table stated old new need kind (take len (drop 1 rest)) → TookFront table stated old new need rest (1 + len)
 with_code table stated old new need [] kind len some is within p = absurd (omega arith)

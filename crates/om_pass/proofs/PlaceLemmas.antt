@@ -1,4 +1,4 @@
--- Open places, block by block.
+-- Open positions, block by block.
 use Rattle.std.proofs.Common.{ℕ, suc, ◌+◌, ◌<◌, ◌≡◌, ◌∙◌, List, [], ◌∷◌, ◌++◌, length, drop, drop-cons, get_or, sym, ap, arith}
 use Rattle.std.specs.Prelude.{map, replicate}
 use Rattle.std.proofs.lemmas.List.{append_assoc, append-nil, length-replicate}
@@ -8,18 +8,18 @@ use Rattle.om_pass_law.proofs.EndLemmas.{values_in-append}
 use Rattle.om_pass.specs.declared.places.Open.{Open}
 use Rattle.om_pass.specs.Places.{open_needs, waiting_needs}
 
--- the last one comes first
+-- The last entry of the stack comes first.
 pub waiting_needs_push : (waiting : List Open) (last : Open) → waiting_needs (waiting ++ last ∷ []) ≡ open_needs last ++ waiting_needs waiting
 waiting_needs_push [] last = sym (append-nil (open_needs last))
 waiting_needs_push (first ∷ waiting) last =
     ap (λ needs. needs ++ open_needs first) (waiting_needs_push waiting last) ∙ append_assoc (open_needs last) (waiting_needs waiting) (open_needs first)
 
--- ---- how many values are to come
+-- ---- the number of values still to be read
 
 pub values_each : (n t : ℕ) → values_in (map of_type (replicate n t)) ≡ n
 values_each n t = values_of_types (replicate n t) ∙ length-replicate n t
 
--- one block less is to be counted
+-- One block fewer remains to be counted.
 pub values_less :
     (waiting : List Open) (at n : ℕ) (default : Open) → at < length waiting → n ≡ values_in (open_needs (get_or waiting at default))
     → values_in (waiting_needs (drop at waiting)) ≡ values_in (waiting_needs (drop (at + 1) waiting)) + n

@@ -40,7 +40,7 @@ start_by : (b : Bool) (bytes : List ℕ) → ◌≡◌ {A = ℕ} (if (if b then 
 start_by true bytes = refl
 start_by false bytes = refl
 
--- a header is as long as it says
+-- The length of a header.
 pub start_is : (bytes : List ℕ) → ◌≡◌ {A = ℕ} (if (head_of bytes).big then 32 else 20) (header_length bytes)
 unfolding head_of
 start_is bytes = start_by (magic bytes == big_magic) bytes
@@ -88,14 +88,14 @@ leads_marked table limit bytes head start n marks after notes state is l =
       are_known = l.are_known;
     }
 
--- before the first token, whose byte is marked
+-- Before the first token, whose offset is marked.
 pub leads_begun :
     (table : Table) (limit : ℕ) (bytes : List ℕ) (head : Head) (start : ℕ) (state : State) → BeginsAs limit bytes head → start ≡ header_length bytes → types_in state ≡ [] → needs_in state ≡ of_type 0 ∷ []
     → state.words.w32 ≡ stated32 head → state.words.w64 ≡ head.w64 → Leads table limit bytes head start start (start ∷ []) [] state
 leads_begun table limit bytes head start state b start' none root w32 w64 =
     leads_marked table limit bytes head start start [] (start ∷ []) [] state (inr (ap (length {A = ℕ}) none, refl)) (leads_start table limit bytes head start state b start' none root w32 w64)
 
--- ---- one token more
+-- ---- one more token
 
 noted_further : (table : Table) (types later : List ℕ) (noted : List (ℕ × ℕ)) (tokens more : List Token) → AreNoted table types noted tokens → AreNoted table (types ++ later) noted (tokens ++ more)
 noted_further table types later noted tokens more are o t among =
@@ -132,7 +132,7 @@ pub leads_first :
 leads_first table limit bytes head start n m marks notes first last l t =
     leads_further table limit bytes head start n m marks notes first t.middle last t.need l t.types t.needs t.words t.took
 
--- where the same is open
+-- If the same positions are open.
 pub leads_same :
     (table : Table) (limit : ℕ) (bytes : List ℕ) (head : Head) (start n : ℕ) (marks : List ℕ) (notes : List (ℕ × ℕ)) (first last : State) → Leads table limit bytes head start n marks notes first
     → types_in last ≡ types_in first → needs_in last ≡ needs_in first → last.words ≡ first.words → Leads table limit bytes head start n marks notes last
@@ -148,9 +148,9 @@ leads_same table limit bytes head start n marks notes first last l types needs w
       are_known = l.are_known;
     }
 
--- ---- what is left of the bytes
+-- ---- the remaining bytes
 
--- n bytes further
+-- After `n` more bytes.
 pub left_further :
     (table : Table) (limit : ℕ) (bytes : List ℕ) (head : Head) (start n : ℕ) (marks : List ℕ) (notes : List (ℕ × ℕ)) (state : State) (rest : List ℕ) → rest ≡ drop (length bytes - length rest) bytes
     → Leads table limit bytes head start (length bytes - length rest + n) marks notes state → IsLeft table limit bytes head start marks notes state (take (length rest - n) (drop n rest))
@@ -166,9 +166,9 @@ left_further table limit bytes head start n marks notes state rest same l =
       leads = subst (λ k. Leads table limit bytes head start k marks notes state) (sym there) l;
     }
 
--- ---- a reference more
+-- ---- one more reference
 
--- with what is noted of the object that it leads to
+-- With a note on the object to which it leads.
 leads_noted :
     (table : Table) (limit : ℕ) (bytes : List ℕ) (head : Head) (start n m : ℕ) (marks : List ℕ) (notes after : List (ℕ × ℕ)) (first middle : State) (t offset : ℕ) → (l : Leads table limit bytes head start n marks notes first)
     → types_in middle ≡ types_in first → needs_in first ≡ of_type t ∷ needs_in middle → middle.words ≡ first.words → 0 < head.objects → IsReference (drop n bytes) offset m
@@ -193,7 +193,7 @@ leads_noted table limit bytes head start n m marks notes after first middle t of
       are_known = known;
     }
 
--- what is noted by and by
+-- Notes that are added later.
 noted_also :
     (table : Table) (types : List ℕ) (noted : List (ℕ × ℕ)) (o t : ℕ) (tokens more : List Token) → o < length types → AreNoted table types noted tokens → IsFlatNoted table types [] tokens o t
     → AreNoted table types (noted ++ (o, t) ∷ []) (tokens ++ more)
@@ -208,7 +208,7 @@ noted_also table types noted o t tokens more within are flat p u among =
     (within, subst (λ ts. IsFlatNoted table ts (noted ++ (o, t) ∷ []) (tokens ++ more) o t) all (noted_more table [] (noted ++ (o, t) ∷ []) (λ q v kept. absurd (Contains-none {X = ℕ × ℕ} (q, v) kept)) types [] tokens more o t within flat)))
     (Contains-append_cases noted ((o, t) ∷ []) (p, u) among)
 
--- a reference that leads to what is noted at least as this
+-- A reference to an object whose note is among the recorded ones.
 leads_back :
     (table : Table) (limit : ℕ) (bytes : List ℕ) (head : Head) (start n m : ℕ) (marks : List ℕ) (notes : List (ℕ × ℕ)) (first middle : State) (t offset : ℕ) → (l : Leads table limit bytes head start n marks notes first)
     → types_in middle ≡ types_in first → needs_in first ≡ of_type t ∷ needs_in middle → middle.words ≡ first.words → 0 < head.objects → IsReference (drop n bytes) offset m
@@ -262,7 +262,7 @@ leads_turn table limit bytes head start n m marks notes after first middle last 
     subst (Leads table limit bytes head start (n + m) marks after) (sym back.0)
     (leads_known table limit bytes head start n m marks notes after first middle b.type b.offset l types (subst (λ u. needs_in first ≡ u ∷ needs_in middle) b.is_asked needs) words b.some b.reference b.known)
 
--- the header comes first
+-- After the header.
 pub leads_from : (table : Table) (limit : ℕ) (bytes : List ℕ) (head : Head) (start n : ℕ) (marks : List ℕ) (notes : List (ℕ × ℕ)) (state : State) → Leads table limit bytes head start n marks notes state → start ≤ n
 leads_from table limit bytes head start n marks notes state l =
     let p = l.passing in
@@ -272,7 +272,7 @@ leads_from table limit bytes head start n marks notes state l =
     let begins = p.begins in
     omega (arith, front, both, same, begins)
 
--- where it begins to be followed
+-- The offset of the first token.
 pub start_from : (limit : ℕ) (bytes : List ℕ) (head : Head) (n : ℕ) → BeginsAs limit bytes head → ((head.big ≡ true) × (n ≡ 32)) ⊎ ((head.big ≡ false) × (n ≡ 20)) → n ≡ header_length bytes
 start_from limit bytes head n b is =
     let same : ◌≡◌ {A = ℕ} (if head.big then 32 else 20) (header_length bytes) = ap (λ (h : Head). let k : ℕ = (if h.big then 32 else 20) in k) b.head_is ∙ start_is bytes in
@@ -302,9 +302,9 @@ leads_end table limit bytes head start n marks notes state last lawful l none ty
     })
     (λ o t among. (l.are_noted o t among).1)
 
--- ---- a cut
+-- ---- a truncated token
 
--- where the place that is open asks again
+-- If the current position is opened again.
 pub leads_again :
     (table : Table) (limit : ℕ) (bytes : List ℕ) (head : Head) (start n : ℕ) (marks : List ℕ) (notes : List (ℕ × ℕ)) (first middle last : State) (need : Need) → Leads table limit bytes head start n marks notes first
     → types_in middle ≡ types_in first → needs_in first ≡ need ∷ needs_in middle → middle.words ≡ first.words
@@ -323,7 +323,7 @@ leads_again table limit bytes head start n marks notes first middle last need l 
       are_known = l.are_known;
     }
 
--- a value is to come
+-- A value is still to be read.
 pub some_need : (needs : List Need) (need : Need) (others : List Need) → needs ≡ need ∷ others → 0 < length needs
 some_need needs need others same = let size : length needs ≡ length (need ∷ others) = ap length same in omega (arith, size)
 

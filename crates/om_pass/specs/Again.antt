@@ -1,4 +1,5 @@
--- What is read again of the tokens that were passed, and what a reference may lead back to.
+-- Re-reading tokens that the pass has read already, and the objects to which a reference may lead
+-- back.
 use Rattle.std.specs.Prelude.{ℕ, ◌-◌, ◌*◌, ◌<◌, ◌≤◌, ◌≡◌, ◌⊎◌}
 use Rattle.std.specs.Prelude.{List, [], ◌∷◌, ◌++◌, length, map, drop, take, slice_get, Some}
 use Rattle.std.specs.Prelude.{Contains}
@@ -12,7 +13,7 @@ use Rattle.om_pass_law.specs.Noted.{AreAt, AreFlat, flat_values, IsFlatNoted}
 use Rattle.om_pass.specs.declared.again.Seen.{Seen}
 use Rattle.om_pass.specs.declared.again.Seen.TheVariants as sights
 
--- the token is what was seen
+-- The token has these contents.
 abbrev pub IsSeen : Seen → Token → Type 0
 IsSeen (sights.Integer z) token = token ≡ integer z
 IsSeen (sights.Atom tag) token = token ≡ atom tag
@@ -20,27 +21,29 @@ IsSeen (sights.Shared offset) token = token ≡ shared offset
 IsSeen (sights.Block tag size) token = token ≡ block tag size
 IsSeen sights.Leaf token = (object : Obj) × (token ≡ leaf object)
 
--- the tokens spell the bytes, one after another
+-- The bytes are the encodings of the tokens, one after another.
 abbrev pub SpellAll : List Token → List ℕ → Type 0
 SpellAll [] bytes = bytes ≡ []
 SpellAll (token ∷ tokens) bytes =
     (piece rest : List ℕ) × (bytes ≡ piece ++ rest) × Spells token piece × SpellAll tokens rest
 
--- the first of tokens that spell the bytes is what was seen, and has so many bytes
+-- The first of the tokens that the bytes encode has these contents. The other tokens begin after
+-- `len` bytes.
 pub record IsFirst (seen : Seen) (len : ℕ) (bytes : List ℕ) (token : Token) (tokens : List Token)
     : Type 0 where
   pub is_token : IsToken token
   pub is_seen : IsSeen seen token
   pub spells : SpellAll tokens (drop len bytes)
 
--- the same of any tokens
+-- For all token lists that the bytes encode, the first token has these contents, and the other
+-- tokens begin after `len` bytes.
 pub record Looks (bytes : List ℕ) (seen : Seen) (len : ℕ) : Type 0 where
   pub some : 0 < len
   pub within : len ≤ length bytes
   pub is_first : (token : Token) (tokens : List Token) → SpellAll (token ∷ tokens) bytes
       → IsFirst seen len bytes token tokens
 
--- after c objects the last of the tokens begin at this byte
+-- The last of the tokens begin at byte `at`, and the tokens before them create `c` objects.
 pub record IsPlace (front : List ℕ) (tokens : List Token) (at c : ℕ) : Type 0 where
   pub first : List Token
   pub last : List Token
@@ -49,12 +52,12 @@ pub record IsPlace (front : List ℕ) (tokens : List Token) (at c : ℕ) : Type 
   pub within : at ≤ length front
   pub spells : SpellAll last (drop at front)
 
--- each mark is the byte where 64 objects more had been made
+-- Mark number `k` is the byte that was reached after `64 * k` objects.
 abbrev pub AreMarks : List ℕ → List ℕ → List Token → Type 0
 AreMarks front marks tokens =
     (k at : ℕ) → slice_get marks k ≡ Some at → IsPlace front tokens at (64 * k)
 
--- the object is a block, and the tokens of its fields begin at this byte
+-- The object is a block, and the tokens of its fields begin at byte `at`.
 pub record IsBlockAt (front : List ℕ) (tokens : List Token) (object tag size at : ℕ)
     : Type 0 where
   pub first : List Token
@@ -64,18 +67,18 @@ pub record IsBlockAt (front : List ℕ) (tokens : List Token) (object tag size a
   pub within : at ≤ length front
   pub spells : SpellAll last (drop at front)
 
--- the same of any tokens that have the marks
+-- For all token lists that have these marks, the object is a block whose fields begin at byte `at`.
 pub record IsBlockIn (front marks : List ℕ) (object tag size at : ℕ) : Type 0 where
   pub within : at ≤ length front
   pub is_block : (tokens : List Token) → AreMarks front marks tokens
       → IsBlockAt front tokens object tag size at
 
--- a block was seen, after which is this byte
+-- A block was read, and its fields begin at byte `at`.
 pub record IsBlockSeen (seen : Seen) (after tag size at : ℕ) : Type 0 where
   pub is_block : seen ≡ sights.Block tag size
   pub is_after : at ≡ after
 
--- the first of the tokens are flat fields of an object, of these types
+-- The tokens begin with flat fields of an object, which have these types.
 pub record AreFields
     (table : Table) (types : List ℕ) (object : ℕ) (fields : List ℕ) (tokens : List Token)
     : Type 0 where
@@ -86,14 +89,15 @@ pub record AreFields
   pub are_flat : AreFlat flat
   pub at : AreAt table types [] (flat_values object flat) (map of_type fields)
 
--- of objects at types nothing is noted but what was, and the object at the type
+-- Each new note is one of the old notes, or the note that the object has the type.
 abbrev pub AreNotes : List (ℕ × ℕ) → ℕ → ℕ → List (ℕ × ℕ) → Type 0
 AreNotes old object type new =
     (o t : ℕ) → Contains new (o, t)
     → Contains old (o, t) ⊎ (◌≡◌ {A = ℕ × ℕ} (object, type) (o, t))
 
--- a reference leads back to an object of an equal type, or to any in a hidden place, or to one that
--- is noted at this type, or to a flat one that has it too, which is then noted
+-- A reference leads back to an object of an equal type, or its position is a wildcard. Otherwise
+-- there is a note that the object has the type, or the object is a flat block that has the type,
+-- and the note is added.
 abbrev pub IsKnown :
     Table → List ℕ → List ℕ → List ℕ → List (ℕ × ℕ) → List (ℕ × ℕ) → ℕ → ℕ → Type 0
 IsKnown table types front marks old new type offset =
@@ -104,7 +108,7 @@ IsKnown table types front marks old new type offset =
     × ((tokens : List Token) → AreMarks front marks tokens
     → IsFlatNoted table types [] tokens (length types - offset) type))
 
--- a reference back by so many begins the bytes, and has n of them
+-- The bytes begin with a reference with this offset, which takes `n` bytes.
 pub record IsReference (bytes : List ℕ) (offset n : ℕ) : Type 0 where
   pub some : 0 < n
   pub within : n ≤ length bytes

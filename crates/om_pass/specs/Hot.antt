@@ -1,4 +1,4 @@
--- What a pass holds in hand while common tokens come.
+-- The state of the pass while it is in local variables.
 use Rattle.std.specs.Prelude.{ℕ, ◌+◌, ◌≡◌, ◌++◌, ◌∷◌, []}
 use Rattle.std.specs.Global.{Vec}
 use Rattle.om_model.specs.declared.code.Measure.{Measure}
@@ -7,12 +7,12 @@ use Rattle.om_pass.specs.declared.places.Open.{Open}
 use Rattle.om_pass.specs.declared.state.State.{State}
 use Rattle.om_pass.specs.declared.words.Words.{Words}
 
--- the state that the open places, the types and the words make
+-- The state that consists of the open positions, the types and the words.
 abbrev pub held : Open → Vec Open → Vec ℕ → Words → State
 held now waiting types words =
     record { places = record { now = now; waiting = waiting }; types = types; words = words }
 
--- one more object has this type, and its words are spent
+-- One more object has this type, and its words are subtracted.
 pub record IsLeafAdded
     (type : ℕ) (measure : Measure) (old new : Vec ℕ) (before after : Words)
     : Type 0 where

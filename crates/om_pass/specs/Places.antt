@@ -1,4 +1,4 @@
--- What open places ask for.
+-- The requirements of open positions.
 use Rattle.std.specs.Prelude.{List, [], ◌∷◌, ◌++◌, map, replicate}
 use Rattle.om_pass_law.specs.Asked.{Need, of_type, hash_of}
 use Rattle.om_pass.specs.declared.places.Open.{Open}
@@ -16,7 +16,7 @@ abbrev pub need_of : Asked → Need
 need_of (asked.Type t) = of_type t
 need_of (asked.Hash tags) = hash_of tags.now
 
--- the last one comes first
+-- The last entry of the stack comes first.
 abbrev pub waiting_needs : List Open → List Need
 waiting_needs [] = []
 waiting_needs (open' ∷ opens') = waiting_needs opens' ++ open_needs open'

@@ -1,4 +1,4 @@
--- What a pass holds on its way, and what a token changes.
+-- The state of the pass, and the effect of a token on it.
 use Rattle.std.specs.Prelude.{ℕ, ◌+◌, ◌-◌, ◌*◌, ◌^◌, ◌<◌, ◌≤◌, ◌≡◌, if◌then◌else◌}
 use Rattle.std.specs.Prelude.{List, [], ◌∷◌, ◌++◌, length, map, take, drop, ◌⊎◌, false, Contains}
 use Rattle.std.specs.Prelude.{ℤ, Bool, Result, IfOk}
@@ -29,33 +29,33 @@ use Rattle.om_pass.specs.declared.passing.Passing.{Passing}
 use Rattle.om_pass.specs.Again.{AreMarks, IsReference, IsKnown}
 use Rattle.om_pass.specs.Places.{places_needs}
 
--- the types of the objects met, by their numbers
+-- The types of the objects so far, by number.
 abbrev pub types_in : State → List ℕ
 types_in state = state.types.items
 
 abbrev pub needs_in : State → List Need
 needs_in state = places_needs state.places
 
--- the words on 32 bits that a header allows; a big one states none
+-- The words on a 32-bit platform that a header allows. A big header states no such number.
 abbrev pub stated32 : Head → ℕ
 stated32 head = if head.big then 2 ^ 64 - 1 else head.w32
 
--- the words before and after an object
+-- The words before and after an object.
 pub record Spends (old : Words) (measure : Measure) (new : Words) : Type 0 where
   pub w32 : new.w32 + words32 measure ≡ old.w32
   pub w64 : new.w64 + words64 measure ≡ old.w64
 
--- where a token was taken, and memory was not out
+-- If the token was accepted and memory was sufficient, then `P` holds.
 abbrev pub IfTook : {E : Type 0} → Result Bool E → Type 0 → Type 0
 IfTook result P = IfOk result (λ took. OnTrue took P)
 
--- the object of a custom
+-- The object of a custom block.
 abbrev pub custom_leaf : CustomKind → ℤ → Obj
 custom_leaf customs.Int32 z = objects.I32 z
 custom_leaf customs.Int64 z = objects.I64 z
 custom_leaf customs.Native z = objects.Native z
 
--- A token was taken in a place that asked for the need.
+-- A token was accepted at a position with this requirement.
 pub record Took (table : Table) (old new : State) (need : Need) (token : Token) : Type 0 where
   pub next : List Need
   pub asks : Asks [] table (types_in old) need token next
@@ -64,20 +64,20 @@ pub record Took (table : Table) (old new : State) (need : Need) (token : Token) 
   pub w32 : new.words.w32 + of_object words32 (measure_of token) ≡ old.words.w32
   pub w64 : new.words.w64 + of_object words64 (measure_of token) ≡ old.words.w64
 
--- an object without fields was taken, of this type and this measure
+-- An object without fields was accepted, with this type and this measure.
 pub record TookLeaf (old new : State) (type : ℕ) (measure : Measure) : Type 0 where
   pub types : types_in new ≡ types_in old ++ type ∷ []
   pub places : new.places ≡ old.places
   pub w32 : new.words.w32 + words32 measure ≡ old.words.w32
   pub w64 : new.words.w64 + words64 measure ≡ old.words.w64
 
--- the token may stand after so many objects, where the header states so many
+-- The token is valid after `made` objects if the header states `stated` objects.
 pub record IsThere (token : Token) (made stated : ℕ) : Type 0 where
   pub is_token : IsToken token
   pub back : RefersBack token made
   pub unshared : stated ≡ 0 → IsNoReference token
 
--- the token was taken that the bytes after a code of this kind spell
+-- The token that consists of a code of this kind and these bytes was accepted.
 pub record TookPiece
     (table : Table) (stated : ℕ) (old new : State) (need : Need) (kind : CodeKind) (piece : List ℕ)
     : Type 0 where
@@ -86,7 +86,7 @@ pub record TookPiece
   pub there : IsThere token (length (types_in old)) stated
   pub took : Took table old new need token
 
--- the token was taken that the first n bytes spell
+-- The token that the first `n` bytes encode was accepted.
 pub record TookFront
     (table : Table) (stated : ℕ) (old new : State) (need : Need) (rest : List ℕ) (n : ℕ)
     : Type 0 where
@@ -96,7 +96,7 @@ pub record TookFront
   pub there : IsThere token (length (types_in old)) stated
   pub took : Took table old new need token
 
--- the same in the first open place
+-- The token that the first `n` bytes encode was accepted at the first open position.
 pub record TookFirst
     (table : Table) (stated : ℕ) (old new : State) (rest : List ℕ) (n : ℕ) : Type 0 where
   pub middle : State
@@ -106,14 +106,14 @@ pub record TookFirst
   pub words : middle.words ≡ old.words
   pub took : TookFront table stated middle new need rest n
 
--- what an answer says of the token that begins the bytes
+-- The meaning of each answer for the token at the beginning of the bytes.
 abbrev pub IsAnswer : Table → ℕ → State → State → Need → List ℕ → Answer → Type 0
 IsAnswer table stated old new need rest (answers.Took n) =
     (0 < n) × TookFront table stated old new need rest n
 IsAnswer table stated old new need rest answers.Back = new ≡ old
 IsAnswer table stated old new need rest answers.Unfit = Unit {0}
 
--- a reference begins the bytes, in a place that asks for a type, and is known at it
+-- The bytes begin with a reference. Its position requires a type, and its object has this type.
 pub record TookBack
     (table : Table) (stated : ℕ) (types front marks : List ℕ) (old new : List (ℕ × ℕ)) (need : Need)
     (rest : List ℕ) (n : ℕ)
@@ -125,7 +125,7 @@ pub record TookBack
   pub reference : IsReference rest offset n
   pub known : IsKnown table types front marks old new type offset
 
--- a token was taken that the n bytes spell from this place on
+-- The token that `n` bytes from offset `at` on encode was accepted.
 abbrev pub TookTurn :
     Table → ℕ → State → State → Need → List ℕ → List ℕ → List (ℕ × ℕ) → List (ℕ × ℕ) → ℕ → ℕ
     → Type 0
@@ -135,7 +135,7 @@ TookTurn table stated old new need bytes marks notes notes' at n =
     × TookBack table stated (types_in old) (take at bytes) marks notes notes' need
     (drop at bytes) n)
 
--- a header begins the bytes that states this, no more words than may be
+-- The bytes begin with this header, which states at most `limit` words.
 pub record BeginsAs (limit : ℕ) (bytes : List ℕ) (head : Head) : Type 0 where
   pub magic_is : (magic bytes ≡ small_magic) ⊎ (magic bytes ≡ big_magic)
   pub whole : header_length bytes ≤ length bytes
@@ -143,13 +143,13 @@ pub record BeginsAs (limit : ℕ) (bytes : List ℕ) (head : Head) : Type 0 wher
   pub words : head.w64 ≤ limit
   pub small : head.length < 2 ^ 48
 
--- what is noted of objects is so: each is a flat block, met before
+-- The recorded second types are valid: each object is a flat block that was read already.
 abbrev pub AreNoted : Table → List ℕ → List (ℕ × ℕ) → List Token → Type 0
 AreNoted table types noted tokens =
     (o t : ℕ) → Contains noted (o, t)
     → (o < length types) × IsFlatNoted table types noted tokens o t
 
--- n bytes lead to here, with these marks on the way, and these objects known at second types
+-- The first `n` bytes lead to this state, with these marks and these notes on second types.
 pub record Leads
     (table : Table) (limit : ℕ) (bytes : List ℕ) (head : Head) (start n : ℕ) (marks : List ℕ)
     (notes : List (ℕ × ℕ)) (state : State)
@@ -164,7 +164,7 @@ pub record Leads
   pub are_marks : AreMarks (take n bytes) marks tokens
   pub are_known : (o t : ℕ) → Contains notes (o, t) → Contains noted (o, t)
 
--- the bytes before those that are left lead to here
+-- The bytes before the remaining bytes lead to this state.
 pub record IsLeft
     (table : Table) (limit : ℕ) (bytes : List ℕ) (head : Head) (start : ℕ) (marks : List ℕ)
     (notes : List (ℕ × ℕ)) (state : State) (rest : List ℕ)
@@ -174,20 +174,20 @@ pub record IsLeft
   pub leads :
       Leads table limit bytes head start (length bytes - length rest) marks notes state
 
--- the byte was marked where 64 objects more had been made
+-- A mark was added if 64 more objects were created since the last mark.
 abbrev pub IsMarked : List ℕ → ℕ → ℕ → List ℕ → Type 0
 IsMarked old at made new =
     (new ≡ old) ⊎ ((made ≡ 64 * length old) × (new ≡ old ++ at ∷ []))
 
--- nothing that the header states is still to come
+-- The value has all the data, words and objects that the header states.
 pub record IsSpent (head : Head) (start n : ℕ) (state : State) : Type 0 where
   pub whole : n ≡ start + head.length
   pub w32 : head.big ≡ false → state.words.w32 ≡ 0
   pub w64 : state.words.w64 ≡ 0
   pub count : (head.objects ≡ 0) ⊎ (head.objects ≡ length (types_in state))
 
--- where tokens were taken up to: the end of a typed value; or so many bytes lead to here, and a
--- value is to come
+-- The meaning of each reason to stop: a typed value ends here, or these bytes lead to the state and
+-- a value is still to be read. An inconclusive result has no meaning.
 abbrev pub StopsAt :
     Table → ℕ → List ℕ → Head → ℕ → List ℕ → List (ℕ × ℕ) → State → Stop → Type 0
 StopsAt table limit bytes head start marks notes state (stops.Typed n) =
@@ -196,12 +196,12 @@ StopsAt table limit bytes head start marks notes state (stops.Cut at) =
     Leads table limit bytes head start at marks notes state × (0 < length (needs_in state))
 StopsAt table limit bytes head start marks notes state (stops.Untold at) = Unit {0}
 
--- the bytes lead to what is passed of a value
+-- The bytes lead to the state of this check.
 abbrev pub IsUnderway : Table → ℕ → List ℕ → Passing → Type 0
 IsUnderway table limit bytes p =
     Leads table limit bytes p.head p.start p.at p.marks.items p.notes.items p.state
 
--- the same of what is passed
+-- The meaning of each reason to stop, for a check.
 abbrev pub Stops : Table → ℕ → List ℕ → Passing → Stop → Type 0
 Stops table limit bytes p (stops.Typed n) = IsTypedFront table limit n bytes
 Stops table limit bytes p (stops.Cut at) =

@@ -1,4 +1,4 @@
-//! Tokens that were passed are looked at again.
+//! Re-reads tokens that the pass has read already, to find a block by its object number.
 
 ghost use Rattle.std.specs.Prelude.{◌≡◌, ◌<◌, ◌+◌, length, slice_get, slice_index, Some, Ok};
 ghost use Rattle.std.specs.Prelude.{IfSome};
@@ -15,19 +15,19 @@ use om_codes::code_kind;
 use om_model::bytes::big_endian;
 use om_model::code::CodeKind;
 
-/// What a token says.
+/// The contents of a token that was re-read.
 #[derive(Clone, Copy)]
 pub enum Seen {
     Integer(i64),
     Atom(u8),
     Shared(u64),
-    /// Its tag and its size.
+    /// A block with its tag and its size.
     Block(u8, u64),
     /// An object without fields.
     Leaf,
 }
 
-/// A block, or an atom where it has no fields.
+/// Returns a block, or an atom if the size is 0.
 #[inline(always)]
 fn seen_block(tag: u8, size: u64) -> Seen
     ensures { IsSeen result (block_or_atom tag size) }
@@ -39,14 +39,14 @@ fn seen_block(tag: u8, size: u64) -> Seen
     }
 }
 
-/// The same by the header word.
+/// Returns the block or atom with this header word.
 fn seen_word(word: u64) -> Seen
     ensures { IsSeen result (word_token word) }
 {
     seen_block((word % 256) as u8, word / 1024)
 }
 
-/// What the token of this kind says, after whose code stands the piece.
+/// Decodes a token of this kind from the bytes after its code.
 #[inline(always)]
 fn seen_of(kind: CodeKind, piece: &[u8]) -> Seen
     requires known { IsKind kind }
@@ -67,7 +67,8 @@ fn seen_of(kind: CodeKind, piece: &[u8]) -> Seen
     }
 }
 
-/// What the token of this kind says that begins the bytes, and how many bytes it has.
+/// Decodes the token of this kind at the beginning of `bytes`. Returns its contents and its length
+/// in bytes.
 #[inline(always)]
 fn look_kind(kind: CodeKind, bytes: &[u8]) -> Option<(Seen, usize)>
     requires some { 0 < length bytes.now }
@@ -82,7 +83,7 @@ fn look_kind(kind: CodeKind, bytes: &[u8]) -> Option<(Seen, usize)>
     Some((seen_of(kind, &after[..len]), 1 + len))
 }
 
-/// The same of any kind.
+/// Decodes the token at the beginning of `bytes`, for any kind of token.
 #[inline(never)]
 fn look_rare(bytes: &[u8]) -> Option<(Seen, usize)>
     ensures { IfSome result (λ look. Looks bytes.now look.0 look.1) }
@@ -96,7 +97,7 @@ fn look_rare(bytes: &[u8]) -> Option<(Seen, usize)>
     }
 }
 
-/// The same of the codes below 0x20.
+/// Decodes the token at the beginning of `bytes`, for codes below 0x20.
 #[tactic(auto, unfolding(om_format::specs::Code::kind_of))]
 #[inline(always)]
 fn look_large(code: u8, bytes: &[u8]) -> Option<(Seen, usize)>
@@ -112,7 +113,7 @@ fn look_large(code: u8, bytes: &[u8]) -> Option<(Seen, usize)>
     }
 }
 
-/// What the first token of the bytes says, and how many bytes it has.
+/// Decodes the first token of `bytes`. Returns its contents and its length in bytes.
 #[tactic(auto, unfolding(om_format::specs::Code::kind_of))]
 #[inline(always)]
 pub fn look(bytes: &[u8]) -> Option<(Seen, usize)>
@@ -122,7 +123,7 @@ pub fn look(bytes: &[u8]) -> Option<(Seen, usize)>
         return None;
     }
     let code = bytes[0];
-    // The common codes get code of their own, and blocks come first.
+    // Common codes have their own branches, and blocks come first.
     if code >= 0x80 {
         look_kind(CodeKind::SmallBlock(code % 16, code / 16 % 8), bytes)
     } else if code >= 0x40 {
@@ -134,7 +135,7 @@ pub fn look(bytes: &[u8]) -> Option<(Seen, usize)>
     }
 }
 
-/// Whether a token makes an object.
+/// Returns true if a token creates an object.
 #[inline(always)]
 fn makes_object(seen: Seen) -> bool
     ensures { (token : Token) → IsToken token → IsSeen seen token
@@ -149,7 +150,8 @@ fn makes_object(seen: Seen) -> bool
     }
 }
 
-/// The tag and the size of a block that was seen, and where its fields begin.
+/// Returns the tag and the size of a block that was read, and the offset of its fields. Returns
+/// `None` for other tokens.
 fn block_seen(seen: Seen, at: usize) -> Option<(u8, u64, usize)>
     ensures { IfSome result (λ block. IsBlockSeen seen at block.0 block.1 block.2) }
 {
@@ -159,7 +161,8 @@ fn block_seen(seen: Seen, at: usize) -> Option<(u8, u64, usize)>
     }
 }
 
-/// The byte that is marked.
+/// Returns mark number `k`: the offset, in bytes, of the token that was current after `64 * k`
+/// objects.
 fn mark_at(marks: &[usize], k: usize) -> usize
     requires { k < length marks.now }
     ensures { slice_get marks.now k ≡ Some result }
@@ -167,8 +170,9 @@ fn mark_at(marks: &[usize], k: usize) -> usize
     marks[k]
 }
 
-/// The block of an object: its tag, its size, and where its fields begin. So many tokens may be
-/// looked at for it.
+/// Finds the block with object number `object`. Returns its tag, its size, and the offset, in
+/// bytes, of its fields. Re-reads at most `left` tokens, and subtracts the number of tokens it
+/// reads from `left`.
 pub fn block_at(
     front: &[u8],
     marks: &[usize],
@@ -199,7 +203,7 @@ pub fn block_at(
     None
 }
 
-/// The reference that begins the bytes, if one does: its offset, and how many bytes it has.
+/// If `bytes` begin with a reference, returns its offset and its length in bytes.
 #[inline(always)]
 pub fn reference_at(bytes: &[u8]) -> Option<(u64, usize)>
     ensures { IfSome result (λ reference. IsReference bytes.now reference.0 reference.1) }

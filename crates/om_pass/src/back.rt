@@ -1,4 +1,4 @@
-//! References back, and one token in the place that is open.
+//! References back, and one token at the first open position.
 
 ghost use Rattle.std.specs.Prelude.{◌≤◌, ◌<◌, length, take, drop, IfOk, OnOk};
 ghost use Rattle.om_type_table.specs.Made.{table_of};
@@ -13,7 +13,7 @@ use crate::step::{Answer, step};
 use om_model::Memory;
 use om_type_table::TypeTable;
 
-/// Marks the byte, where 64 objects more were made.
+/// Appends a mark if 64 more objects were created since the last mark.
 #[inline(always)]
 pub fn mark(marks: &mut Vec<usize>, at: usize, made: usize) -> Result<(), Memory>
     ensures { OnOk result (IsMarked marks.old.items at made marks.new.items) }
@@ -24,7 +24,8 @@ pub fn mark(marks: &mut Vec<usize>, at: usize, made: usize) -> Result<(), Memory
     Ok(())
 }
 
-/// A reference comes, if it has what is asked for: how many bytes it has, or 0.
+/// Checks a reference at this byte against the requirement. Returns its length in bytes, or 0 if
+/// the check fails or is inconclusive.
 #[inline(always)]
 fn back(
     table: &TypeTable,
@@ -66,7 +67,8 @@ fn back(
     if known { Ok(n) } else { Ok(0) }
 }
 
-/// The token at this byte comes, if it has what is asked for: how many bytes it has, or 0.
+/// Checks the token at this byte against the requirement, and adds it to the state. Returns its
+/// length in bytes, or 0 if the check fails or is inconclusive.
 #[inline(never)]
 pub fn turn<'a>(
     table: &'a TypeTable,

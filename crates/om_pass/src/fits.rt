@@ -1,4 +1,4 @@
-//! What a shape says of the tokens that come where a value of it is asked for.
+//! Compares tokens with the shape of the required type.
 
 ghost use Rattle.std.specs.Prelude.{◌≡◌, ◌<◌, List, Some, length, IfSome, option_map};
 ghost use Rattle.om_model.specs.declared.value.Val.{Val};
@@ -17,7 +17,7 @@ use crate::places::Open;
 use om_type_table::TypeTable;
 use om_types::shape::{Constr, PolyTag, ShapeOf};
 
-/// The shape of a type, if it has one.
+/// Returns the shape of a type, or `None` if the table has no such type.
 #[inline(always)]
 pub fn shape_of(table: &TypeTable, ty: usize) -> Option<&ShapeOf<usize>>
     ensures { IfSome result (λ shape. shape.now ≡ shape_at (table_of table.now) ty) }
@@ -29,7 +29,7 @@ pub fn shape_of(table: &TypeTable, ty: usize) -> Option<&ShapeOf<usize>>
     }
 }
 
-/// Whether an integer fits.
+/// Returns true if an integer matches the shape.
 #[inline(always)]
 pub fn fits_int(shape: &ShapeOf<usize>, z: i64) -> bool
     ensures { result ≡ fitting.fits_int shape.now z }
@@ -47,7 +47,8 @@ pub fn fits_int(shape: &ShapeOf<usize>, z: i64) -> bool
     }
 }
 
-/// The same by tests one after another, with what is common first.
+/// Returns true if an integer matches the shape. This is the fast path of `fits_int`: a chain of
+/// tests with common shapes first.
 #[inline(always)]
 pub fn fits_hot_int(shape: &ShapeOf<usize>, z: i64) -> bool
     ensures { result ≡ fitting.fits_int shape.now z }
@@ -58,7 +59,8 @@ pub fn fits_hot_int(shape: &ShapeOf<usize>, z: i64) -> bool
     }
 }
 
-/// The same where it is no sum.
+/// Returns true if an integer matches the shape. The fast path calls this function for shapes other
+/// than sums.
 #[inline(always)]
 fn fits_plain_int(shape: &ShapeOf<usize>, z: i64) -> bool
     ensures { result ≡ fitting.fits_int shape.now z }
@@ -69,7 +71,8 @@ fn fits_plain_int(shape: &ShapeOf<usize>, z: i64) -> bool
     }
 }
 
-/// The same where integers are rare. It is called.
+/// Returns true if an integer matches the shape. The fast path calls this function for shapes that
+/// rarely have integers, and it is not inlined.
 #[inline(never)]
 fn fits_other_int(shape: &ShapeOf<usize>, z: i64) -> bool
     ensures { result ≡ fitting.fits_int shape.now z }
@@ -77,7 +80,7 @@ fn fits_other_int(shape: &ShapeOf<usize>, z: i64) -> bool
     fits_int(shape, z)
 }
 
-/// Whether an integer is from 0 and below the limit.
+/// Returns true if an integer is at least 0 and less than the limit.
 #[inline(always)]
 fn is_below(limit: u64, z: i64) -> bool
     ensures { result ≡ fitting.is_below limit z }
@@ -85,21 +88,21 @@ fn is_below(limit: u64, z: i64) -> bool
     z >= 0 && (z as u64) < limit
 }
 
-/// The tag of this hash.
+/// Returns the tag with this hash.
 pub fn tag_of_hash(tags: &[PolyTag<usize>], hash: i64) -> Option<&PolyTag<usize>>
     ensures { option_map (λ tag. tag.now) result ≡ tag_with tags.now hash }
 {
     tags.iter().find(|tag| is_hash(tag.hash, hash))
 }
 
-/// Whether a tag's hash is the number.
+/// Returns true if a tag has this hash.
 fn is_hash(own: i64, hash: i64) -> bool
     ensures { result ≡ fitting.is_number own hash }
 {
     own == hash
 }
 
-/// Whether an atom fits.
+/// Returns true if an atom matches the shape.
 pub fn fits_atom(shape: &ShapeOf<usize>, tag: u8) -> bool
     ensures { result ≡ fitting.fits_atom shape.now tag }
 {
@@ -113,7 +116,7 @@ pub fn fits_atom(shape: &ShapeOf<usize>, tag: u8) -> bool
     }
 }
 
-/// Whether an array of so many doubles fits.
+/// Returns true if an array of `size` doubles matches the shape.
 pub fn fits_doubles(shape: &ShapeOf<usize>, size: u64) -> bool
     ensures { result ≡ fitting.has_doubles shape.now size }
 {
@@ -126,7 +129,8 @@ pub fn fits_doubles(shape: &ShapeOf<usize>, size: u64) -> bool
     }
 }
 
-/// The places of a block, if it fits a type of which something is asked.
+/// Returns the positions of a block's fields if the block matches the shape. For wildcards use
+/// `places_at`.
 #[inline(always)]
 pub fn block_places(shape: &ShapeOf<usize>, tag: u8, size: u64) -> Option<Open<'_>>
     ensures { option_map open_needs result ≡ block_needs shape.now tag size }
@@ -143,8 +147,8 @@ pub fn block_places(shape: &ShapeOf<usize>, tag: u8, size: u64) -> Option<Open<'
     }
 }
 
-/// The places of a block at a type of this shape, if it fits; those of a hidden one are hidden,
-/// too.
+/// Returns the positions of a block's fields if the block matches the shape. At a wildcard, the
+/// fields are wildcards too.
 #[inline(always)]
 pub fn places_at(shape: &ShapeOf<usize>, ty: usize, tag: u8, size: u64) -> Option<Open<'_>>
     ensures { option_map open_needs result ≡ shape_asks shape.now ty tag size }
@@ -155,7 +159,8 @@ pub fn places_at(shape: &ShapeOf<usize>, ty: usize, tag: u8, size: u64) -> Optio
     }
 }
 
-/// The same by tests one after another, with what is common first.
+/// Returns the positions of a block's fields if the block matches the shape. This is the fast path
+/// of `places_at`: a chain of tests with common shapes first.
 #[inline(always)]
 pub fn hot_places(shape: &ShapeOf<usize>, ty: usize, tag: u8, size: u64) -> Option<Open<'_>>
     ensures { option_map open_needs result ≡ shape_asks shape.now ty tag size }
@@ -166,7 +171,8 @@ pub fn hot_places(shape: &ShapeOf<usize>, ty: usize, tag: u8, size: u64) -> Opti
     }
 }
 
-/// The same where it is no sum.
+/// Returns the positions of a block's fields if the block matches the shape. The fast path calls
+/// this function for shapes other than sums.
 #[inline(always)]
 fn product_places(shape: &ShapeOf<usize>, ty: usize, tag: u8, size: u64) -> Option<Open<'_>>
     ensures { option_map open_needs result ≡ shape_asks shape.now ty tag size }
@@ -183,7 +189,8 @@ fn product_places(shape: &ShapeOf<usize>, ty: usize, tag: u8, size: u64) -> Opti
     }
 }
 
-/// The same where blocks are rare. It is called.
+/// Returns the positions of a block's fields if the block matches the shape. The fast path calls
+/// this function for shapes that rarely have blocks, and it is not inlined.
 #[inline(never)]
 fn other_places(shape: &ShapeOf<usize>, ty: usize, tag: u8, size: u64) -> Option<Open<'_>>
     ensures { option_map open_needs result ≡ shape_asks shape.now ty tag size }
@@ -191,7 +198,7 @@ fn other_places(shape: &ShapeOf<usize>, ty: usize, tag: u8, size: u64) -> Option
     places_at(shape, ty, tag, size)
 }
 
-/// Whether nothing is asked of the values of a type.
+/// Returns true if the type is a wildcard.
 #[inline(always)]
 pub fn is_hidden(table: &TypeTable, ty: usize) -> bool
     ensures { OnTrue result (IsHidden (table_of table.now) ty) }
@@ -202,7 +209,8 @@ pub fn is_hidden(table: &TypeTable, ty: usize) -> bool
     }
 }
 
-/// The places of the block of a constructor, if it has so many.
+/// Returns the positions of the fields of a constructor's block, if the constructor has `size`
+/// fields.
 #[inline(always)]
 fn constr_places(blocks: &[Constr<usize>], tag: u8, size: u64) -> Option<Open<'_>>
     ensures { option_map open_needs result ≡ constr_needs size (slice_get blocks.now tag) }
@@ -218,7 +226,7 @@ fn constr_places(blocks: &[Constr<usize>], tag: u8, size: u64) -> Option<Open<'_
     }
 }
 
-/// Whether two types have one class.
+/// Returns true if two types are equal: they have the same number or the same class.
 #[inline(always)]
 pub fn is_equal(table: &TypeTable, first: usize, second: usize) -> bool
     ensures { OnTrue result ((table_shapes (table_of table.now)).equal first second) }
@@ -226,7 +234,7 @@ pub fn is_equal(table: &TypeTable, first: usize, second: usize) -> bool
     first == second || has_same_class(table, first, second)
 }
 
-/// The same by the classes.
+/// Returns true if two types have the same class.
 fn has_same_class(table: &TypeTable, first: usize, second: usize) -> bool
     ensures { OnTrue result ((table_shapes (table_of table.now)).equal first second) }
 {
@@ -234,7 +242,7 @@ fn has_same_class(table: &TypeTable, first: usize, second: usize) -> bool
     first < many && second < many && table.class(first) == table.class(second)
 }
 
-/// Whether a block of this tag may be changed.
+/// Returns true if a block with this tag is mutable at this shape.
 pub fn may_change(shape: &ShapeOf<usize>, tag: u8) -> bool
     ensures { (values : List Val)
         → result ≡ fitting.is_mutable shape.now (Some (objects.Block tag values)) }
@@ -251,7 +259,7 @@ pub fn may_change(shape: &ShapeOf<usize>, tag: u8) -> bool
     }
 }
 
-/// Whether the block of a constructor may be changed.
+/// Returns true if the block of a constructor is mutable.
 fn is_mutable_at(blocks: &[Constr<usize>], tag: u8) -> bool
     ensures { result ≡ fitting.is_mutable_block (slice_get blocks.now tag) }
 {
@@ -261,7 +269,7 @@ fn is_mutable_at(blocks: &[Constr<usize>], tag: u8) -> bool
     blocks[tag as usize].mutable
 }
 
-/// The type of an object.
+/// Returns the type of an object.
 #[inline(always)]
 pub fn type_at(types: &[u16], object: usize) -> usize
     requires { object < length types.now }

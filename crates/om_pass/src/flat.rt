@@ -1,5 +1,5 @@
-//! An object that is met at a second type: it is known there where its block is flat, that is,
-//! where its fields are integers, atoms and references back.
+//! Objects that are referenced at a second type. The pass accepts the second type if the object is
+//! a flat block: its fields are integers, atoms and references back.
 
 ghost use Rattle.std.specs.Prelude.{◌≡◌, ◌≤◌, ◌+◌, ◌-◌, ℕ, List, [], length, drop, IfOk, OnOk};
 ghost use Rattle.std.specs.Prelude.{slice_get, Some, Contains, false};
@@ -23,11 +23,11 @@ use crate::places::Open;
 use om_model::Memory;
 use om_type_table::TypeTable;
 
-/// So many notes are kept.
+/// The maximum number of notes that are kept.
 const MOST_NOTES: usize = 16;
 
-/// Whether a reference in an object, back by so many, is hidden, or leads to an object of an equal
-/// type, where that is known.
+/// Checks a reference with this offset in a field of `object`. Returns true if the field is a
+/// wildcard, or if the reference leads to an object whose type is known and equals `ty`.
 fn fits_back(table: &TypeTable, types: &[u16], object: usize, ty: usize, offset: u64) -> bool
     ensures { OnTrue result
         (IsAt (table_of table.now) types.now [] (vals.Ref (object + 1 - offset)) ty) }
@@ -45,7 +45,7 @@ fn fits_back(table: &TypeTable, types: &[u16], object: usize, ty: usize, offset:
     target < types.len() && is_equal(table, type_at(types, target), ty)
 }
 
-/// Whether a field of an object is flat and has the type.
+/// Returns true if a field of an object is flat and has the type.
 fn is_flat_field(table: &TypeTable, types: &[u16], object: usize, ty: usize, seen: Seen) -> bool
     ensures { OnTrue result ((token : Token) → IsSeen seen token
         → IsFlat token
@@ -63,7 +63,7 @@ fn is_flat_field(table: &TypeTable, types: &[u16], object: usize, ty: usize, see
     }
 }
 
-/// Whether the tokens from this byte on begin with flat fields of these types.
+/// Returns true if the tokens from byte `start` on begin with flat fields of these types.
 fn are_fields(
     table: &TypeTable,
     types: &[u16],
@@ -90,7 +90,8 @@ fn are_fields(
     true
 }
 
-/// Whether a block of the tag may not be changed at the type of the object, where that is known.
+/// Returns true if the first type of the object is known, and a block with this tag is immutable at
+/// it.
 fn is_fixed_at_first(table: &TypeTable, types: &[u16], object: usize, tag: u8) -> bool
     ensures { OnTrue result
         ((u : ℕ) → slice_get types.now object ≡ Some u → (values : List Val)
@@ -106,8 +107,9 @@ fn is_fixed_at_first(table: &TypeTable, types: &[u16], object: usize, tag: u8) -
     !may_change(first, tag)
 }
 
-/// Whether an object is a flat block that has the type, too, and may not be changed. The types of
-/// the first objects are known.
+/// Returns true if an object is a flat block that also has type `ty`, and is immutable. The list
+/// `types` has the first types of the objects so far. Subtracts the number of re-read tokens from
+/// `left`.
 #[inline(never)]
 pub fn is_flat(
     table: &TypeTable,
@@ -145,14 +147,15 @@ pub fn is_flat(
     }
 }
 
-/// Whether an object is noted at a type.
+/// Returns true if there is a note that the object has this type.
 pub fn is_noted(notes: &[(usize, usize)], object: usize, ty: usize) -> bool
     ensures { OnTrue result (Contains notes.now (object, ty)) }
 {
     notes.iter().any(|note| note.0 == object && note.1 == ty)
 }
 
-/// Notes an object at a type, beside a few of those that were noted last.
+/// Records a note that an object has a type. If `MOST_NOTES` notes are kept already, they are
+/// dropped first.
 pub fn note(notes: &mut Vec<(usize, usize)>, object: usize, ty: usize) -> Result<(), Memory>
     ensures { OnOk result (AreNotes notes.old.items object ty notes.new.items) }
 {
@@ -163,7 +166,8 @@ pub fn note(notes: &mut Vec<(usize, usize)>, object: usize, ty: usize) -> Result
     Ok(())
 }
 
-/// Whether so many places back an object stands that has the type.
+/// Returns true if the reference with this offset leads to an object that has type `ty`, as its
+/// first or as a second type.
 #[inline(always)]
 pub fn is_known(
     table: &TypeTable,

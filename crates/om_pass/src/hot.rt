@@ -1,5 +1,5 @@
-//! The common tokens, taken while a pass holds its places and words in hand; no memory is asked
-//! for.
+//! The fast path for common tokens. The open positions and the remaining words stay in local
+//! variables, and nothing is allocated.
 
 ghost use Rattle.std.specs.Prelude.{◌≡◌, ◌<◌, ◌≤◌, ◌+◌, ◌++◌, [], ◌^◌, ℕ, List, length, Ok};
 ghost use Rattle.std.specs.Prelude.{◌∷◌, map, IfSome, IsTrue, MatchOption, slice_index};
@@ -28,8 +28,8 @@ use om_model::code::{CodeKind, Measure};
 use om_type_table::TypeTable;
 use om_types::shape::ShapeOf;
 
-/// Whether there is room for the type of one more object, and its byte is not to be marked. That of
-/// the first one is marked at the begin.
+/// Returns true if the type of one more object can be stored without allocation, and no mark is
+/// due. The first mark is set when the pass begins.
 #[inline(always)]
 fn has_room(types: &Vec<u16>, ty: usize) -> bool
     ensures { OnTrue result ((ty < 2 ^ 16) × (vec_len types.now < vec_capacity types.now)) }
@@ -40,7 +40,7 @@ fn has_room(types: &Vec<u16>, ty: usize) -> bool
     types.len() < types.capacity()
 }
 
-/// The open places wait, if there are any; or there is no room for them.
+/// Pushes the open positions on the stack if there are any. Returns false if the stack is full.
 #[tactic(auto, using(crate::proofs::PlaceLemmas::waiting_needs_push))]
 #[inline(always)]
 fn keep_reserved<'a>(waiting: &mut Vec<Open<'a>>, others: Open<'a>) -> bool
@@ -59,7 +59,7 @@ fn keep_reserved<'a>(waiting: &mut Vec<Open<'a>>, others: Open<'a>) -> bool
     true
 }
 
-/// A block comes, and then its fields: these come before the others.
+/// Reads a block. The positions of its fields precede all others.
 #[inline(always)]
 fn hot_block<'a>(
     table: &'a TypeTable,
@@ -96,7 +96,7 @@ fn hot_block<'a>(
     Some(inside)
 }
 
-/// Whether an integer has the type.
+/// Returns true if an integer has the type.
 #[inline(always)]
 fn is_hot_int(table: &TypeTable, ty: usize, z: i64) -> bool
     ensures { OnTrue result (IsTrue (fitting.fits_int (shape_at (table_of table.now) ty) z)) }
@@ -107,7 +107,7 @@ fn is_hot_int(table: &TypeTable, ty: usize, z: i64) -> bool
     }
 }
 
-/// An object without fields comes, if there is room for it.
+/// Reads an object without fields, if there is room for it.
 #[inline(always)]
 fn hot_leaf(ty: usize, measure: Measure, types: &mut Vec<u16>, words: &mut Words) -> bool
     requires { IsCountable measure }
@@ -125,7 +125,7 @@ fn hot_leaf(ty: usize, measure: Measure, types: &mut Vec<u16>, words: &mut Words
     true
 }
 
-/// A string of so many bytes comes.
+/// Reads a string of `size` bytes.
 #[inline(always)]
 fn hot_bytes(
     table: &TypeTable,
@@ -150,7 +150,7 @@ fn hot_bytes(
     }
 }
 
-/// A double comes.
+/// Reads a double.
 #[inline(always)]
 fn hot_double(table: &TypeTable, ty: usize, types: &mut Vec<u16>, words: &mut Words) -> bool
     ensures took { IsTrue result
@@ -168,7 +168,8 @@ fn hot_double(table: &TypeTable, ty: usize, types: &mut Vec<u16>, words: &mut Wo
     }
 }
 
-/// Whether so many places back an object stands that has an equal type, or any in a hidden place.
+/// Returns true if the reference with this offset leads to an object of an equal type, or if the
+/// position is a wildcard.
 #[inline(always)]
 fn is_hot_back(table: &TypeTable, types: &[u16], ty: usize, offset: u64) -> bool
     ensures { OnTrue result
@@ -182,8 +183,8 @@ fn is_hot_back(table: &TypeTable, types: &[u16], ty: usize, offset: u64) -> bool
     is_equal(table, type_at(types, (made - offset) as usize), ty) || is_hidden(table, ty)
 }
 
-/// The token comes of this kind, after whose code stands the piece: what is then open in the
-/// innermost block, if it was taken.
+/// Reads a token of this kind from the bytes after its code. Returns the positions that are then
+/// open in the innermost block, or `None` if the token was not accepted.
 #[inline(always)]
 fn hot_piece<'a>(
     table: &'a TypeTable,
@@ -270,8 +271,8 @@ fn hot_piece<'a>(
     }
 }
 
-/// The token of this kind comes that begins the bytes: how many bytes it has, and what is then
-/// open in the innermost block, if it was taken.
+/// Reads the token of this kind at the beginning of `rest`. Returns its length in bytes and the
+/// positions that are then open in the innermost block, or `None` if the token was not accepted.
 #[inline(always)]
 fn hot_kind<'a>(
     table: &'a TypeTable,
@@ -314,8 +315,8 @@ fn hot_kind<'a>(
     }
 }
 
-/// The same of the other codes below 0x20. As `hot_typed`, it has one caller for each value of
-/// `LISTED`.
+/// Reads the first token of `rest` for the other codes below 0x20. Like `hot_typed`, this function
+/// has one caller for each value of `LISTED`.
 #[tactic(auto, unfolding(om_format::specs::Code::kind_of))]
 #[inline(always)]
 fn hot_large<'a, const LISTED: bool>(
@@ -371,8 +372,9 @@ fn hot_large<'a, const LISTED: bool>(
     }
 }
 
-/// The first token of the bytes comes, if it is a common one and has the type. Whether the places
-/// are listed says who calls: as it is large, it is put in line only where it has one caller.
+/// Reads the first token of `rest` if it is a common one and has the type. `LISTED` distinguishes
+/// the two callers. This function is large, so the compiler inlines it only if each instance has
+/// one caller.
 #[tactic(auto, unfolding(om_format::specs::Code::kind_of))]
 #[inline(always)]
 fn hot_typed<'a, const LISTED: bool>(
@@ -396,8 +398,9 @@ fn hot_typed<'a, const LISTED: bool>(
         return None;
     }
     let code = rest[0];
-    // Each of these codes gets code of its own, and blocks come first. The room is asked for in
-    // between so that the test of a double is not made one with the choice among the others.
+    // Each of these codes has its own branch, and blocks come first. The test of the length in
+    // between keeps the compiler from merging the test for a double with the choice among the other
+    // codes.
     if code >= 0x80 {
         let kind = CodeKind::SmallBlock(code % 16, code / 16 % 8);
         hot_kind(table, stated, ty, others, kind, rest, types, waiting, words)
@@ -417,7 +420,7 @@ fn hot_typed<'a, const LISTED: bool>(
     }
 }
 
-/// The first token of the bytes comes, if it is a common one and has what is asked for.
+/// Reads the first token of `rest` if it is a common one and satisfies the requirement.
 #[inline(always)]
 pub fn hot<'a>(
     table: &'a TypeTable,
@@ -442,7 +445,7 @@ pub fn hot<'a>(
     hot_typed::<false>(table, stated, ty, others, rest, types, waiting, words)
 }
 
-/// The type of the first of these places, and the others.
+/// Returns the type of the first of these positions, and the others.
 #[inline(always)]
 fn split_listed<'a>(places: &'a [usize]) -> Option<(usize, Open<'a>)>
     ensures { IfSome result
@@ -454,8 +457,8 @@ fn split_listed<'a>(places: &'a [usize]) -> Option<(usize, Open<'a>)>
     Some((places[0], Open::Listed(&places[1..])))
 }
 
-/// The first token of the bytes comes, if it is a common one and the innermost block has places by
-/// a list of their types. This gets code of its own.
+/// Reads the first token of `rest` if it is a common one and the innermost block has a list of
+/// types for its positions. This case has its own copy of the code.
 #[inline(always)]
 pub fn hot_listed<'a>(
     table: &'a TypeTable,

@@ -1,5 +1,6 @@
-//! A value is typed while its bytes are looked at once, without a heap: it is of the type, or
-//! nothing is said of it.
+//! The streaming check: it types a value in one pass over its bytes and builds no heap. If the
+//! result is `Stop::Typed`, the value has the type (`IsTypedFront`). If the result is
+//! `Stop::Untold`, the check is inconclusive and another checker must decide.
 #![tactic(auto)]
 
 mod again;

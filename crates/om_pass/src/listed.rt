@@ -1,4 +1,4 @@
-//! The common tokens that come in listed places, in a loop of their own.
+//! A separate loop for common tokens at positions whose types are in a list.
 
 ghost use Rattle.std.specs.Prelude.{◌≡◌, ◌≤◌, length};
 ghost use Rattle.om_type_table.specs.Made.{table_of};
@@ -12,7 +12,7 @@ use crate::words::Words;
 use om_model::header::Head;
 use om_type_table::TypeTable;
 
-/// This is open in the innermost block, and these words are still to come.
+/// Stores the open positions of the innermost block and the remaining words in the state.
 #[inline(always)]
 fn hold<'a>(state: &mut State<'a>, now: Open<'a>, words: Words)
     ensures { state.new ≡ held now.entry state.old.places.waiting state.old.types words }
@@ -21,8 +21,8 @@ fn hold<'a>(state: &mut State<'a>, now: Open<'a>, words: Words)
     state.words = words;
 }
 
-/// Takes common tokens while they come in listed places, and gives what is left of the bytes. It is
-/// called, for few values live in its loop then.
+/// Reads common tokens as long as the innermost block has a list of types. Returns the remaining
+/// bytes. This function is not inlined, so that its loop has few live values.
 #[inline(never)]
 pub fn run_listed<'a, 'b>(
     table: &'a TypeTable,
@@ -67,7 +67,7 @@ pub fn run_listed<'a, 'b>(
     }
 }
 
-/// The same, where the innermost block has places by a list.
+/// Calls `run_listed` if the innermost block has a list of types. Otherwise returns all bytes.
 #[inline(always)]
 pub fn take_listed<'a, 'b>(
     table: &'a TypeTable,

@@ -1,4 +1,4 @@
-//! A value that is passed, at once or as its bytes come.
+//! The streaming check of a value whose bytes are present, or arrive in chunks.
 
 ghost use Rattle.std.specs.Prelude.{IfOk, IfSome};
 ghost use Rattle.om_type_table.specs.Made.{table_of};
@@ -13,8 +13,8 @@ use om_model::header::Head;
 use om_type_table::TypeTable;
 use std::alloc::Global;
 
-/// A value whose bytes are passed as they come: what its header states, where its tokens begin, and
-/// how far they lead.
+/// The state of the check: the header, the offset of the first token, and the offset and state that
+/// were reached.
 #[derive(Drop)]
 pub struct Passing<'a> {
     pub head: Head,
@@ -22,15 +22,17 @@ pub struct Passing<'a> {
     pub at: usize,
     pub state: State<'a>,
     pub marks: Vec<usize>,
-    /// Some objects and second types that they are known to have.
+    /// Objects and second types that they have.
     pub notes: Vec<(usize, usize)>,
-    /// How many bytes came.
+    /// The number of bytes that have arrived.
     pub seen: usize,
-    /// So often may a token or an open block be looked at again: as often as bytes came.
+    /// The budget for re-reading tokens and for inspecting open blocks. It grows with the bytes
+    /// that arrive.
     pub left: u64,
 }
 
-/// Room for the types of the objects: as many as the header states, and no more than bytes came.
+/// Returns the number of object types for which memory is reserved: the number of objects that the
+/// header states, and at most the number of bytes.
 fn room_for(head: &Head, bytes: usize) -> usize {
     head.objects.min(bytes as u64) as usize
 }
@@ -40,7 +42,7 @@ impl<'a> Passing<'a> {
     ghost use Rattle.om_types.specs.Table.{Table};
     ghost use Rattle.om_pass.specs.State.{IsUnderway, Stops};
 
-    /// Nothing is passed. It takes no memory.
+    /// Returns a check that has not begun. This call does not allocate.
     pub fn new(alloc: Global) -> Passing<'a> {
         let head = Head {
             big: false,
@@ -65,8 +67,8 @@ impl<'a> Passing<'a> {
         }
     }
 
-    /// Begins with the value whose header begins the bytes, in the same memory, if the header is
-    /// whole and states no more than may be.
+    /// Begins the check of the value at the beginning of `bytes`, and reuses the memory. Returns
+    /// false if the header is incomplete or invalid, or states more than the limits allow.
     pub fn begin(&mut self, bytes: &[u8], limit: u64) -> Result<bool, Memory>
         ensures { IfOk result
             (λ begun. OnTrue begun
@@ -91,7 +93,8 @@ impl<'a> Passing<'a> {
         Ok(true)
     }
 
-    /// Goes on, with the bytes that were passed and those that came since.
+    /// Continues the check. `bytes` are all bytes of the value so far, including those that were
+    /// checked already.
     pub fn go(&mut self, table: &'a TypeTable, limit: u64, bytes: &[u8]) -> Result<Stop, Memory>
         requires leads { IsUnderway (table_of table.now) limit bytes.now self.old }
         ensures { IfOk result (Stops (table_of table.now) limit bytes.now self.new) }
@@ -119,16 +122,16 @@ impl<'a> Passing<'a> {
         }
     }
 
-    /// Whether all data bytes that the header states are among so many bytes.
+    /// Returns true if `bytes` bytes include all data that the header states.
     fn is_there(&self, bytes: usize) -> bool {
         let bytes = bytes as u64;
         self.head.length <= bytes && self.start as u64 <= bytes - self.head.length
     }
 }
 
-/// How many of the bytes are a value of the table's first type, of at most so many words, if one
-/// look at each shows it.
-/// Where it does not, nothing is said; where the value's last bytes are not there, that is at once.
+/// Checks a value at the beginning of `bytes` in one pass. Returns its length in bytes if it has
+/// the table's first type and takes at most `limit` words. Returns `None` if the pass is
+/// inconclusive. If the value is truncated, it returns `None` at once.
 pub fn pass(
     alloc: Global,
     table: &TypeTable,

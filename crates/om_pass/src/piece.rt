@@ -1,4 +1,4 @@
-//! How many bytes a token has, by its code and the bytes after it.
+//! The length of a token, from its code and the bytes after it.
 
 ghost use Rattle.std.specs.Prelude.{◌≡◌, ◌≤◌, ◌+◌, ◌*◌, ◌<◌, length, take, IfSome};
 ghost use Rattle.std.specs.Prelude.{slice_index};
@@ -10,7 +10,7 @@ use om_customs::ident;
 use om_model::bytes::big_endian;
 use om_model::code::{CodeKind, CustomKind};
 
-/// How many bytes the token has after its code, if they are there.
+/// Returns the number of bytes after the token's code, or `None` if they are incomplete.
 #[inline(always)]
 pub fn piece_len(kind: CodeKind, rest: &[u8]) -> Option<usize>
     requires { IsKind kind }
@@ -35,7 +35,8 @@ pub fn piece_len(kind: CodeKind, rest: &[u8]) -> Option<usize>
     Some(len)
 }
 
-/// A number of so many bytes and then so many items of so many bytes, if they are there.
+/// Returns the length of a number of `width` bytes followed by as many items as the number states,
+/// of `each` bytes, or `None` if they are incomplete.
 fn counted(rest: &[u8], width: usize, each: usize) -> Option<usize>
     requires few { width ≤ 8 }
     requires some { 0 < each }
@@ -54,7 +55,7 @@ fn counted(rest: &[u8], width: usize, each: usize) -> Option<usize>
     Some(width + each * count as usize)
 }
 
-/// The custom that the first three bytes name.
+/// Returns the kind of the custom block that the first three bytes identify.
 pub fn custom_at(rest: &[u8]) -> Option<CustomKind>
     requires { 3 ≤ length rest.now }
     ensures { result ≡ custom_of (take 3 rest.now) }
@@ -62,7 +63,8 @@ pub fn custom_at(rest: &[u8]) -> Option<CustomKind>
     ident([rest[0], rest[1], rest[2]])
 }
 
-/// How many bytes a custom has after its code, if they are there and it is one that is read.
+/// Returns the number of bytes of a custom block after its code. Returns `None` if they are
+/// incomplete or the custom block is not supported.
 fn custom_len(rest: &[u8]) -> Option<usize>
     ensures { IfSome result
         (λ len. (len ≤ length rest.now)
@@ -83,7 +85,8 @@ fn custom_len(rest: &[u8]) -> Option<usize>
     Some(len)
 }
 
-/// The same of a `Nativeint` whose number has the size that this byte names, if it names one.
+/// Returns this number for a `Nativeint` with this kind byte. If the kind byte is invalid, its
+/// number has no bytes.
 fn native_len(kind: u8) -> usize
     ensures { result ≡ 4 + native_bytes kind }
 {

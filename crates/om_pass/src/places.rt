@@ -1,4 +1,4 @@
-//! The places that are still open, by what each asks for.
+//! The open positions and their requirements.
 
 ghost use Rattle.std.specs.Prelude.{◌≡◌, ◌≤◌, ◌∷◌, ◌++◌, [], MatchOption, OnOk};
 ghost use Rattle.std.specs.Bool.{OnTrue};
@@ -9,25 +9,25 @@ use om_model::Memory;
 use om_types::shape::PolyTag;
 use std::alloc::Global;
 
-/// The places of one block that are still open, in their order.
+/// The open positions of one block, in order.
 #[derive(Clone, Copy)]
 pub enum Open<'a> {
-    /// A place for each of these types.
+    /// One position for each of these types.
     Listed(&'a [usize]),
-    /// So many places of one type.
+    /// A number of positions of the same type.
     Each(u64, usize),
     /// The hash of one of these tags, and then its argument.
     Tagged(&'a [PolyTag<usize>]),
 }
 
-/// What a place asks for.
+/// The requirement of a position.
 #[derive(Clone, Copy)]
 pub enum Asked<'a> {
     Type(usize),
     Hash(&'a [PolyTag<usize>]),
 }
 
-/// The first of open places, and the others.
+/// Splits off the first open position. Returns `None` if there is none.
 #[inline(always)]
 fn split<'a>(open: Open<'a>) -> Option<(Asked<'a>, Open<'a>)>
     ensures { MatchOption result
@@ -51,7 +51,7 @@ fn split<'a>(open: Open<'a>) -> Option<(Asked<'a>, Open<'a>)>
     }
 }
 
-/// Whether none is open any more.
+/// Returns true if no position is open.
 #[inline(always)]
 pub fn is_done(open: Open<'_>) -> bool
     ensures { OnTrue result (open_needs open.entry ≡ []) }
@@ -63,7 +63,8 @@ pub fn is_done(open: Open<'_>) -> bool
     }
 }
 
-/// How many values are to come in the open places: a hash, and then its argument, fill one.
+/// Returns the number of values that are still to be read for these positions. A hash and its
+/// argument count as two.
 fn values_of(block: Open<'_>) -> u64
     ensures { result ≡ values_in (open_needs block.entry) }
 {
@@ -74,7 +75,8 @@ fn values_of(block: Open<'_>) -> u64
     }
 }
 
-/// The open places of all blocks: of the innermost, and of those around it that have any.
+/// The open positions of all blocks: those of the innermost block, and a stack of those of the
+/// enclosing blocks that have any.
 #[derive(Drop)]
 pub struct Places<'a> {
     pub now: Open<'a>,
@@ -82,7 +84,7 @@ pub struct Places<'a> {
 }
 
 impl<'a> Places<'a> {
-    /// The place of the value, which asks for the first type.
+    /// Returns the position of the root, which requires the first type.
     pub fn root(alloc: Global) -> Places<'a>
         ensures { places_needs result ≡ of_type 0 ∷ [] }
     {
@@ -92,7 +94,7 @@ impl<'a> Places<'a> {
         }
     }
 
-    /// The place of another value, in the same memory.
+    /// Replaces all positions by that of another root, and reuses the memory.
     pub fn restart(&mut self)
         ensures { places_needs self.new ≡ of_type 0 ∷ [] }
     {
@@ -100,8 +102,8 @@ impl<'a> Places<'a> {
         self.now = Open::Each(1, 0);
     }
 
-    /// Whether no more values are to come in the open places than so many. It gives up where more
-    /// blocks would be looked at than may be, and counts these down.
+    /// Returns true if at most `most` values are still to be read for the open positions. Subtracts
+    /// the number of inspected blocks from `left`, and returns false if `left` is too small.
     pub fn are_within(&self, most: u64, left: &mut u64) -> bool
         ensures { OnTrue result (values_in (places_needs self.entry.now) ≤ most) }
     {
@@ -122,7 +124,7 @@ impl<'a> Places<'a> {
         true
     }
 
-    /// The open places of the innermost block wait, if it has any.
+    /// Pushes the open positions of the innermost block on the stack, if it has any.
     #[tactic(auto, using(crate::proofs::PlaceLemmas::waiting_needs_push))]
     #[inline(always)]
     fn keep(&mut self) -> Result<(), Memory>
@@ -135,7 +137,7 @@ impl<'a> Places<'a> {
         Ok(())
     }
 
-    /// The places of a block inside come before all others.
+    /// Adds the positions of an inner block before all others.
     #[inline(always)]
     pub fn open(&mut self, inside: Open<'a>) -> Result<(), Memory>
         ensures { OnOk result
@@ -147,7 +149,7 @@ impl<'a> Places<'a> {
     }
 }
 
-/// The open places of the innermost block that has any, if one has.
+/// Returns the open positions of the innermost block that has any.
 #[tactic(auto, using(crate::proofs::PlaceLemmas::waiting_needs_push))]
 #[inline(always)]
 pub fn innermost<'a>(now: Open<'a>, waiting: &mut Vec<Open<'a>>) -> Open<'a>
@@ -163,7 +165,7 @@ pub fn innermost<'a>(now: Open<'a>, waiting: &mut Vec<Open<'a>>) -> Open<'a>
     }
 }
 
-/// What the first open place asks for, and what is then open in its block.
+/// Returns the requirement of the first open position, and the other open positions of its block.
 #[inline(always)]
 pub fn first_place<'a>(now: Open<'a>, waiting: &mut Vec<Open<'a>>) -> Option<(Asked<'a>, Open<'a>)>
     ensures { MatchOption result
@@ -177,7 +179,8 @@ pub fn first_place<'a>(now: Open<'a>, waiting: &mut Vec<Open<'a>>) -> Option<(As
     first_waiting(waiting)
 }
 
-/// The same where the innermost block has none.
+/// Returns the requirement of the first open position on the stack, and the other open positions of
+/// its block. The innermost block has no open position.
 #[tactic(auto, using(crate::proofs::PlaceLemmas::waiting_needs_push))]
 #[inline(always)]
 fn first_waiting<'a>(waiting: &mut Vec<Open<'a>>) -> Option<(Asked<'a>, Open<'a>)>

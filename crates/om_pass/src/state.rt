@@ -1,4 +1,4 @@
-//! What a pass holds on its way, and what each token changes.
+//! The state of the pass, and the effect of each token on it.
 
 ghost use Rattle.std.specs.Prelude.{◌≡◌, ◌<◌, ◌^◌, ◌++◌, ◌∷◌, [], ℕ, List, Some, length};
 ghost use Rattle.std.specs.Prelude.{IfOk, ℤ};
@@ -19,7 +19,8 @@ use om_model::code::{CustomKind, Measure};
 use om_type_table::TypeTable;
 use om_types::shape::{PolyTag, ShapeOf};
 
-/// The places that are open, the types of the objects met, and the words that are still to come.
+/// The open positions, the types of the objects so far, and the words that the header states for
+/// the remaining objects.
 #[derive(Drop)]
 pub struct State<'a> {
     pub places: Places<'a>,
@@ -27,7 +28,7 @@ pub struct State<'a> {
     pub words: Words,
 }
 
-/// One more object has the type, if there is room for its number.
+/// Adds the type of one more object. Returns false if the type's number does not fit into 16 bits.
 #[inline(always)]
 fn add_type(types: &mut Vec<u16>, ty: usize) -> Result<bool, Memory>
     ensures { IfOk result (λ added. OnTrue added (types.new.items ≡ types.old.items ++ ty ∷ [])) }
@@ -44,7 +45,7 @@ fn add_type(types: &mut Vec<u16>, ty: usize) -> Result<bool, Memory>
 }
 
 impl<'a> State<'a> {
-    /// An integer comes.
+    /// Reads an integer.
     #[inline(always)]
     pub fn integer(
         &mut self,
@@ -64,7 +65,7 @@ impl<'a> State<'a> {
         }
     }
 
-    /// A tag's hash comes, after which its argument is asked for.
+    /// Reads the hash of a tag. The argument of the tag is required next.
     fn hash(
         &mut self,
         table: &'a TypeTable,
@@ -86,7 +87,7 @@ impl<'a> State<'a> {
         }
     }
 
-    /// An atom comes.
+    /// Reads an atom.
     fn atom(&self, table: &TypeTable, asked: Asked<'_>, tag: u8) -> bool
         ensures { OnTrue result
             (Took (table_of table.now) self.now self.now (need_of asked.entry) (atom tag)) }
@@ -100,7 +101,7 @@ impl<'a> State<'a> {
         }
     }
 
-    /// A block comes, and then its fields.
+    /// Reads a block. The positions of its fields are open next.
     #[inline(always)]
     fn block(
         &mut self,
@@ -129,7 +130,7 @@ impl<'a> State<'a> {
         Ok(true)
     }
 
-    /// A block comes, or an atom where it has no fields.
+    /// Reads a block, or an atom if the size is 0.
     #[inline(always)]
     pub fn block_or_atom(
         &mut self,
@@ -150,7 +151,7 @@ impl<'a> State<'a> {
         }
     }
 
-    /// An object without fields comes, which fits the type.
+    /// Reads an object without fields that matches the type.
     #[inline(always)]
     fn leaf(&mut self, ty: usize, measure: Measure) -> Result<bool, Memory>
         requires { IsCountable measure }
@@ -162,7 +163,7 @@ impl<'a> State<'a> {
         add_type(&mut self.types, ty)
     }
 
-    /// A string of so many bytes comes.
+    /// Reads a string of `size` bytes.
     #[inline(always)]
     pub fn bytes(&mut self, table: &TypeTable, asked: Asked<'_>, size: u64) -> Result<bool, Memory>
         ensures { IfTook result
@@ -180,7 +181,7 @@ impl<'a> State<'a> {
         }
     }
 
-    /// A double comes.
+    /// Reads a double.
     #[inline(always)]
     pub fn double(&mut self, table: &TypeTable, asked: Asked<'_>) -> Result<bool, Memory>
         ensures { IfTook result
@@ -198,7 +199,7 @@ impl<'a> State<'a> {
         }
     }
 
-    /// An array of so many doubles comes.
+    /// Reads an array of `size` doubles.
     pub fn doubles(
         &mut self,
         table: &TypeTable,
@@ -221,7 +222,7 @@ impl<'a> State<'a> {
         }
     }
 
-    /// A custom comes.
+    /// Reads a custom block.
     pub fn custom(
         &mut self,
         table: &TypeTable,

@@ -1,4 +1,4 @@
-//! One token.
+//! Reads one token.
 
 ghost use Rattle.std.specs.Prelude.{◌≡◌, ◌≤◌, ◌<◌, ◌+◌, ◌/◌, ◌%◌, ℕ, List, length, IfOk, Ok};
 ghost use Rattle.om_model.specs.declared.value.Obj.TheVariants as objects;
@@ -24,18 +24,18 @@ use om_model::bytes::{big_endian, signed};
 use om_model::code::CodeKind;
 use om_type_table::TypeTable;
 
-/// What came of a token.
+/// The result of reading a token.
 #[derive(Clone, Copy)]
 pub enum Answer {
-    /// It was taken, and has so many bytes.
+    /// The token was accepted. The number is its length in bytes.
     Took(usize),
-    /// It is a reference, and nothing has changed.
+    /// The token is a reference. Nothing has changed.
     Back,
-    /// It does not have what is asked for, or nothing is said of it.
+    /// The token does not satisfy the requirement, or the check is inconclusive.
     Unfit,
 }
 
-/// An integer of these bytes comes, which has 63 bits.
+/// Reads an integer from these bytes. It must fit into 63 bits.
 #[inline(always)]
 fn take_integer<'a>(
     table: &'a TypeTable,
@@ -61,7 +61,7 @@ fn take_integer<'a>(
     state.integer(table, asked, z)
 }
 
-/// A block or an atom comes, by its header word.
+/// Reads a block or an atom, given its header word.
 fn take_word<'a>(
     table: &'a TypeTable,
     state: &mut State<'a>,
@@ -79,7 +79,7 @@ fn take_word<'a>(
     state.block_or_atom(table, asked, tag as u8, word / 1024)
 }
 
-/// An array of so many doubles comes, which has some.
+/// Reads an array of `count` doubles, which must not be empty.
 fn take_doubles<'a>(
     table: &'a TypeTable,
     state: &mut State<'a>,
@@ -97,7 +97,7 @@ fn take_doubles<'a>(
     state.doubles(table, asked, count)
 }
 
-/// A custom of these bytes comes, which is known and has its data.
+/// Reads a custom block from these bytes. It must be supported and have valid data.
 fn take_custom<'a>(
     table: &'a TypeTable,
     state: &mut State<'a>,
@@ -120,7 +120,7 @@ fn take_custom<'a>(
     state.custom(table, asked, kind)
 }
 
-/// The token comes of this kind, after whose code stands the piece, if it has what is asked for.
+/// Reads a token of this kind from the bytes after its code, if it satisfies the requirement.
 #[inline(always)]
 fn take_piece<'a>(
     table: &'a TypeTable,
@@ -158,7 +158,7 @@ fn take_piece<'a>(
     }
 }
 
-/// The token of this kind comes that begins the bytes, if it has what is asked for.
+/// Reads the token of this kind at the beginning of the bytes, if it satisfies the requirement.
 #[inline(always)]
 fn take_kind<'a>(
     table: &'a TypeTable,
@@ -185,7 +185,8 @@ fn take_kind<'a>(
     }
 }
 
-/// The same of any kind, where it is no reference.
+/// Reads the first token of `rest`, of any kind other than a reference, if it satisfies the
+/// requirement.
 #[inline(never)]
 fn take_rare<'a>(
     table: &'a TypeTable,
@@ -205,7 +206,7 @@ fn take_rare<'a>(
     }
 }
 
-/// The first token of the bytes comes, if it has what is asked for and is no reference.
+/// Reads the first token of `rest` if it satisfies the requirement and is no reference.
 #[tactic(auto, unfolding(om_format::specs::Code::kind_of))]
 #[inline(always)]
 pub fn step<'a>(
@@ -222,7 +223,7 @@ pub fn step<'a>(
         return Ok(Answer::Unfit);
     }
     let code = rest[0];
-    // The common codes get code of their own.
+    // Common codes have their own branches.
     match code {
         0x80.. => {
             let kind = CodeKind::SmallBlock(code % 16, code / 16 % 8);

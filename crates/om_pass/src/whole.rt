@@ -1,4 +1,4 @@
-//! The tokens of a value, one after another.
+//! The loop over the tokens of a value.
 
 ghost use Rattle.std.specs.Prelude.{◌≡◌, ◌≤◌, ◌∷◌, [], IfOk, IfSome};
 ghost use Rattle.std.specs.Bool.{OnTrue};
@@ -18,7 +18,8 @@ use om_model::Memory;
 use om_model::header::Head;
 use om_type_table::TypeTable;
 
-/// What the header states, if it is whole and states no more words and data than may be.
+/// Parses the header. Returns `None` if it is incomplete or invalid, or states more words or data
+/// than the limits allow.
 #[inline(always)]
 pub fn head_of(bytes: &[u8], limit: u64) -> Option<Head>
     ensures { IfSome result (λ head. BeginsAs limit bytes.now head) }
@@ -29,7 +30,7 @@ pub fn head_of(bytes: &[u8], limit: u64) -> Option<Head>
     }
 }
 
-/// Whether all came that the header states.
+/// Returns true if the value has all the data, words and objects that the header states.
 fn is_spent(head: &Head, start: usize, at: usize, state: &State<'_>) -> bool
     requires { start ≤ at }
     ensures { OnTrue result (IsSpent head.now start at state.now) }
@@ -40,18 +41,18 @@ fn is_spent(head: &Head, start: usize, at: usize, state: &State<'_>) -> bool
         && (head.objects == 0 || head.objects == state.types.len() as u64)
 }
 
-/// Where a pass stopped.
+/// The reason why the pass stopped.
 #[derive(Clone, Copy)]
 pub enum Stop {
-    /// So many bytes are a value of the type.
+    /// A value of the type ends here. The number is its length in bytes.
     Typed(usize),
-    /// After so many bytes comes a token that is not whole.
+    /// The token at this offset is truncated.
     Cut(usize),
-    /// Nothing is said, by what comes after so many bytes.
+    /// The check is inconclusive because of the bytes at this offset.
     Untold(usize),
 }
 
-/// Whether no whole token begins the bytes, though one may be begun.
+/// Returns true if no complete token begins the bytes, but they may be the beginning of one.
 #[inline(never)]
 fn is_cut(bytes: &[u8]) -> bool {
     if bytes.is_empty() {
@@ -63,7 +64,7 @@ fn is_cut(bytes: &[u8]) -> bool {
     }
 }
 
-/// One place that asks for this again.
+/// Returns a position with this requirement.
 fn again(asked: Asked<'_>) -> Open<'_>
     ensures { open_needs result ≡ need_of asked.entry ∷ [] }
 {
@@ -73,9 +74,9 @@ fn again(asked: Asked<'_>) -> Open<'_>
     }
 }
 
-/// Takes token after token, from one of the bytes on, to the end of the value or to a token that is
-/// not whole. What may be looked at again is counted down. It is called, for the loop is to have
-/// all registers.
+/// Reads tokens from offset `first` on, up to the end of the value, a truncated token, or a token
+/// for which the check is inconclusive. Subtracts re-read tokens and inspected blocks from `left`.
+/// This function is not inlined, so that its loop can use all registers.
 #[inline(never)]
 pub fn run<'a>(
     table: &'a TypeTable,

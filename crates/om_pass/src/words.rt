@@ -1,5 +1,4 @@
-//! The words that a header states, and that objects are still to take; and an integer of four
-//! bytes.
+//! The words that a header states for the remaining objects, and decoding of numbers.
 
 ghost use Rattle.std.specs.Prelude.{◌≡◌, ◌≤◌, length, IfSome};
 ghost use Rattle.std.specs.Bool.{OnTrue};
@@ -12,7 +11,7 @@ use om_model::bytes::{big_endian, signed as signed_of};
 use om_model::code::Measure;
 use om_model::header::Head;
 
-/// The words on 32 and on 64 bits that are still to come.
+/// The words, on 32-bit and on 64-bit platforms, that the header states for the remaining objects.
 #[derive(Clone, Copy)]
 pub struct Words {
     pub w32: u64,
@@ -20,7 +19,7 @@ pub struct Words {
 }
 
 impl Words {
-    /// All that a header states. A big one states none on 32 bits.
+    /// Returns all words that a header states. A big header states no number for 32-bit platforms.
     pub fn stated(head: &Head) -> Words
         ensures words32 { result.w32 ≡ stated32 head.now }
         ensures words64 { result.w64 ≡ head.now.w64 }
@@ -31,7 +30,7 @@ impl Words {
         }
     }
 
-    /// What is still to come after an object, if it has room.
+    /// Returns the words that remain after an object, or `None` if there are too few.
     #[inline(always)]
     pub fn after(self, measure: Measure) -> Option<Words>
         requires { IsCountable measure }
@@ -47,7 +46,7 @@ impl Words {
         })
     }
 
-    /// An object comes, if it has room.
+    /// Subtracts the words of an object. Returns false if there are too few.
     #[inline(always)]
     pub fn spend(&mut self, measure: Measure) -> bool
         requires { IsCountable measure }
@@ -63,7 +62,8 @@ impl Words {
     }
 }
 
-/// The words of an object, on 32 and on 64 bits; it has no call.
+/// Returns the size of an object in words, on 32-bit and on 64-bit platforms. This function
+/// contains no call.
 #[inline(always)]
 fn words_at(measure: Measure) -> (u64, u64)
     requires { IsCountable measure }
@@ -78,7 +78,8 @@ fn words_at(measure: Measure) -> (u64, u64)
     }
 }
 
-/// The integer of four bytes, the most significant first, in two's complement. It is one load.
+/// Decodes an integer of four bytes in two's complement, most significant byte first. It compiles
+/// to one load.
 #[inline(always)]
 pub fn signed_four(bytes: &[u8]) -> i64
     requires { length bytes.now ≡ 4 }
@@ -88,7 +89,7 @@ pub fn signed_four(bytes: &[u8]) -> i64
     i64::from(value.cast_signed())
 }
 
-/// The integer of one byte, in two's complement.
+/// Decodes an integer of one byte in two's complement.
 #[inline(always)]
 fn signed_one(bytes: &[u8]) -> i64
     requires { length bytes.now ≡ 1 }
@@ -98,7 +99,7 @@ fn signed_one(bytes: &[u8]) -> i64
     if value < 128 { value } else { value - 256 }
 }
 
-/// The integer of two bytes, the most significant first, in two's complement.
+/// Decodes an integer of two bytes in two's complement, most significant byte first.
 #[inline(always)]
 fn signed_two(bytes: &[u8]) -> i64
     requires { length bytes.now ≡ 2 }
@@ -108,7 +109,7 @@ fn signed_two(bytes: &[u8]) -> i64
     if value < 32768 { value } else { value - 65536 }
 }
 
-/// The integer of one to eight bytes, the most significant first, in two's complement.
+/// Decodes an integer of one to eight bytes in two's complement, most significant byte first.
 #[inline(always)]
 pub fn signed_few(bytes: &[u8]) -> i64
     requires some { 1 ≤ length bytes.now }
@@ -123,7 +124,7 @@ pub fn signed_few(bytes: &[u8]) -> i64
     }
 }
 
-/// The number of two bytes, the most significant first.
+/// Decodes a number of two bytes, most significant byte first.
 #[inline(always)]
 fn two(bytes: &[u8]) -> u64
     requires { length bytes.now ≡ 2 }
@@ -132,7 +133,7 @@ fn two(bytes: &[u8]) -> u64
     u64::from(bytes[0]) * 256 + u64::from(bytes[1])
 }
 
-/// The number of four bytes, the most significant first. It is one load.
+/// Decodes a number of four bytes, most significant byte first. It compiles to one load.
 #[inline(always)]
 fn four(bytes: &[u8]) -> u64
     requires { length bytes.now ≡ 4 }
@@ -141,7 +142,7 @@ fn four(bytes: &[u8]) -> u64
     u64::from(u32::from_be_bytes([bytes[0], bytes[1], bytes[2], bytes[3]]))
 }
 
-/// The number of at most eight bytes, the most significant first.
+/// Decodes a number of at most eight bytes, most significant byte first.
 #[inline(always)]
 pub fn offset_of(bytes: &[u8]) -> u64
     requires { length bytes.now ≤ 8 }

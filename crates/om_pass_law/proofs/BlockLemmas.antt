@@ -1,4 +1,4 @@
--- What the fields of a block ask for in a pass, and what its type needs.
+-- The requirements of a block's fields in the pass, and the required fields of its type.
 use Rattle.std.proofs.Common.{ℕ, zero, suc, ◌≡◌, ◌∙◌, refl, List, [], ◌∷◌, length, ◌⊎◌, inl, inr, Bool, true, false, Option, Some, None, sym, ap, subst}
 use Rattle.std.specs.Prelude.{slice_get, IsSome, IsSomeAnd, IsTrue, Contains, ◌==◌, ◌&&◌, if◌then◌else◌, map, replicate, option_and_then}
 use Rattle.std.proofs.lemmas.Bool.{false≢true}
@@ -68,7 +68,7 @@ needs_many (shapes.ArrayOfAnything t) tag size next is =
     let r = fields_if_needed (tag == 0) (replicate size t) next is in
     r.1 ∙ length-replicate size t
 
--- the fields of a block are as many as it has, hidden or not
+-- The number of requirements is the number of fields, for a wildcard too.
 pub fields_many : (table : Table) (t tag size : ℕ) (next : List Need) → fields_ask table t tag size ≡ Some next → values_in next ≡ size
 fields_many table t tag size next is = by (is_asked_in table t) is where
   by : (asked : Bool) → (if asked then block_needs (shape_at table t) tag size else Some (map of_type (replicate size t))) ≡ Some next → values_in next ≡ size
@@ -76,7 +76,7 @@ fields_many table t tag size next is = by (is_asked_in table t) is where
   by false is = ap values_in (sym (same_Some (map of_type (replicate size t)) next is)) ∙ values_of_types (replicate size t) ∙ length-replicate size t
 
 module _ (table : Table) (all : List ℕ) (noted : List (ℕ × ℕ)) where
-  -- there are needs, and the values meet them
+  -- The required fields exist, and the values satisfy them.
   pub record AreMet (needs : Option (List (ℕ × ℕ))) (values : List Val) : Type 0 where
     pub some : IsSome needs
     pub held : (i a : ℕ) → Contains (or_none needs) (i, a) → IsSomeAnd (slice_get values i) (λ v. IsAt table all noted v a)
@@ -140,13 +140,13 @@ module _ (table : Table) (all : List ℕ) (noted : List (ℕ × ℕ)) where
   shape_met shapes.Anything tag values next is at = absurd (none-some next is)
   shape_met (shapes.ArrayOfAnything t) tag values next is at = listed_met (tag == 0) (replicate (length values) t) values next is at
 
-  -- a block whose fields have what they are asked for is good
+  -- If the fields of a block satisfy their requirements, then the block is good.
   pub block_good : (t tag : ℕ) (values : List Val) (next : List Need) → block_needs (shape_at table t) tag (length values) ≡ Some next → AreAt table all noted values next → IsGood table all noted (objects.Block tag values) t
   block_good t tag values next is at =
       let met = shape_met (shape_at table t) tag values next is at in
       record { fits = met.some; held = λ i a typed asked. met.held i a typed }
 
-  -- a block of which nothing is asked is good at its type
+  -- A block at a wildcard is good at its type.
   hidden_good : (t tag : ℕ) (values : List Val) → IsHidden table t → IsGood table all noted (objects.Block tag values) t
   hidden_good t tag values hidden = by (shape_at table t) hidden refl where
     by : (shape : ShapeOf ℕ) → is_asked shape ≡ false → shape_at table t ≡ shape → IsGood table all noted (objects.Block tag values) t
@@ -158,7 +158,8 @@ module _ (table : Table) (all : List ℕ) (noted : List (ℕ × ℕ)) where
         }
     by shape hidden is = absurd (false≢true (sym hidden))
 
-  -- a block whose fields have what the type asks for is good, hidden or not
+  -- If the fields of a block satisfy the requirements of the type, then the block is good, at a
+  -- wildcard too.
   pub asked_good : (t tag : ℕ) (values : List Val) (next : List Need) → fields_ask table t tag (length values) ≡ Some next → AreAt table all noted values next → IsGood table all noted (objects.Block tag values) t
   asked_good t tag values next is at = by (is_asked_in table t) refl is where
     by : (asked : Bool) → is_asked_in table t ≡ asked → (if asked then block_needs (shape_at table t) tag (length values) else Some (map of_type (replicate (length values) t))) ≡ Some next → IsGood table all noted (objects.Block tag values) t

@@ -1,4 +1,4 @@
--- The open places are the values to come.
+-- The open positions match the values that are still to be read.
 use Rattle.std.proofs.Common.{ℕ, ◌+◌, ◌<◌, ◌≡◌, refl, List, [], ◌∷◌, ◌++◌, map, ap, arith}
 use Rattle.std.proofs.lemmas.List.{map-append}
 use Rattle.om_types.specs.Table.{Table}
@@ -12,7 +12,7 @@ use Rattle.om_pass_law.specs.Asked.{Need, of_type, hash_of, Asks, values_in}
 use Rattle.om_pass_law.specs.OnePass.{Passed, start, further}
 use Rattle.om_pass_law.proofs.BlockLemmas.{fields_many}
 
--- ---- the open places are the values to come
+-- ---- open positions and values still to be read
 
 pub values_in-append : (xs ys : List Need) → values_in (xs ++ ys) ≡ values_in xs + values_in ys
 values_in-append [] ys = omega arith
@@ -20,7 +20,7 @@ values_in-append (of_type t ∷ xs) ys = let same = values_in-append xs ys in om
 values_in-append (hash_of tags ∷ xs) ys = let same = values_in-append xs ys in omega (arith, same)
 
 module _ (noted : List (ℕ × ℕ)) (table : Table) where
-  -- a token takes a place, and its fields come on top
+  -- A token fills one position, and its fields are added on top.
   asked_many : (types : List ℕ) (need : Need) (token : Token) (needs next : List Need) → Asks noted table types need token next → values_in (next ++ needs) + 1 ≡ values_in (need ∷ needs) + of_object fields (measure_of token)
   asked_many types (of_type t) (integer z) needs next asks = let is = ap (λ xs. values_in (xs ++ needs)) asks.1 in omega (arith, is)
   asked_many types (of_type t) (atom tag) needs next asks = let is = ap (λ xs. values_in (xs ++ needs)) asks.1 in omega (arith, is)

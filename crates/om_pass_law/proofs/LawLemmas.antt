@@ -1,4 +1,4 @@
--- What a pass knows where nothing is open any more: the law.
+-- The invariant of the pass if no position is open: the theorem.
 use Rattle.std.proofs.Common.{ℕ, ◌≤◌, ◌≡◌, ◌∙◌, List, ◌∷◌, [], length, inl, inr, ⊎_elim, sym, ap, subst, subst₂, arith, ◌<◌, ◌^◌}
 use Rattle.std.specs.Prelude.{Contains, IsTrue}
 use Rattle.std.specs.List.{concat, AllZip}
@@ -32,7 +32,7 @@ are_noted table all noted tree is each = record {
       n.first_fixed u at_o (subst (λ object. IsTrue (is_mutable (shape_at table u) object)) (flat_object tree o n.tag n.flat is n.stands) mutable.1);
 }
 
--- what the tokens take is stated
+-- The header states the sizes of the tokens.
 states_from : (noted : List (ℕ × ℕ)) (table : Table) (limit : ℕ) (bytes : List ℕ) (head : Head) (start n : ℕ) (ts : List Token) (types : List ℕ) → IsPassing noted table limit bytes head start n ts types [] → Ends head start n ts types → States head ts
 states_from noted table limit bytes head start n ts types p ends = record {
   w32 = ends.w32;
@@ -40,7 +40,7 @@ states_from noted table limit bytes head start n ts types p ends = record {
   objects = ⊎_elim (λ none. inr (none, p.unshared none)) (λ same. inl (same ∙ sym p.made)) ends.count;
 }
 
--- the data bytes are those of the tokens
+-- The data bytes are those of the tokens.
 data_length : (noted : List (ℕ × ℕ)) (table : Table) (limit : ℕ) (bytes : List ℕ) (head : Head) (start n : ℕ) (ts : List Token) (types : List ℕ) → (p : IsPassing noted table limit bytes head start n ts types []) → Ends head start n ts types
     → head.length ≡ length (concat p.pieces)
 data_length noted table limit bytes head start n ts types p ends =
@@ -51,7 +51,7 @@ data_length noted table limit bytes head start n ts types p ends =
     let whole = ends.whole in
     omega (arith, front, both, same, begins, whole)
 
--- THE LAW
+-- The theorem.
 pub noted_passes_type_fronts : NotedPassesTypeFronts
 noted_passes_type_fronts noted table limit bytes head start n ts types lawful p ends each =
     let whole = passed_many noted table ts types [] p.passed in

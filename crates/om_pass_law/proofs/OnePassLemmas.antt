@@ -1,4 +1,5 @@
--- A tree whose tokens have what their places ask for has the type; and what a pass knows in the end.
+-- If the tokens of a tree satisfy the requirements of their positions, then the tree has the type.
+-- The invariant at the end of the pass.
 use Rattle.std.proofs.Common.{ℕ, ◌≡◌, refl, inl, List, [], ◌∷◌, ◌++◌, length, sym, ap, subst, arith}
 use Rattle.std.specs.Prelude.{Some, slice_get}
 use Rattle.std.proofs.lemmas.List.{append_assoc, append-nil}
@@ -18,7 +19,7 @@ use Rattle.om_pass_law.proofs.Kernel.{AreNoted, some_if, is_typing, object_fits}
 use Rattle.om_pass_law.proofs.PassLemmas.{last_at, tree_read}
 
 module _ (table : Table) (all : List ℕ) (noted : List (ℕ × ℕ)) where
-  -- where the value is an object, it is object 0, of the first type
+  -- If the value is an object, then it is object 0 and has the first type.
   rooted : (tree : Tree) → ReferBack tree 0 → Passes noted table [] (of_type 0 ∷ []) (tokens tree) all → (typing : IsTyping (table_shapes table) (objects_of tree 0) (numbered_from 0 all ++ noted)) → IsTyped (table_shapes table) (objects_of tree 0) (root tree 0) 0
   rooted (node (integer z) f) back h typing = tt
   rooted (node (atom tag) f) back h typing = tt
@@ -26,7 +27,7 @@ module _ (table : Table) (all : List ℕ) (noted : List (ℕ × ℕ)) where
   rooted (node (block tag size) f) back h typing = (numbered_from 0 all ++ noted, typing, Contains-append_left (numbered_from 0 all) noted (0, 0) (pair_there all 0 0 (last_at table all noted [] 0 (h.0 ++ []) (forest_tokens f) h.2)))
   rooted (node (leaf object) f) back h typing = (numbered_from 0 all ++ noted, typing, Contains-append_left (numbered_from 0 all) noted (0, 0) (pair_there all 0 0 (last_at table all noted [] 0 (h.0 ++ []) (forest_tokens f) h.2)))
 
-  -- and it fits that type, as the value does where it is none
+  -- The value matches the first type, whether or not it is an object.
   root_fits : (tree : Tree) → ReferBack tree 0 → Passes noted table [] (of_type 0 ∷ []) (tokens tree) all → ((o : ℕ) → slice_get all o ≡ Some 0 → (table_shapes table).fits (objects_of tree 0) (vals.Ref o) 0) → (table_shapes table).fits (objects_of tree 0) (root tree 0) 0
   root_fits (node (integer z) f) back h fits = some_if (fits_int (shape_at table 0) z) h.1.0
   root_fits (node (atom tag) f) back h fits = some_if (fits_atom (shape_at table 0) tag) h.1.0
@@ -34,7 +35,7 @@ module _ (table : Table) (all : List ℕ) (noted : List (ℕ × ℕ)) where
   root_fits (node (block tag size) f) back h fits = fits 0 (last_at table all noted [] 0 (h.0 ++ []) (forest_tokens f) h.2)
   root_fits (node (leaf object) f) back h fits = fits 0 (last_at table all noted [] 0 (h.0 ++ []) (forest_tokens f) h.2)
 
-  -- THE KERNEL
+  -- The kernel of the theorem.
   pub types_of_tree : (tree : Tree) → AreLawful (table_shapes table) Everything → IsTree tree → ReferBack tree 0 → AreNoted table (objects_of tree 0) all noted → Passes noted table [] (of_type 0 ∷ []) (tokens tree) all → AreTypesOf noted table tree all
   types_of_tree tree lawful is back are_noted h =
       let h' = subst (λ ts. Passes noted table [] (of_type 0 ∷ []) ts all) (sym (append-nil (tokens tree))) h in
@@ -54,7 +55,7 @@ module _ (table : Table) (all : List ℕ) (noted : List (ℕ × ℕ)) where
         };
       }
 
--- ---- tokens one after another
+-- ---- token by token
 
 passes_later : (noted : List (ℕ × ℕ)) (table : Table) (front rest : List Token) (types : List ℕ) (needs : List Need) (all : List ℕ) → Passed noted table front types needs → Passes noted table types needs rest all → Passes noted table [] (of_type 0 ∷ []) (front ++ rest) all
 passes_later noted table front rest types needs all start h = h

@@ -1,4 +1,4 @@
--- From tokens that have what their places ask for to the objects of their tree.
+-- From tokens that satisfy their requirements to the objects of their tree.
 use Rattle.std.proofs.Common.{ℕ, suc, ◌+◌, ◌-◌, ◌≡◌, ◌∙◌, refl, List, [], ◌∷◌, ◌++◌, length, inl, inr, ⊎_elim, Bool, true, false, Some, sym, ap, subst, arith}
 use Rattle.std.specs.Prelude.{slice_get, IsSome, Contains}
 use Rattle.std.proofs.lemmas.List.{append_assoc, append-nil, length-append}
@@ -18,7 +18,7 @@ use Rattle.om_pass_law.specs.Noted.{IsAt, AreAt}
 use Rattle.om_pass_law.proofs.Kernel.{IsGood, AreGood, good_append}
 use Rattle.om_pass_law.proofs.BlockLemmas.{fields_many, asked_good}
 
--- ---- leaves
+-- ---- leaf objects
 
 pub nothing_needed : (test : Bool) (i a : ℕ) → Contains (or_none (none_if {T = ℕ} test)) (i, a) → ⊥
 nothing_needed true i a needed = Contains-none (i, a) needed
@@ -43,7 +43,7 @@ leaf_made (objects.I64 z) is = refl
 leaf_made (objects.Native z) is = refl
 
 module _ (table : Table) (all : List ℕ) (noted : List (ℕ × ℕ)) where
-  -- what was there is there in the end
+  -- The types so far are a prefix of the types in the end.
   pub front : (types : List ℕ) (needs : List Need) (ts : List Token) → Passes noted table types needs ts all → (later : List ℕ) × (types ++ later ≡ all)
   front types [] [] h = ([], append-nil types ∙ h)
   front types [] (t ∷ ts) h = absurd h
@@ -57,15 +57,16 @@ module _ (table : Table) (all : List ℕ) (noted : List (ℕ × ℕ)) where
       let r = front types needs ts h in
       subst (λ xs. slice_get xs k ≡ Some u) r.1 (slice_get-append_left types r.0 k u at_k)
 
-  -- the object made last has its type
+  -- The last object has its type.
   pub last_at : (types : List ℕ) (t : ℕ) (needs : List Need) (ts : List Token) → Passes noted table (types ++ t ∷ []) needs ts all → slice_get all (length types) ≡ Some t
   last_at types t needs ts h = kept_at (types ++ t ∷ []) needs ts (length types) t h (slice_get-last types t)
 
   leaf_good : (t : ℕ) (object : Obj) → IsLeaf object → IsSome (object_fields (shape_at table t) object) → IsGood table all noted object t
   leaf_good t object is fits = record { fits = fits; held = λ i a typed asked. absurd (leaf_needs (shape_at table t) object i a is typed) }
 
-  -- The tokens of a tree from c on have what a place of the type asks for: so has its value, its objects are good, and then the
-  -- rest of the tokens has what the other places ask for.
+  -- The tokens of a tree from object `c` on satisfy the requirement of a position of the type. Then
+  -- the value satisfies it, its objects are good, and the remaining tokens satisfy the other
+  -- requirements.
   pub record IsRead (c t : ℕ) (tree : Tree) (needs : List Need) (rest : List Token) : Type 0 where
     pub after : List ℕ
     pub many : length after ≡ c + made tree

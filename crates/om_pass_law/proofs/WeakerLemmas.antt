@@ -1,4 +1,4 @@
--- What was passed stays passed where more is noted and more objects have come.
+-- The pass stays valid if more is recorded and more objects follow.
 use Rattle.std.proofs.Common.{ℕ, ◌-◌, inl, inr, ⊎_elim, List, ◌∷◌, ◌++◌, length}
 use Rattle.std.specs.Prelude.{Contains}
 use Rattle.om_model.specs.declared.value.Val.{Val}
@@ -37,7 +37,7 @@ module _ (table : Table) (noted more : List (ℕ × ℕ)) (kept : (o t : ℕ) �
   passed_weaker ts types needs (further tokens types' need needs' next token before asks) =
       further tokens types' need needs' next token (passed_weaker tokens types' (need ∷ needs') before) (asks_weaker types' need token next asks)
 
-  -- the fields of a noted block, once more objects have come
+  -- The fields of a recorded block if more objects follow.
   pub at_weaker : (types later : List ℕ) (v : Val) (t : ℕ) → IsAt table types noted v t → IsAt table (types ++ later) more v t
   at_weaker types later (vals.Int z) t at = at
   at_weaker types later (vals.Atom tag) t at = at

@@ -1,5 +1,5 @@
--- What the places of a value ask for, told token by token: each object has the type that its first
--- place asks for.
+-- The requirements of the positions in a value, token by token. A position is open until its token
+-- is read. Each object has the type that the first position that refers to it requires.
 use Rattle.std.specs.Prelude.{ℕ, suc, ◌-◌, ◌==◌, ◌≤◌, ◌≡◌, ◌&&◌, Bool, if◌then◌else◌, false}
 use Rattle.std.specs.Prelude.{List, [], ◌∷◌, ◌++◌, length, map, replicate, slice_get}
 use Rattle.std.specs.Prelude.{Option, Some, None, IsTrue, IsSome, ℤ, ◌⊎◌, Contains}
@@ -11,12 +11,13 @@ use Rattle.om_types.specs.Fitting.{tag_with, fits_int, fits_atom, object_fields,
 use Rattle.om_types.specs.Table.{Table, node_or_none, table_shapes, is_asked_in}
 use Rattle.om_format.specs.Token.{Token, integer, atom, shared, block, leaf}
 
--- what a place asks for: a value of a type, or the hash of a tag that has an argument
+-- The requirement of a position: a value of a type, or the hash of a tag that has an argument.
 pub data Need : Type 0 where
   of_type : ℕ → Need
   hash_of : List (PolyTag ℕ) → Need
 
--- the values to come that fill the open places: a hash, and then its argument, fill one
+-- The number of values that are still to be read for the open positions. A requirement for a hash
+-- takes two values: the hash and its argument.
 abbrev pub values_in : List Need → ℕ
 values_in [] = 0
 values_in (of_type t ∷ needs) = suc (values_in needs)
@@ -25,7 +26,7 @@ values_in (hash_of tags ∷ needs) = suc (suc (values_in needs))
 abbrev pub shape_at : Table → ℕ → ShapeOf ℕ
 shape_at table t = node_or_none (slice_get table.nodes t)
 
--- ---- what the fields of a block ask for, in their order, where the block fits
+-- ---- the requirements of a block's fields in order, if the block matches the type
 
 abbrev pub needs_if : Bool → List ℕ → Option (List Need)
 needs_if fits ts = if fits then Some (map of_type ts) else None
@@ -34,7 +35,7 @@ abbrev pub constr_needs : ℕ → Option (Constr ℕ) → Option (List Need)
 constr_needs size None = None
 constr_needs size (Some constr) = needs_if (length constr.fields == size) constr.fields
 
--- the argument of a tag is asked for once the hash is known
+-- The requirement for the argument of a tag is added when the hash is known.
 abbrev pub block_needs : ShapeOf ℕ → ℕ → ℕ → Option (List Need)
 block_needs (shapes.Sum constants blocks) tag size = constr_needs size (slice_get blocks tag)
 block_needs (shapes.Product mutable ts) tag size = needs_if ((tag == 0) && (length ts == size)) ts
@@ -44,12 +45,12 @@ block_needs (shapes.Poly tags) tag size =
 block_needs (shapes.ArrayOfAnything t) tag size = needs_if (tag == 0) (replicate size t)
 block_needs shape tag size = None
 
--- nothing is asked of the values of the type
+-- The type is a wildcard: it requires nothing of its values.
 abbrev pub IsHidden : Table → ℕ → Type 0
 IsHidden table t = is_asked_in table t ≡ false
 
--- what the fields of a block ask for at a type of the shape; those of a hidden block are hidden
--- as it is
+-- The requirements of a block's fields at a type of this shape. At a wildcard, the fields have the
+-- same wildcard type.
 abbrev pub shape_asks : ShapeOf ℕ → ℕ → ℕ → ℕ → Option (List Need)
 shape_asks shape t tag size =
     if is_asked shape then block_needs shape tag size else Some (map of_type (replicate size t))
@@ -57,9 +58,10 @@ shape_asks shape t tag size =
 abbrev pub fields_ask : Table → ℕ → ℕ → ℕ → Option (List Need)
 fields_ask table t tag size = shape_asks (shape_at table t) t tag size
 
--- ---- a token in a place
+-- ---- a token at a position
 
--- the object that a reference leads back to has an equal type, or is noted at one
+-- A reference leads back to an object whose type, or one of whose recorded second types, equals
+-- `t`.
 pub record IsBack
     (noted : List (ℕ × ℕ)) (table : Table) (types : List ℕ) (t offset : ℕ)
     : Type 0 where
@@ -71,11 +73,12 @@ pub record IsBack
       ⊎ Contains noted (length types - offset, type)
   pub equal : (table_shapes table).equal type t
 
--- a reference back has what a place of the type asks for; nothing is asked in a hidden place
+-- A reference back satisfies the requirement of a position of the type. A wildcard requires
+-- nothing.
 abbrev pub IsBackAt : List (ℕ × ℕ) → Table → List ℕ → ℕ → ℕ → Type 0
 IsBackAt noted table types t offset = IsHidden table t ⊎ IsBack noted table types t offset
 
--- a tag with this hash has an argument of the type
+-- The tag with this hash has an argument, and the argument's type is the next requirement.
 pub record IsTagged (tags : List (PolyTag ℕ)) (z : ℤ) (next : List Need) : Type 0 where
   pub tag : PolyTag ℕ
   pub has_hash : tag_with tags z ≡ Some tag
@@ -83,8 +86,8 @@ pub record IsTagged (tags : List (PolyTag ℕ)) (z : ℤ) (next : List Need) : T
   pub has_argument : tag.arg ≡ Some type
   pub argument : next ≡ of_type type ∷ []
 
--- After objects of these types the token has what its place asks for, and then this is asked for
--- before all else.
+-- After objects of these types the token satisfies the requirement of its position. The
+-- requirements `next` then precede all other open ones.
 abbrev pub Asks : List (ℕ × ℕ) → Table → List ℕ → Need → Token → List Need → Type 0
 Asks noted table types (of_type t) (integer z) next =
     IsTrue (fits_int (shape_at table t) z) × (next ≡ [])
@@ -102,7 +105,7 @@ Asks noted table types (hash_of tags) (shared offset) next = ⊥
 Asks noted table types (hash_of tags) (block tag size) next = ⊥
 Asks noted table types (hash_of tags) (leaf object) next = ⊥
 
--- the type of the object that a token makes in a place
+-- The type of the object that a token creates at a position, if it creates one.
 abbrev pub type_in : Need → Token → List ℕ
 type_in (of_type t) (integer z) = []
 type_in (of_type t) (atom tag) = []
@@ -111,8 +114,8 @@ type_in (of_type t) (block tag size) = t ∷ []
 type_in (of_type t) (leaf object) = t ∷ []
 type_in (hash_of tags) token = []
 
--- From objects of these types and these open places on, the tokens have what is asked for, and
--- nothing is open after them; in all the objects have the types of the last list.
+-- Starting with objects of these types and these open positions, the tokens satisfy all
+-- requirements, and no position is open at the end. In the end the objects have the types `all`.
 abbrev pub Passes :
     List (ℕ × ℕ) → Table → List ℕ → List Need → List Token → List ℕ → Type 0
 Passes noted table types [] [] all = types ≡ all

@@ -1,4 +1,4 @@
--- What a pass over bytes shows.
+-- Soundness of the streaming check.
 use Rattle.std.specs.Prelude.{ℕ, List, [], Contains}
 use Rattle.om_model.specs.declared.header.Head.{Head}
 use Rattle.om_types.specs.Lawful.{AreLawful, Everything}
@@ -7,7 +7,8 @@ use Rattle.om_format.specs.Token.{Token}
 use Rattle.om_pass_law.specs.Noted.{IsFlatNoted}
 use Rattle.om_pass_law.specs.OnePass.{IsPassing, Ends, IsTypedFront}
 
--- what was passed, with nothing open after it, is a typed value
+-- If the pass reached the end and no position is open, then the bytes begin with a value of the
+-- type.
 abbrev pub PassesTypeFronts : Type 0
 PassesTypeFronts =
     (table : Table) (limit : ℕ) (bytes : List ℕ) (head : Head) (start n : ℕ) (tokens : List Token)
@@ -15,7 +16,7 @@ PassesTypeFronts =
     → IsPassing [] table limit bytes head start n tokens types [] → Ends head start n tokens types
     → IsTypedFront table limit n bytes
 
--- it is so where flat blocks were noted at second types
+-- If second types of flat blocks were recorded, then the bytes also begin with a value of the type.
 abbrev pub NotedPassesTypeFronts : Type 0
 NotedPassesTypeFronts =
     (noted : List (ℕ × ℕ)) (table : Table) (limit : ℕ) (bytes : List ℕ) (head : Head) (start n : ℕ)

@@ -1,5 +1,5 @@
--- What is noted of an object that is met at a second type: its block is flat, and has what that
--- type asks for too.
+-- The record of an object that is referenced at a second type: a flat block that satisfies the
+-- requirements of that type too. A block is flat if its fields create no objects.
 use Rattle.std.specs.Prelude.{ℕ, ◌+◌, ◌≡◌, ◌⊎◌, List, [], ◌∷◌, ◌++◌, length, map, slice_get}
 use Rattle.std.specs.Prelude.{Some, IsTrue, Contains, ℤ}
 use Rattle.om_model.specs.declared.value.Val.{Val}
@@ -13,7 +13,7 @@ use Rattle.om_format.specs.Tree.{made_by, value_of}
 use Rattle.om_pass_law.specs.Asked.{Need, of_type, hash_of, shape_at, block_needs, IsHidden}
 
 module _ (table : Table) (all : List ℕ) (noted : List (ℕ × ℕ)) where
-  -- a value has what a place of the type asks for, where these are the types of all objects
+  -- A value satisfies the requirement of a position of the type, given the types of all objects.
   abbrev pub IsAt : Val → ℕ → Type 0
   IsAt (vals.Int z) t = IsTrue (fits_int (shape_at table t) z)
   IsAt (vals.Atom tag) t = IsTrue (fits_atom (shape_at table t) tag)
@@ -22,7 +22,8 @@ module _ (table : Table) (all : List ℕ) (noted : List (ℕ × ℕ)) where
       ⊎ ((u : ℕ) × ((slice_get all o ≡ Some u) ⊎ Contains noted (o, u))
       × (table_shapes table).equal u t)
 
-  -- a place for the argument comes once the hash is known
+  -- The value is the hash of a tag that has an argument of this type. The position of the argument
+  -- opens when the hash is known.
   pub record HasHash (tags : List (PolyTag ℕ)) (v : Val) (type : ℕ) : Type 0 where
     pub hash : ℤ
     pub is_hash : v ≡ vals.Int hash
@@ -30,7 +31,7 @@ module _ (table : Table) (all : List ℕ) (noted : List (ℕ × ℕ)) where
     pub has_hash : tag_with tags hash ≡ Some tag
     pub has_argument : tag.arg ≡ Some type
 
-  -- the values have what the places ask for
+  -- The values satisfy the requirements of the positions.
   abbrev pub AreAt : List Val → List Need → Type 0
   AreAt [] [] = Unit {0}
   AreAt [] (need ∷ needs) = ⊥
@@ -39,7 +40,7 @@ module _ (table : Table) (all : List ℕ) (noted : List (ℕ × ℕ)) where
   AreAt (v ∷ vs) (hash_of tags ∷ needs) =
       (t : ℕ) × HasHash tags v t × AreAt vs (of_type t ∷ needs)
 
--- the token has no object of its own
+-- The token creates no object.
 abbrev pub IsFlat : Token → Type 0
 IsFlat (integer z) = Unit {0}
 IsFlat (atom tag) = Unit {0}
@@ -51,8 +52,8 @@ abbrev pub AreFlat : List Token → Type 0
 AreFlat [] = Unit {0}
 AreFlat (t ∷ ts) = IsFlat t × AreFlat ts
 
--- A block of the tag stands among the tokens, the first of them after c objects, and right after it
--- these flat tokens of its fields: object o.
+-- Among the tokens, the first of which comes after `c` objects, there is a block with this tag. It
+-- is object `o`, and the flat tokens of its fields follow it directly.
 abbrev pub Stands : ℕ → List Token → ℕ → ℕ → List Token → Type 0
 Stands c [] o tag flat = ⊥
 Stands c (token ∷ ts) o tag flat =
@@ -60,12 +61,12 @@ Stands c (token ∷ ts) o tag flat =
     × (ts ≡ flat ++ rest))
     ⊎ Stands (c + made_by token) ts o tag flat
 
--- the values of the flat fields of object o
+-- The values of the flat fields of object `o`.
 abbrev pub flat_values : ℕ → List Token → List Val
 flat_values o flat = map (λ u. value_of u (o + 1)) flat
 
--- A flat block stands there, its fields have what the type asks for, and it is mutable neither
--- there nor at its first type.
+-- Object `o` is a flat block whose fields satisfy the requirements of the type `t`. The block is
+-- mutable neither at this type nor at its first type.
 pub record IsFlatNoted
     (table : Table) (all : List ℕ) (noted : List (ℕ × ℕ)) (ts : List Token) (o t : ℕ)
     : Type 0 where

@@ -1,4 +1,4 @@
--- What a pass over the bytes of a value at a type answers, and what it knows on its way.
+-- The result of the streaming check of a value at a type, and its invariant.
 use Rattle.std.specs.Prelude.{ℕ, ◌+◌, ◌≤◌, ◌<◌, ◌^◌, ◌≡◌, ◌⊎◌}
 use Rattle.std.specs.Prelude.{List, [], ◌∷◌, ◌++◌, length, map, take, All}
 use Rattle.std.specs.List.{concat, AllZip}
@@ -14,14 +14,14 @@ use Rattle.om_format.specs.Preorder.{EachRefersBack}
 use Rattle.om_format.specs.Spelled.{SpelledUnder, IsHeader, IsNoReference, StatesWords32}
 use Rattle.om_pass_law.specs.Asked.{Need, of_type, Asks, type_in}
 
--- the first n bytes spell a value under the limit, which has type 0 of the table
+-- The first `n` bytes encode a value within the limit, and the value has type 0 of the table.
 pub record IsTypedFront (table : Table) (limit n : ℕ) (bytes : List ℕ) : Type 0 where
   pub within : n ≤ length bytes
   pub tree : Tree
   pub spelled : SpelledUnder limit (take n bytes) tree
   pub typed : HasType (table_shapes table) (objects_of tree 0) (root tree 0) 0
 
--- the same with the type of each object, by its number
+-- The value has type 0 of the table, and `types` are the types of its objects by number.
 pub record AreTypesOf
     (noted : List (ℕ × ℕ)) (table : Table) (tree : Tree) (types : List ℕ)
     : Type 0 where
@@ -29,7 +29,7 @@ pub record AreTypesOf
   pub typing : IsTyping (table_shapes table) (objects_of tree 0) (numbered_from 0 types ++ noted)
   pub typed : HasType (table_shapes table) (objects_of tree 0) (root tree 0) 0
 
--- these tokens lead from the start to objects of these types and these open places
+-- The tokens lead from the start to objects of these types and to these open positions.
 pub data Passed
     (noted : List (ℕ × ℕ)) (table : Table)
     : List Token → List ℕ → List Need → Type 0 where
@@ -39,8 +39,9 @@ pub data Passed
       → Passed noted table tokens types (need ∷ needs) → Asks noted table types need token next
       → Passed noted table (tokens ++ token ∷ []) (types ++ type_in need token) (next ++ needs)
 
--- Of the first n bytes a header, of so many bytes, and the tokens' spellings were taken; the
--- objects made have the types, and the open places ask for the needs.
+-- The invariant of the pass. The first `n` bytes are a header, of `start` bytes, and the encodings
+-- of the tokens. The objects created so far have the types, and the open positions have the
+-- requirements.
 pub record IsPassing
     (noted : List (ℕ × ℕ)) (table : Table) (limit : ℕ) (bytes : List ℕ) (head : Head) (start n : ℕ)
     (tokens : List Token) (types : List ℕ) (needs : List Need)
@@ -60,8 +61,8 @@ pub record IsPassing
   pub words : head.w64 ≤ limit
   pub small : head.length < 2 ^ 48
 
--- the header states what was taken after n bytes: the data bytes, the words, and the number of
--- objects, or 0 for it
+-- The header agrees with the `n` bytes that were read: it states the number of data bytes, the
+-- sizes in words, and the number of objects, or 0 instead of this number.
 pub record Ends (head : Head) (start n : ℕ) (tokens : List Token) (types : List ℕ) : Type 0 where
   pub whole : n ≡ start + head.length
   pub w32 : StatesWords32 head.big head.w32 (all_words32 (map measure_of tokens))

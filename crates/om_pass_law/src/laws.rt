@@ -1,9 +1,10 @@
-//! The law, as a contract.
+//! The theorem as the contract of a lemma function.
 
 ghost use Rattle.om_pass_law.specs.Laws.{PassesTypeFronts, NotedPassesTypeFronts};
 
-/// Bytes that were passed to the end of a value begin with a value of the type, also where flat
-/// blocks were met at a second type.
+/// States that the streaming check is sound. If the pass reaches the end of a value and no position
+/// is open, then the bytes begin with a value of the type. This also holds if the pass recorded
+/// second types of flat blocks.
 pub fn passes_type_fronts()
     ensures plain { PassesTypeFronts }
     ensures noted { NotedPassesTypeFronts }

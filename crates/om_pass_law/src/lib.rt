@@ -1,5 +1,7 @@
-//! A value is typed while its tokens come, each looked at once: what was passed with nothing open
-//! after it has the type. The function does nothing: what it ensures is the law.
+//! Soundness of the streaming check, which types a value while it reads the tokens, each token
+//! once. If the tokens satisfy their requirements and no position is open at the end, the value has
+//! the type (`passes_type_fronts`). The function is a lemma function: it does nothing, and its
+//! contract states the theorem.
 #![tactic(auto)]
 
 mod laws;

@@ -1,4 +1,4 @@
--- What a command has that passes over the first bytes of its input.
+-- The state of a command that skips the first bytes of its input.
 use Rattle.std.proofs.Common.{◌≡◌, ◌+◌, ◌-◌, ◌<◌, ◌≤◌, ℕ, zero, suc, Bool, true, false, List, [], ◌∷◌, ◌++◌, Result, Ok, Err, inl, inr, refl, sym, ap, ◌∙◌, subst, length, take, drop, get_or, length-append, append_assoc, append-nil, arith}
 use Rattle.std.specs.Prelude.{IsErrAnd}
 use Rattle.om_outcome.specs.Outcome.{Request, Said, says, stops, texts_of, all_well}
@@ -26,7 +26,7 @@ module _ {A : Type 0} (passed_by : Request → Passed) (c : Commands A) (p : Pas
   stay inner items bytes item more later (inl (less, b)) = inl (less, byte_stays bytes item more later b)
   stay inner items bytes item more later (inr (few, is)) = inr (few, inner (drop p.bytes items) bytes item more later is)
 
-  -- ---- all was passed over
+  -- ---- all bytes are skipped
 
   first_after : (passed rest : List ℕ) (items : List Item) (told : List Said) (more : List ℕ) → length passed ≡ p.bytes
       → SaysFirst c a rest items told more
@@ -45,7 +45,7 @@ module _ {A : Type 0} (passed_by : Request → Passed) (c : Commands A) (p : Pas
     goes_on = goes_on_after passed_by c p a (byte_items passed) h.items h.rest (byte_count passed ∙ size) h.goes_on;
   }
 
-  -- items of the command come after those bytes
+  -- The items of the command follow the skipped bytes.
   few_after : (passed : List ℕ) (items : List Item) → length passed ≡ p.bytes → p.bytes ≤ length (byte_items passed ++ items)
   few_after passed items size =
       let count = byte_count passed in let parts = length-append (byte_items passed) items in omega (arith, size, count, parts)
@@ -130,7 +130,7 @@ module _ {A : Type 0} (passed_by : Request → Passed) (c : Commands A) (p : Pas
     part,
   )
 
-  -- ---- some bytes are still to be passed over
+  -- ---- some bytes remain to be skipped
 
   abbrev hold_within : (passed : List ℕ) → length passed < p.bytes → HoldNoStop after (p, a) passed (bytes_said p.copied passed)
   hold_within passed less = record {
@@ -150,7 +150,7 @@ module _ {A : Type 0} (passed_by : Request → Passed) (c : Commands A) (p : Pas
     size_of : (bytes : List ℕ) (said : List Said) (h : There 0 bytes said) → length h.passed ≡ p.bytes
     size_of bytes said h = let counted = h.counted in omega (arith, counted)
 
-    -- nothing was taken but bytes that are passed over
+    -- Only skipped bytes were consumed.
     only_bytes : (left : ℕ) (bytes : List ℕ) (said : List Said) → 0 < left → (h : There left bytes said)
         → (bytes ≡ h.passed) × (said ≡ bytes_said p.copied h.passed)
     only_bytes left bytes said some h =
@@ -204,7 +204,7 @@ module _ {A : Type 0} (passed_by : Request → Passed) (c : Commands A) (p : Pas
         (subst (λ s. Halts after (p, a) (h.passed ++ h.rest) in_hand s out halt) (sym h.said_are)
         (halts_so_after in_hand out h.passed h.rest h.told (size_of bytes said h) halt (f h.rest h.told h.there)))
 
-    -- the same where none is left to be passed over
+    -- Case: no byte remains to be skipped.
     pub fed_at : (left : ℕ) → left ≡ 0 → (new : Has) (in_hand : List ℕ) (out : Change ByteState) (result : Result ℕ Halt)
         → Feeds c a has new in_hand out result
         → Feeds after (p, a) (There left) (HasPassed p new left) in_hand out result
@@ -212,7 +212,7 @@ module _ {A : Type 0} (passed_by : Request → Passed) (c : Commands A) (p : Pas
         subst (λ k. Feeds after (p, a) (There k) (HasPassed p new k) in_hand out result) (sym none)
         (fed new in_hand out result f)
 
-    -- one more byte is passed over
+    -- Case: one more byte is skipped.
     pub stepped : (left : ℕ) (in_hand : List ℕ) (out : Change ByteState) → 0 < left → 0 < length in_hand
         → Puts out (passed_said p.copied (text_item (get_or in_hand 0 0 ∷ []))).text
         → Feeds after (p, a) (There left) (There (left - 1)) in_hand out (Ok 1)
@@ -245,7 +245,7 @@ module _ {A : Type 0} (passed_by : Request → Passed) (c : Commands A) (p : Pas
             subst (λ t. Puts out t) (sym (append-nil (passed_said p.copied (text_item (b ∷ []))).text)) put,
           )
 
-    -- it could not be put
+    -- Case: the byte could not be written.
     pub step_fault : (left : ℕ) (in_hand : List ℕ) (out : Change ByteState) → 0 < left → 0 < length in_hand
         → p.copied ≡ true → PutsPart out (get_or in_hand 0 0 ∷ [])
         → (bytes : List ℕ) (said : List Said) → There left bytes said → HaltsIn after (p, a) bytes in_hand said out halts.WriteFault
@@ -315,7 +315,7 @@ module _ {A : Type 0} (passed_by : Request → Passed) (c : Commands A) (p : Pas
           (inl (inl (few, ap (λ k. stops (short_input k)) taken)), puts_nothing out),
         ))
 
--- no byte was taken
+-- The state before the first byte.
 pub begins : (p : Passed) (has : Has) → has [] [] → HasPassed p has p.bytes [] []
 begins p has there = record {
   passed = [];
@@ -332,7 +332,7 @@ pub some_left : (n : ℕ) → (n ≡ 0 → ⊥) → 0 < n
 some_left zero other = absurd (other refl)
 some_left (suc n) other = omega arith
 
--- a halt where out fails
+-- The run ends because writing to out failed.
 pub feeds_fault : {A : Type 0} (c : Commands A) (a : A) (before new : Has) (in_hand : List ℕ) (out : Change ByteState) (result : Result ℕ Halt)
     → IsErrAnd result (λ h. h ≡ halts.WriteFault)
     → ((bytes : List ℕ) (said : List Said) → before bytes said → HaltsIn c a bytes in_hand said out halts.WriteFault)
@@ -341,7 +341,7 @@ feeds_fault c a before new in_hand out (Ok n) err halt = absurd err
 feeds_fault c a before new in_hand out (Err h) err halt =
     λ bytes said there. inl (subst (λ h. HaltsIn c a bytes in_hand said out h) (sym err) (halt bytes said there))
 
--- what is put of a byte
+-- The output for a skipped byte.
 pub puts_byte : (copied : Bool) (b : ℕ) (out : Change ByteState) → copied ≡ true → Puts out (b ∷ [])
     → Puts out (passed_said copied (text_item (b ∷ []))).text
 puts_byte true b out is put = put

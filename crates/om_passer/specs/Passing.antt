@@ -1,15 +1,16 @@
--- What has been passed over of the input so far, and what has been taken after that.
+-- The bytes skipped so far, and the bytes consumed after them.
 use Rattle.std.specs.Prelude.{ℕ, ◌+◌, ◌<◌, ◌≡◌, List, [], ◌++◌, length}
 use Rattle.om_outcome.specs.Outcome.{Said}
 use Rattle.om_passing.specs.Skipping.{Passed, bytes_said}
 use Rattle.om_passer.specs.declared.passing.Over.{Over}
 use Rattle.om_work.specs.Works.{Has}
 
--- how many bytes are passed over, and whether they are put
+-- The number of bytes to skip, and whether they are written.
 abbrev pub passed_of : Over → Passed
 passed_of over = record { bytes = over.bytes; copied = over.copied }
 
--- So many bytes are still to be passed over. Until then no byte was taken after them.
+-- `left` bytes remain to be skipped. While `left` is positive, no byte is consumed after the
+-- skipped ones.
 pub record HasPassed (p : Passed) (has : Has) (left : ℕ) (bytes : List ℕ) (said : List Said)
     : Type 0 where
   pub passed : List ℕ

@@ -1,5 +1,6 @@
-//! A command that passes over the first bytes of its input, in code: so each command as a value has
-//! the option, and none has a line for it.
+//! The implementation of the option `--skip`: `Passing` wraps a command and skips the first bytes
+//! of its input. It implements `Work` for the commands `skipping`. Therefore each command has the
+//! option without code of its own.
 #![tactic(auto)]
 
 mod passing;

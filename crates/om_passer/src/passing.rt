@@ -1,4 +1,4 @@
-//! The first bytes of the input, passed over.
+//! Skips the first bytes of the input.
 
 ghost use Rattle.std.specs.Prelude.{◌≡◌, []};
 ghost use Rattle.om_outcome.specs.Outcome.{Said};
@@ -12,15 +12,15 @@ use om_work::Work;
 use std::alloc::Global;
 use std::marker::PhantomData;
 
-/// How many bytes are passed over, and whether they are put as they are.
+/// The number of bytes to skip, and whether they are written unchanged.
 #[derive(Clone, Copy)]
 pub struct Over {
     pub bytes: u64,
     pub copied: bool,
 }
 
-/// A command that passes over the first bytes of its input, and then takes the rest. So many of
-/// them are left.
+/// A command that skips the first bytes of its input and then consumes the rest. `left` is the
+/// number of bytes that remain to be skipped.
 #[derive(Drop)]
 pub struct Passing<P, W> {
     pub work: W,
@@ -30,7 +30,7 @@ pub struct Passing<P, W> {
 }
 
 impl<P: PassesOver, W: Work> Passing<P, W> {
-    /// No byte was taken.
+    /// Creates the command before its first byte.
     pub fn new(work: W, over: Over) -> Passing<P, W>
         requires { W.has work [] [] }
         ensures act { W.act result.work ≡ W.act work }

@@ -1,4 +1,4 @@
--- Where nothing is passed over, the commands do what they did.
+-- If no byte is skipped, then the commands are unchanged.
 use Rattle.std.proofs.Common.{◌≡◌, ◌≤◌, ℕ, List, inl, inr, sym, subst, length, drop, arith}
 use Rattle.om_outcome.specs.Outcome.{Request, Said, Reply}
 use Rattle.om_promises.specs.Account.{Account}
@@ -17,7 +17,7 @@ module _ {A : Type 0} (passed_by : Request → Passed) (c : Commands A) where
     abbrev n : ℕ
     n = over.bytes
 
-    -- no item is passed over
+    -- No item is skipped.
     past : (items : List Item) → n ≤ length items
     past items = omega (arith, none)
 

@@ -1,4 +1,4 @@
--- The files that commands want are wanted after bytes that are passed over, too.
+-- Commands request the same files with `--skip`.
 use Rattle.std.proofs.Common.{ℕ, List}
 use Rattle.om_edge.specs.State.{FilesState, Change}
 use Rattle.om_outcome.specs.Outcome.{Request}

@@ -1,4 +1,4 @@
--- The items of an input whose first bytes are passed over: these bytes, and then the items after
+-- The items of an input whose first bytes are skipped: these bytes, followed by the items after
 -- them.
 use Rattle.std.proofs.Common.{◌≡◌, ◌+◌, ◌<◌, ◌≤◌, ℕ, zero, suc, Bool, true, false, List, [], ◌∷◌, ◌++◌, inl, inr, refl, sym, ap, ◌∙◌, subst, length, drop, length-append, arith}
 use Rattle.std.proofs.Math.Seq.{drop-append_seam}
@@ -23,7 +23,7 @@ passed_well true (text_item bytes) = refl
 passed_well true (value_item tree) = refl
 passed_well false item = refl
 
--- the bytes, each an item
+-- The bytes, each as an item.
 abbrev pub byte_items : List ℕ → List Item
 byte_items [] = []
 byte_items (b ∷ bytes) = text_item (b ∷ []) ∷ byte_items bytes
@@ -56,7 +56,7 @@ module _ {A : Type 0} (passed_by : Request → Passed) (c : Commands A) (over : 
   one_more : (before : List Item) (item : Item) → n ≤ length before → n ≤ length (before ++ item ∷ [])
   one_more before item few = let size = length-append before (item ∷ []) in omega (arith, size, few)
 
-  -- ---- all bytes were passed over before
+  -- ---- all bytes were skipped before
 
   cut_all : (before : List Item) (bytes : List ℕ) (items : List Item) (rest : List ℕ) → n ≤ length before
       → Cut after (over, a) before bytes items rest → Cut c a (drop n before) bytes items rest
@@ -102,9 +102,9 @@ module _ {A : Type 0} (passed_by : Request → Passed) (c : Commands A) (over : 
         (subst (λ b. AllSay c a b items said) (sym (drop-append-le n before (item ∷ []) few)) say),
   )
 
-  -- ---- some are still to be passed over
+  -- ---- some bytes remain to be skipped
 
-  -- so many bytes, and then items of the commands
+  -- `j` bytes, followed by items of the commands.
   pub record Splits (j : ℕ) (bytes : List ℕ) (items : List Item) (said : List Said) (rest : List ℕ) : Type 0 where
     pub passed : List ℕ
     pub left : List ℕ
@@ -196,7 +196,7 @@ module _ {A : Type 0} (passed_by : Request → Passed) (c : Commands A) (over : 
         join_say passed (before ++ text_item (b ∷ []) ∷ []) items said (omega (arith, along, size)) say,
       )
 
-  -- the first bytes alone, not all that are passed over
+  -- Only the first bytes, not all that are to be skipped.
   pub within_cut : (passed : List ℕ) (before : List Item) → length passed + length before ≤ n
       → Cut after (over, a) before passed (byte_items passed) []
   within_cut [] before few = refl
@@ -226,7 +226,7 @@ module _ {A : Type 0} (passed_by : Request → Passed) (c : Commands A) (over : 
         within_more passed more (before ++ text_item (b ∷ []) ∷ []) (omega (arith, along, few)),
       )
 
-  -- before all are passed over, the items are the bytes so far
+  -- Before all are skipped, the items are the bytes so far.
   pub within_size : (before : List Item) (bytes : List ℕ) (items : List Item) (rest : List ℕ)
       → length items + length before ≤ n → Cut after (over, a) before bytes items rest
       → length bytes ≡ length items + length rest
@@ -238,7 +238,7 @@ module _ {A : Type 0} (passed_by : Request → Passed) (c : Commands A) (over : 
       let size : length bytes ≡ length (p.byte ∷ more) = ap length p.bytes_are in
       omega (arith, next, size)
 
-  -- ---- where more has to come
+  -- ---- the run continues
 
   pub goes_on_after : (firsts items : List Item) (rest : List ℕ) → length firsts ≡ n → GoesOn c a items rest
       → GoesOn after (over, a) (firsts ++ items) rest
@@ -252,7 +252,7 @@ module _ {A : Type 0} (passed_by : Request → Passed) (c : Commands A) (over : 
     no_item item more (inr (few, is)) =
         on.no_item item more (subst (λ i. c.IsFirst a i rest item more) (drop_first n firsts items count) is)
 
-  -- while some bytes are still to be passed over
+  -- While bytes remain to be skipped, the run continues.
   pub goes_on_within : (passed : List ℕ) → length passed < n → GoesOn after (over, a) (byte_items passed) []
   goes_on_within passed less = record {
     no_stop = λ stop at. no_stop stop at;

@@ -1,4 +1,4 @@
--- Lawful commands are lawful after bytes that are passed over.
+-- Lawful commands are lawful after skipped bytes.
 use Rattle.std.proofs.Common.{◌≡◌, ◌⊎◌, ◌<◌, ℕ, List, [], ◌∷◌, ◌++◌, inl, inr, sym, ap, ◌∙◌, subst, length, drop, arith}
 use Rattle.om_model.specs.Bytes.{AreBytes}
 use Rattle.om_outcome.specs.Outcome.{Request, Said, stops}
@@ -97,7 +97,7 @@ module _ {A : Type 0} (passed_by : Request → Passed) (c : Commands A) where
       apart = stands_apart;
     }
 
-  -- ---- the words, the files and other commands
+  -- ---- the arguments, the files and other commands
 
   pub lawful : AreLawful c → AreLawful after
   lawful law = lawful_beside passed_by c after lawful_at law

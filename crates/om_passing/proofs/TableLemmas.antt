@@ -1,4 +1,4 @@
--- The tables of commands that pass over first bytes are exact, where those of the commands are.
+-- If the tables of commands are exact, then the tables with `--skip` are.
 use Rattle.std.proofs.Common.{◌≡◌, ◌+◌, ◌<◌, ◌≤◌, ℕ, Bool, true, false, List, [], ◌∷◌, ◌++◌, inl, inr, refl, sym, ap, ◌∙◌, subst, length, take, drop, length-append, arith, append_assoc}
 use Rattle.std.proofs.lemmas.List.{take-append-drop, length-take-le}
 use Rattle.std.proofs.lemmas.List.Elements.{All-drop}
@@ -45,7 +45,7 @@ module _ {A : Type 0} (passed_by : Request → Passed) (c : Commands A) (over : 
     no_item = λ item more is. on.no_item item more (inr (few, is));
   }
 
-  -- of all the bytes these are the first ones
+  -- The first `n` of all bytes.
   all_first : (bytes : List ℕ) → n ≤ length bytes → length (take n bytes) ≡ n
   all_first bytes few = length-take-le n bytes few
 
@@ -59,7 +59,7 @@ module _ {A : Type 0} (passed_by : Request → Passed) (c : Commands A) (over : 
         all_say = join_say passed_by c over a (take n bytes) [] items said (omega (arith, size)) first.all_say;
       }
 
-  -- ---- a stop
+  -- ---- an exit reason
 
   pub stop_after : (bytes : List ℕ) (stop : Stop) → HoldStop after (over, a) bytes stop
       → (n ≤ length bytes) × HoldStop c a (drop n bytes) stop
@@ -99,7 +99,7 @@ module _ {A : Type 0} (passed_by : Request → Passed) (c : Commands A) (over : 
 
   -- ---- an end
 
-  -- after all that is passed over, the end is the commands' own
+  -- After all skipped bytes, the end is that of the commands.
   pub end_after : (bytes : List ℕ) (said : List Said) (last : Reply) (h : HoldEnd after (over, a) bytes said last)
       → n ≤ length h.items → c.Ends a (drop n h.items) h.rest last
       → (n ≤ length bytes) × ((later : List Said) × HoldEnd c a (drop n bytes) later last
@@ -142,7 +142,7 @@ module _ {A : Type 0} (passed_by : Request → Passed) (c : Commands A) (over : 
         );
       }
 
-  -- the input has fewer bytes than are passed over
+  -- Case: the input has fewer bytes than are to be skipped.
   pub short_after : (bytes : List ℕ) (said : List Said) (last : Reply) (h : HoldEnd after (over, a) bytes said last)
       → length h.items < n → length bytes < n
   short_after bytes said last h less = none h.rest refl where

@@ -1,4 +1,4 @@
--- What the words ask to pass over: so many bytes, which `edit` puts as they are.
+-- The option `--skip`: the number of bytes to skip. `edit` writes these bytes unchanged.
 use Rattle.std.specs.Prelude.{Bool, true, false}
 use Rattle.om_outcome.specs.CommandLine.{reading_of}
 use Rattle.om_outcome.specs.Outcome.{Request, edit}

@@ -1,5 +1,5 @@
--- What each status means where first bytes are passed over: what it means after them, and 4 also
--- where the input has fewer bytes.
+-- Exit status specification with `--skip`: that of the commands for the bytes after the skipped
+-- ones, and 4 also if the input has fewer bytes.
 use Rattle.std.specs.Prelude.{◌<◌, ◌≤◌, ◌≡◌, ◌⊎◌, length, drop}
 use Rattle.om_outcome.specs.declared.status.Status.TheVariants.{Value}
 use Rattle.om_causes.specs.Causes.{Tables}

@@ -1,5 +1,5 @@
--- A text has one answer: it has one outcome of the lexer, and its lexemes are one path, or have one
--- place at which no path goes on.
+-- A text has exactly one answer: the lexer has one result, and its lexemes either are one path or
+-- have one syntax error.
 use Rattle.std.proofs.Common.{ℕ, ◌≡◌, ◌∙◌, ⊎_elim, List, length, refl, sym, ap, subst}
 use Rattle.std.specs.Prelude.{Result, Ok, Err, IfOk, IfErr}
 use Rattle.om_lex.specs.declared.lexeme.Lexeme.{Lexeme}
@@ -19,7 +19,7 @@ use Rattle.om_path.proofs.PathTable.{path_table}
 abbrev Answer : Type 0
 Answer = Result (List ℕ) PathFault
 
--- ---- one answer at most
+-- ---- at most one answer
 
 no_both : (lexemes : List Lexeme) (path : List ℕ) (k : ℕ) → path_kinds path ≡ kinds_of lexemes → IsSyntax path_kinds (kinds_of lexemes) k → ⊥
 no_both lexemes path k e s = no_syntax path_table path k (subst (λ all. IsSyntax path_kinds all k) (sym e) s)
@@ -54,7 +54,7 @@ at_most_one text one other (o, a, l) (p, b, m) =
     let same : p ≡ o = law.2 p b ∙ sym (law.2 o a) in
     one_lexed (length text) o one other l (subst (λ outcome. IsLexed (length text) outcome other) same m)
 
--- ---- and one at least
+-- ---- at least one answer
 
 some_spelled : (lexemes : List Lexeme) (end : ℕ) → (answer : Answer) × IsSpelled lexemes end answer
 some_spelled lexemes end = ⊎_elim {C = (answer : Answer) × IsSpelled lexemes end answer}
@@ -73,7 +73,7 @@ one_answer text =
     let is : IsAnswer text lexed.0 = (law.0, law.1, lexed.1) in
     (lexed.0, is, λ other so. at_most_one text other lexed.0 so is)
 
--- ---- what a call gives
+-- ---- the result of a call
 
 pub tells : (text : List ℕ) (result : Answer) → IfOk result (λ path. IsAnswer text (Ok path))
     → IfErr result (UnlessMemory (λ fault. IsAnswer text (Err fault)))

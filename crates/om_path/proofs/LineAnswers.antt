@@ -1,5 +1,5 @@
--- A line has one answer: one outcome of the lexer, and its lexemes are none, one edit, or have one
--- place at which no line goes on.
+-- A line has exactly one result: the lexer has one result, and its lexemes are none, are one edit,
+-- or have one syntax error.
 use Rattle.std.proofs.Common.{ℕ, ◌+◌, ◌≡◌, ◌<◌, ◌≤◌, ◌∙◌, ⊎_elim, List, [], ◌∷◌, ◌++◌, length, drop, Some, None, refl, sym, ap, subst, arith, length-append, append_assoc}
 use Rattle.std.specs.Prelude.{Result, Ok, Err}
 use Rattle.std.proofs.lemmas.Bool.{cases_lt}
@@ -26,7 +26,7 @@ use Rattle.om_path.specs.declared.edits.ScriptFault.TheVariants as faults
 use Rattle.om_path.specs.declared.front.Role.TheVariants as roles
 use Rattle.om_path.proofs.LineTable.{line_table}
 
--- ---- one answer at most
+-- ---- at most one answer
 
 no_both : (lexemes : List Lexeme) (line : LineTree) (k : ℕ) → line_kinds line ≡ kinds_of lexemes → IsSyntax line_kinds (kinds_of lexemes) k → ⊥
 no_both lexemes line k e s = no_syntax line_table line k (subst (λ all. IsSyntax line_kinds all k) (sym e) s)
@@ -37,7 +37,7 @@ one_place lexemes j k a b = ⊎_elim
     (λ (n, s, alone). alone j a ∙ sym (alone k b))
     (text_or_syntax line_table (kinds_of lexemes))
 
--- a line has lexemes
+-- A line has at least one lexeme.
 not_empty : (line : LineTree) → line_kinds line ≡ [] → ⊥
 not_empty (set_line value path all) h = cc
 not_empty (link_line value path source) h = cc
@@ -50,7 +50,7 @@ no_line lexemes line none h = not_empty line (h ∙ ap kinds_of none)
 none_or_some : (lexemes : List Lexeme) → lexemes ≡ [] → 0 < length lexemes → ⊥
 none_or_some lexemes none some = let e : length lexemes ≡ 0 = ap length none in absurd (omega arith)
 
--- the last lexemes, so many
+-- Two suffixes of one list with the same kinds are equal.
 same_end : (lexemes one other : List Lexeme) → kinds_of one ≡ kinds_of other → EndWith lexemes one → EndWith lexemes other → one ≡ other
 same_end lexemes one other k (before, e) (front, f) =
     let lengths : length one ≡ length other = sym (kinds_length one) ∙ ap length k ∙ kinds_length other in
@@ -117,7 +117,7 @@ module _ (number : ℕ) (lexemes : List Lexeme) (end : ℕ) where
       let same = same_edit lexemes end one.value other.value one.action other.action trees a.1 b.1 in
       same_line one other (n ∙ sym m) same.values same.actions
 
-  -- a line that is in time is not later
+  -- A line cannot be both in time and late.
   same_tree : (value : ℕ) (action : Action) → IsAction lexemes end value action → (v o : ℕ) (p q : List ℕ) → line_kinds (graft_line v p o q) ≡ kinds_of lexemes
       → tree_of value action ≡ graft_line v p o q
   same_tree value action is v o p q e = one_text line_table (tree_of value action) (graft_line v p o q) (is.0 ∙ sym e)
@@ -175,7 +175,7 @@ one_line_answer number text one other (o, a, l) (p, b, m) =
     let same : p ≡ o = law.2 p b ∙ sym (law.2 o a) in
     one_lexed number (length text) o one other l (subst (λ outcome. IsLineLexed number (length text) outcome other) same m)
 
--- ---- and one at least
+-- ---- at least one answer
 
 record Split (lexemes : List Lexeme) (last : Kinds) : Type 0 where
   before : List Lexeme

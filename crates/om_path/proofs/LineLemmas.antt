@@ -1,4 +1,4 @@
--- The code follows the table of lines.
+-- The code agrees with the table of lines.
 use Rattle.std.proofs.Common.{ℕ, suc, ◌≡◌, ◌∙◌, ◌<◌, ◌≤◌, ⊎_elim, true, false, List, [], ◌∷◌, ◌++◌, length, take, drop, get_or, Option, Some, None, refl, sym, ap, subst, arith, append-nil}
 use Rattle.std.specs.Prelude.{Result, Ok, Err, IfOk, IfErr, option_map, option_and_then, unwrap_or, if◌then◌else◌, nat_le}
 use Rattle.std.proofs.lemmas.Bool.Decides.{leb_tells}
@@ -38,7 +38,7 @@ use Rattle.om_path.specs.declared.front.Next.TheVariants as nexts
 use Rattle.om_path.proofs.PathTable.{zeros}
 use Rattle.om_path.proofs.LineTable.{flat, line_table, literal_leads}
 
--- the lexemes up to a place are read as this
+-- The lexemes before this index lead to this state.
 abbrev pub LineReached : List Lexeme → ℕ → Front → Type 0
 LineReached lexemes place f = run line_step line_start (take place (kinds_of lexemes)) ≡ Some (reading f)
 
@@ -60,7 +60,7 @@ module _ (lexemes : List Lexeme) (place : ℕ) (f : Front) (reached : LineReache
       let whole : take place (kinds_of lexemes) ≡ kinds_of lexemes = ap (λ n. take n (kinds_of lexemes)) here ∙ take_whole (kinds_of lexemes) in
       sym (ap (run line_step line_start) whole) ∙ reached
 
--- ---- a line's end
+-- ---- the end of a line
 
 no_end_in : (number value : ℕ) (role : Role) (o : Option (List ℕ)) → whole_line number value role o ≡ None → ended value role o ≡ None
 no_end_in number value role None h = refl
@@ -75,7 +75,7 @@ no_end number (fronts.Value value) h = refl
 no_end number (fronts.Other value path) h = refl
 no_end number (fronts.Steps value role path after_dot) h = no_end_in number value role (accepted (at path after_dot)) h
 
--- an end of this tree gives this line
+-- If a line ends with this tree, then the code returns this line.
 record Ends (number : ℕ) (o : Option LineTree) (line : ScriptLine) : Type 0 where
   numbers : line.number ≡ number
   spelled : o ≡ Some (tree_of line.value line.action)
@@ -100,7 +100,7 @@ is_end number (fronts.Value value) line h = absurd (cc)
 is_end number (fronts.Other value path) line h = absurd (cc)
 is_end number (fronts.Steps value role path after_dot) line h = is_end_in number value role (accepted (at path after_dot)) line h
 
--- reading goes on from where a front led
+-- Reading continues from the state that a prefix leads to.
 run_on : (xs ys : Kinds) (s m : LineState) → run line_step s xs ≡ Some m → run line_step s (xs ++ ys) ≡ run line_step m ys
 run_on [] ys s m h = let e : s ≡ m = cc in ap (λ n. run line_step n ys) e
 run_on (kind ∷ rest) ys s m h = on (line_step s kind) (λ n. run_on rest ys n m) h
@@ -119,7 +119,7 @@ literal_run value path xs = leads_whole (literal_leads value path [] xs)
 past_end : (lexemes : List Lexeme) (end : ℕ) → byte_of lexemes end (length lexemes) ≡ end
 past_end lexemes end = ap (λ o. unwrap_or (option_map (λ (l : Lexeme). l.span.first) o) end) (slice_get_past lexemes (length lexemes) (omega arith))
 
--- ---- what the code answers
+-- ---- the result of the code
 
 module _ (lexemes : List Lexeme) (number end : ℕ) where
   pub ends_early : 0 < length lexemes → (f : Front) → run line_step line_start (kinds_of lexemes) ≡ Some (reading f) → ended_line number f ≡ None →
@@ -132,12 +132,12 @@ module _ (lexemes : List Lexeme) (number end : ℕ) where
     past_end lexemes end,
   )
 
-  -- the line, or the fault where it is too early
+  -- The line, or the error if it copies from a later value.
   abbrev pub Judged : ScriptLine → Result ScriptLine ScriptFault → Type 0
   Judged line (Ok whole) = IsRead number lexemes end (Ok (Some whole))
   Judged line (Err fault) = UnlessMemory (λ fault. IsRead number lexemes end (Err fault)) fault
 
-  -- what is asked for, in time or not
+  -- The result for this action, whether it is in time or late.
   judged : (line : ScriptLine) → line.number ≡ number → (action : Action) → IsAction lexemes end line.value action → action ≡ line.action →
       (result : Result ScriptLine ScriptFault) → result ≡ in_time_by line action → Judged line result
   judged line n (actions.Edit edit) is same result e = subst (Judged line) (sym e) (n, subst (IsAction lexemes end line.value) same is, subst (IsInTime line.value) same tt)
@@ -183,7 +183,7 @@ pub told_literal : (lexemes : List Lexeme) (told : Told) (value : ℕ) (path : L
     run line_step line_start (take place (kinds_of lexemes)) ≡ Some (literal value path [])
 told_literal lexemes told value path place e h = let i = subst (IsTold lexemes) e h in i.1
 
--- ---- from the lexer's outcome
+-- ---- from the result of the lexer
 
 module _ (number : ℕ) (text : List ℕ) where
   pub lexed_line : (lexemes : List Lexeme) → Lexes text lexemes → (result : LineAnswer) →

@@ -1,4 +1,4 @@
--- The table reads lines of scripts.
+-- The table reads the lines of scripts.
 use Rattle.std.proofs.Common.{ℕ, ◌≡◌, ◌∙◌, ◌⊎◌, inl, inr, ⊎_elim, Bool, true, false, List, [], ◌∷◌, ◌++◌, Option, Some, None, refl, sym, ap, subst, arith, append_assoc, append-nil}
 use Rattle.std.specs.Prelude.{IfSome, if◌then◌else◌, codes}
 use Rattle.std.specs.Str.{bytes_eq}
@@ -22,7 +22,7 @@ use Rattle.om_path.specs.declared.front.Front.TheVariants as fronts
 use Rattle.om_grammar.proofs.LexemeLemmas.{number_is, open_more}
 use Rattle.om_path.proofs.PathTable.{none, zeros, final, path_table, leads as path_leads}
 
--- brackets stand in literals alone
+-- Only literals contain brackets.
 abbrev pub brackets : LineState → ℕ
 brackets (reading f) = 0
 brackets (literal value path read) = open_after 0 read
@@ -77,7 +77,7 @@ module _ (value : ℕ) (role : Role) where
       (sym (zeros_append (path_kinds path) (equals ∷ rest)))
       (onward (embedded (path_leads path)) (go h (omega arith) p))
 
--- ---- where a line leads
+-- ---- the state after a line
 
 pub literal_leads : (value : ℕ) (path : List ℕ) (read xs : Kinds) → Leads line_step flat (literal value path read) xs (zeros xs) (literal value path (read ++ xs))
 literal_leads value path read [] =
@@ -113,7 +113,7 @@ accepts (link_line value path source) = role_accepts value (roles.Source path) s
 accepts (unshare_line value path) = role_accepts value roles.Unshare path
 accepts (graft_line value path other source) = role_accepts value (roles.Part path other) source
 
--- ---- what a state has read
+-- ---- the lexemes that a state has read
 
 ended_front : (value : ℕ) (role : Role) (s : State) (o : Option (List ℕ)) → accepted s ≡ o → (line : LineTree) → ended value role o ≡ Some line →
     line_kinds line ≡ number value ∷ (role_kinds role ++ front s)
@@ -140,7 +140,7 @@ accepted_front (reading (fronts.Other value path)) line h = absurd (cc)
 accepted_front (reading (fronts.Steps value role path after_dot)) line h = ended_front value role (at path after_dot) (accepted (at path after_dot)) refl line h
 accepted_front (literal value path read) line h = let is : set_line value path read ≡ line = cc in ap line_kinds (sym is)
 
--- ---- one lexeme more
+-- ---- one more lexeme
 
 abbrev AddsTo : LineState → LexemeKind → Option LineState → Type 0
 AddsTo s kind o = IfSome o (λ next. Adds line_front brackets (line_front s) (brackets s) kind next)
@@ -150,7 +150,7 @@ adds_value kind None h = tt
 adds_value kind (Some n) h =
     subst (λ k. Adds line_front brackets [] 0 k (reading (fronts.Value n))) (sym (number_is kind n h)) (record { fronts = refl; opens = refl })
 
--- the word that names a role
+-- The word that names a role.
 record Names (kind : LexemeKind) (role : Role) : Type 0 where
   name : List ℕ
   is : kind ≡ kinds.Lower name
@@ -256,7 +256,7 @@ adds (literal value path read) kind = record {
   opens = open_more 0 read kind;
 }
 
--- ---- each front goes on
+-- ---- each prefix can be completed
 
 longer : (xs before rest last : Kinds) → xs ≡ before ++ rest → xs ++ last ≡ before ++ (rest ++ last)
 longer xs before rest last h = ap (λ ys. ys ++ last) h ∙ append_assoc before rest last

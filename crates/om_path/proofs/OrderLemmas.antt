@@ -1,4 +1,4 @@
--- The places of a script's lines by the numbers of the values that they edit.
+-- Lemmas about the index of a script's lines by value number.
 use Rattle.std.proofs.Common.{ℕ, zero, suc, ◌+◌, ◌≡◌, ◌<◌, ◌≤◌, ◌∙◌, Bool, true, false, cond, ltb, leb, eqb, List, [], ◌∷◌, length, take, drop, get_or, Some, refl, sym, ap, subst, arith, tests}
 use Rattle.std.specs.Prelude.{filter, not, ◌&&◌, slice_get, All}
 use Rattle.std.specs.List.{cons_option, AllWithin}
@@ -9,7 +9,7 @@ use Rattle.std.proofs.lemmas.Option.{slice_get-get_or}
 use Rattle.om_path.specs.declared.edits.ScriptLine.{ScriptLine}
 use Rattle.om_path.specs.Order.{lines_of, places_from, places_of, IsOrder, AreWithin, lines_at}
 
--- ---- where a test stops to hold
+-- ---- the position at which a test becomes false
 
 module _ {X : Type 0} (test : X → Bool) where
   abbrev fails : X → Bool
@@ -45,7 +45,7 @@ module _ {X : Type 0} (test : X → Bool) where
       (λ k d above below. held (suc k) d (omega arith) (omega (arith, below)), λ k d above below. out (suc k) d (omega (arith, above)) (omega (arith, below))) in
       rw first (back_is xs i rest (omega (arith, within)))
 
--- ---- one test after another
+-- ---- two filters in sequence
 
 module _ {X : Type 0} (one other both : X → Bool) (is : (x : X) → (one x && other x) ≡ both x) where
   kept_twice : (x : X) (xs : List X) (a b : Bool) → one x ≡ a → other x ≡ b → filter one (filter other xs) ≡ filter both xs → filter one (cond b (x ∷ filter other xs) (filter other xs)) ≡ cond (a && b) (x ∷ filter both xs) (filter both xs)
@@ -58,9 +58,9 @@ module _ {X : Type 0} (one other both : X → Bool) (is : (x : X) → (one x && 
   filter_twice [] = refl
   filter_twice (x ∷ xs) = kept_twice x xs (one x) (other x) refl refl (filter_twice xs) ∙ ap (λ b. cond b (x ∷ filter both xs) (filter both xs)) (is x)
 
--- ---- the lines of a value
+-- ---- the lines of one value
 
--- what neither falls below a number nor stands above it is that number
+-- A number that is neither less than nor greater than another one is equal to it.
 same_number : (a b : ℕ) → (not (ltb a b) && leb a b) ≡ eqb a b
 same_number a b = grind (arith, tests)
 
@@ -70,13 +70,13 @@ value_is k order = filter_twice (λ place. not (ltb place.0 k)) (λ place. leb p
 same_ties : (k : ℕ) (place : ℕ × ℕ) → ties (λ x y. is_lt (nat_cmp x.0 y.0)) (k, 0) place ≡ eqb place.0 k
 same_ties k (v, at) = grind (arith, tests)
 
--- a stable sort by the values keeps the order of the lines of each
+-- A stable sort by value keeps the order of the lines of each value.
 pub order_kept : (from order : List (ℕ × ℕ)) → IsStableByKey (λ place. place.0) nat_cmp from order → (k : ℕ) → places_of k order ≡ places_of k from
 order_kept from order stable k =
     sym (filter_agree (ties (λ x y. is_lt (nat_cmp x.0 y.0)) (k, 0)) (λ place. eqb place.0 k) (same_ties k) order)
     ∙ (stable (k, 0) ∙ filter_agree (ties (λ x y. is_lt (nat_cmp x.0 y.0)) (k, 0)) (λ place. eqb place.0 k) (same_ties k) from)
 
--- the lines at the places are those of the value
+-- The lines at the indices are those of the value.
 module _ (all : List ScriptLine) (k : ℕ) where
   picked : (line : ScriptLine) (place : ℕ × ℕ) (places : List (ℕ × ℕ)) (lines : List ScriptLine) → slice_get all place.1 ≡ Some line → lines_at all places ≡ lines
       → (b : Bool) → lines_at all (cond b (place ∷ places) places) ≡ cond b (line ∷ lines) lines
@@ -107,7 +107,7 @@ module _ (lines : List ScriptLine) (order : List (ℕ × ℕ)) (is : IsOrder lin
   pub found_lines : lines_at lines places ≡ lines_of k lines
   found_lines = ap (lines_at lines) (are ∙ is.stable k) ∙ lines_found lines k 0 lines (λ i. let same : 0 + i ≡ i = omega arith in ap (slice_get lines) same)
 
--- ---- one place after another
+-- ---- one index after another
 
 module _ (lines : List ScriptLine) (places : List (ℕ × ℕ)) (place : ℕ × ℕ) (more : List (ℕ × ℕ)) (are : places ≡ place ∷ more) where
   pub more_within : AreWithin lines places → AreWithin lines more

@@ -18,13 +18,13 @@ none s = 0
 abbrev pub zeros : Kinds → List ℕ
 zeros lexemes = map (λ (kind : LexemeKind). 0) lexemes
 
--- ---- what a lexeme is
+-- ---- the kind of a lexeme
 
 dot_is : (kind : LexemeKind) → is_dot kind ≡ true → kind ≡ dot
 dot_is (kinds.Symbol symbols.Dot) h = refl
 dot_is kind h = absurd (cc)
 
--- ---- steps one after the other
+-- ---- one step after another
 
 pub steps_more : (path : List ℕ) (n : ℕ) → steps_kinds (path ++ n ∷ []) ≡ steps_kinds path ++ dot ∷ number n ∷ []
 steps_more [] n = refl

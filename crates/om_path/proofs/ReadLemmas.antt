@@ -1,4 +1,4 @@
--- The code follows the table.
+-- The code agrees with the table.
 use Rattle.std.proofs.Common.{ℕ, suc, ◌≡◌, ◌∙◌, ◌<◌, Bool, true, false, List, length, take, get_or, Some, None, refl, sym, ap, subst, arith}
 use Rattle.std.specs.Prelude.{not, Result, Ok, Err, IfOk, IfErr}
 use Rattle.om_lex.specs.declared.lexeme.Lexeme.{Lexeme}
@@ -17,7 +17,7 @@ use Rattle.om_path.specs.PathGrammar.{path_kinds}
 use Rattle.om_path.specs.Machine.{at, start, step, stepped, accepted}
 use Rattle.om_path.proofs.PathTable.{path_table}
 
--- the lexemes up to a place lead to this state
+-- The lexemes before this index lead to this state.
 abbrev pub Reached : List Lexeme → ℕ → List ℕ → Bool → Type 0
 Reached lexemes place path after_dot = run step start (take place (kinds_of lexemes)) ≡ Some (at path after_dot)
 
@@ -51,7 +51,7 @@ module _ (lexemes : List Lexeme) (place : ℕ) (path : List ℕ) (after_dot : Bo
     ends_early h = subst (IsSyntax path_kinds (kinds_of lexemes)) (kinds_length lexemes)
         (syntax_end path_table (kinds_of lexemes) (at path after_dot) run_whole h)
 
--- ---- from the lexer's outcome
+-- ---- from the result of the lexer
 
 module _ (text : List ℕ) where
   pub lexed_path : (lexemes : List Lexeme) → Lexes text lexemes → (result : Result (List ℕ) PathFault) →

@@ -1,4 +1,4 @@
--- A text's lines one after the other, and that a text has one answer.
+-- The lines of a text one after another, and the proof that a text has exactly one answer.
 use Rattle.std.proofs.Common.{ℕ, suc, ◌+◌, ◌≡◌, ◌<◌, ◌≤◌, ◌∙◌, ⊎_elim, Bool, false, eqb, List, [], ◌∷◌, ◌++◌, length, take, drop, Option, Some, None, refl, sym, ap, subst, arith, append_assoc, append-nil}
 use Rattle.std.specs.Prelude.{Result, Ok, Err, IfOk, IfErr, not, option_to_list}
 use Rattle.std.specs.List.{position_or_len}
@@ -66,7 +66,7 @@ tells_script text (Err (faults.Syntax line place)) s f answer is = at_most_one t
 tells_script text (Err (faults.Later line)) s f answer is = at_most_one text answer (Err (faults.Later line)) is f
 tells_script text (Err faults.Memory) s f answer is = tt
 
--- ---- the first line of what is left
+-- ---- the first line of the rest
 
 abbrev pub is_feed : ℕ → Bool
 is_feed b = eqb b 10
@@ -92,7 +92,7 @@ abbrev pub after : List ScriptLine → Edits → Edits
 after lines (Ok more) = Ok (lines ++ more)
 after lines (Err fault) = Err fault
 
--- what is left from a place on decides the whole, after the lines that were read
+-- The rest of the text from this offset decides the whole, after the lines read so far.
 abbrev pub Continues : List ℕ → ℕ → ℕ → List ScriptLine → Type 0
 Continues text at number lines = (rest : Edits) → AreEdits number (drop at text) rest → AreEdits 1 text (after lines rest)
 

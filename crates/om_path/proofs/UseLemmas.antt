@@ -1,4 +1,4 @@
--- The lines that copy from a value, and the values into which they copy.
+-- Lemmas about the lines that copy from a value, and the values that they copy into.
 use Rattle.std.proofs.Common.{ℕ, ◌≡◌, ◌≤◌, ◌∙◌, Bool, true, false, cond, eqb, List, [], ◌∷◌, ◌++◌, get_or, Option, Some, None, refl, sym, ap, subst, append_assoc, append-nil, eqb-true, eq-eqb}
 use Rattle.std.specs.Prelude.{All, Any, MatchOption, option_to_list}
 use Rattle.std.specs.List.{cons_option}
@@ -15,7 +15,7 @@ pub one_more : (done : List (ℕ × ℕ)) (used : Option (ℕ × ℕ)) (more : L
 one_more done None more = ap (λ l. l ++ more) (append-nil done)
 one_more done (Some used) more = append_assoc done (used ∷ []) more
 
--- ---- what holds of the values into which lines copy
+-- ---- properties of the values that are copied into
 
 module _ (j : ℕ) (P : ℕ → Type 0) where
   abbrev Into : ℕ × ℕ → Type 0
@@ -24,7 +24,7 @@ module _ (j : ℕ) (P : ℕ → Type 0) where
   abbrev IntoBy : ScriptLine → Type 0
   IntoBy line = CopiesFrom j line.action → P line.value
 
-  -- one line more
+  -- One more line.
   module _ (value : ℕ) (uses : List (ℕ × ℕ)) where
     abbrev With : Action → Type 0
     With action = All Into (places_of j (cons_option (use_by value action) uses))

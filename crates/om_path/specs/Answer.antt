@@ -1,4 +1,5 @@
--- What a text is: a path, or a fault. The lexer is asked first, and then the grammar.
+-- The answer of a text that should be a path: a path or an error. Lexical errors come before syntax
+-- errors.
 use Rattle.std.specs.Prelude.{ℕ, ◌≡◌, List, length, Result, Ok, Err, ⊤}
 use Rattle.om_lex.specs.declared.lexeme.Lexeme.{Lexeme}
 use Rattle.om_lex.specs.declared.lexeme.LexFault.{LexFault}
@@ -11,8 +12,8 @@ use Rattle.om_path.specs.PathGrammar.{path_kinds}
 use Rattle.om_path.specs.declared.fault.PathFault.{PathFault}
 use Rattle.om_path.specs.declared.fault.PathFault.TheVariants as faults
 
--- the path that the lexemes of a text of so many bytes spell, or the first place at which no path
--- goes on
+-- The path whose lexemes these are, or the byte offset of the first lexeme at which no path
+-- continues. The text has `end` bytes.
 abbrev pub IsSpelled : List Lexeme → ℕ → Result (List ℕ) PathFault → Type 0
 IsSpelled lexemes end (Ok path) = path_kinds path ≡ kinds_of lexemes
 IsSpelled lexemes end (Err (faults.Syntax place)) =
@@ -20,24 +21,24 @@ IsSpelled lexemes end (Err (faults.Syntax place)) =
 IsSpelled lexemes end (Err faults.Lex) = ⊥
 IsSpelled lexemes end (Err faults.Memory) = ⊥
 
--- what follows of the lexer's outcome
+-- The answer, given the result of the lexer.
 abbrev pub IsLexed : ℕ → Result (List Lexeme) LexFault → Result (List ℕ) PathFault → Type 0
 IsLexed end (Ok lexemes) answer = IsSpelled lexemes end answer
 IsLexed end (Err fault) answer = Err faults.Lex ≡ answer
 
--- the answer to a text
+-- The answer of a text.
 abbrev pub IsAnswer : List ℕ → Result (List ℕ) PathFault → Type 0
 IsAnswer text answer =
     (outcome : Result (List Lexeme) LexFault) × Outcome text outcome
     × IsLexed (length text) outcome answer
 
--- a text has an answer, and no other
+-- A text has exactly one answer.
 abbrev pub HasOneAnswer : List ℕ → Type 0
 HasOneAnswer text =
     (answer : Result (List ℕ) PathFault) × IsAnswer text answer
     × ((other : Result (List ℕ) PathFault) → IsAnswer text other → other ≡ answer)
 
--- ---- what a call gives
+-- ---- the result of a call
 
 abbrev pub fault_of_lexer : LexFault → PathFault
 fault_of_lexer lexer.Memory = faults.Memory
@@ -47,7 +48,7 @@ abbrev pub UnlessMemory : (PathFault → Type 0) → PathFault → Type 0
 UnlessMemory P faults.Memory = ⊤
 UnlessMemory P fault = P fault
 
--- the result is this answer, unless memory runs out
+-- The result is this answer, unless memory runs out.
 abbrev pub Tells : Result (List ℕ) PathFault → Result (List ℕ) PathFault → Type 0
 Tells (Ok path) answer = answer ≡ Ok path
 Tells (Err fault) answer = UnlessMemory (λ f. answer ≡ Err f) fault

@@ -1,4 +1,4 @@
--- What the parts of the code tell of a line.
+-- Definitions for the contracts of the line parser.
 use Rattle.std.specs.Prelude.{ℕ, ◌≡◌, ◌≤◌, nat_le, if◌then◌else◌, Option, Some, None, Result, Ok}
 use Rattle.std.specs.Prelude.{Err, List, [], length, take}
 use Rattle.om_lex.specs.declared.lexeme.Lexeme.{Lexeme}
@@ -48,7 +48,7 @@ ended_line number (fronts.Steps value role path after_dot) =
     whole_line number value role (accepted (at path after_dot))
 ended_line number f = None
 
--- the line, or the fault where it copies from a value that does not come before its own
+-- The line, or the error if it copies from a value that does not come before the edited one.
 abbrev pub in_time_by : ScriptLine → Action → Result ScriptLine ScriptFault
 in_time_by line (actions.Edit edit) = Ok line
 in_time_by line (actions.Graft path other source) =

@@ -1,5 +1,5 @@
--- How a line of a script is written: `K set PATH = LITERAL`, `K link PATH = PATH`, `K unshare PATH`
--- or `K graft PATH = K PATH`.
+-- The grammar of a script line: `K set PATH = LITERAL`, `K link PATH = PATH`, `K unshare PATH` or
+-- `K graft PATH = K PATH`.
 use Rattle.std.specs.Prelude.{ℕ, List, ◌∷◌, ◌++◌, codes}
 use Rattle.om_lex.specs.declared.lexeme.LexemeKind.{LexemeKind}
 use Rattle.om_lex.specs.declared.lexeme.LexemeKind.TheVariants as kinds
@@ -8,7 +8,7 @@ use Rattle.om_grammar.specs.Grammar.{Kinds}
 use Rattle.om_grammar.specs.Lexemes.{number}
 use Rattle.om_path.specs.PathGrammar.{path_kinds}
 
--- the number of a value, and the edit; the literal is any lexemes, also none
+-- The number of the edited value and the edit. The literal is any list of lexemes, possibly empty.
 pub data LineTree : Type 0 where
   set_line : (value : ℕ) (path : List ℕ) (literal : Kinds) → LineTree
   link_line : (value : ℕ) (path source : List ℕ) → LineTree
@@ -18,7 +18,7 @@ pub data LineTree : Type 0 where
 abbrev pub equals : LexemeKind
 equals = kinds.Symbol symbols.Equals
 
--- the path, an equals sign, and what comes after it
+-- The path, an equals sign, and the lexemes after it.
 abbrev pub assigned : List ℕ → Kinds → Kinds
 assigned path rest = path_kinds path ++ equals ∷ rest
 

@@ -17,7 +17,7 @@ use Rattle.om_path.specs.declared.front.Front.TheVariants as fronts
 use Rattle.om_path.specs.declared.front.Next.{Next}
 use Rattle.om_path.specs.declared.front.Next.TheVariants as nexts
 
--- what was read: up to the `=` of `set`, and after it
+-- The lexemes read so far: up to the `=` of `set`, or beyond it.
 pub data LineState : Type 0 where
   reading : Front → LineState
   literal : (value : ℕ) (path : List ℕ) (read : Kinds) → LineState
@@ -25,7 +25,7 @@ pub data LineState : Type 0 where
 abbrev pub line_start : LineState
 line_start = reading fronts.Start
 
--- ---- one lexeme
+-- ---- steps on a lexeme
 
 abbrev pub valued : Option ℕ → Next
 valued None = nexts.Nowhere
@@ -50,7 +50,7 @@ abbrev pub is_equals : LexemeKind → Bool
 is_equals (kinds.Symbol symbols.Equals) = true
 is_equals kind = false
 
--- after the equals sign, where a whole path stands before it
+-- After the equals sign, if a complete path comes before it.
 abbrev pub after_equals : ℕ → Role → Option (List ℕ) → Next
 after_equals value role None = nexts.Nowhere
 after_equals value roles.Set (Some path) = nexts.Literal value path
@@ -59,7 +59,7 @@ after_equals value roles.Link (Some path) =
 after_equals value roles.Graft (Some path) = nexts.Onward (fronts.Other value path)
 after_equals value role (Some path) = nexts.Nowhere
 
--- after the number of the value that is copied from
+-- After the number of the value that is copied from.
 abbrev pub with_other : ℕ → List ℕ → Option ℕ → Next
 with_other value path None = nexts.Nowhere
 with_other value path (Some other) =
@@ -112,7 +112,7 @@ abbrev pub line_front : LineState → Kinds
 line_front (reading f) = front_kinds f
 line_front (literal value path read) = line_kinds (set_line value path read)
 
--- ---- a line's end
+-- ---- the end of a line
 
 abbrev pub ended : ℕ → Role → Option (List ℕ) → Option LineTree
 ended value role None = None
@@ -127,6 +127,6 @@ line_accepted (reading (fronts.Steps value role path after_dot)) =
 line_accepted (reading f) = None
 line_accepted (literal value path read) = Some (set_line value path read)
 
--- no lexeme of a line ends a type
+-- No lexeme of a line ends a type.
 abbrev pub line_ends : LineTree → List ℕ
 line_ends line = map (λ (kind : LexemeKind). 0) (line_kinds line)

@@ -12,7 +12,7 @@ abbrev pub is_dot : LexemeKind → Bool
 is_dot (kinds.Symbol symbols.Dot) = true
 is_dot kind = false
 
--- the steps that were read, and whether a dot stands after them
+-- The steps read so far, and whether a dot follows them.
 pub data State : Type 0 where
   at : (path : List ℕ) (after_dot : Bool) → State
 
@@ -23,7 +23,7 @@ abbrev pub step : State → LexemeKind → Option State
 step (at path true) kind = option_map (λ n. at (path ++ n ∷ []) false) (number_of kind)
 step (at path false) kind = if is_dot kind then Some (at path true) else None
 
--- the state after a lexeme, where a path goes on with it
+-- The state after a lexeme, if a path continues with it.
 abbrev pub stepped : Bool → List ℕ → Bool → Option State
 stepped goes path after_dot = if goes then Some (at path (not after_dot)) else None
 
@@ -37,6 +37,6 @@ accepted (at (n ∷ ns) false) = Some (n ∷ ns)
 accepted (at [] false) = None
 accepted (at (n ∷ ns) true) = None
 
--- no lexeme of a path ends a type
+-- No lexeme of a path ends a type.
 abbrev pub ends : List ℕ → List ℕ
 ends path = map (λ (kind : LexemeKind). 0) (path_kinds path)

@@ -1,39 +1,39 @@
--- The lines of a script by the numbers of the values that they edit.
+-- The lines of a script, indexed by the numbers of the values that they edit.
 use Rattle.std.specs.Prelude.{ℕ, suc, ◌≡◌, ◌==◌, ◌<◌, List, [], ◌∷◌, length, filter, slice_get, All}
 use Rattle.std.specs.List.{filter_map}
 use Rattle.std.specs.List.Sorted.{IsNonDecreasingBy}
 use Rattle.om_path.specs.declared.edits.ScriptLine.{ScriptLine}
 
--- the edits of a text, in its order
+-- The edits of a text, in its order.
 pub record ScriptLines : Type 0 where
   pub lines : List ScriptLine
 
--- those that edit value k
+-- The lines that edit value `k`.
 abbrev pub lines_of : ℕ → List ScriptLine → List ScriptLine
 lines_of k lines = filter (λ line. line.value == k) lines
 
--- of each line its value's number and its place; n is the place of the first one
+-- For each line, the number of its value and the line's index. The index of the first line is `n`.
 abbrev pub places_from : ℕ → List ScriptLine → List (ℕ × ℕ)
 places_from n [] = []
 places_from n (line ∷ lines) = (line.value, n) ∷ places_from (suc n) lines
 
--- the places of the lines that edit value k
+-- The entries of the lines that edit value `k`.
 abbrev pub places_of : ℕ → List (ℕ × ℕ) → List (ℕ × ℕ)
 places_of k places = filter (λ place. place.0 == k) places
 
--- no value's number falls
+-- The numbers of the values do not decrease.
 abbrev pub IsByValue : List (ℕ × ℕ) → Type 0
 IsByValue order = IsNonDecreasingBy (λ place. place.0) order
 
--- the places of the lines by their values, and at one value in the order of the lines
+-- The entries of the lines, sorted by value. Entries of one value are in the order of the lines.
 pub record IsOrder (lines : List ScriptLine) (order : List (ℕ × ℕ)) : Type 0 where
   pub by_value : IsByValue order
   pub stable : (k : ℕ) → places_of k order ≡ places_of k (places_from 0 lines)
 
--- each place is that of a line
+-- Each index is that of a line.
 abbrev pub AreWithin : List ScriptLine → List (ℕ × ℕ) → Type 0
 AreWithin lines places = All (λ place. place.1 < length lines) places
 
--- the lines at places
+-- The lines with these indices.
 abbrev pub lines_at : List ScriptLine → List (ℕ × ℕ) → List ScriptLine
 lines_at lines places = filter_map (λ place. slice_get lines place.1) places

@@ -1,4 +1,4 @@
--- How a path is written: a dot for the root, and else a dot and a number for each step.
+-- The grammar of a path: a single dot for the root, otherwise a dot and a number for each step.
 use Rattle.std.specs.Prelude.{ℕ, List, [], ◌∷◌}
 use Rattle.om_lex.specs.declared.lexeme.LexemeKind.{LexemeKind}
 use Rattle.om_lex.specs.declared.lexeme.LexemeKind.TheVariants as kinds

@@ -1,4 +1,5 @@
--- What the text of a script is: its edits, or the fault of its first faulty line.
+-- The answer of a text that should be a script: its edits, or the error of its first line with an
+-- error.
 use Rattle.std.specs.Prelude.{ℕ, suc, ◌≡◌, ◌<◌, ◌≤◌, ◌==◌, Option, Some, None, List, [], ◌∷◌, ◌++◌}
 use Rattle.std.specs.Prelude.{length, Result, Ok, Err, ⊤}
 use Rattle.std.specs.List.{slice_split}
@@ -21,11 +22,11 @@ use Rattle.om_path.specs.declared.edits.ScriptFault.TheVariants as faults
 
 -- ---- a line
 
--- the lexemes end with these
+-- The lexemes end with these.
 abbrev pub EndWith : List Lexeme → List Lexeme → Type 0
 EndWith lexemes last = (before : List Lexeme) × (lexemes ≡ before ++ last)
 
--- the tree of the line that asks for this
+-- The tree of a line with this request.
 abbrev pub tree_of : ℕ → Action → LineTree
 tree_of value (actions.Edit (edits.Set path literal len)) =
     set_line value path (kinds_of literal)
@@ -33,7 +34,7 @@ tree_of value (actions.Edit (edits.Link path source)) = link_line value path sou
 tree_of value (actions.Edit (edits.Unshare path)) = unshare_line value path
 tree_of value (actions.Graft path other source) = graft_line value path other source
 
--- the lexemes of a literal are the line's last ones, and the line has so many bytes
+-- The lexemes of a literal are the last ones of the line, and the line has `end` bytes.
 abbrev pub HasLiteralOf : List Lexeme → ℕ → Action → Type 0
 HasLiteralOf lexemes end (actions.Edit (edits.Set path literal len)) =
     EndWith lexemes literal × (len ≡ end)
@@ -41,32 +42,32 @@ HasLiteralOf lexemes end (actions.Edit (edits.Link path source)) = ⊤
 HasLiteralOf lexemes end (actions.Edit (edits.Unshare path)) = ⊤
 HasLiteralOf lexemes end (actions.Graft path other source) = ⊤
 
--- the lexemes of a line of so many bytes ask for this at the value of this number
+-- The lexemes of a line of `end` bytes request this action at the value of this number.
 abbrev pub IsAction : List Lexeme → ℕ → ℕ → Action → Type 0
 IsAction lexemes end value action =
     (line_kinds (tree_of value action) ≡ kinds_of lexemes) × HasLiteralOf lexemes end action
 
--- what is copied comes from a value before this one
+-- The value that is copied from comes before the edited one.
 abbrev pub IsInTime : ℕ → Action → Type 0
 IsInTime value (actions.Edit edit) = ⊤
 IsInTime value (actions.Graft path other source) = other < value
 
--- so it is with each line
+-- Every line satisfies `IsInTime`.
 abbrev pub AreInTime : List ScriptLine → Type 0
 AreInTime [] = ⊤
 AreInTime (line ∷ lines) = IsInTime line.value line.action × AreInTime lines
 
--- the lexemes ask for a copy from a value that does not come before this one
+-- The lexemes request a copy from a value that does not come before the edited one.
 abbrev pub IsLater : List Lexeme → Type 0
 IsLater lexemes =
     (value other : ℕ) × (path source : List ℕ)
     × (line_kinds (graft_line value path other source) ≡ kinds_of lexemes) × (value ≤ other)
 
--- what a line is: nothing, an edit, or a fault
+-- The result for one line: nothing, an edit, or an error.
 abbrev pub LineAnswer : Type 0
 LineAnswer = Result (Option ScriptLine) ScriptFault
 
--- what the lexemes of line `number` are, which has `end` bytes
+-- The result for the lexemes of line `number`, which has `end` bytes.
 abbrev pub IsRead : ℕ → List Lexeme → ℕ → LineAnswer → Type 0
 IsRead number lexemes end (Ok None) = lexemes ≡ []
 IsRead number lexemes end (Ok (Some line)) =
@@ -79,12 +80,12 @@ IsRead number lexemes end (Err (faults.Later line)) = (line ≡ number) × IsLat
 IsRead number lexemes end (Err (faults.Lex line fault)) = ⊥
 IsRead number lexemes end (Err faults.Memory) = ⊥
 
--- what follows of the lexer's outcome
+-- The result for a line, given the result of the lexer.
 abbrev pub IsLineLexed : ℕ → ℕ → Result (List Lexeme) LexFault → LineAnswer → Type 0
 IsLineLexed number end (Ok lexemes) answer = IsRead number lexemes end answer
 IsLineLexed number end (Err fault) answer = Err (faults.Lex number fault) ≡ answer
 
--- the answer to the line of this number
+-- The result for the line of this number.
 abbrev pub IsLineAnswer : ℕ → List ℕ → LineAnswer → Type 0
 IsLineAnswer number line answer =
     (outcome : Result (List Lexeme) LexFault) × Outcome line outcome
@@ -92,11 +93,12 @@ IsLineAnswer number line answer =
 
 -- ---- the lines of a text
 
--- the parts at line feeds (10): joined by line feeds they are the text, and none of them has one
+-- The parts of the text between line feeds (byte 10). Joined by line feeds they give the text, and
+-- none contains a line feed.
 abbrev pub lines_of : List ℕ → List (List ℕ)
 lines_of text = slice_split (λ b. b == 10) text
 
--- each line has its answer; the first one is of this number
+-- Each line has its result. The first line has this number.
 abbrev pub AreAnswers : ℕ → List (List ℕ) → List LineAnswer → Type 0
 AreAnswers number [] [] = ⊤
 AreAnswers number (line ∷ lines) (answer ∷ answers) =
@@ -112,13 +114,13 @@ in_front None rest = rest
 in_front (Some line) (Ok lines) = Ok (line ∷ lines)
 in_front (Some line) (Err fault) = Err fault
 
--- the edits of all lines, or the first fault
+-- The edits of all lines, or the first error.
 abbrev pub edits_of : List LineAnswer → Edits
 edits_of [] = Ok []
 edits_of (Ok line ∷ answers) = in_front line (edits_of answers)
 edits_of (Err fault ∷ answers) = Err fault
 
--- the edits, or the fault, of a text whose first line is of this number
+-- The edits, or the error, of a text whose first line has this number.
 abbrev pub AreEdits : ℕ → List ℕ → Edits → Type 0
 AreEdits number text all =
     (answers : List LineAnswer) × AreAnswers number (lines_of text) answers
@@ -128,17 +130,17 @@ abbrev pub edits_in : Result Script ScriptFault → Edits
 edits_in (Ok script) = Ok script.lines
 edits_in (Err fault) = Err fault
 
--- the answer to a text
+-- The answer of a text.
 abbrev pub IsScriptAnswer : List ℕ → Result Script ScriptFault → Type 0
 IsScriptAnswer text answer = AreEdits 1 text (edits_in answer)
 
--- a text has an answer, and no other
+-- A text has exactly one answer.
 abbrev pub HasOneScriptAnswer : List ℕ → Type 0
 HasOneScriptAnswer text =
     (answer : Result Script ScriptFault) × IsScriptAnswer text answer
     × ((other : Result Script ScriptFault) → IsScriptAnswer text other → other ≡ answer)
 
--- ---- what a call gives
+-- ---- the result of a call
 
 abbrev pub line_fault : ℕ → LexFault → ScriptFault
 line_fault number lexer.Memory = faults.Memory
@@ -148,7 +150,7 @@ abbrev pub UnlessMemory : (ScriptFault → Type 0) → ScriptFault → Type 0
 UnlessMemory P faults.Memory = ⊤
 UnlessMemory P fault = P fault
 
--- the result is this answer, unless memory runs out
+-- The result is this answer, unless memory runs out.
 abbrev pub TellsScript : Result Script ScriptFault → Result Script ScriptFault → Type 0
 TellsScript (Ok script) answer = answer ≡ Ok script
 TellsScript (Err fault) answer = UnlessMemory (λ f. answer ≡ Err f) fault

@@ -1,4 +1,4 @@
-//! Edits of values, as a script lists them, and why a text is no script.
+//! Edits of values, as the lines of a script list them, and the errors of a script's text.
 
 ghost use Rattle.std.specs.Prelude.{◌≡◌, ◌∷◌, [], IfOk, MatchOption};
 ghost use Rattle.om_path.specs.Order.{lines_of};
@@ -15,46 +15,47 @@ use om_model::path::Path;
 use std::alloc::Global;
 use std::marker::Model;
 
-/// What is done at a place of a value.
+/// An edit at a path of a value.
 #[derive(Drop)]
 pub enum Edit {
-    /// A new value is put there: the lexemes of its literal, with their places in the line, and the
-    /// line's length in bytes.
+    /// Replaces the part at the path by a new value. Holds the lexemes of the literal, with their
+    /// spans in the line, and the line's length in bytes.
     Set(Path, List<Lexeme>, usize),
-    /// What stands at the second path is put there.
+    /// Replaces the part at the first path by the part at the second path. A reference then refers
+    /// to the same object at both paths.
     Link(Path, Path),
-    /// A copy of the object that is referred to there is put there.
+    /// Replaces the reference at the path by a reference to a copy of its object.
     Unshare(Path),
 }
 
-/// What a line asks for.
+/// The request of one line.
 #[derive(Drop)]
 pub enum Action {
     Edit(Edit),
-    /// A copy of what stands at the second path of an earlier value, that of this number, is put at
-    /// the first path.
+    /// Replaces the part at the first path by a copy of a part of an earlier value. Holds the
+    /// number of that value and the path in it.
     Graft(Path, u64, Path),
 }
 
 /// A line of a script that is not blank.
 #[derive(Drop)]
 pub struct ScriptLine {
-    /// Counted from 1, blank lines too.
+    /// The line number, counted from 1. Blank lines count.
     pub number: usize,
-    /// The number of the value that is edited, from 0.
+    /// The number of the value that is edited, counted from 0.
     pub value: u64,
     pub action: Action,
 }
 
-/// The edits of a text, in its order.
+/// The edits of a text, in the order of its lines.
 #[derive(Drop)]
 pub struct Script {
     lines: List<ScriptLine>,
-    /// Of each line its value's number and its place, by these numbers, and at one value in the
-    /// lines' order.
+    /// For each line, the number of its value and the line's index in `lines`. Sorted by value.
+    /// Lines of one value keep their order.
     order: Vec<(u64, u64)>,
-    /// Of each line that copies the number of the value that it copies from, and its own value's,
-    /// by the first.
+    /// For each line that copies, the number of the value that it copies from and the number of the
+    /// value that it edits. Sorted by the first number.
     uses: Vec<(u64, u64)>,
 }
 
@@ -70,7 +71,7 @@ impl Model for Script {
 }
 
 impl Script {
-    /// The script of these lines.
+    /// Builds the script of these lines. Fails only if memory runs out.
     pub fn of(alloc: Global, lines: List<ScriptLine>) -> Result<Script, Memory>
         ensures { IfOk result (λ script. script.lines ≡ lines) }
     {
@@ -79,14 +80,14 @@ impl Script {
         Ok(Script { lines, order, uses })
     }
 
-    /// The lines, lent.
+    /// Returns the lines.
     pub fn as_slice(&self) -> &[ScriptLine]
         ensures { result.now ≡ self.now.lines }
     {
         self.lines.as_slice()
     }
 
-    /// The lines that edit the value of this number, found without a look at the others.
+    /// Returns the lines that edit the value of this number. Finds them by binary search.
     pub fn lines_of(&self, value: u64) -> ValueLines<'_>
         ensures { result ≡ lines_of value self.now.lines }
     {
@@ -96,8 +97,8 @@ impl Script {
         }
     }
 
-    /// The last value into which a line copies a part of the value of this number: that of the
-    /// greatest number, found without a look at the lines that copy from others.
+    /// Returns the greatest number of a value into which a line copies a part of value `number`.
+    /// Returns `None` if no line copies from that value. Finds the lines by binary search.
     pub fn last_use(&self, number: u64) -> Option<u64>
         ensures { MatchOption result (IsUnused self.now.lines number)
             (IsLastUse self.now.lines number) }
@@ -106,7 +107,7 @@ impl Script {
     }
 }
 
-/// The lines that edit a value, in the script's order: those that are left.
+/// An iterator over the lines that edit one value, in the order of the script.
 #[derive(Drop)]
 pub struct ValueLines<'a> {
     lines: &'a [ScriptLine],
@@ -126,7 +127,7 @@ impl<'a> Model for ValueLines<'a> {
 }
 
 impl<'a> ValueLines<'a> {
-    /// The next one, which is left no more.
+    /// Returns the next line and removes it from the iterator.
     pub fn next(&mut self) -> Option<&'a ScriptLine>
         ensures { MatchOption result (self.old ≡ []) (λ line. self.old ≡ line.now ∷ self.new) }
     {
@@ -140,14 +141,15 @@ impl<'a> ValueLines<'a> {
     }
 }
 
-/// Why a text is no script, by its first faulty line, counted from 1.
+/// The first error in the text of a script. Line numbers count from 1.
 #[derive(Clone, Copy)]
 pub enum ScriptFault {
-    /// Some part of the line is no lexeme.
+    /// Lexical error in this line.
     Lex(usize, LexFault),
-    /// Where in the line its first lexeme begins at which no line goes on, or the line's end.
+    /// Syntax error in this line. The second number is the byte offset in the line of the first
+    /// lexeme at which no line continues, or the line's length.
     Syntax(usize, usize),
-    /// The value that is copied from does not come before the one that is edited.
+    /// A `graft` line copies from a value that does not come before the edited one.
     Later(usize),
     /// Out of memory.
     Memory,
@@ -161,7 +163,7 @@ impl From<Memory> for ScriptFault {
     }
 }
 
-/// A fault of the lexer in a line.
+/// Returns the error of a script for a lexical error in a line.
 pub fn line_fault(number: usize, fault: LexFault) -> ScriptFault
     ensures { result ≡ line_fault number fault }
 {

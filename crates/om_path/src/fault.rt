@@ -1,4 +1,4 @@
-//! Why a text is no path.
+//! The errors of a path's text.
 
 ghost use Rattle.std.specs.Prelude.{◌≡◌};
 ghost use Rattle.om_path.specs.Answer.{fault_of_lexer};
@@ -7,12 +7,13 @@ ghost use Rattle.om_path.specs.declared.fault.PathFault.TheVariants as faults;
 use om_lex::lexeme::LexFault;
 use om_model::Memory;
 
-/// Why a text is no path.
+/// An error in the text of a path.
 #[derive(Clone, Copy)]
 pub enum PathFault {
-    /// The text has no lexemes.
+    /// Lexical error.
     Lex,
-    /// Where the first lexeme begins at which no path goes on, or the text's end.
+    /// Syntax error: the byte offset of the first lexeme at which no path continues, or the length
+    /// of the text.
     Syntax(usize),
     /// Out of memory.
     Memory,
@@ -26,7 +27,7 @@ impl From<Memory> for PathFault {
     }
 }
 
-/// A fault of the lexer.
+/// Returns the error of a path for a lexical error.
 pub fn lexer_fault(fault: LexFault) -> PathFault
     ensures { result ≡ fault_of_lexer fault }
 {

@@ -1,49 +1,51 @@
-//! What was read of a line of a script.
+//! The state of the parser for lines of a script.
 
 use om_model::path::Path;
 
-/// What a path is for.
+/// The role of a path in a line.
 #[derive(Drop)]
 pub enum Role {
     Set,
     Link,
-    /// The second path of `link`, after the first.
+    /// The second path of `link`. Holds the first path.
     Source(Path),
     Unshare,
     Graft,
-    /// The second path of `graft`, after the first and the number of the value that it is in.
+    /// The second path of `graft`. Holds the first path and the number of the value that is copied
+    /// from.
     Part(Path, u64),
 }
 
-/// What was read of a line, up to the `=` of `set`.
+/// The prefix of a line that was read, up to the `=` of `set`.
 #[derive(Drop)]
 pub enum Front {
     Start,
-    /// The value's number.
+    /// The number of the edited value.
     Value(u64),
-    /// The value's number, the steps of a path, and whether a dot stands after them.
+    /// The number of the edited value, the path's role, its steps so far, and whether a dot follows
+    /// them.
     Steps(u64, Role, Path, bool),
-    /// The value's number and the first path of `graft`, up to the `=`.
+    /// The number of the edited value and the first path of `graft`, up to and including the `=`.
     Other(u64, Path),
 }
 
-/// What comes of one more lexeme.
+/// The result of a step on one lexeme.
 #[derive(Drop)]
 pub enum Next {
     Onward(Front),
-    /// The `=` of `set`: the value's number and the path.
+    /// The `=` of `set`. Holds the number of the edited value and the path.
     Literal(u64, Path),
-    /// No line goes on so.
+    /// Syntax error: no line continues with this lexeme.
     Nowhere,
 }
 
-/// What the lexemes of a line are told as.
+/// The result of reading the lexemes of a line.
 #[derive(Drop)]
 pub enum Told {
-    /// All of them are this.
+    /// All lexemes were read. Holds the last state.
     All(Front),
-    /// The value's number and the path of a `set`, and the place of the lexeme after its `=`.
+    /// A `set`: the number of the edited value, the path, and the index of the lexeme after `=`.
     Literal(u64, Path, usize),
-    /// No line goes on at the lexeme of this place.
+    /// Syntax error: no line continues at the lexeme with this index.
     Stuck(usize),
 }

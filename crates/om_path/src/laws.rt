@@ -1,21 +1,22 @@
-//! Laws over the definitions. The functions do nothing: what they ensure are the laws.
+//! Laws of the definitions. The functions do nothing and exist only for their contracts.
 
 ghost use Rattle.std.specs.Prelude.{List, ℕ, Ok};
 ghost use Rattle.om_path.specs.Answer.{HasOneAnswer};
 ghost use Rattle.om_path.specs.ScriptAnswer.{AreEdits, AreInTime, HasOneScriptAnswer};
 ghost use Rattle.om_path.specs.declared.edits.ScriptLine.{ScriptLine};
 
-/// Each text is a path or has a fault, and this in one way.
+/// Proves that every text has exactly one answer: a path or an error.
 pub fn one_answer()
     ensures { (text : List ℕ) → HasOneAnswer text }
 {}
 
-/// Each text is a script or has a fault, and this in one way.
+/// Proves that every text has exactly one answer: a script or an error.
 pub fn one_script_answer()
     ensures { (text : List ℕ) → HasOneScriptAnswer text }
 {}
 
-/// The lines of a script copy from values before their own.
+/// Proves that each `graft` line of a valid script copies from a value before the one that it
+/// edits.
 pub fn lines_in_time()
     ensures { (text : List ℕ) (lines : List ScriptLine) → AreEdits 1 text (Ok lines)
         → AreInTime lines }

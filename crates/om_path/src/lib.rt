@@ -1,4 +1,6 @@
-//! Paths and scripts of edits as text.
+//! Parsers for paths (`read_path`) and for edit scripts (`read_script`). The contracts state that
+//! the result is the text's unique answer (`IsAnswer`, `IsScriptAnswer`), unless memory runs out.
+//! Literals of `set` lines stay lists of lexemes: they are parsed when the edit is applied.
 #![tactic(auto)]
 
 mod edits;

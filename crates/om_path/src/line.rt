@@ -1,4 +1,4 @@
-//! A line of a script from its lexemes.
+//! The parser for a line of a script.
 
 ghost use Rattle.std.specs.Prelude.{◌≡◌, ◌<◌, ◌≤◌, IfOk, IfErr, Option, Some, None, Ok, Err};
 ghost use Rattle.std.specs.Prelude.{length, drop};
@@ -22,7 +22,7 @@ use om_model::path::Path;
 use om_parse::byte_of;
 use std::alloc::Global;
 
-/// What the path after a word is for.
+/// Returns the role of the path after a command word, or `None` if the name is not a command.
 fn named_role(name: &[u8]) -> Option<Role>
     ensures { result ≡ named_role name.now }
 {
@@ -39,7 +39,8 @@ fn named_role(name: &[u8]) -> Option<Role>
     }
 }
 
-/// What the path after a lexeme is for, where that is one of the four words.
+/// Returns the role of the path after this lexeme, or `None` if the lexeme is not one of the four
+/// commands.
 fn role_of(kind: &LexemeKind) -> Option<Role>
     ensures { result ≡ role_of kind.now }
 {
@@ -49,7 +50,7 @@ fn role_of(kind: &LexemeKind) -> Option<Role>
     }
 }
 
-/// After the value's number, where the lexeme is one.
+/// Parses the number of the edited value.
 fn valued(kind: &LexemeKind) -> Next
     ensures { result ≡ valued (number_of kind.now) }
 {
@@ -59,7 +60,7 @@ fn valued(kind: &LexemeKind) -> Next
     }
 }
 
-/// After the word.
+/// Parses the command word.
 fn begun(alloc: Global, value: u64, kind: &LexemeKind) -> Next
     ensures { result ≡ begun value (role_of kind.now) }
 {
@@ -69,7 +70,7 @@ fn begun(alloc: Global, value: u64, kind: &LexemeKind) -> Next
     }
 }
 
-/// Whether a lexeme is an equals sign.
+/// Returns true if the lexeme is an equals sign.
 fn is_equals(kind: &LexemeKind) -> bool
     ensures { result ≡ is_equals kind.now }
 {
@@ -79,7 +80,7 @@ fn is_equals(kind: &LexemeKind) -> bool
     }
 }
 
-/// After a whole path and an equals sign.
+/// Returns the state after a complete path and an equals sign.
 fn after_equals(alloc: Global, value: u64, role: Role, path: Path) -> Next
     ensures { result ≡ after_equals value role (Some path) }
 {
@@ -93,7 +94,7 @@ fn after_equals(alloc: Global, value: u64, role: Role, path: Path) -> Next
     }
 }
 
-/// After the number of the value that `graft` copies from, where the lexeme is one.
+/// Parses the number of the value that `graft` copies from.
 fn with_other(alloc: Global, value: u64, path: Path, kind: &LexemeKind) -> Next
     ensures { result ≡ with_other value path (number_of kind.now) }
 {
@@ -106,7 +107,7 @@ fn with_other(alloc: Global, value: u64, path: Path, kind: &LexemeKind) -> Next
     }
 }
 
-/// After a lexeme in a path, or behind it.
+/// Parses a lexeme inside a path or after it.
 fn steps_next(
     alloc: Global,
     value: u64,
@@ -130,7 +131,7 @@ fn steps_next(
     }
 }
 
-/// After one more lexeme.
+/// Parses one lexeme and returns the next state.
 fn next_of(alloc: Global, front: Front, kind: &LexemeKind) -> Result<Next, Memory>
     ensures { IfOk result (λ next. next_of front kind.now ≡ next) }
 {
@@ -144,7 +145,7 @@ fn next_of(alloc: Global, front: Front, kind: &LexemeKind) -> Result<Next, Memor
     }
 }
 
-/// Reads lexemes up to the `=` of `set`, or where no line goes on, or all of them.
+/// Reads lexemes until the `=` of `set`, until a syntax error, or to the end.
 fn told(alloc: Global, lexemes: &[Lexeme]) -> Result<Told, Memory>
     ensures { IfOk result (IsTold lexemes.now) }
 {
@@ -159,7 +160,8 @@ fn told(alloc: Global, lexemes: &[Lexeme]) -> Result<Told, Memory>
     Ok(Told::All(front))
 }
 
-/// What a line asks for that ends after a whole path.
+/// Returns the request of a line that ends after a complete path, or `None` if a line with this
+/// role cannot end here.
 fn action_of(role: Role, path: Path) -> Option<Action>
     ensures { result ≡ action_of role path }
 {
@@ -171,7 +173,7 @@ fn action_of(role: Role, path: Path) -> Option<Action>
     }
 }
 
-/// The line that ends here, if one may.
+/// Returns the line that ends here, or `None` if no line can end here.
 fn ended(front: Front, number: usize) -> Option<ScriptLine>
     ensures { result ≡ ended_line number front }
 {
@@ -191,7 +193,7 @@ fn ended(front: Front, number: usize) -> Option<ScriptLine>
     }
 }
 
-/// A `set` whose literal is the lexemes from a place on.
+/// Returns a `set` line whose literal consists of the lexemes from index `place` on.
 fn set_line(
     number: usize,
     value: u64,
@@ -217,7 +219,8 @@ fn set_line(
     })
 }
 
-/// The line, where the value that it copies from, if it copies from one, comes before its own.
+/// Returns the line. If it copies from a value that does not come before the edited one, returns
+/// `ScriptFault::Later`.
 fn in_time(line: ScriptLine) -> Result<ScriptLine, ScriptFault>
     ensures { result ≡ in_time line }
 {
@@ -227,7 +230,7 @@ fn in_time(line: ScriptLine) -> Result<ScriptLine, ScriptFault>
     }
 }
 
-/// The line that was told of its lexemes, of which there are some.
+/// Returns the line for the result of reading its lexemes. The line must not be blank.
 fn line_of(
     told: Told,
     lexemes: Vec<Lexeme>,
@@ -255,7 +258,7 @@ fn line_of(
     }
 }
 
-/// What the lexemes of a line are.
+/// Parses the lexemes of a line. Returns `None` if there are none.
 fn read_lexemes(
     alloc: Global,
     lexemes: Vec<Lexeme>,
@@ -276,7 +279,8 @@ fn read_lexemes(
     }
 }
 
-/// What a line is.
+/// Parses line `number` of a script. Returns `None` if the line has no lexemes. Lexical errors come
+/// before syntax errors.
 pub fn read_line(
     alloc: Global,
     text: &[u8],

@@ -1,4 +1,4 @@
-//! The places of a script's lines, by the numbers of the values that they edit.
+//! An index of a script's lines by the numbers of the values that they edit.
 
 ghost use Rattle.std.specs.Prelude.{◌≡◌, IfOk, filter, not, nat_lt, nat_le};
 ghost use Rattle.om_path.specs.Order.{places_from, places_of, IsByValue, IsOrder};
@@ -7,7 +7,7 @@ use crate::edits::ScriptLine;
 use om_model::Memory;
 use std::alloc::Global;
 
-/// Of each line its value's number and its place.
+/// Returns, for each line, the number of its value and the line's index.
 fn places(alloc: Global, lines: &[ScriptLine]) -> Result<Vec<(u64, u64)>, Memory>
     ensures { IfOk result (λ places. places.items ≡ places_from 0 lines.now) }
 {
@@ -22,7 +22,8 @@ fn places(alloc: Global, lines: &[ScriptLine]) -> Result<Vec<(u64, u64)>, Memory
     Ok(places)
 }
 
-/// The places of the lines by the numbers of their values, and at one value in the lines' order.
+/// Returns the indices of the lines, sorted by the numbers of their values. Lines of one value keep
+/// their order.
 pub fn order_of(alloc: Global, lines: &[ScriptLine]) -> Result<Vec<(u64, u64)>, Memory>
     ensures { IfOk result (λ order. IsOrder lines.now order.items) }
 {
@@ -31,7 +32,7 @@ pub fn order_of(alloc: Global, lines: &[ScriptLine]) -> Result<Vec<(u64, u64)>, 
     Ok(order)
 }
 
-/// Those of no lower value.
+/// Returns the entries whose value number is at least `value`.
 fn from_value(order: &[(u64, u64)], value: u64) -> &[(u64, u64)]
     requires { IsByValue order.now }
     ensures { result.now ≡ filter (λ place. not (nat_lt place.0 value)) order.now }
@@ -39,7 +40,7 @@ fn from_value(order: &[(u64, u64)], value: u64) -> &[(u64, u64)]
     &order[order.partition_point(|place| place.0 < value)..]
 }
 
-/// Those of no higher value.
+/// Returns the entries whose value number is at most `value`.
 fn up_to_value(order: &[(u64, u64)], value: u64) -> &[(u64, u64)]
     requires { IsByValue order.now }
     ensures { result.now ≡ filter (λ place. nat_le place.0 value) order.now }
@@ -47,7 +48,7 @@ fn up_to_value(order: &[(u64, u64)], value: u64) -> &[(u64, u64)]
     &order[..order.partition_point(|place| place.0 <= value)]
 }
 
-/// Those of a value, found without a look at the others.
+/// Returns the entries of one value, by binary search.
 pub fn places_of(order: &[(u64, u64)], value: u64) -> &[(u64, u64)]
     requires { IsByValue order.now }
     ensures { result.now ≡ places_of value order.now }

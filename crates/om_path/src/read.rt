@@ -1,4 +1,4 @@
-//! A path from its text.
+//! The parser for a path.
 
 ghost use Rattle.std.specs.Prelude.{◌≡◌, if◌then◌else◌, IfOk, IfErr, List, ℕ, Option, Some, None};
 ghost use Rattle.std.specs.Prelude.{Result, Ok, Err};
@@ -15,7 +15,7 @@ use om_model::path::Path;
 use om_parse::byte_of;
 use std::alloc::Global;
 
-/// The number that a lexeme is, where it has no sign and no suffix.
+/// Returns the number of a lexeme, or `None` unless it is an integer without sign and suffix.
 pub fn number_of(kind: &LexemeKind) -> Option<u64>
     ensures { result ≡ number_of kind.now }
 {
@@ -39,7 +39,7 @@ pub fn number_of(kind: &LexemeKind) -> Option<u64>
     }
 }
 
-/// Whether a lexeme is a dot.
+/// Returns true if the lexeme is a dot.
 fn is_dot(kind: &LexemeKind) -> bool
     ensures { result ≡ is_dot kind.now }
 {
@@ -49,7 +49,7 @@ fn is_dot(kind: &LexemeKind) -> bool
     }
 }
 
-/// Goes on by a lexeme, where a path does.
+/// Extends the path by one lexeme. Returns false if no path continues with this lexeme.
 pub fn step(path: &mut Path, after_dot: bool, kind: &LexemeKind) -> Result<bool, Memory>
     ensures { IfOk result
         (λ goes. step (at path.old after_dot) kind.now ≡ stepped goes path.new after_dot) }
@@ -66,7 +66,7 @@ pub fn step(path: &mut Path, after_dot: bool, kind: &LexemeKind) -> Result<bool,
     }
 }
 
-/// Whether a path may end here.
+/// Returns true if a path may end here.
 pub fn is_whole(path: &Path, after_dot: bool) -> bool
     ensures { accepted (at path.now after_dot) ≡ (if result then Some path.now else None) }
 {
@@ -77,7 +77,7 @@ pub fn is_whole(path: &Path, after_dot: bool) -> bool
     }
 }
 
-/// The path that the lexemes of a text of `end` bytes spell.
+/// Parses a path from the lexemes of a text of `end` bytes.
 fn path_of(alloc: Global, lexemes: &[Lexeme], end: usize) -> Result<Path, PathFault>
     ensures path { IfOk result (λ path. IsSpelled lexemes.now end (Ok path)) }
     ensures fault { IfErr result (UnlessMemory (λ fault. IsSpelled lexemes.now end (Err fault))) }
@@ -97,7 +97,7 @@ fn path_of(alloc: Global, lexemes: &[Lexeme], end: usize) -> Result<Path, PathFa
     }
 }
 
-/// The path that a text spells, or its fault.
+/// Parses a path from a text.
 fn read(alloc: Global, text: &[u8]) -> Result<Path, PathFault>
     ensures path { IfOk result (λ path. IsAnswer text.now (Ok path)) }
     ensures fault { IfErr result (UnlessMemory (λ fault. IsAnswer text.now (Err fault))) }
@@ -108,13 +108,13 @@ fn read(alloc: Global, text: &[u8]) -> Result<Path, PathFault>
     }
 }
 
-/// The path that a text spells.
+/// Parses a path. A syntax error carries the byte offset in `text`.
 pub fn read_path(alloc: Global, text: &[u8]) -> Result<Path, PathFault>
-    // The path, or the fault, is the text's answer.
+    // The path, or the error, is the text's answer.
     ensures path { IfOk result (λ path. IsAnswer text.now (Ok path)) }
     ensures fault { IfErr result (UnlessMemory (λ fault. IsAnswer text.now (Err fault))) }
 
-    // The text's answer is given, unless memory runs out.
+    // If the text has an answer, this answer is returned, unless memory runs out.
     ensures only { (answer : Result (List ℕ) PathFault) → IsAnswer text.now answer
         → Tells result answer }
 {

@@ -1,4 +1,4 @@
-//! A script from its text.
+//! The parser for a script.
 
 ghost use Rattle.std.specs.Prelude.{◌≡◌, ◌++◌, ◌==◌, Option, Ok, Err, IfOk, IfErr, OnOk, Result};
 ghost use Rattle.std.specs.Prelude.{option_to_list};
@@ -13,14 +13,14 @@ use om_model::Memory;
 use om_model::list::List;
 use std::alloc::Global;
 
-/// How many bytes stand before the first line feed, or before the end.
+/// Returns the number of bytes before the first line feed, or the length if there is none.
 fn line_len(text: &[u8]) -> usize
     ensures { result ≡ position_or_len (λ b. b == 10) text.now }
 {
     text.iter().take_while(|b| **b != b'\n').count()
 }
 
-/// Adds a line, if there is one.
+/// Appends a line, if there is one.
 fn add(lines: &mut List<ScriptLine>, line: Option<ScriptLine>) -> Result<(), Memory>
     ensures { OnOk result (lines.new ≡ lines.old ++ option_to_list line) }
 {
@@ -30,7 +30,7 @@ fn add(lines: &mut List<ScriptLine>, line: Option<ScriptLine>) -> Result<(), Mem
     }
 }
 
-/// The edits of a text's lines.
+/// Parses the lines of a script. Stops at the first line with an error.
 fn read(alloc: Global, text: &[u8]) -> Result<List<ScriptLine>, ScriptFault>
     ensures lines { IfOk result (λ lines. AreEdits 1 text.now (Ok lines)) }
     ensures fault { IfErr result (UnlessMemory (λ fault. AreEdits 1 text.now (Err fault))) }
@@ -51,13 +51,13 @@ fn read(alloc: Global, text: &[u8]) -> Result<List<ScriptLine>, ScriptFault>
     }
 }
 
-/// The script that a text is.
+/// Parses a script. If several lines have errors, the first one is reported.
 pub fn read_script(alloc: Global, text: &[u8]) -> Result<Script, ScriptFault>
-    // The script, or the fault, is the text's answer.
+    // The script, or the error, is the text's answer.
     ensures script { IfOk result (λ script. IsScriptAnswer text.now (Ok script)) }
     ensures fault { IfErr result (UnlessMemory (λ fault. IsScriptAnswer text.now (Err fault))) }
 
-    // The text's answer is given, unless memory runs out.
+    // If the text has an answer, this answer is returned, unless memory runs out.
     ensures only { (answer : Result Script ScriptFault) → IsScriptAnswer text.now answer
         → TellsScript result answer }
 {

@@ -1,4 +1,5 @@
-//! The values that the lines of a script copy from, and those that they copy into.
+//! An index of the `graft` lines of a script: the values that they copy from, and the values that
+//! they edit.
 
 ghost use Rattle.std.specs.Prelude.{◌≡◌, ◌++◌, ◌≤◌, [], IfOk, OnOk, MatchOption, All, Any};
 ghost use Rattle.std.specs.Prelude.{option_to_list};
@@ -10,7 +11,8 @@ use crate::order::places_of;
 use om_model::Memory;
 use std::alloc::Global;
 
-/// The numbers of the value that a line copies from, and of its own value, where it copies.
+/// If the line copies, returns the number of the value that it copies from and the number of the
+/// value that it edits.
 fn use_of(line: &ScriptLine) -> Option<(u64, u64)>
     ensures { result ≡ use_of line.now }
 {
@@ -20,7 +22,7 @@ fn use_of(line: &ScriptLine) -> Option<(u64, u64)>
     }
 }
 
-/// Adds them, if there are some.
+/// Appends a pair, if there is one.
 fn add(uses: &mut Vec<(u64, u64)>, used: Option<(u64, u64)>) -> Result<(), Memory>
     ensures { OnOk result (uses.new.items ≡ uses.old.items ++ option_to_list used) }
 {
@@ -30,7 +32,7 @@ fn add(uses: &mut Vec<(u64, u64)>, used: Option<(u64, u64)>) -> Result<(), Memor
     }
 }
 
-/// Those of all lines.
+/// Returns the pairs of all lines, in order.
 fn uses(alloc: Global, lines: &[ScriptLine]) -> Result<Vec<(u64, u64)>, Memory>
     ensures { IfOk result (λ uses. uses.items ≡ uses_in lines.now) }
 {
@@ -43,7 +45,7 @@ fn uses(alloc: Global, lines: &[ScriptLine]) -> Result<Vec<(u64, u64)>, Memory>
     Ok(uses)
 }
 
-/// Those of all lines by the numbers of the values that are copied from.
+/// Returns the pairs of all lines, sorted by the value that is copied from.
 pub fn uses_of(alloc: Global, lines: &[ScriptLine]) -> Result<Vec<(u64, u64)>, Memory>
     ensures { IfOk result (λ uses. AreUses lines.now uses.items) }
 {
@@ -52,7 +54,8 @@ pub fn uses_of(alloc: Global, lines: &[ScriptLine]) -> Result<Vec<(u64, u64)>, M
     Ok(uses)
 }
 
-/// The greatest second number where the first is this.
+/// Returns the greatest second number among the pairs whose first number is `number`, or `None` if
+/// there are none.
 pub fn last_use(uses: &[(u64, u64)], number: u64) -> Option<u64>
     requires { IsByValue uses.now }
     ensures { MatchOption result (places_of number uses.now ≡ [])

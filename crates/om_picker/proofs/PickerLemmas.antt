@@ -1,4 +1,4 @@
--- What a command has that tells of one item of its input alone.
+-- The state of a command with output for one item only.
 use Rattle.std.proofs.lemmas.List.{take-append-drop}
 use Rattle.std.proofs.Common.{◌≡◌, ◌⊎◌, ◌<◌, ◌≤◌, ℕ, Bool, List, [], ◌∷◌, ◌++◌, Option, Some, None, Result, Ok, Err, inl, inr, refl, sym, ap, ◌∙◌, subst, length, take, drop, length-append, append_assoc, append-nil, arith}
 use Rattle.std.specs.Prelude.{IsErrAnd}
@@ -27,7 +27,8 @@ module _ {A : Type 0} (picked_by : Request → Option ℕ) (c : Commands A) (a :
   one = picking picked_by c
 
   module _ (k : ℕ) where
-    -- before and within that item, nothing stops the run where nothing stops that of the command
+    -- If nothing ends the run of the command up to the selected item, then nothing ends the run
+    -- with `--only` there.
     abbrev pub hold_within : (bytes : List ℕ) (told : List Said) → length told ≤ k
         → HoldNoStop c a bytes told → HoldNoStop one (Some k, a) bytes (said_of_one k told)
     hold_within bytes told few h = record {
@@ -50,17 +51,17 @@ module _ {A : Type 0} (picked_by : Request → Option ℕ) (c : Commands A) (a :
         subst (λ s. HoldNoStop one (Some k, a) bytes s) (sym h.said_are)
         (hold_within bytes h.told h.up_to (inner bytes h.told h.there))
 
--- the run stops where that of the command does, or memory ran out
+-- The run ends where that of the command ends, or memory ran out.
 pub stops_too : {A : Type 0} (k : ℕ) (c : Commands A) (a : A) (items : List Item) (bytes : List ℕ) (stop : Stop)
     → length items ≤ k → (c.Stops a items bytes stop) ⊎ (stop ≡ out_of_memory)
     → (StopsBy c (Some k) a items bytes stop) ⊎ (stop ≡ out_of_memory)
 stops_too k c a items bytes stop few (inl at) = inl (inl (few, at))
 stops_too k c a items bytes stop few (inr memory) = inr memory
 
--- ---- bytes in hand
+-- ---- current bytes
 
 module _ {A : Type 0} (c : Commands A) (a : A) where
-  -- bytes in hand are taken as ever, and nothing of it is put
+  -- Current bytes are consumed as usual, and no output is written.
   abbrev pub FeedsUnsaid : Has → Has → List ℕ → Result ℕ Halt → Type 0
   FeedsUnsaid before after in_hand (Ok n) =
       Feeds c a before after in_hand (change nowhere nowhere) (Ok n)
@@ -72,7 +73,7 @@ module _ {A : Type 0} (picked_by : Request → Option ℕ) (c : Commands A) (a :
   abbrev There : List ℕ → List Said → Type 0
   There = HasPicked (Some k) has
 
-  -- nothing more is said
+  -- Case: no further item ends.
   none_more : (new : Has) (n : ℕ) (in_hand bytes : List ℕ) (said : List Said) (h : There bytes said)
       → new (bytes ++ take n in_hand) (h.told ++ [])
       → HasPicked (Some k) new (bytes ++ take n in_hand) (said ++ [])
@@ -83,7 +84,7 @@ module _ {A : Type 0} (picked_by : Request → Option ℕ) (c : Commands A) (a :
     there = subst (λ t. new (bytes ++ take n in_hand) t) (append-nil h.told) there;
   }
 
-  -- one item more came to its end, before the one that is told of
+  -- Case: one more item ends before the selected one.
   one_more : (new : Has) (n : ℕ) (in_hand bytes : List ℕ) (said : List Said) (next : Said)
       (h : There bytes said) → length h.told < k → new (bytes ++ take n in_hand) (h.told ++ next ∷ [])
       → HasPicked (Some k) new (bytes ++ take n in_hand) (said ++ nothing_said ∷ [])
@@ -95,13 +96,13 @@ module _ {A : Type 0} (picked_by : Request → Option ℕ) (c : Commands A) (a :
         there = there;
       }
 
-  -- what came of an item
+  -- The result of an item.
   abbrev Came : (new : Has) (n : ℕ) (in_hand bytes : List ℕ) (said : List Said) → Change ByteState → Type 0
   Came new n in_hand bytes said out =
       (more : List Said) × (length more ≤ 1)
       × HasPicked (Some k) new (bytes ++ take n in_hand) (said ++ more) × Puts out (texts_of more)
 
-  -- where it comes to a halt
+  -- Case: the run ends.
   halts_at : (in_hand : List ℕ) (inner out : Change ByteState) (bytes : List ℕ) (told : List Said)
       → length told ≤ k → (stop : Stop) → Puts out []
       → HaltsIn c a bytes in_hand told inner (halts.Stop stop)
@@ -113,13 +114,13 @@ module _ {A : Type 0} (picked_by : Request → Option ℕ) (c : Commands A) (a :
     none,
   )
 
-  -- the command's run is not finished by itself
+  -- The run of the command is never finished by itself.
   abbrev pub NeverFinishes : Type 0
   NeverFinishes = (items : List Item) (bytes : List ℕ) (well : Bool)
       → c.Stops a items bytes (finished well) → ⊥
 
   module _ (never : NeverFinishes) where
-    -- an item before the one that is told of: nothing is put
+    -- Case: an item before the selected one. No output is written.
     pub fed_before : (new : Has) (in_hand : List ℕ) (o : ByteState)
         → ((bytes : List ℕ) (told : List Said) → has bytes told → length told < k)
         → (result : Result ℕ Halt) → FeedsUnsaid c a has new in_hand result
@@ -150,7 +151,7 @@ module _ {A : Type 0} (picked_by : Request → Option ℕ) (c : Commands A) (a :
           by bytes told few (inr f) = absurd (never f.items f.rest f.well f.at)
     fed_before new in_hand o less (Err halts.WriteFault) f = absurd f
 
-    -- within the item that is told of
+    -- Case: within the selected item.
     pub fed_within : (new : Has) (in_hand : List ℕ) (out : Change ByteState) (n : ℕ)
         → ((bytes : List ℕ) (told : List Said) → has bytes told → length told ≡ k)
         → ((bytes : List ℕ) (told : List Said) → new bytes told → length told ≤ k)
@@ -170,7 +171,7 @@ module _ {A : Type 0} (picked_by : Request → Option ℕ) (c : Commands A) (a :
             let parts = length-append h.told (s ∷ more) in
             absurd (omega (arith, size, all, parts))
 
-    -- it comes to a halt there
+    -- Case: the run ends within the selected item.
     halts_there : (new : Has) (in_hand : List ℕ) (out : Change ByteState)
         → ((bytes : List ℕ) (told : List Said) → has bytes told → length told ≡ k)
         → (halt : Halt) → Feeds c a has new in_hand out (Err halt)
@@ -210,7 +211,7 @@ module _ {A : Type 0} (picked_by : Request → Option ℕ) (c : Commands A) (a :
         subst (λ e. Feeds (picking picked_by c) (Some k, a) There (HasPicked (Some k) new) in_hand out (Err e))
         (sym is) (halts_there new in_hand out at halt f)
 
-    -- with its last byte the run is finished
+    -- Case: the selected item ends, and the run is finished.
     pub finishes : (new : Has) (in_hand : List ℕ) (out : Change ByteState) (n : ℕ) → ItemsStay c a
         → ((bytes : List ℕ) (told : List Said) → has bytes told → length told ≡ k)
         → ((bytes : List ℕ) (said : List Said) → has bytes said → HoldNoStop c a bytes said)
@@ -273,7 +274,7 @@ module _ {A : Type 0} (picked_by : Request → Option ℕ) (c : Commands A) (a :
 -- ---- the input ends
 
 module _ {A : Type 0} (picked_by : Request → Option ℕ) (c : Commands A) (a : A) (k : ℕ) (has : Has) where
-  -- the run stops
+  -- Case: the run ends early.
   pub ended_before : (o : ByteState) (result : Result Bool Halt) → EndsBefore c a has result
       → EndsAt (picking picked_by c) (Some k, a) (HasPicked (Some k) has) (change o o) result
   ended_before o (Ok well) ends = absurd ends
@@ -298,7 +299,7 @@ module _ {A : Type 0} (picked_by : Request → Option ℕ) (c : Commands A) (a :
               (inl (omega (arith, small, count), reply, is, same), puts_nothing o),
             )
 
--- what the end of the command comes to, where the run ends before that item
+-- The result of the command's end, if the run ends before the selected item.
 module _ {A : Type 0} (c : Commands A) (a : A) (has : Has) where
   pub ends_missing : (count : ℕ)
       → ((bytes : List ℕ) (said : List Said) → has bytes said → count ≡ length said)
@@ -335,7 +336,7 @@ module _ {A : Type 0} (c : Commands A) (a : A) (has : Has) where
     by bytes said (holds, (inl is, put)) = (holds, inl (stops stop, is, refl))
     by bytes said (holds, (inr memory, put)) = (holds, inr memory)
 
-  -- a sink that takes all has no fault: nothing is said of one
+  -- A sink that accepts everything does not fail.
   pub ends_faulted : EndsAt c a has (change nowhere nowhere) (Err halts.WriteFault)
       → EndsBefore c a has (Err (halts.Stop out_of_memory))
   ends_faulted ends = λ bytes said there. by bytes said (ends bytes said there) where
@@ -359,7 +360,7 @@ module _ {A : Type 0} (c : Commands A) (a : A) (has : Has) where
         inl (holds, inr refl, puts_nothing nowhere)
     by bytes said (inr f) = let e = f.is in absurd (cc e)
 
--- the same of a command that holds the number
+-- As above, for a command that stores the number.
 pub fed_picked : {A : Type 0} (picked_by : Request → Option ℕ) (c : Commands A) (a : A) (picked : Option ℕ) (k : ℕ)
     → picked ≡ Some k → (has new : Has) (in_hand : List ℕ) (out : Change ByteState) (result : Result ℕ Halt)
     → Feeds (picking picked_by c) (Some k, a) (HasPicked (Some k) has) (HasPicked (Some k) new) in_hand out result
@@ -367,9 +368,9 @@ pub fed_picked : {A : Type 0} (picked_by : Request → Option ℕ) (c : Commands
 fed_picked picked_by c a picked k is has new in_hand out result fed =
     subst (λ p. Feeds (picking picked_by c) (p, a) (HasPicked p has) (HasPicked p new) in_hand out result) (sym is) fed
 
--- ---- each item, or one
+-- ---- all items, or one
 
--- no byte was taken
+-- The state before the first byte.
 pub begins : (picked : Option ℕ) (has : Has) → has [] [] → HasPicked picked has [] []
 begins None has there = record { told = []; said_are = refl; up_to = tt; there = there }
 begins (Some k) has there = record {
@@ -379,7 +380,7 @@ begins (Some k) has there = record {
   there = there;
 }
 
--- where each is told of, what was taken and said is the command's
+-- If all items are selected, then the consumed input and the outputs are those of the command.
 each_is : (has : Has) (bytes : List ℕ) (said : List Said) → HasPicked None has bytes said
     → has bytes said
 each_is has bytes said h = subst (λ s. has bytes s) (sym h.said_are) h.there
@@ -427,7 +428,7 @@ module _ {A : Type 0} (picked_by : Request → Option ℕ) (c : Commands A) (a :
     goes_on = record { no_stop = own.goes_on.no_stop; no_item = own.goes_on.no_item };
   }
 
-  -- bytes in hand
+  -- Current bytes.
   pub fed_each : (has new : Has) (in_hand : List ℕ) (out : Change ByteState)
       (result : Result ℕ Halt)
       → Feeds c a has new in_hand out result
@@ -469,7 +470,7 @@ module _ {A : Type 0} (picked_by : Request → Option ℕ) (c : Commands A) (a :
           put = f.put;
         })
 
-  -- the end
+  -- The end.
   pub ended_each : (has : Has) (out : Change ByteState) (result : Result Bool Halt)
       → EndsAt c a has out result → EndsAt each (None, a) (HasPicked None has) out result
   ended_each has out result ends = λ bytes said h.

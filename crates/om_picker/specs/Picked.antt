@@ -1,4 +1,4 @@
--- What was taken of the input, and what is said of it, where one item alone is told of.
+-- The consumed input and the outputs if one item is selected.
 use Rattle.std.specs.Prelude.{ℕ, ◌≤◌, ◌≡◌, ◌⊎◌, Bool, List, length, Option, Some, None, Result, Ok}
 use Rattle.std.specs.Prelude.{Err}
 use Rattle.om_outcome.specs.Outcome.{Said, Reply, stops}
@@ -16,12 +16,12 @@ abbrev pub said_by : Option ℕ → List Said → List Said
 said_by None told = told
 said_by (Some k) told = said_of_one k told
 
--- the item that is told of is not there yet
+-- The selected item is not complete yet.
 abbrev pub AreUpTo : Option ℕ → List Said → Type 0
 AreUpTo None told = Unit {0}
 AreUpTo (Some k) told = length told ≤ k
 
--- the command took these bytes and would say this of their items
+-- The command consumed these bytes, and `told` would be the outputs for their items.
 pub record HasPicked (picked : Option ℕ) (has : Has) (bytes : List ℕ) (said : List Said)
     : Type 0 where
   pub told : List Said
@@ -29,12 +29,13 @@ pub record HasPicked (picked : Option ℕ) (has : Has) (bytes : List ℕ) (said 
   pub up_to : AreUpTo picked told
   pub there : has bytes told
 
--- a sink that takes all, and tells nothing
+-- A sink that accepts everything and whose contents are not known.
 abbrev pub nowhere : ByteState
 nowhere = record { bytes = None; faults = 0 }
 
 module _ {A : Type 0} (c : Commands A) (a : A) where
-  -- the run stops where the input ends before the item that is asked for, or memory ran out
+  -- The run ends because the input ends before the selected item is complete, or because memory ran
+  -- out.
   abbrev pub EndsBefore : Has → Result Bool Halt → Type 0
   EndsBefore has (Ok well) = ⊥
   EndsBefore has (Err (halts.Stop stop)) =

@@ -1,5 +1,6 @@
-//! A command that tells of one item of its input alone, in code: so each command as a value that
-//! counts its items has the option, and none has a line for it.
+//! The implementation of the option `--only`: `Picking` wraps a command and writes the output for
+//! one item only. It implements `Work` for the commands `picking`. Therefore each command that
+//! counts its items (`Counts`) has the option without code of its own.
 #![tactic(auto)]
 
 mod counts;

@@ -1,4 +1,4 @@
-//! One item of the input, told of alone.
+//! Selects one item of the input.
 
 ghost use Rattle.std.specs.Prelude.{◌≡◌, ◌<◌, ◌+◌, ◌^◌, List, [], ℕ, Option, Some, length};
 ghost use Rattle.om_outcome.specs.Outcome.{Said};
@@ -17,7 +17,7 @@ use om_work::Work;
 use std::alloc::Global;
 use std::marker::PhantomData;
 
-/// A sink for what is not to be said.
+/// A sink that discards its input.
 #[derive(Drop)]
 struct Nowhere {}
 
@@ -29,7 +29,8 @@ impl Sink for Nowhere {
     }
 }
 
-/// A command that tells of the item of this number alone, if one is asked for; else of each.
+/// A command with output for the item with number `picked` only, or for all items if `picked` is
+/// `None`.
 #[derive(Drop)]
 pub struct Picking<P, W> {
     pub work: W,
@@ -38,7 +39,7 @@ pub struct Picking<P, W> {
 }
 
 impl<P: PicksOne, W: Counts> Picking<P, W> {
-    /// No byte was taken.
+    /// Creates the command before its first byte.
     pub fn new(work: W, picked: Option<u64>) -> Picking<P, W>
         requires { W.has work [] [] }
         ensures act { W.act result.work ≡ W.act work }
@@ -53,7 +54,7 @@ impl<P: PicksOne, W: Counts> Picking<P, W> {
     }
 }
 
-/// The run ends after so many items, before the one that is told of.
+/// Handles an input that ends before the selected item is complete.
 fn end_before<W: Counts>(alloc: Global, work: &mut W) -> Result<bool, Halt>
     requires { (bytes : List ℕ) × (said : List Said) × W.has work.old bytes said
         × (length bytes < 2 ^ 48) }
@@ -68,8 +69,8 @@ fn end_before<W: Counts>(alloc: Global, work: &mut W) -> Result<bool, Halt>
     }
 }
 
-/// Takes some bytes in hand of the item that is told of, which is the next one: with its last byte
-/// the run is finished.
+/// Consumes some current bytes of the selected item, which is the next one. With its last byte the
+/// run is finished.
 fn feed_last<P: PicksOne, W: Counts, K: Sink>(
     alloc: Global,
     work: &mut W,

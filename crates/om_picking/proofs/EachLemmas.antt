@@ -1,4 +1,4 @@
--- Where each item is told of, the commands do what they did.
+-- If all items are selected, then the commands are unchanged.
 use Rattle.std.proofs.Common.{◌≡◌, ℕ, List, Option, None, sym, subst}
 use Rattle.om_outcome.specs.Outcome.{Request}
 use Rattle.om_promises.specs.Account.{Account}

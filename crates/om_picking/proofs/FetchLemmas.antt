@@ -1,4 +1,4 @@
--- The files that commands want are wanted where one item alone is told of, too.
+-- Commands request the same files with `--only`.
 use Rattle.std.proofs.Common.{ℕ, List, Option}
 use Rattle.om_edge.specs.State.{FilesState, Change}
 use Rattle.om_outcome.specs.Outcome.{Request}

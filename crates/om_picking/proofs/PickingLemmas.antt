@@ -1,4 +1,4 @@
--- Lawful commands are lawful where one item alone is told of.
+-- Lawful commands are lawful with `--only`.
 use Rattle.std.proofs.Common.{◌≡◌, ◌++◌, ◌∷◌, ℕ, List, [], Option, Some, None, inl, inr, refl, sym, ap, ◌∙◌, subst, length, arith}
 use Rattle.om_model.specs.Bytes.{AreBytes}
 use Rattle.om_outcome.specs.Outcome.{Request, Said, says, stops}
@@ -12,7 +12,7 @@ use Rattle.om_choice.proofs.BesideLemmas.{lawful_beside, turns_beside, idle_besi
 use Rattle.om_picking.proofs.ToldLemmas.{told_past}
 use Rattle.om_picking.specs.Picking.{missing, FirstBy, SaysBy, StopsBy, EndsBy, picking}
 
--- lists with the same last item
+-- Lists with the same last item.
 none_last : (items : List Item) (item : Item) → ◌≡◌ {A = List Item} [] (items ++ item ∷ []) → ⊥
 none_last [] item e = cc e
 none_last (other ∷ items) item e = cc e
@@ -132,7 +132,7 @@ module _ {A : Type 0} (picked_by : Request → Option ℕ) (c : Commands A) wher
   lawful_at None a law = lawful_of_each a law
   lawful_at (Some k) a law = lawful_of_one k a law
 
-  -- ---- the words, the files and other commands
+  -- ---- the arguments, the files and other commands
 
   pub lawful : AreLawful c → AreLawful one
   lawful law = lawful_beside picked_by c one lawful_at law

@@ -1,4 +1,4 @@
--- The tables of commands that tell of one item alone are exact, where those of the commands are.
+-- If the tables of commands are exact, then the tables with `--only` are.
 use Rattle.std.proofs.Common.{◌≡◌, ◌⊎◌, ℕ, List, [], ◌∷◌, ◌++◌, Option, Some, None, inl, inr, refl, sym, ap, ◌∙◌, subst, length, length-append, arith}
 use Rattle.std.specs.Prelude.{if◌then◌else◌}
 use Rattle.om_outcome.specs.declared.status.Status.{Status}
@@ -16,7 +16,7 @@ use Rattle.om_picking.specs.Tables.{StopUpTo, HaveItem, EndBefore, picking_table
 use Rattle.om_picking.proofs.EachLemmas.{alike_each}
 use Rattle.om_picking.proofs.ToldLemmas.{told_count, say_front, say_then, is_told, on_up_to, say_count, first_of_one, cut_back, would}
 
--- ---- each item
+-- ---- all items
 
 module _ {A B : Type 0} (c : Commands A) (d : Commands B) (a : A) (b : B) (same : IsAlike c d a b) where
   stop_too : (bytes : List ℕ) (stop : Stop) → HoldStop c a bytes stop → HoldStop d b bytes stop
@@ -40,7 +40,7 @@ module _ {A B : Type 0} (c : Commands A) (d : Commands B) (a : A) (b : B) (same 
 
 -- ---- one item
 
--- the status of a stop is its own, whatever was said
+-- The status of an exit reason does not depend on the outputs before it.
 missing_alike : (said : List Said) (n : ℕ) (reply : Reply)
     → (ending_of (replies said (missing n reply))).status
     ≡ (ending_of (replies [] (missing n reply))).status
@@ -51,7 +51,7 @@ module _ {A : Type 0} (picked_by : Request → Option ℕ) (c : Commands A) (a :
   abbrev one : Commands (Option ℕ × A)
   one = picking picked_by c
 
-  -- ---- a stop
+  -- ---- an exit reason
 
   abbrev Stopped : List ℕ → Status → Type 0
   Stopped bytes status = StopUpTo c k a bytes status ⊎ HaveItem c k a bytes status
@@ -178,7 +178,7 @@ module _ {A : Type 0} (picked_by : Request → Option ℕ) (c : Commands A) (a :
         },
       )
 
--- ---- all of it
+-- ---- the tables together
 
 module _ {A : Type 0} (picked_by : Request → Option ℕ) (c : Commands A) (tables : Tables A) where
   abbrev told : Commands (Option ℕ × A)

@@ -1,4 +1,4 @@
--- What is said where one item alone is told of, and what would be said without that.
+-- The outputs if one item is selected, and the outputs without the option.
 use Rattle.std.proofs.Common.{◌≡◌, ◌+◌, ◌<◌, ◌≤◌, ℕ, zero, suc, Bool, List, [], ◌∷◌, ◌++◌, Option, Some, inl, inr, refl, sym, ap, ◌∙◌, subst, length, length-append, append_assoc, append-nil, arith}
 use Rattle.om_outcome.specs.Outcome.{Request, Said, nothing_said}
 use Rattle.om_promises.specs.Commands.{Item, Commands, Cut, AllSay, SaysFirst, GoesOn}
@@ -6,7 +6,7 @@ use Rattle.om_outcome.specs.declared.stop.Stop.{Stop}
 use Rattle.om_picking.specs.Picking.{IsTold, StopsBy, picking}
 use Rattle.om_picking.specs.Told.{said_of_one}
 
--- one item more, before the one that is told of, and that one
+-- One more item before the selected one, and the selected one.
 pub said_before : (k : ℕ) (told : List Said) (said : Said) → length told < k
     → said_of_one k (told ++ said ∷ []) ≡ said_of_one k told ++ nothing_said ∷ []
 said_before zero [] said less = absurd (omega (arith, less))
@@ -24,7 +24,7 @@ said_at (suc k) (s ∷ told) said size =
     ap (λ rest. nothing_said ∷ rest) (said_at k told said (omega (arith, size)))
 
 module _ {A : Type 0} (c : Commands A) (k : ℕ) (a : A) where
-  -- the item that is told of is there
+  -- If the selected item exists, then there are `k + 1` items.
   pub told_count : (items : List Item) (well : Bool) → IsTold c k a items well
       → length items ≡ suc k
   told_count items well told =
@@ -36,7 +36,8 @@ module _ {A : Type 0} (c : Commands A) (k : ℕ) (a : A) where
       let count = told_count items well told in omega (arith, count, few)
 
 module _ {A : Type 0} (c : Commands A) (a : A) where
-  -- what is said of items is said of those before the last one, and of that one
+  -- The outputs for items are the outputs for all but the last item, followed by the output for the
+  -- last one.
   pub say_front : (before items : List Item) (item : Item) (told : List Said)
       → AllSay c a before (items ++ item ∷ []) told
       → (earlier : List Said) × AllSay c a before items earlier
@@ -77,7 +78,7 @@ module _ {A : Type 0} (c : Commands A) (a : A) where
         subst (λ b. c.Says a b n.1 last) (append_assoc before (i ∷ []) n.0) n.4,
       )
 
-  -- so the last item is the one that is told of
+  -- The last item is the selected one.
   pub is_told : (k : ℕ) (items : List Item) (told : List Said) (last : Said) → length told ≡ k
       → AllSay c a [] items (told ++ last ∷ []) → IsTold c k a items last.well
   is_told k items told last size say =
@@ -91,7 +92,7 @@ module _ {A : Type 0} (c : Commands A) (a : A) where
         well_is = refl;
       }
 
-  -- as many items as said
+  -- There are as many items as outputs.
   pub say_count : (before items : List Item) (told : List Said) → AllSay c a before items told
       → length items ≡ length told
   say_count before [] [] say = refl
@@ -143,7 +144,7 @@ module _ {A : Type 0} (picked_by : Request → Option ℕ) (c : Commands A) (a :
           all_say = say_of_one k [] items told (omega arith) few first.all_say;
         }
 
-    -- up to that item nothing more stops the run, and no more is an item
+    -- Up to the selected item, there are no further exit reasons and no further items.
     pub on_up_to : (items : List Item) (rest : List ℕ) → length items ≤ k → GoesOn c a items rest
         → GoesOn one (Some k, a) items rest
     on_up_to items rest few on = record {
@@ -154,7 +155,7 @@ module _ {A : Type 0} (picked_by : Request → Option ℕ) (c : Commands A) (a :
       by stop (inl (few, at)) = on.no_stop stop at
       by stop (inr (well, told, is)) = told_past c k a items well told few
 
-    -- ---- and back
+    -- ---- the converse
 
     pub cut_back : (before : List Item) (bytes : List ℕ) (items : List Item) (rest : List ℕ)
         → Cut one (Some k, a) before bytes items rest → Cut c a before bytes items rest
@@ -162,7 +163,7 @@ module _ {A : Type 0} (picked_by : Request → Option ℕ) (c : Commands A) (a :
     cut_back before bytes (item ∷ items) rest (more, (few, is), cut) =
         (more, is, cut_back (before ++ item ∷ []) more items rest cut)
 
-    -- this would be said
+    -- The outputs without the option.
     abbrev pub Would : ℕ → List Item → List Item → List Said → Type 0
     Would left before items said =
         (told : List Said) × AllSay c a before items told × (said ≡ said_of_one left told)

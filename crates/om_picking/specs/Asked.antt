@@ -1,4 +1,4 @@
--- What the words ask to be told of: one value alone, by its number, or each.
+-- The option `--only`: the number of the selected value, or `None` for all values.
 use Rattle.std.specs.Prelude.{ℕ, Option}
 use Rattle.om_outcome.specs.CommandLine.{reading_of}
 use Rattle.om_outcome.specs.Outcome.{Request}

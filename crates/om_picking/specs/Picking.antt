@@ -1,7 +1,7 @@
--- Commands that tell of one item of their input alone. The items before it are taken as ever, and
--- nothing is said of them; with its last byte the run is finished, whatever follows, and no more is
--- asked for. Which one it is is asked for by the words: so a set of commands is written without a
--- thought of it.
+-- Commands with output for only one item of their input, the selected item. They consume the items
+-- before it as usual, without output. With the last byte of the selected item the run is finished,
+-- whatever follows, and requests no more input. The arguments determine the item, so a command set
+-- does not need to handle the option.
 use Rattle.std.specs.Prelude.{ℕ, ◌<◌, ◌≤◌, ◌≡◌, ◌⊎◌, ◌∷◌, ◌++◌, Bool, List, [], length, Option}
 use Rattle.std.specs.Prelude.{Some, None}
 use Rattle.om_outcome.specs.Outcome.{Request, Asks, Said, nothing_said, Reply, says, stops}
@@ -14,27 +14,28 @@ use Rattle.om_promises.specs.Commands.{Item, Commands}
 use Rattle.om_promises.specs.Promises.{Promises}
 use Rattle.om_choice.specs.Beside.{Finds}
 
--- the last reply where the input ends after so many items, and the one that is asked for is not
--- among them: where the command would say something, a value with no byte is cut
+-- The final reply if the input ends after `n` items, and the selected item is not among them. If
+-- the command would have a final output, then the reply is a truncated value of no bytes.
 abbrev pub missing : ℕ → Reply → Reply
 missing n (says said) = stops (value n (truncated_text 0))
 missing n (stops stop) = stops stop
 
 module _ {A : Type 0} (c : Commands A) where
-  -- up to that item the bytes are what they are for the command, and after it there is none
+  -- Up to the selected item the items are those of the command. After it there is no item.
   abbrev pub FirstBy : Option ℕ → A → List Item → List ℕ → Item → List ℕ → Type 0
   FirstBy None a items bytes item more = c.IsFirst a items bytes item more
   FirstBy (Some k) a items bytes item more =
       (length items ≤ k) × c.IsFirst a items bytes item more
 
-  -- of the items before it something would be said, and nothing is
+  -- The items before the selected one would have an output for the command, and have an empty one
+  -- here.
   abbrev pub SaysBy : Option ℕ → A → List Item → Item → Said → Type 0
   SaysBy None a items item said = c.Says a items item said
   SaysBy (Some k) a items item said =
       ((length items < k) × (told : Said) × c.Says a items item told × (said ≡ nothing_said))
       ⊎ ((length items ≡ k) × c.Says a items item said)
 
-  -- the last of these items is the one that is told of, and whether nothing is wrong with it
+  -- The last of these items is the selected one, and `well` says whether it is without errors.
   pub record IsTold (k : ℕ) (a : A) (items : List Item) (well : Bool) : Type 0 where
     pub earlier : List Item
     pub item : Item
@@ -44,28 +45,28 @@ module _ {A : Type 0} (c : Commands A) where
     pub says : c.Says a earlier item said
     pub well_is : said.well ≡ well
 
-  -- up to it the run stops where that of the command does, and behind it it is finished, whatever
-  -- bytes come
+  -- Up to the selected item the run ends where that of the command ends. After the selected item
+  -- the run is finished, whatever bytes follow.
   abbrev pub StopsBy : Option ℕ → A → List Item → List ℕ → Stop → Type 0
   StopsBy None a items bytes stop = c.Stops a items bytes stop
   StopsBy (Some k) a items bytes stop =
       ((length items ≤ k) × c.Stops a items bytes stop)
       ⊎ ((well : Bool) × IsTold k a items well × (stop ≡ finished well))
 
-  -- where the input ends before it, or within it, that is told
+  -- If the input ends before the selected item, or inside it, then the final reply reports it.
   abbrev pub EndsBy : Option ℕ → A → List Item → List ℕ → Reply → Type 0
   EndsBy None a items bytes last = c.Ends a items bytes last
   EndsBy (Some k) a items bytes last =
       (length items ≤ k) × (reply : Reply) × c.Ends a items bytes reply
       × (last ≡ missing (length items) reply)
 
--- for each request that the words ask for, each item is told of
+-- Each request of the arguments selects all items.
 abbrev pub PickNothing : (Request → Option ℕ) → List (List ℕ) → Type 0
 PickNothing picked_by words =
     (request : Request) → Asks words request → picked_by request ≡ None
 
 module _ {A : Type 0} (picked_by : Request → Option ℕ) (c : Commands A) where
-  -- the commands, of one item alone where that is asked for
+  -- The commands with the option `--only`.
   abbrev pub picking : Commands (Option ℕ × A)
   picking = record {
     Wants = c.Wants;
@@ -77,14 +78,14 @@ module _ {A : Type 0} (picked_by : Request → Option ℕ) (c : Commands A) wher
     Ends = λ act. EndsBy c act.0 act.1;
   }
 
-  -- ---- words that ask for each
+  -- ---- arguments that select all items
 
-  -- for such words an account by the commands is one by these
+  -- For such arguments, an account by the commands is an account with `--only`.
   abbrev pub HaveAccountsOfEach : Type 0
   HaveAccountsOfEach = (words : List (List ℕ)) (call : Call) → PickNothing picked_by words
       → Account c words call → Account picking words call
 
-  -- and what these promise is promised by the commands
+  -- For such arguments, the specification with `--only` implies that of the commands.
   abbrev pub PromiseOfEach : Type 0
   PromiseOfEach = (words : List (List ℕ)) (call : Call) → PickNothing picked_by words
       → Promises picking words call → Promises c words call

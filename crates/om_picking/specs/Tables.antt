@@ -1,6 +1,6 @@
--- What each status means where one item alone is told of: 0 that nothing is wrong with it, 1 that
--- something is, whatever follows it; 4 also that the input ends before it. Another one is that of
--- the stop before it or at its end.
+-- Exit status specification with `--only`: 0 means that the selected item is without errors, and 1
+-- that it has an error, whatever follows it. 4 also means that the input ends before the item. Any
+-- other status is that of an exit reason before the item or at its end.
 use Rattle.std.specs.Prelude.{ℕ, ◌≤◌, ◌≡◌, ◌⊎◌, List, [], ◌∷◌, ◌++◌, length, Option, Some, None}
 use Rattle.std.specs.Prelude.{if◌then◌else◌}
 use Rattle.om_outcome.specs.declared.status.Status.{Status}
@@ -13,14 +13,14 @@ use Rattle.om_causes.specs.Causes.{Tables}
 use Rattle.om_picking.specs.Picking.{missing}
 
 module _ {A : Type 0} (c : Commands A) (k : ℕ) (a : A) (bytes : List ℕ) (status : Status) where
-  -- the run of the command stops up to the item of this number
+  -- The run of the command ends before or within the selected item.
   pub record StopUpTo : Type 0 where
     pub stop : Stop
     pub is : status_of stop ≡ status
     pub holds : HoldStop c a bytes stop
     pub few : length holds.items ≤ k
 
-  -- that item is there, and what the command says of it gives the status
+  -- The selected item exists, and the command's output for it determines the status.
   pub record HaveItem : Type 0 where
     pub items : List Item
     pub earlier : List Said
@@ -30,7 +30,7 @@ module _ {A : Type 0} (c : Commands A) (k : ℕ) (a : A) (bytes : List ℕ) (sta
     pub number : length earlier ≡ k
     pub is : (if said.well then Well else No) ≡ status
 
-  -- the input ends before it, or within it
+  -- The input ends before the selected item, or inside it.
   pub record EndBefore : Type 0 where
     pub said : List Said
     pub reply : Reply

@@ -1,8 +1,8 @@
--- What is said where one item alone is told of.
+-- The outputs if only one item is selected.
 use Rattle.std.specs.Prelude.{ℕ, zero, suc, List, [], ◌∷◌}
 use Rattle.om_outcome.specs.Outcome.{Said, nothing_said}
 
--- what is said where this would be said of each item: of the first k nothing
+-- The outputs with `--only`, given the outputs without it: the first `k` become empty.
 abbrev pub said_of_one : ℕ → List Said → List Said
 said_of_one k [] = []
 said_of_one zero (said ∷ told) = said ∷ told

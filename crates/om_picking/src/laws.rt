@@ -1,4 +1,4 @@
-//! The laws. Each function does nothing: what it ensures is the law.
+//! Lemma functions. They do nothing at run time: the contract of each function is a law.
 
 ghost use Rattle.std.specs.Prelude.{ℕ, Option};
 ghost use Rattle.om_causes.specs.Causes.{AreExact};
@@ -13,19 +13,19 @@ use om_causes::laws::Meant;
 use om_promises::laws::Act;
 use std::marker::PhantomData;
 
-/// What is told of alone, by what is asked for.
+/// The parameter of the option `--only`: the item that a request selects.
 pub trait PicksOne {
     ghost picked_by: { Request → Option ℕ };
 }
 
-/// What the words ask to be told of.
+/// The value of the option `--only` in the arguments.
 pub struct OneByWords;
 
 impl PicksOne for OneByWords {
     ghost picked_by = { picked_by };
 }
 
-/// Commands, of one item alone where that is asked for.
+/// Commands with the option `--only`.
 pub struct Picking<P, C>(PhantomData<P>, PhantomData<C>);
 
 impl<P: PicksOne, C: Act> Act for Picking<P, C> {
@@ -42,38 +42,40 @@ impl<P: PicksOne, C: Meant> Meant for Picking<P, C> {
     ghost tables = { picking_tables C.commands C.tables };
 }
 
-/// Lawful commands are lawful where one item alone is told of.
+/// Proves that lawful commands stay lawful with `--only`.
 pub fn picking_is_lawful<P: PicksOne, C: Act>()
     requires { AreLawful C.commands }
     ensures { AreLawful (picking P.picked_by C.commands) }
 {}
 
-/// And they take their files turn by turn.
+/// Proves that commands that fetch their files in turn still do so with `--only`.
 pub fn picking_takes_turns<P: PicksOne, C: Act>()
     requires { AreInTurns C.commands }
     ensures { AreInTurns (picking P.picked_by C.commands) }
 {}
 
-/// Nothing is wanted or found for more requests.
+/// Proves that `--only` adds no requests: if the commands do nothing for a request, then they still
+/// do nothing.
 pub fn picking_is_idle<P: PicksOne, C: Act>()
     ensures { (request : Request) → IsIdleAt C.commands request
         → IsIdleAt (picking P.picked_by C.commands) request }
 {}
 
-/// So they stand apart from others, where the commands do.
+/// Proves that commands with `--only` are disjoint from others if the commands are.
 pub fn picking_stands_apart<P: PicksOne, C: Act, D: Act>()
     requires { AreApart C.commands D.commands }
     ensures { AreApart (picking P.picked_by C.commands) D.commands }
 {}
 
-/// Where the words ask for each item, an account by the commands is one by these, and what these
-/// promise is promised by the commands.
+/// Proves that `--only` changes nothing if the arguments select all items. An account by the
+/// commands is an account with `--only`, and the specification with `--only` implies that of the
+/// commands.
 pub fn picking_promises_of_each<P: PicksOne, C: Act>()
     ensures account { HaveAccountsOfEach P.picked_by C.commands }
     ensures promises { PromiseOfEach P.picked_by C.commands }
 {}
 
-/// Where the tables of commands are exact, so are those where one item alone is told of.
+/// Proves that the tables of commands with `--only` are exact if the tables of the commands are.
 pub fn picking_has_meanings<P: PicksOne, M: Meant>()
     requires { AreExact M.commands M.tables }
     ensures { AreExact (picking P.picked_by M.commands) (picking_tables M.commands M.tables) }

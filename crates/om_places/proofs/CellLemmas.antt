@@ -1,4 +1,4 @@
--- Lemmas on cells that count places: more cells, one more place, and places dropped from the end.
+-- Lemmas on cells: more cells, one more offset, and offsets removed from the end.
 use Rattle.std.proofs.Common.{◌≡◌, ℕ, ◌+◌, ◌-◌, ◌*◌, ◌/◌, ◌%◌, ◌^◌, ◌<◌, ◌≤◌, inl, inr, List, [], ◌∷◌, ◌++◌, length, get_or, take, replicate, All, count_ones, refl, sym, ap, subst, ◌∙◌, arith, pow_pos, pow_mono, mod-eq_of_lt, length-set, length-take, length-append, get_or-take, get_or-set_same, get_or-set_other}
 use Rattle.std.proofs.lemmas.List.{length-replicate, get_or-replicate, get_or_append_left, get_or-append_right, length_push, get_or_push}
 use Rattle.std.proofs.lemmas.Nat.{mod_below}
@@ -11,11 +11,11 @@ use Rattle.om_places.proofs.BitLemmas.{mod-mod_low, bit_above, ones-bit_below, l
 abbrev empty : ℕ → Cell
 empty before = record { bits = 0; before = before }
 
--- the rank of place x in its cell
+-- The rank of offset `x` in its cell.
 abbrev rank_in : ℕ → Cell → ℕ
 rank_in x cell = cell.before + count_ones (cell.bits % 2 ^ (x % 64))
 
--- the rank of a place is its number
+-- The rank of an offset is its index.
 pub rank_is : (cells : List Cell) (places : List ℕ) → IsIndexed cells places → (k : ℕ) → k < length places → rank cells (get_or places k 0) ≡ k
 rank_is cells places indexed k inside =
     let p : ℕ = get_or places k 0 in
@@ -29,7 +29,7 @@ rank_is cells places indexed k inside =
       ]
     ]
 
--- the cells up to that of p, where new ones are empty
+-- The cells up to the cell of `p`. New cells are empty.
 module _ (cells : List Cell) (places : List ℕ) (p : ℕ) (indexed : IsIndexed cells places) (below : All (λ q. q < p) places) where
   abbrev covers : List Cell
   covers = take (p / 64 + 1) cells ++ replicate (p / 64 + 1 - length cells) (empty (length places))
@@ -70,7 +70,7 @@ module _ (cells : List Cell) (places : List ℕ) (p : ℕ) (indexed : IsIndexed 
     ];
   }
 
--- the same of cells that were made so, with n for the number of places
+-- The same for cells that were made in this way, with `n` as the number of offsets.
 pub covers_all : (cells covered : List Cell) (places : List ℕ) (p n : ℕ) → IsIndexed cells places → All (λ q. q < p) places → n ≡ length places
     → covered ≡ take (p / 64 + 1) cells ++ replicate (p / 64 + 1 - length cells) (empty n) → IsIndexed covered places × (length covered ≡ p / 64 + 1)
 covers_all cells covered places p n indexed below count made =
@@ -78,7 +78,7 @@ covers_all cells covered places p n indexed below count made =
     made ∙ ap (λ (m : ℕ). take (p / 64 + 1) cells ++ replicate (p / 64 + 1 - length cells) (empty m)) count in
     (subst (λ (cs : List Cell). IsIndexed cs places) (sym e) (IsIndexed-covers cells places p indexed below), ap length e ∙ length-covers cells places p indexed below)
 
--- one more place, in the last cell
+-- One more offset in the last cell.
 module _ (cells : List Cell) (places : List ℕ) (p : ℕ) (indexed : IsIndexed cells places) (below : All (λ q. q < p) places) (last : length cells ≡ p / 64 + 1) where
   abbrev more : List ℕ
   more = places ++ p ∷ []
@@ -164,7 +164,7 @@ module _ (cells : List Cell) (places : List ℕ) (p : ℕ) (indexed : IsIndexed 
         ];
   }
 
--- the places from number n on are dropped
+-- The offsets from index `n` on are removed.
 module _ (cells : List Cell) (places : List ℕ) (n : ℕ) (indexed : IsIndexed cells places) (inside : n < length places) where
   abbrev p : ℕ
   p = get_or places n 0
@@ -218,14 +218,15 @@ module _ (cells : List Cell) (places : List ℕ) (n : ℕ) (indexed : IsIndexed 
   rank_p : rank cells p ≡ n
   rank_p = rank_is cells places indexed n inside
 
-  -- what the last cell counts before p
+  -- The number of offsets that the last cell counts before `p`.
   last_rank : (x : ℕ) → x / 64 ≡ p / 64 → (cell_at cells x).before + count_ones ((cell_at cells x).bits % 2 ^ (p % 64)) ≡ n
   last_rank x e = subst (λ (i : ℕ). (get_or cells i (empty 0)).before + count_ones ((get_or cells i (empty 0)).bits % 2 ^ (p % 64)) ≡ n) (sym e) rank_p
 
   inside_cells : (x : ℕ) → x / 64 < p / 64 + 1 → x < 64 * length cells
   inside_cells x near = omega (arith, indexed.covered n inside)
 
-  -- where all that is kept of the last cell is before x, so are the bits that are kept
+  -- If all remaining offsets of the last cell are less than `x`, then its remaining bits are below
+  -- `x`.
   last_clear : (x : ℕ) → x / 64 ≡ p / 64 → ((k : ℕ) → k < n → get_or places k 0 / 64 ≡ x / 64 → get_or places k 0 < x) → (cell_at cells x).bits % 2 ^ (p % 64) < 2 ^ (x % 64)
   last_clear x e h =
       let c : Cell = cell_at cells x in

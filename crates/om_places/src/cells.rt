@@ -1,4 +1,4 @@
-//! Places as bits: the number of a place is how many places are before it.
+//! A bit set with ranks: the rank of an offset is the number of smaller offsets in the set.
 
 ghost use Rattle.std.specs.Prelude.{◌≡◌, ◌+◌, ◌-◌, ◌/◌, ◌%◌, ◌^◌, ◌<◌, length, take, replicate};
 ghost use Rattle.std.specs.Prelude.{◌++◌, MatchResult, MatchBool};
@@ -6,16 +6,16 @@ ghost use Rattle.om_places.specs.Cells.{cell_at, rank, marked, cut};
 
 use om_model::Memory;
 
-/// Of 64 words side by side: a bit for each that is a place, and how many places are before the
-/// first of them.
+/// Describes 64 consecutive words: one bit for each word that is in the set, and the number of
+/// offsets in the set before the first of these words.
 #[derive(Clone, Copy)]
 pub struct Cell {
     pub bits: u64,
     pub before: u64,
 }
 
-/// Makes `count` cells: those from there on are dropped, and missing ones are filled up without
-/// bits.
+/// Changes the number of cells to `count`: drops later cells, or adds cells without bits. New cells
+/// have `before` offsets before them.
 pub fn cover(cells: &mut Vec<Cell>, count: usize, before: u64) -> Result<(), Memory>
     ensures { MatchResult result
         (λ _. cells.new.items
@@ -34,7 +34,8 @@ pub fn cover(cells: &mut Vec<Cell>, count: usize, before: u64) -> Result<(), Mem
     Ok(())
 }
 
-/// Makes `count` cells, if at most one is missing and no memory is needed for it.
+/// Appends the missing cell if exactly one is missing and no allocation is needed. Returns true if
+/// there are then exactly `count` cells. Otherwise changes nothing.
 #[inline(always)]
 pub fn cover_in_room(cells: &mut Vec<Cell>, count: usize, before: u64) -> bool
     ensures { MatchBool result
@@ -55,7 +56,7 @@ pub fn cover_in_room(cells: &mut Vec<Cell>, count: usize, before: u64) -> bool
     true
 }
 
-/// Sets the bit of place p, which was not set.
+/// Sets the bit of offset `p`, which must be clear.
 pub fn mark(cells: &mut Vec<Cell>, p: u64)
     requires covered { p / 64 < length cells.old.items }
     requires clear { (cell_at cells.old.items p).bits + 2 ^ (p % 64) < 2 ^ 64 }
@@ -65,7 +66,7 @@ pub fn mark(cells: &mut Vec<Cell>, p: u64)
     cell.bits += 1 << (p % 64);
 }
 
-/// Clears the bits from place p on in its cell.
+/// Clears the bits from offset `p` on in the cell of `p`.
 pub fn clear_from(cells: &mut Vec<Cell>, p: u64)
     requires { p / 64 < length cells.old.items }
     ensures { cells.new.items ≡ cut cells.old.items p }
@@ -74,7 +75,7 @@ pub fn clear_from(cells: &mut Vec<Cell>, p: u64)
     cell.bits %= 1 << (p % 64);
 }
 
-/// How many places are before p.
+/// Returns the number of offsets in the set that are less than `p`.
 pub fn count_before(cells: &[Cell], p: u64) -> u64
     requires covered { p / 64 < length cells.now }
     requires small { rank cells.now p < 2 ^ 64 }

@@ -1,4 +1,5 @@
-//! The places of headers in a list of words: by number, and the number of a place in constant time.
+//! The offsets of object headers in an arena of 64-bit words. `Places` maps an object's number to
+//! the offset of its header, and an offset back to the number, each in constant time.
 #![tactic(auto)]
 
 mod cells;

@@ -1,4 +1,4 @@
-//! A list of increasing places.
+//! An increasing list of offsets.
 
 ghost use Rattle.std.specs.Prelude.{◌≡◌, ◌<◌, ◌≤◌, [], ◌∷◌, ◌++◌, length, take, All, Contains};
 ghost use Rattle.std.specs.Prelude.{slice_index, MatchResult, MatchBool};
@@ -9,8 +9,8 @@ use om_model::Memory;
 use std::alloc::Global;
 use std::marker::Model;
 
-/// Increasing places, which contracts see as their list. Places below 2^32 take half the room of
-/// the others.
+/// An increasing list of offsets, in 64-bit words. Contracts see the list. An offset below 2^32
+/// takes half as much memory as a larger one.
 #[derive(Drop)]
 pub struct Places {
     low: Vec<u32>,
@@ -31,7 +31,7 @@ impl Model for Places {
 }
 
 impl Places {
-    /// No places.
+    /// Returns an empty list.
     pub fn new(alloc: Global) -> Places
         ensures { result ≡ [] }
     {
@@ -42,14 +42,14 @@ impl Places {
         }
     }
 
-    /// How many places there are.
+    /// Returns the number of offsets.
     pub fn len(&self) -> usize
         ensures { result ≡ length self.now }
     {
         self.low.len() + self.high.len()
     }
 
-    /// Place number k.
+    /// Returns the offset at index `k`.
     pub fn get(&self, k: usize) -> u64
         requires { k < length self.now }
         ensures { result ≡ slice_index self.now k }
@@ -62,7 +62,7 @@ impl Places {
         }
     }
 
-    /// The number of a place.
+    /// Returns the index of an offset of the list.
     pub fn number(&self, p: u64) -> usize
         requires { Contains self.now p }
         ensures in_range { result < length self.now }
@@ -71,7 +71,7 @@ impl Places {
         cells::count_before(&self.cells, p) as usize
     }
 
-    /// Appends a place.
+    /// Appends an offset, which must be greater than all others. On `Memory` the list is unchanged.
     pub fn push(&mut self, p: u64) -> Result<(), Memory>
         requires { All (λ q. q < p) self.old }
         ensures { MatchResult result (λ _. self.new ≡ self.old ++ p ∷ [])
@@ -84,7 +84,8 @@ impl Places {
         Ok(())
     }
 
-    /// Appends a place, if it is below 2^32 and no memory is needed for it.
+    /// Appends an offset if it is less than 2^32 and no allocation is needed. Otherwise returns
+    /// false and changes nothing.
     #[inline(always)]
     pub fn push_in_room(&mut self, p: u64) -> bool
         requires { All (λ q. q < p) self.old }
@@ -102,7 +103,7 @@ impl Places {
         true
     }
 
-    /// Drops the places from number n on.
+    /// Removes the offsets from index `n` on.
     pub fn truncate(&mut self, n: usize)
         requires { n ≤ length self.old }
         ensures { self.new ≡ take n self.old }
@@ -116,7 +117,8 @@ impl Places {
     }
 }
 
-/// Appends p to the first of the lists, while it fits and the other is empty.
+/// Appends `p` to the first list if `p` fits and the second list is empty, otherwise to the second
+/// list.
 fn append(low: &mut Vec<u32>, high: &mut Vec<u64>, p: u64) -> Result<(), Memory>
     ensures { MatchResult result
         (λ _. low.new.items ++ high.new.items ≡ (low.old.items ++ high.old.items) ++ p ∷ [])
@@ -134,7 +136,7 @@ fn append(low: &mut Vec<u32>, high: &mut Vec<u64>, p: u64) -> Result<(), Memory>
     Ok(())
 }
 
-/// Keeps the first n of two lists, one after the other.
+/// Keeps the first `n` elements of the concatenation of two lists.
 fn shorten(low: &mut Vec<u32>, high: &mut Vec<u64>, n: usize)
     ensures { low.new.items ++ high.new.items ≡ take n (low.old.items ++ high.old.items) }
 {

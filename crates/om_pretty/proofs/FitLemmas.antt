@@ -1,4 +1,4 @@
--- What is counted up to a bracket's closing, byte after byte.
+-- The count up to a closing bracket, byte by byte.
 use Rattle.std.proofs.Common.{◌≡◌, ℕ, suc, ◌+◌, ◌<◌, leb, List, [], ◌∷◌, drop, Option, Some, None, refl, ap, sym, ◌∙◌, arith}
 use Rattle.std.specs.Prelude.{option_map}
 use Rattle.std.proofs.lemmas.Bool.{cond-false, lt-leb, cond_both}
@@ -6,11 +6,11 @@ use Rattle.om_pretty.specs.declared.site.Site.{Site}
 use Rattle.om_pretty.specs.Sites.{mark_of, next_site}
 use Rattle.om_pretty.specs.Fit.{closing_length, depth_after, counted, to_close, within}
 
--- so many more
+-- The count increased by `i`.
 abbrev pub more : ℕ → Option ℕ → Option ℕ
 more i found = option_map (λ n. n + i) found
 
--- ---- something is counted
+-- ---- the count is positive
 
 abbrev pub IsPositive : Option ℕ → Type 0
 IsPositive None = Unit {0}
@@ -37,7 +37,7 @@ too_many : (left : ℕ) (found : Option ℕ) → IsPositive found → within lef
 too_many left None positive = refl
 too_many left (Some n) positive = cond-false (leb (n + left) left) (n + left) 0 (lt-leb (n + left) left (omega arith))
 
--- ---- steps of the count, where so many bytes are counted
+-- ---- steps of the count
 
 module _ (all : Option ℕ) (left : ℕ) (site : Site) (depth : ℕ) (bytes : List ℕ) (i : ℕ) (so_far : all ≡ more i (to_close site depth (drop i bytes))) where
   pub at_width : i ≡ left → 0 ≡ within left all

@@ -1,4 +1,4 @@
--- A text over lines is the plain text, without its line feeds and the blanks behind them.
+-- Joining the lines of the pretty text gives the plain text.
 use Rattle.std.proofs.Common.{◌≡◌, ◌≢◌, ℕ, zero, suc, Bool, true, false, ◌&&◌, ◌==◌, cond, ltb, List, [], ◌∷◌, ◌++◌, replicate, Option, Some, None, refl, ap, ◌∙◌}
 use Rattle.std.specs.List.{AllByRecursion}
 use Rattle.std.proofs.lemmas.Bool.{cond-false, ne_eqb}
@@ -11,7 +11,7 @@ use Rattle.om_pretty.specs.Lines.{inner, base, line_at, line_before, line_text, 
 use Rattle.om_pretty.specs.Stack.{first}
 use Rattle.om_pretty.specs.Laws.{joined_from, PrettyIsPlain}
 
--- ---- what is taken away
+-- ---- removed bytes
 
 blanks_go : (n : ℕ) (bytes : List ℕ) → joined_from true (replicate n 32 ++ bytes) ≡ joined_from true bytes
 blanks_go zero bytes = refl
@@ -51,7 +51,7 @@ begins_no_blank : (at : Layout) (b indent : ℕ) → line_before at b ≡ Some i
 begins_no_blank at b indent line =
     ne_eqb b 32 (λ same. let none : line_before at b ≡ None = ap (λ c. line_before at c) same ∙ blank_begins_none at in absurd (cc))
 
--- ---- a text
+-- ---- a whole text
 
 joins_line : (line : Option ℕ) (b : ℕ) (laid_rest bytes : List ℕ) → (b == 10) ≡ false → ((indent : ℕ) → line ≡ Some indent → (b == 32) ≡ false) → joined_from false laid_rest ≡ bytes → joined_from false (line_text line ++ b ∷ laid_rest) ≡ b ∷ bytes
 joins_line None b laid_rest bytes no_feed no_blank rest = stays false b laid_rest no_feed refl ∙ ap (λ t. b ∷ t) rest

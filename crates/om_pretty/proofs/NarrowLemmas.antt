@@ -1,5 +1,5 @@
--- Lines are narrow: a line is up to now one word, or ends by column 80 with what has room in it, or
--- stands behind a closing by column 80.
+-- Lines are narrow. In the invariant, the line so far is one of these: one word, a line that ends
+-- by column 80 with a bracket that fits it, or a line after a closing bracket by column 80.
 use Rattle.std.proofs.Common.{◌≡◌, ◌≢◌, ◌⊎◌, inl, inr, ℕ, zero, suc, ◌+◌, Bool, true, false, ◌==◌, List, ◌∷◌, ◌++◌, replicate, Some, refl, ap, sym, subst, ◌∙◌, ⊎_elim, arith}
 use Rattle.std.specs.Bool.{MatchBool}
 use Rattle.std.proofs.lemmas.Bool.{cond_both, both_ways, false≢true, ne_eqb, eqb-true}
@@ -11,7 +11,7 @@ use Rattle.om_pretty.specs.Sites.{bare_mark, mark_of, next_site}
 use Rattle.om_pretty.specs.Lines.{line_text}
 use Rattle.om_pretty.specs.Narrow.{is_behind_place, is_before_place, Seen, nothing, seen_more, IsNarrow, AreNarrow}
 
--- ---- what bytes are
+-- ---- the roles of bytes
 
 abbrev Parts : ℕ → Type 0
 Parts b = (b ≡ 124) ⊎ ((b ≡ 41) ⊎ ((b ≡ 125) ⊎ ((b ≡ 44) ⊎ (b ≡ 59))))
@@ -19,7 +19,7 @@ Parts b = (b ≡ 124) ⊎ ((b ≡ 41) ⊎ ((b ≡ 125) ⊎ ((b ≡ 44) ⊎ (b �
 abbrev Opens : ℕ → Type 0
 Opens b = (b ≡ 40) ⊎ ((b ≡ 124) ⊎ (b ≡ 123))
 
--- what follows from a mark that is known by tests
+-- A fact that follows from a test of a role.
 abbrev Gives : (Mark → Bool) → Type 0 → Mark → Type 0
 Gives test P mark = test mark ≡ true → P
 
@@ -65,7 +65,7 @@ opens_is sites.TextEscape b h = absurd (false≢true h)
 opens_is sites.Letter b h = absurd (false≢true h)
 opens_is sites.LetterEscape b h = absurd (false≢true h)
 
--- sites outside of quotes
+-- A context outside of quotes.
 abbrev is_bare : Site → Bool
 is_bare sites.Text = false
 is_bare sites.TextEscape = false
@@ -73,7 +73,7 @@ is_bare sites.Letter = false
 is_bare sites.LetterEscape = false
 is_bare site = true
 
--- what is known of a byte is known of it at each site
+-- A fact about a separator or closing byte follows from the facts for each such byte.
 at_parts : (P : ℕ → Type 0) (b : ℕ) → Parts b → P 124 → P 41 → P 125 → P 44 → P 59 → P b
 at_parts P b is bar paren brace comma semicolon =
     ⊎_elim (λ e. subst P (sym e) bar)
@@ -117,7 +117,7 @@ bare_by sites.TextEscape b h = absurd (h refl)
 bare_by sites.Letter b h = absurd (h refl)
 bare_by sites.LetterEscape b h = absurd (h refl)
 
--- what parts or closes is the same at the beginning of a line, and leads outside
+-- A separator or closing byte has the same role at the beginning of a line, and leads outside.
 pub parts_lead : (site : Site) (b : ℕ) → is_behind_place (mark_of site b) ≡ true → next_site site b ≡ next_site sites.Outside b
 parts_lead site b h =
     let is : Parts b = parts_is site b h in
@@ -131,7 +131,7 @@ opening_leads_out site b is =
     let h : is_before_place (mark_of site b) ≡ true = ap is_before_place is in
     opens_out site b (bare_by site b (λ other. both_ways (is_before_place (mark_of site b)) (ap is_before_place other) h)) (opens_is site b h)
 
--- ---- lines, byte after byte
+-- ---- lines, byte by byte
 
 on_false : (t : Bool) (P Q : Type 0) → t ≡ false → Q → MatchBool t P Q
 on_false true P Q is_false q = absurd (cc)

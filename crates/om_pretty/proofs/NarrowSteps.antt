@@ -1,5 +1,6 @@
--- Lines are narrow, byte after byte: a line is up to now one word, or ends by column 80 with what
--- has room in it, or stands behind a closing by column 80.
+-- Lines are narrow, byte by byte. In the invariant, the line so far is one of these: one word, a
+-- line that ends by column 80 with a bracket that fits it, or a line after a closing bracket by
+-- column 80.
 use Rattle.std.proofs.Common.{◌≡◌, ◌≢◌, ◌⊎◌, inl, inr, ℕ, suc, ◌+◌, ◌-◌, ◌<◌, ◌≤◌, Bool, true, false, not, ◌&&◌, ◌||◌, ◌==◌, cond, ltb, leb, List, [], ◌∷◌, ◌++◌, Option, Some, None, refl, ap, sym, subst, ◌∙◌, ⊎_elim, arith}
 use Rattle.std.specs.Prelude.{option_map}
 use Rattle.std.specs.List.{AllByRecursion}
@@ -19,7 +20,7 @@ use Rattle.om_pretty.specs.Narrow.{is_behind_place, is_before_place, Seen, nothi
 use Rattle.om_pretty.proofs.FitLemmas.{IsPositive, closing_positive, close_positive}
 use Rattle.om_pretty.proofs.NarrowLemmas.{parts_lead, parts_open_nothing, opening_leads_out, goes_byte, goes_line}
 
--- ---- what is known before the bytes that are left
+-- ---- the invariant before the remaining bytes
 
 record IsFresh (at : Layout) (plain : List ℕ) : Type 0 where
   outside : at.site ≡ sites.Outside
@@ -73,7 +74,7 @@ narrow_now at columns seen plain (Flat flat) = inl (omega (arith, flat.room))
 narrow_now at columns seen plain (Bar bar) = inl (omega (arith, bar.room))
 narrow_now at columns seen plain (Closed closed) = inl closed.room
 
--- ---- tests of what is flat
+-- ---- tests of brackets that fit
 
 behind_plain : (line : Option ℕ) (b : ℕ) (bytes : List ℕ) (at : Layout) → at.flat ≡ 0 → marked (mark_of at.site b) bytes (passed line b at) ≡ behind line b bytes at
 behind_plain line b bytes at none = sym (cond-false (ltb 0 at.flat) (passed line b at) (marked (mark_of at.site b) bytes (passed line b at)) (le-ltb 0 at.flat (omega (arith, none))))
@@ -87,7 +88,7 @@ before_plain b at none = cond-false (ltb 0 at.flat) None (line_at at (mark_of at
 before_flat : (b : ℕ) (at : Layout) → 0 < at.flat → line_before at b ≡ None
 before_flat b at some = cond-true (ltb 0 at.flat) None (line_at at (mark_of at.site b) b) (lt-ltb 0 at.flat some)
 
--- ---- brackets that open
+-- ---- opening brackets
 
 room_found : (left : ℕ) (found : Option ℕ) → 0 < within left found → (found ≡ Some (within left found)) × (within left found ≤ left)
 room_found left None some = absurd (omega (arith, some))
@@ -102,7 +103,7 @@ list_found at (Some (kinds.Chain indent)) bytes some =
     (λ m. 0 < m → (to_close at.site 0 bytes ≡ Some m) × (m ≤ at.left)) (λ _ h. absurd (omega (arith, h)))
     (λ _ h. room_found at.left (to_close at.site 0 bytes) h) some
 
--- what is known behind a byte, but for what it is to brackets
+-- The facts after a byte, without regard to its role.
 record Passed (at : Layout) (columns : ℕ) (seen : Seen) (plain : List ℕ) : Type 0 where
   left : at.left ≡ 80 - columns
   site : seen.site ≡ at.site
@@ -137,7 +138,7 @@ opened_goes room fresh bracket at columns seen bytes p placed opens if_fresh fou
     ltb_gives : (n : ℕ) → ltb 0 n ≡ true → 0 < n
     ltb_gives n h = ⊎_elim (λ less. less) (λ past. absurd (let e : ltb 0 n ≡ false = le-ltb 0 n past in cc)) (cases_lt 0 n)
 
--- ---- by what a byte is to brackets, where no place was met
+-- ---- by the role of a byte, before any break position
 
 record IsGoing (mark : Mark) (at : Layout) (seen : Seen) (plain : List ℕ) : Type 0 where
   placed : seen.placed ≡ false
@@ -167,7 +168,7 @@ marked_goes marks.Parts bytes at columns seen p g = stays_word at (record at { p
 marked_goes marks.Closes bytes at columns seen p g = stays_word at (record at { parted = false; brackets = others at.brackets }) columns seen bytes p g.placed g.opened refl refl refl refl
 marked_goes marks.Other bytes at columns seen p g = stays_word at at columns seen bytes p g.placed g.opened refl refl refl refl
 
--- ---- what may follow
+-- ---- the bytes that may follow
 
 follows_opens : (mark : Mark) (b : ℕ) (site : Site) (bytes : List ℕ) → follows mark b site bytes ≡ true → mark ≡ marks.Opens → has_no_blank bytes ≡ true
 follows_opens marks.Opens b site bytes h is = h
@@ -176,7 +177,7 @@ follows_opens marks.Parts b site bytes h is = absurd (cc)
 follows_opens marks.Closes b site bytes h is = absurd (cc)
 follows_opens marks.Other b site bytes h is = absurd (cc)
 
--- behind a closing of so many bytes, of which the first stands by column 80
+-- The invariant after a closing bracket whose first byte is by column 80.
 closing_goes : (b : ℕ) (at : Layout) (columns : ℕ) (seen : Seen) (bytes : List ℕ) → Known at columns seen bytes → at.fresh ≡ false → at.flat ≤ closing_length b - 1 → columns + (closing_length b - 1) ≤ 80 → follows marks.Closes b at.site bytes ≡ true → Mode at columns seen bytes
 closing_goes b at columns seen bytes known stale flat room next =
     ⊎_elim
@@ -188,7 +189,7 @@ closing_goes b at columns seen bytes known stale flat room next =
     Closed (record { flat = omega (arith, flat, one); room = omega (arith, room, one); next = on; stale = stale }))
     (cases_Bool (b == 124))
 
--- ---- where a line begins, and where none does
+-- ---- positions at which a line begins or does not
 
 chain_room : (left b : ℕ) (top : Option Bracket) → None ≡ closing_line left b top → closing_length b ≤ left
 chain_room left b None is = absurd (cc)
@@ -227,7 +228,7 @@ fresh_line marks.Opens at b bytes fresh h is = fresh_begins at b fresh h.next is
 fresh_line marks.OpensList at b bytes fresh h is = fresh_begins at b fresh h.next is
 fresh_line marks.Other at b bytes fresh h is = fresh_begins at b fresh h.next is
 
--- ---- one byte more
+-- ---- one more byte
 
 abbrev columns_behind : Option ℕ → ℕ → ℕ
 columns_behind None columns = columns + 1
@@ -340,7 +341,7 @@ module _ (at : Layout) (b : ℕ) (bytes : List ℕ) (columns : ℕ) (seen : Seen
             (omega (arith, room, known.left, closing_positive b)) (closes_follow is);
       })
 
-  -- ---- by what was known
+  -- ---- by cases of the invariant
 
   word_goes : IsWord at seen → (line : Option ℕ) → line ≡ line_before at b → Next line (behind line b bytes at)
   word_goes w (Some indent) is =
@@ -441,7 +442,7 @@ module _ (at : Layout) (b : ℕ) (bytes : List ℕ) (columns : ℕ) (seen : Seen
   step (Bar bar) line is = bar_goes bar line is
   step (Closed c) line is = closed_goes c line is
 
--- ---- a text
+-- ---- a whole text
 
 by_line : (line : Option ℕ) (b : ℕ) (text : List ℕ) (columns : ℕ) (seen : Seen) → b ≢ 10 → IsNarrow columns seen → AreNarrow (columns_behind line columns) (seen_behind line seen b) text → AreNarrow columns seen (line_text line ++ b ∷ text)
 by_line None b text columns seen no_feed this narrow = goes_byte columns seen b text no_feed narrow

@@ -1,4 +1,4 @@
--- Texts that are made of words and brackets are regular.
+-- Texts built from words and brackets are regular.
 use Rattle.std.proofs.Common.{◌≡◌, ◌⊎◌, ℕ, true, false, ◌&&◌, ◌==◌, List, [], ◌∷◌, ◌++◌, refl, ap, sym, subst, ◌∙◌, ⊎_elim}
 use Rattle.std.specs.Prelude.{codes}
 use Rattle.std.proofs.lemmas.Bool.{and_from, not_from_false}
@@ -11,14 +11,14 @@ use Rattle.om_pretty.specs.Narrow.{goes_on, has_no_blank, follows, is_regular}
 use Rattle.om_pretty.specs.Parts.{MayFollow, MayBegin, Leads, PartsAreRegular}
 use Rattle.om_pretty.proofs.NarrowLemmas.{parts_lead}
 
--- behind a word
+-- The text after a word.
 led : (word : List ℕ) (site to : Site) (rest : List ℕ) → Leads site word to → is_regular site (word ++ rest) ≡ is_regular to rest
 led [] site to rest leads = ap (λ s. is_regular s rest) leads
 led (b ∷ bytes) site to rest leads =
     ap (λ (m : Mark). follows m b (next_site site b) (bytes ++ rest) && is_regular (next_site site b) (bytes ++ rest)) leads.0
     ∙ led bytes (next_site site b) to rest leads.1
 
--- what follows is the same behind a name
+-- The same bytes may follow a name as any other part.
 name_goes : (rest : List ℕ) → MayFollow rest → is_regular sites.Name rest ≡ true
 name_goes [] may = refl
 name_goes (b ∷ bytes) may =

@@ -1,4 +1,5 @@
--- A text over lines is not much longer than the plain text: no indentation is more than 40.
+-- The pretty text is at most 42 times as long as the plain text, because no indentation is greater
+-- than 40.
 use Rattle.std.proofs.Common.{ℕ, suc, ◌+◌, ◌*◌, ◌≤◌, Bool, true, false, not, ◌&&◌, ◌==◌, cond, ltb, List, [], ◌∷◌, ◌++◌, length, Option, Some, None, arith, length-append}
 use Rattle.std.proofs.lemmas.Bool.{cond_both, ltb-true}
 use Rattle.std.proofs.lemmas.List.{length-replicate}
@@ -69,7 +70,7 @@ line_short : (line : Option ℕ) → IsSmallLine line → length (line_text line
 line_short None small = omega arith
 line_short (Some indent) small = omega (arith, length-replicate {A = ℕ} indent 32)
 
--- ---- what is behind a byte
+-- ---- the state after a byte
 
 others_small : (all : List Bracket) → AreSmall all → AreSmall (others all)
 others_small [] small = small
@@ -100,7 +101,7 @@ behind_small line b bytes at small =
     layout_if (ltb 0 at.flat) (passed line b at) (marked (mark_of at.site b) bytes (passed line b at)) small
     (marked_small (mark_of at.site b) bytes (passed line b at) small)
 
--- ---- a text
+-- ---- a whole text
 
 longer : (line laid_rest : List ℕ) (b m : ℕ) → length line ≤ 41 → length laid_rest ≤ 42 * m → length (line ++ b ∷ laid_rest) ≤ 42 * suc m
 longer line laid_rest b m short rest = omega (arith, length-append line (b ∷ laid_rest))

@@ -1,11 +1,11 @@
--- What a text over lines is to the plain text.
+-- Laws on pretty-printed texts.
 use Rattle.std.specs.Prelude.{ℕ, ◌*◌, ◌≤◌, ◌≡◌, ◌≢◌, Bool, true, false, ◌&&◌, ◌==◌, if◌then◌else◌}
 use Rattle.std.specs.Prelude.{List, [], ◌∷◌, length}
 use Rattle.std.specs.List.{AllByRecursion}
 use Rattle.om_pretty.specs.Lines.{pretty}
 
--- without its line feeds, and the blanks behind each of them; whether a line has begun, with blanks
--- at most
+-- The text without its line feeds and the blanks after each. `begun` is true if only blanks were
+-- seen since the last line feed.
 abbrev pub joined_from : Bool → List ℕ → List ℕ
 joined_from begun [] = []
 joined_from begun (b ∷ bytes) =
@@ -15,11 +15,11 @@ joined_from begun (b ∷ bytes) =
 abbrev pub joined : List ℕ → List ℕ
 joined text = joined_from false text
 
--- over lines it is the plain text, if this has one line
+-- If the plain text has one line, then joining the lines of the pretty text gives the plain text.
 abbrev pub PrettyIsPlain : Type 0
 PrettyIsPlain =
     (plain : List ℕ) → AllByRecursion (λ b. b ≢ 10) plain → joined (pretty plain) ≡ plain
 
--- it is at most 42 times as long
+-- The pretty text is at most 42 times as long as the plain text.
 abbrev pub PrettyIsShort : Type 0
 PrettyIsShort = (plain : List ℕ) → length (pretty plain) ≤ 42 * length plain

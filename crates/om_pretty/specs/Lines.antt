@@ -1,14 +1,17 @@
--- A text of a value over lines, of 80 columns where that can be. A bracket that has room in what is
--- left of its line stands there as it is. Each other one is broken: each of its parts begins a
--- line, two columns to the right of the line of its opening; what stands between two parts comes
--- before the second one, in these two columns; and its closing begins a line. A label and the name
--- of a field stand before their part, in its line.
+-- Pretty-printing: the text of a value over lines of 80 columns, where this is possible. If a
+-- bracket fits the rest of its line, it is printed unchanged. Otherwise it is broken:
 --
--- A list has the text `::(A, ::(B, []))`. Where it is broken, it is up to its end: its first item
--- stands behind the opening, what comes behind an item begins a line with the list's own
--- indentation, and the closings stand one behind the other.
+-- - Each of its parts begins a line, two columns to the right of the line of its opening bracket.
+-- - The separator of two parts comes before the second one, in these two columns.
+-- - Its closing bracket begins a line.
 --
--- The indentation is at most 40, so that a text of n bytes has at most 42 n over lines.
+-- A label or a field name comes before its part, on the same line.
+--
+-- The text of a list is `::(A, ::(B, []))`. If a list is broken, then all of its rest is broken
+-- too. Its first item follows the opening bracket. The rest after each item begins a line with the
+-- indentation of the list. The closing brackets follow one another.
+--
+-- The indentation is at most 40, so a text of n bytes has a pretty text of at most 42 n bytes.
 use Rattle.std.specs.Prelude.{ℕ, ◌+◌, ◌-◌, Bool, true, false, not, ◌&&◌, ◌==◌, nat_lt}
 use Rattle.std.specs.Prelude.{if◌then◌else◌, List, [], ◌∷◌, ◌++◌, replicate, Option, Some, None}
 use Rattle.om_pretty.specs.declared.site.Mark.{Mark}
@@ -23,40 +26,40 @@ use Rattle.om_pretty.specs.Stack.{first, others}
 
 -- ---- indentations
 
--- of what stands in a bracket with this one
+-- The indentation of the contents of a bracket with this indentation.
 abbrev pub inner : ℕ → ℕ
 inner indent = if nat_lt indent 38 then indent + 2 else 40
 
--- of a bracket
+-- The indentation of a bracket.
 abbrev pub base : Option Bracket → ℕ
 base None = 0
 base (Some (brackets.Block indent)) = indent
 base (Some (brackets.Chain indent)) = indent
 
--- of a bracket that opens in this one, before or behind what stands between two parts
+-- The indentation of a bracket that opens in this one. `parted` is true after a separator.
 abbrev pub child_indent : Bool → Option Bracket → ℕ
 child_indent parted None = 0
 child_indent parted (Some (brackets.Block indent)) = inner indent
 child_indent parted (Some (brackets.Chain indent)) = if parted then indent else inner indent
 
--- ---- where lines begin
+-- ---- the beginnings of lines
 
--- with this closing, where the line before it has so many bytes left; that of a list, only where
--- it has no room there
+-- The indentation of a line that begins with this closing bracket, if `left` bytes fit the line
+-- before it. The closing bracket of a list begins a line only if it does not fit.
 abbrev pub closing_line : ℕ → ℕ → Option Bracket → Option ℕ
 closing_line left b None = Some 0
 closing_line left b (Some (brackets.Block indent)) = Some indent
 closing_line left b (Some (brackets.Chain indent)) =
     if nat_lt left (closing_length b) then Some indent else None
 
--- with a byte that is this to brackets; 32 is a blank
+-- The indentation of a line that begins with a byte with this role. The byte 32 is a blank.
 abbrev pub line_at : Layout → Mark → ℕ → Option ℕ
 line_at at marks.Parts b = Some (base (first at.brackets))
 line_at at marks.Closes b = closing_line at.left b (first at.brackets)
 line_at at mark b =
     if at.fresh && not (b == 32) then Some (inner (base (first at.brackets))) else None
 
--- with a byte, if one does
+-- The indentation of the line that begins with a byte, if it begins a line.
 abbrev pub line_before : Layout → ℕ → Option ℕ
 line_before at b = if nat_lt 0 at.flat then None else line_at at (mark_of at.site b) b
 
@@ -64,13 +67,13 @@ abbrev pub line_text : Option ℕ → List ℕ
 line_text None = []
 line_text (Some indent) = 10 ∷ replicate indent 32
 
--- ---- what is known behind a byte
+-- ---- the state after a byte
 
 abbrev pub left_behind : Option ℕ → ℕ → ℕ
 left_behind None left = left - 1
 left_behind (Some indent) left = 80 - indent - 1
 
--- but for what it is to brackets
+-- The state after a byte, without regard to its role.
 abbrev pub passed : Option ℕ → ℕ → Layout → Layout
 passed line b at = record {
   site = next_site at.site b;
@@ -81,7 +84,8 @@ passed line b at = record {
   brackets = at.brackets;
 }
 
--- where a bracket was opened that has so many bytes in its line, or else 0
+-- The state after a bracket is opened. `room` is the number of its bytes if it fits its line,
+-- otherwise 0.
 abbrev pub opened : ℕ → Bool → Bracket → Layout → Layout
 opened room fresh bracket at =
     if nat_lt 0 room then record at { flat = room; parted = false }
@@ -92,7 +96,7 @@ list_room at (Some (brackets.Chain indent)) bytes =
     if at.parted then 0 else within at.left (to_close at.site 0 bytes)
 list_room at top bytes = within at.left (to_close at.site 0 bytes)
 
--- where it was this to brackets, before these bytes
+-- The state after a byte with this role, before these bytes.
 abbrev pub marked : Mark → List ℕ → Layout → Layout
 marked marks.Opens bytes at =
     opened (within at.left (to_close at.site 0 bytes)) true
@@ -104,7 +108,7 @@ marked marks.Parts bytes at = record at { parted = true }
 marked marks.Closes bytes at = record at { parted = false; brackets = others at.brackets }
 marked marks.Other bytes at = at
 
--- before these bytes
+-- The state after a byte, before these bytes.
 abbrev pub behind : Option ℕ → ℕ → List ℕ → Layout → Layout
 behind line b bytes at =
     if nat_lt 0 at.flat then passed line b at
@@ -122,7 +126,7 @@ start = record {
   brackets = [];
 }
 
--- from a place on
+-- The pretty text from a state on.
 abbrev pub laid : Layout → List ℕ → List ℕ
 laid at [] = []
 laid at (b ∷ bytes) =

@@ -1,5 +1,6 @@
--- Lines are narrow where they can be: one of more than 80 bytes has no place where it could be
--- parted. So it is of texts in which brackets stand as in those of values.
+-- Lines are narrow where this is possible: if a line has more than 80 bytes, then it contains no
+-- position at which it could be broken. This holds for texts in which brackets occur as in the
+-- texts of values.
 use Rattle.std.specs.Prelude.{◌≡◌, ◌≢◌, ◌+◌, ◌≤◌, ◌⊎◌, ℕ, Bool, true, false, not, ◌&&◌, ◌||◌, ◌==◌}
 use Rattle.std.specs.Prelude.{if◌then◌else◌, List, [], ◌∷◌}
 use Rattle.std.specs.List.{AllByRecursion}
@@ -13,20 +14,20 @@ use Rattle.om_pretty.specs.Lines.{pretty}
 
 -- ---- lines
 
--- what parts or closes has a place before it
+-- A line may be broken before a separator or a closing bracket.
 abbrev pub is_behind_place : Mark → Bool
 is_behind_place marks.Parts = true
 is_behind_place marks.Closes = true
 is_behind_place mark = false
 
--- what opens has a place behind it, but for a list
+-- A line may be broken after an opening bracket other than that of a list.
 abbrev pub is_before_place : Mark → Bool
 is_before_place marks.Opens = true
 is_before_place mark = false
 
--- what is seen of a line up to a byte: whether there was more than blanks, where the next byte
--- stands, whether the last one has a place behind it, and whether there was a place behind what is
--- more than blanks
+-- The facts of a line up to a byte: whether it has a byte besides blanks, the context of the next
+-- byte, whether the line may be broken after the last byte, and whether a break position came after
+-- a byte besides blanks.
 pub record Seen : Type 0 where
   pub begun : Bool
   pub site : Site
@@ -45,35 +46,35 @@ seen_more seen b = record {
       seen.begun && (seen.placed || (seen.opened || is_behind_place (mark_of seen.site b)));
 }
 
--- a line of so many bytes, of which this is seen
+-- A line of that many bytes with these facts is narrow.
 abbrev pub IsNarrow : ℕ → Seen → Type 0
 IsNarrow columns seen = (columns ≤ 80) ⊎ (seen.placed ≡ false)
 
--- each line of a text, behind such a beginning of the first one
+-- Each line of a text is narrow, after this beginning of the first one.
 abbrev pub AreNarrow : ℕ → Seen → List ℕ → Type 0
 AreNarrow columns seen [] = IsNarrow columns seen
 AreNarrow columns seen (b ∷ text) =
     MatchBool (b == 10) (IsNarrow columns seen × AreNarrow 0 nothing text)
     (AreNarrow (columns + 1) (seen_more seen b) text)
 
--- ---- texts in which brackets stand as in those of values
+-- ---- texts in which brackets occur as in the texts of values
 
--- behind what closes comes the end, what parts, or what closes
+-- A closing bracket is followed by the end, a separator or a closing bracket.
 abbrev pub goes_on : Site → List ℕ → Bool
 goes_on site [] = true
 goes_on site (b ∷ bytes) = is_behind_place (mark_of site b)
 
--- 93 is `]`, which comes behind a bar that closes
+-- A closing bar is followed by 93, which is `]`.
 abbrev pub bar_goes_on : Site → List ℕ → Bool
 bar_goes_on site [] = false
 bar_goes_on site (b ∷ bytes) = b == 93 && goes_on (next_site site b) bytes
 
--- no blank comes behind what opens
+-- An opening bracket is not followed by a blank.
 abbrev pub has_no_blank : List ℕ → Bool
 has_no_blank [] = true
 has_no_blank (b ∷ bytes) = not (b == 32)
 
--- what may follow a byte that is this to brackets
+-- These bytes may follow a byte with this role.
 abbrev pub follows : Mark → ℕ → Site → List ℕ → Bool
 follows marks.Closes b site bytes = if b == 124 then bar_goes_on site bytes else goes_on site bytes
 follows marks.Opens b site bytes = has_no_blank bytes

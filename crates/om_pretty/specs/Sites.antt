@@ -1,5 +1,6 @@
--- Where a byte of a text stands, and what it is to brackets there. Brackets are `( )`, `{ }` and
--- `[| |]`, outside of strings and characters; `[]` is a word. A quote behind a name belongs to it.
+-- The lexical context of a byte in a text, and the byte's role for brackets. Brackets are `( )`, `{
+-- }` and `[| |]`, outside of strings and characters. `[]` is a word. A quote after a name belongs
+-- to the name.
 use Rattle.std.specs.Prelude.{ℕ, ◌||◌, ◌==◌, if◌then◌else◌}
 use Rattle.std.specs.Char.{is_ascii_alphanumeric}
 use Rattle.om_pretty.specs.declared.site.Site.{Site}
@@ -7,10 +8,10 @@ use Rattle.om_pretty.specs.declared.site.Site.TheVariants as sites
 use Rattle.om_pretty.specs.declared.site.Mark.{Mark}
 use Rattle.om_pretty.specs.declared.site.Mark.TheVariants as marks
 
--- ---- what a byte is: 40 and 41 are `(` and `)`, 123 and 125 `{` and `}`, 124 `|`, 44 and 59 `,`
--- and `;`
+-- ---- the roles of bytes: 40 and 41 are `(` and `)`, 123 and 125 `{` and `}`, 124 `|`, 44 and 59
+-- `,` and `;`
 
--- outside of quotes, where it is known of `(` and of `|`
+-- The role of a byte outside of quotes, given the roles of `(` and of `|`.
 abbrev pub bare_mark : Mark → Mark → ℕ → Mark
 bare_mark paren bar b =
     if b == 40 then paren
@@ -21,7 +22,8 @@ bare_mark paren bar b =
     else (if b == 44 then marks.Parts
     else (if b == 59 then marks.Parts else marks.Other))))))
 
--- a bar opens behind `[`, and else closes; behind `::` a parenthesis is that of a list
+-- A bar opens a bracket after `[`, and otherwise closes one. After `::`, a parenthesis is that of a
+-- list.
 abbrev pub mark_of : Site → ℕ → Mark
 mark_of sites.Outside b = bare_mark marks.Opens marks.Closes b
 mark_of sites.Name b = bare_mark marks.Opens marks.Closes b
@@ -29,10 +31,9 @@ mark_of sites.Square b = bare_mark marks.Opens marks.Opens b
 mark_of sites.Colon b = bare_mark marks.OpensList marks.Closes b
 mark_of site b = marks.Other
 
--- ---- where the next byte stands: 34 is a double quote, 39 a quote, 91 `[`, 58 `:`, 95 `_`, 92 a
--- backslash
+-- ---- the next context: 34 is a double quote, 39 a quote, 91 `[`, 58 `:`, 95 `_`, 92 a backslash
 
--- behind a byte outside of quotes, where it is known of one behind a quote
+-- The context after a byte outside of quotes, given the context after a quote.
 abbrev pub bare_site : Site → ℕ → Site
 bare_site behind_quote b =
     if b == 34 then sites.Text
@@ -41,7 +42,7 @@ bare_site behind_quote b =
     else (if b == 58 then sites.Colon
     else (if is_ascii_alphanumeric b || b == 95 then sites.Name else sites.Outside))))
 
--- behind a byte between quotes of this kind
+-- The context after a byte between quotes of this kind.
 abbrev pub quoted_site : ℕ → Site → Site → ℕ → Site
 quoted_site quote inside escape b =
     if b == quote then sites.Outside else (if b == 92 then escape else inside)

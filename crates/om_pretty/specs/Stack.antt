@@ -1,4 +1,4 @@
--- The brackets that are open, the innermost first.
+-- The open broken brackets, the innermost first.
 use Rattle.std.specs.Prelude.{List, [], ◌∷◌, Option, Some, None}
 use Rattle.om_pretty.specs.declared.bracket.Bracket.{Bracket}
 

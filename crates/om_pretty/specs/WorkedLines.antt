@@ -1,22 +1,22 @@
--- Texts over lines that were worked out apart from the definitions.
+-- Worked examples of pretty-printed texts, computed independently of the definitions.
 use Rattle.std.specs.Prelude.{ℕ, ◌≡◌, ◌++◌, true, List, codes}
 use Rattle.om_pretty.specs.declared.site.Site.TheVariants as sites
 use Rattle.om_pretty.specs.Lines.{pretty}
 use Rattle.om_pretty.specs.Narrow.{is_regular}
 
--- a text is laid so, and its brackets stand as in texts of values
+-- The plain text has this pretty text, and its brackets occur as in the texts of values.
 abbrev pub IsLaid : List ℕ → List ℕ → Type 0
 IsLaid plain lines = (pretty plain ≡ lines) × (is_regular sites.Outside plain ≡ true)
 
 pub record Worked : Type 0 where
-  -- a list that has room in a line
+  -- A list that fits a line.
   pub short_list : IsLaid
       (codes "::(1, ::(2, ::(3, ::(4, ::(5, [])))))")
       (codes "::(1, ::(2, ::(3, ::(4, ::(5, [])))))")
   pub empty_list : IsLaid
       (codes "[]")
       (codes "[]")
-  -- one that has not: the others of a list have its indentation
+  -- A list that does not fit: its rest has the indentation of the list.
   pub long_list : IsLaid
       (codes "::(1001, ::(1002, ::(1003, ::(1004, ::(1005, ::(1006, ::(1007, ::(1008, ::(100"
       ++ codes "9, ::(1010, ::(1011, ::(1012, []))))))))))))")
@@ -24,7 +24,7 @@ pub record Worked : Type 0 where
       ++ codes ", ::(1005\n, ::(1006\n, ::(1007\n, ::(1008\n"
       ++ codes ", ::(1009\n, ::(1010\n, ::(1011\n, ::(1012\n"
       ++ codes ", []))))))))))))")
-  -- a record, with a list and a word in which nothing is a bracket
+  -- A record with a list and with a string in which no byte is a bracket.
   pub fields : IsLaid
       (codes "{name = \"a long name, of {a thing}\"; sizes = ::(100, ::(101, ::(102, ::(103,"
       ++ codes " ::(104, ::(105, ::(106, ::(107, ::(108, ::(109, ::(110, ::(111, [])))))))))))"
@@ -35,40 +35,40 @@ pub record Worked : Type 0 where
       ++ codes "  , ::(107\n  , ::(108\n  , ::(109\n  , ::(110\n"
       ++ codes "  , ::(111\n  , []))))))))))))\n; mark = ')'\n"
       ++ codes "; x' = '\\''\n; last = None\n}")
-  -- constructors with arguments
+  -- Constructors with arguments.
   pub variants : IsLaid
       (codes "Node(Leaf(\"left [of] {it}\"), Some({key = 12; word = \"a word with (brackets)"
       ++ codes " and \\\" quotes\"}), `Leaf('('))")
       (codes "Node(\n  Leaf(\"left [of] {it}\")\n, Some({key = 12; word = \"a word with (bra"
       ++ codes "ckets) and \\\" quotes\"})\n, `Leaf('(')\n"
       ++ codes ")")
-  -- a label stands before its part
+  -- A label comes before its part.
   pub labels : IsLaid
       (codes "#0=::(#1={x = 1; y = \"aaaaaaaaaaaaaaaaaaaaaaaaaaaaaaaaaaaaaaaaaaaaaaaaaa\"; z"
       ++ codes " = #2=ref(1)}, ::(#1, #0))")
       (codes "#0=::(#1={\n    x = 1\n  ; y = \"aaaaaaaaaaaaaaaaaaaaaaaaaaaaaaaaaaaaaaaaaaaaa"
       ++ codes "aaaaa\"\n  ; z = #2=ref(1)\n  }\n, ::(#1\n"
       ++ codes ", #0))")
-  -- an array, whose brackets have two bytes
+  -- An array, whose brackets have two bytes.
   pub array : IsLaid
       (codes "[|#0=\"aaaaaaaaaaaaaaaaaaaaaaaaaaaaaa\"; \"bbbbbbbbbbbbbbbbbbbbbbbbbbbbbbbbbbb"
       ++ codes "bbbbbbbbbbbbbbb\"; #0; [||]|]")
       (codes "[|\n  #0=\"aaaaaaaaaaaaaaaaaaaaaaaaaaaaaa\"\n"
       ++ codes "; \"bbbbbbbbbbbbbbbbbbbbbbbbbbbbbbbbbbbbbbbbbbbbbbbbbb\"\n"
       ++ codes "; #0\n; [||]\n|]")
-  -- a bracket ends with the eightieth column
+  -- A bracket that ends in column 80.
   pub room : IsLaid
       (codes "(\"xxxxxxxxxxxxxxxxxxxxxxxxxxxxxxxxxxxxxxxxxxxxxxxxxxxxxxxxxxxxxxxxxxxxxxxxx\""
       ++ codes ", 1)")
       (codes "(\"xxxxxxxxxxxxxxxxxxxxxxxxxxxxxxxxxxxxxxxxxxxxxxxxxxxxxxxxxxxxxxxxxxxxxxxxx\""
       ++ codes ", 1)")
-  -- and would end with the next one
+  -- A bracket that would end in column 81.
   pub no_room : IsLaid
       (codes "(\"xxxxxxxxxxxxxxxxxxxxxxxxxxxxxxxxxxxxxxxxxxxxxxxxxxxxxxxxxxxxxxxxxxxxxxxxxx"
       ++ codes "\", 1)")
       (codes "(\n  \"xxxxxxxxxxxxxxxxxxxxxxxxxxxxxxxxxxxxxxxxxxxxxxxxxxxxxxxxxxxxxxxxxxxxxxx"
       ++ codes "xxx\"\n, 1\n)")
-  -- no line begins in a word
+  -- No line begins inside a word.
   pub word : IsLaid
       (codes "C(\"xxxxxxxxxxxxxxxxxxxxxxxxxxxxxxxxxxxxxxxxxxxxxxxxxxxxxxxxxxxxxxxxxxxxxxxxxx"
       ++ codes "xxxxxxxxxxxxxxxx\")")

@@ -1,4 +1,4 @@
-//! The brackets that are broken and open.
+//! The stack of open broken brackets. A bracket is broken if its parts are on separate lines.
 
 ghost use Rattle.std.specs.Prelude.{◌≡◌, [], ◌∷◌, IfOk};
 ghost use Rattle.om_pretty.specs.Stack.{first, others};
@@ -7,17 +7,17 @@ use om_model::Memory;
 use std::alloc::Global;
 use std::marker::Model;
 
-/// A bracket that is broken, with the indentation of the lines that begin with what stands between
-/// its parts.
+/// An open broken bracket, with the indentation of the lines that begin with a separator of its
+/// parts.
 #[derive(Clone, Copy)]
 pub enum Bracket {
-    /// Each of its parts begins a line, and its closing does.
+    /// A bracket in which each part begins a line, and the closing bracket too.
     Block(u8),
-    /// The first item of a list and what comes behind it, which begins a line.
+    /// The first item and the rest of a list. The rest begins a line.
     Chain(u8),
 }
 
-/// The brackets that are open, the innermost last in memory.
+/// The open broken brackets. The innermost one is last in memory.
 #[derive(Drop)]
 pub struct Brackets {
     items: Vec<Bracket>,
@@ -55,7 +55,7 @@ impl Brackets {
         let _ = self.items.pop();
     }
 
-    /// The innermost bracket.
+    /// Returns the innermost bracket.
     pub fn top(&self) -> Option<Bracket>
         ensures { result ≡ first self.now }
     {

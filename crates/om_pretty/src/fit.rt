@@ -1,19 +1,19 @@
-//! Whether the rest of a bracket has room in a line.
+//! Whether the rest of a bracket fits the current line.
 
 ghost use Rattle.std.specs.Prelude.{◌≡◌, ◌+◌, ◌<◌, ◌^◌};
 ghost use Rattle.om_pretty.specs.Fit.{closing_length, depth_after, to_close, at_most, within};
 
 use crate::site::{Mark, Site, mark_of, next_site};
 
-/// How many bytes a closing has that begins with this one.
+/// Returns the length in bytes of a closing bracket that begins with this byte.
 pub fn closing_length(byte: u8) -> usize
     ensures { result ≡ closing_length byte }
 {
     if byte == b'|' { 2 } else { 1 }
 }
 
-/// How many brackets are open behind a byte, of those that opened last, or none where the byte
-/// closes the one that was open before them.
+/// Returns the number of open inner brackets after a byte, given the number before it. Returns
+/// `None` if the byte closes the outer bracket.
 fn depth_after(mark: Mark, depth: usize) -> Option<usize>
     requires { depth + 1 < 2 ^ 64 }
     ensures { result ≡ depth_after mark depth }
@@ -26,15 +26,15 @@ fn depth_after(mark: Mark, depth: usize) -> Option<usize>
     }
 }
 
-/// A number, if it is no more than this; else 0.
+/// Returns `n` if it is at most `left`, otherwise 0.
 fn at_most(left: usize, n: usize) -> usize
     ensures { result ≡ at_most left n }
 {
     if n <= left { n } else { 0 }
 }
 
-/// How many bytes the innermost bracket still has, with its closing, if they are no more than this;
-/// else 0.
+/// Returns the number of bytes to the end of the innermost bracket, with its closing bracket, if
+/// they are at most `left`. Otherwise returns 0.
 pub fn bytes_to_close(left: usize, site: Site, bytes: &[u8]) -> usize
     ensures { result ≡ within left (to_close site 0 bytes.now) }
 {

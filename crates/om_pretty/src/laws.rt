@@ -1,29 +1,30 @@
-//! What a text over lines is to the plain text, and texts that were worked out apart.
+//! Laws on pretty-printed texts, and worked examples. Each function is a lemma function: it has no
+//! effect and exists only for its contract.
 
 ghost use Rattle.om_pretty.specs.Laws.{PrettyIsPlain, PrettyIsShort};
 ghost use Rattle.om_pretty.specs.Narrow.{PrettyIsNarrow};
 ghost use Rattle.om_pretty.specs.Parts.{PartsAreRegular};
 ghost use Rattle.om_pretty.specs.WorkedLines.{Worked};
 
-/// Without its line feeds, and the blanks behind them, a text over lines is the plain text. It has
-/// at most 42 times as many bytes.
+/// If the plain text has one line, then removing the line feeds of the pretty text, and the blanks
+/// after each, gives the plain text. The pretty text has at most 42 times as many bytes.
 pub fn pretty_is_plain()
     ensures plain { PrettyIsPlain }
     ensures short { PrettyIsShort }
 {}
 
-/// A line of more than 80 bytes has no place where it could be parted, in texts in which brackets
-/// stand as in those of values.
+/// If a line has more than 80 bytes, then it contains no position at which it could be broken. This
+/// holds for regular texts, in which brackets occur as in the texts of values.
 pub fn lines_are_narrow()
     ensures { PrettyIsNarrow }
 {}
 
-/// Texts that are made of words, labels, brackets and what stands between parts are such texts.
+/// Texts built from words, labels, brackets and separators are regular.
 pub fn parts_are_regular()
     ensures { PartsAreRegular }
 {}
 
-/// Texts that were worked out apart from the definitions are as they should be.
+/// The definitions give the expected texts for worked examples.
 pub fn pretty_of_worked_texts()
     ensures { Worked }
 {}

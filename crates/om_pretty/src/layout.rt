@@ -1,4 +1,4 @@
-//! Where the lines of a text begin.
+//! The positions in a text at which lines begin.
 
 ghost use Rattle.std.specs.Prelude.{◌≡◌, OnOk};
 ghost use Rattle.om_pretty.specs.Lines.{inner, base, child_indent, closing_line, line_at};
@@ -11,30 +11,30 @@ use crate::site::{Mark, Site, mark_of, next_site};
 use om_model::Memory;
 use std::alloc::Global;
 
-/// A place in a text, with what is known of the bytes before it.
+/// The state at a position in a text, determined by the bytes before it.
 #[derive(Drop)]
 pub struct Layout {
     pub site: Site,
-    // how many bytes the line has room for
+    // The number of bytes that still fit the line.
     pub left: usize,
-    // how many bytes there still are of a bracket that has room in its line
+    // The number of bytes left of a bracket that fits its line, or 0 outside of such a bracket.
     pub flat: usize,
-    // whether a bracket that is broken was opened right before
+    // True if a broken bracket was opened right before.
     pub fresh: bool,
-    // whether the place is between two parts of a bracket, behind what stands between them
+    // True if the position is right after a separator of two parts.
     pub parted: bool,
-    // the brackets that are broken and open
+    // The open broken brackets.
     pub brackets: Brackets,
 }
 
-/// The indentation of what stands in a bracket with this one.
+/// Returns the indentation of the contents of a bracket with this indentation.
 fn inner(indent: u8) -> u8
     ensures { result ≡ inner indent }
 {
     if indent < 38 { indent + 2 } else { 40 }
 }
 
-/// The indentation of a bracket, if there is one.
+/// Returns the indentation of a bracket, or 0 if there is none.
 fn base(top: Option<Bracket>) -> u8
     ensures { result ≡ base top }
 {
@@ -45,7 +45,7 @@ fn base(top: Option<Bracket>) -> u8
     }
 }
 
-/// The indentation of a bracket that opens in this one.
+/// Returns the indentation of a bracket that opens in this one.
 fn child_indent(parted: bool, top: Option<Bracket>) -> u8
     ensures { result ≡ child_indent parted top }
 {
@@ -56,7 +56,7 @@ fn child_indent(parted: bool, top: Option<Bracket>) -> u8
     }
 }
 
-/// The indentation of the line that begins with this closing of a bracket, if one does.
+/// Returns the indentation of the line that begins with this closing bracket, if it begins a line.
 fn closing_line(left: usize, byte: u8, top: Option<Bracket>) -> Option<u8>
     ensures { result ≡ closing_line left byte top }
 {
@@ -73,7 +73,7 @@ fn closing_line(left: usize, byte: u8, top: Option<Bracket>) -> Option<u8>
     }
 }
 
-/// How many bytes the line has room for behind one more byte.
+/// Returns the number of bytes that fit the line after one more byte.
 fn left_behind(line: Option<u8>, left: usize) -> usize
     ensures { result ≡ left_behind line left }
 {
@@ -86,7 +86,7 @@ fn left_behind(line: Option<u8>, left: usize) -> usize
 }
 
 impl Layout {
-    /// Before a text.
+    /// Returns the state before a text.
     pub fn new(alloc: Global) -> Layout
         ensures { result ≡ start }
     {
@@ -100,7 +100,8 @@ impl Layout {
         }
     }
 
-    // The same, of a byte that is this to brackets, outside of what has room in its line.
+    // Returns the indentation of the line that begins with this byte, if it begins a line. The byte
+    // has this mark and is outside of brackets that fit their line.
     fn line_at(&self, mark: Mark, byte: u8) -> Option<u8>
         ensures { result ≡ line_at self.now mark byte }
     {
@@ -118,7 +119,7 @@ impl Layout {
         }
     }
 
-    /// The indentation of the line that begins with the next byte, if one does.
+    /// Returns the indentation of the line that begins with the next byte, if it begins a line.
     pub fn line_before(&self, byte: u8) -> Option<u8>
         ensures { result ≡ line_before self.now byte }
     {
@@ -128,7 +129,7 @@ impl Layout {
         self.line_at(mark_of(self.site, byte), byte)
     }
 
-    // Goes over a byte, but for what it is to brackets.
+    // Advances over a byte, without regard to its mark.
     fn pass(&mut self, line: Option<u8>, byte: u8)
         ensures { self.new ≡ passed line byte self.old }
     {
@@ -138,7 +139,7 @@ impl Layout {
         self.fresh = false;
     }
 
-    // Opens a bracket that has so many bytes where it has room in its line, or else 0.
+    // Opens a bracket. `room` is the number of its bytes if it fits its line, otherwise 0.
     fn enter(&mut self, room: usize, fresh: bool, bracket: Bracket) -> Result<(), Memory>
         ensures { OnOk result (self.new ≡ opened room fresh bracket self.old) }
     {
@@ -151,8 +152,8 @@ impl Layout {
         self.brackets.push(bracket)
     }
 
-    // How many bytes a list has where it has room in its line, or else 0. What comes behind an item
-    // of a list that is broken is broken too.
+    // Returns the number of bytes of a list if it fits its line, otherwise 0. In a broken list, the
+    // rest after each item is broken too.
     fn list_room(&self, top: Option<Bracket>, bytes: &[u8]) -> usize
         ensures { result ≡ list_room self.now top bytes.now }
     {
@@ -162,7 +163,7 @@ impl Layout {
         }
     }
 
-    // Goes by what the byte was to brackets, before these bytes.
+    // Updates the state for the mark of the byte that was passed. `bytes` are the bytes after it.
     fn meet(&mut self, mark: Mark, bytes: &[u8]) -> Result<(), Memory>
         ensures { OnOk result (self.new ≡ marked mark bytes.now self.old) }
     {
@@ -190,7 +191,7 @@ impl Layout {
         }
     }
 
-    /// Goes over a byte, before these bytes.
+    /// Advances over a byte. `bytes` are the bytes after it.
     pub fn go_over(&mut self, line: Option<u8>, byte: u8, bytes: &[u8]) -> Result<(), Memory>
         ensures { OnOk result (self.new ≡ behind line byte bytes.now self.old) }
     {

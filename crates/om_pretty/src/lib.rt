@@ -1,5 +1,7 @@
-//! The text of a value over lines, so that it is read more easily. It is the plain text with line
-//! feeds, and blanks behind each of them.
+//! Pretty-prints the plain text of a value over several lines of 80 columns. The pretty text is the
+//! plain text with line feeds, each followed by blanks (`PrettyIsPlain`), and has at most 42 times
+//! as many bytes (`PrettyIsShort`). A line is longer than 80 bytes only if it cannot be broken
+//! (`PrettyIsNarrow`). The crate does not produce the plain text.
 #![tactic(auto)]
 
 mod bracket;

@@ -1,4 +1,4 @@
-//! A text over lines.
+//! Pretty-printed texts.
 
 ghost use Rattle.std.specs.Prelude.{◌≡◌, ◌++◌, OnOk, replicate};
 ghost use Rattle.om_pretty.specs.Lines.{line_text, pretty};
@@ -7,7 +7,7 @@ use crate::layout::Layout;
 use om_model::Memory;
 use std::alloc::Global;
 
-/// Puts a text over lines, which begins a line itself.
+/// Appends the pretty text of `plain`, which is assumed to begin a line.
 pub fn put_pretty(text: &mut Vec<u8>, alloc: Global, plain: &[u8]) -> Result<(), Memory>
     ensures { OnOk result (text.new.items ≡ text.old.items ++ pretty plain.now) }
 {
@@ -21,7 +21,7 @@ pub fn put_pretty(text: &mut Vec<u8>, alloc: Global, plain: &[u8]) -> Result<(),
     Ok(())
 }
 
-/// Begins a line, if one begins here.
+/// Appends a line feed and the indentation, if a line begins here.
 fn put_line(text: &mut Vec<u8>, line: Option<u8>) -> Result<(), Memory>
     ensures { OnOk result (text.new.items ≡ text.old.items ++ line_text line) }
 {
@@ -34,7 +34,7 @@ fn put_line(text: &mut Vec<u8>, line: Option<u8>) -> Result<(), Memory>
     }
 }
 
-/// Puts so many blanks.
+/// Appends that many blanks.
 fn put_blanks(text: &mut Vec<u8>, many: u8) -> Result<(), Memory>
     ensures { OnOk result (text.new.items ≡ text.old.items ++ replicate many 32) }
 {

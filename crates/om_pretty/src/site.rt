@@ -1,43 +1,43 @@
-//! Where a byte of a text stands, and what it is to brackets there.
+//! The lexical context of a byte in a text, and the byte's role for brackets.
 
 ghost use Rattle.std.specs.Prelude.{◌≡◌};
 ghost use Rattle.om_pretty.specs.Sites.{bare_mark, mark_of, bare_site, quoted_site, next_site};
 
-/// Where a byte stands, as far as it tells what the byte is.
+/// The lexical context of a byte, as far as it determines the byte's role.
 #[derive(Clone, Copy)]
 pub enum Site {
     Outside,
-    /// Behind a byte of a name.
+    /// After a byte of a name.
     Name,
-    /// Behind a `[`.
+    /// After a `[`.
     Square,
-    /// Behind a `:`.
+    /// After a `:`.
     Colon,
     /// In a string.
     Text,
-    /// Behind a backslash in a string.
+    /// After a backslash in a string.
     TextEscape,
     /// In a character.
     Letter,
-    /// Behind a backslash in a character.
+    /// After a backslash in a character.
     LetterEscape,
 }
 
-/// What a byte is to brackets.
+/// The role of a byte for brackets.
 #[derive(Clone, Copy)]
 pub enum Mark {
-    /// It opens a bracket.
+    /// The byte opens a bracket.
     Opens,
-    /// It opens the bracket of a list's first item and the others.
+    /// The byte opens the bracket around the first item and the rest of a list.
     OpensList,
-    /// It stands between two parts of a bracket.
+    /// The byte separates two parts of a bracket.
     Parts,
-    /// It closes a bracket.
+    /// The byte closes a bracket.
     Closes,
     Other,
 }
 
-/// What a byte outside of quotes is, where it is known of a parenthesis and of a bar.
+/// Returns the role of a byte outside of quotes, given the roles of a parenthesis and of a bar.
 fn bare_mark(paren: Mark, bar: Mark, byte: u8) -> Mark
     ensures { result ≡ bare_mark paren bar byte }
 {
@@ -53,7 +53,7 @@ fn bare_mark(paren: Mark, bar: Mark, byte: u8) -> Mark
     }
 }
 
-/// What a byte is that stands here.
+/// Returns the role of a byte in this context.
 pub fn mark_of(site: Site, byte: u8) -> Mark
     ensures { result ≡ mark_of site byte }
 {
@@ -66,8 +66,7 @@ pub fn mark_of(site: Site, byte: u8) -> Mark
     }
 }
 
-/// Where the next byte stands, behind one outside of quotes, where it is known of one behind a
-/// quote.
+/// Returns the context after a byte outside of quotes, given the context after a quote.
 fn bare_site(behind_quote: Site, byte: u8) -> Site
     ensures { result ≡ bare_site behind_quote byte }
 {
@@ -86,7 +85,7 @@ fn bare_site(behind_quote: Site, byte: u8) -> Site
     }
 }
 
-/// Where the next byte stands, behind one between quotes of this kind.
+/// Returns the context after a byte between quotes of this kind.
 fn quoted_site(quote: u8, inside: Site, escape: Site, byte: u8) -> Site
     ensures { result ≡ quoted_site quote inside escape byte }
 {
@@ -99,7 +98,7 @@ fn quoted_site(quote: u8, inside: Site, escape: Site, byte: u8) -> Site
     }
 }
 
-/// Where the next byte stands, behind one that stands here.
+/// Returns the context after a byte in this context.
 pub fn next_site(site: Site, byte: u8) -> Site
     ensures { result ≡ next_site site byte }
 {

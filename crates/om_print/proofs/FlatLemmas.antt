@@ -1,4 +1,4 @@
--- Values that are put without a walk.
+-- Values on the fast path.
 use Rattle.std.proofs.Common.{ℕ, suc, ◌≡◌, ◌+◌, ◌-◌, ◌<◌, ◌≤◌, ◌∙◌, ⊎_elim, Bool, true, false, List, [], ◌∷◌, ◌++◌, length, refl, sym, ap, subst, arith, append_assoc, append-nil, Some, None, ℤ}
 use Rattle.std.specs.Prelude.{◌||◌, All, IsTrue, slice_get, codes}
 use Rattle.std.specs.List.{flat_map}
@@ -29,7 +29,7 @@ use Rattle.om_print.proofs.LeftLemmas.{is_after, no_parts, part_next}
 use Rattle.om_print.proofs.PlainLemmas.{no_labels, one_text, then_text}
 use Rattle.om_print.proofs.WalkLemmas.{meet_asked, meet_hidden, met_leaf, met_unmarked, opening_met, still_open}
 
--- ---- texts that are longer
+-- ---- texts that were extended
 
 not_grown : (text : List ℕ) → IsGrown text text
 not_grown text = ([], sym (append-nil text))
@@ -38,7 +38,7 @@ pub grown_more : (old text bytes between all : List ℕ) → IsGrown old text �
 grown_more old text bytes between all grown put more =
     (grown.0 ++ (bytes ++ more.0), then_text old text all grown.0 (bytes ++ more.0) grown.1 (then_text text between all bytes more.0 put more.1))
 
--- ---- objects that were not met
+-- ---- objects that were not visited
 
 not_met : (last o : ℕ) (seen : List ℕ) → last < o → All (λ x. x ≤ last) seen → has seen o ≡ false
 not_met last o [] above few = refl
@@ -50,7 +50,7 @@ not_met last o (x ∷ seen) above few = ⊎_elim
 module _ (table : Tabled) (graph : List Obj) where
   -- ---- one value
 
-  -- one of which there is only a text
+  -- A value whose chunks are a single text.
   text_flat : (v : Val) (t last : ℕ) (bytes old text : List ℕ) → last < length graph → ((n : ℕ) (seen : List ℕ) → meet table graph (suc n) seen v t ≡ met (Text bytes ∷ []) seen) → text ≡ old ++ bytes
       → IsPutFlat table graph v t last last old text
   text_flat v t last bytes old text inside meets put = record {
@@ -84,9 +84,9 @@ module _ (table : Tabled) (graph : List Obj) where
             (refl, All-cons (λ x. x ≤ o) o seen (omega arith) (All-weaker (λ x. x ≤ last) (λ x. x ≤ o) (λ x is. omega (arith, is, above)) seen few));
       }
 
-  -- ---- the parts of a block, one after the other
+  -- ---- the parts of a block, one at a time
 
-  -- The parts before number k are put.
+  -- The parts before part `k` were appended.
   pub record ArePartlyPut (block : OpenBlock) (k last : ℕ) (old text : List ℕ) : Type 0 where
     pub pieces : List Piece
     pub fresh : agains pieces ≡ []
@@ -144,7 +144,7 @@ module _ (table : Tabled) (graph : List Obj) where
             ap (λ (m : Met). m.pieces) (so.2 ∙ ap (led_by partly.pieces) (no_parts table graph (with_next block k) end past ends (suc n) so.0));
       }
 
-  -- ---- the whole
+  -- ---- the whole value
 
   whole : length graph + 1 ≡ suc (length graph)
   whole = omega arith
@@ -154,7 +154,7 @@ module _ (table : Tabled) (graph : List Obj) where
   unfolding shown_text
   plain_shown v t pieces is fresh = ap text_of is ∙ ap (λ os. flat_map (piece_text os) pieces) (no_labels pieces fresh)
 
-  -- an integer of which something is asked
+  -- An integer at a type that is not a wildcard.
   pub int_shown : (z : ℤ) (t : ℕ) → IsTrue (is_asked (shape_in table t)) → shown_text (shape_in table) (names_in table) graph (vals.Int z) t ≡ int_text (shape_in table t) (names_in table t) z
   int_shown z t asked =
       let bytes = int_text (shape_in table t) (names_in table t) z in
@@ -163,7 +163,7 @@ module _ (table : Tabled) (graph : List Obj) where
       refl
       ∙ append-nil bytes
 
-  -- an object without parts
+  -- An object without parts.
   pub leaf_shown : (o t : ℕ) → o < length graph → IsTrue (is_asked (shape_in table t)) → ((tag : ℕ) (values : List Val) → object_at graph o ≡ objects.Block tag values → ⊥)
       → shown_text (shape_in table) (names_in table) graph (vals.Ref o) t ≡ object_text (shape_in table t) (names_in table t) (object_at graph o)
   leaf_shown o t inside asked no_block =
@@ -173,7 +173,7 @@ module _ (table : Tabled) (graph : List Obj) where
       refl
       ∙ append-nil bytes
 
-  -- a block whose parts are put
+  -- A block whose parts were appended.
   block_shown : (o t tag : ℕ) (outside : ℕ) (block : OpenBlock) (old between text : List ℕ) → o < length graph → IsTrue (is_asked (shape_in table t)) → object_at graph o ≡ objects.Block tag (fields_of (object_at graph o))
       → IsBegun table graph o t tag outside block → between ≡ old ++ (frame_in block.frame).opening → ArePutFlat table graph block between text → text ≡ old ++ shown_text (shape_in table) (names_in table) graph (vals.Ref o) t
   block_shown o t tag outside block old between text inside asked is_block begun opened parts =
@@ -192,7 +192,7 @@ module _ (table : Tabled) (graph : List Obj) where
       then_text old between text opening (flat_map (piece_text []) parts.pieces) opened parts.put
       ∙ ap (λ bs. old ++ bs) (sym (plain_shown (vals.Ref o) t (front parts.pieces) is parts.fresh))
 
-  -- the same where some parts may be put
+  -- A block whose parts were appended, or some bytes were.
   pub block_told : (o t tag : ℕ) (outside : ℕ) (block : OpenBlock) (old between text : List ℕ) → o < length graph → IsTrue (is_asked (shape_in table t)) → object_at graph o ≡ objects.Block tag (fields_of (object_at graph o))
       → IsBegun table graph o t tag outside block → between ≡ old ++ (frame_in block.frame).opening → (told : Bool) → PutsParts table graph block between text told
       → PutsWhole (shown_text (shape_in table) (names_in table) graph (vals.Ref o) t) old text told

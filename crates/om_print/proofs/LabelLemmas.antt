@@ -1,4 +1,4 @@
--- Labels: which objects have one, and their numbers.
+-- Labels: the objects that have one, and their numbers.
 use Rattle.std.proofs.Common.{ℕ, suc, ◌≡◌, ◌+◌, ◌-◌, ◌<◌, ◌≤◌, ◌==◌, ◌∙◌, ◌⊎◌, ⊎_elim, inl, inr, Bool, true, false, cond, List, [], ◌∷◌, ◌++◌, length, take, drop, get_or, refl, sym, ap, subst, arith, append-nil, zero-add, Some, None}
 use Rattle.std.specs.Prelude.{◌||◌, All, filter, codes}
 use Rattle.std.proofs.lemmas.Bool.Decides.{eqb_tells}
@@ -21,7 +21,7 @@ use Rattle.om_print.proofs.MarkLemmas.{mark_set}
 
 -- ---- numbers
 
--- an object has a label exactly where its number is one
+-- An object has a label if and only if its number is that of one.
 pub label_cases : (objects : List ℕ) (o : ℕ) → ((has objects o ≡ true) × (number_in objects o < length objects)) ⊎ ((has objects o ≡ false) × (length objects ≤ number_in objects o))
 label_cases [] o = inr (refl, omega arith)
 label_cases (x ∷ objects) o = ⊎_elim
@@ -34,7 +34,7 @@ label_cases (x ∷ objects) o = ⊎_elim
     (label_cases objects o))
     (eqb_tells x o)
 
--- the numbers of the objects from number k on, counted from k
+-- The numbers of the objects from index `k` on, counted from `k`.
 abbrev pub AreNumbersFrom : ℕ → List ℕ → ℕ → List ℕ → Type 0
 AreNumbersFrom k objects first numbers = (o : ℕ) → first ≤ o → get_or numbers (o - first) (length objects) ≡ k + number_in (drop k objects) o
 
@@ -50,7 +50,7 @@ numbers_all objects first end k numbers none between are = record {
       (λ other. ap suc (none_before xs first o less (All-tail (λ y. first ≤ y) x xs all)) ∙ sym (ap (λ b. cond b 0 (suc (number_in xs o))) other.0))
       (eqb_tells x o)
 
--- what the objects so far span, and one more
+-- The range of the objects so far and one more.
 pub span_more : (objects : List ℕ) (i first end least past : ℕ) → i < length objects → All (IsBetween first end) (take i objects)
     → least ≤ first → end ≤ past → IsBetween least past (get_or objects i 0) → All (IsBetween least past) (take (i + 1) objects)
 span_more objects i first end least past inside all lower higher here =
@@ -68,7 +68,7 @@ some_label objects o number is less = ⊎_elim
     (λ none. absurd (omega (arith, is, none.1)))
     (label_cases objects o)
 
--- ---- pieces one after the other
+-- ---- chunks, one at a time
 
 or_turns : (a b c : Bool) → (a || (b || c)) ≡ ((b || a) || c)
 or_turns true true c = refl
@@ -145,7 +145,7 @@ module _ (table : Tabled) (graph : List Obj) where
   marks_length (steps.Before frame i) marks = refl
   marks_length (steps.Closing end) marks = refl
 
-  -- ---- which objects are met again
+  -- ---- the objects that occur again
 
   pub counted_more : (all : List Piece) (walk new : Walk) (again : List Bool) (step : Step) → AreCounted table graph all walk again → Goes table graph (pieces_left table graph walk) walk.order step new
       → AreCounted table graph all new (marks_after step again)
@@ -175,11 +175,11 @@ module _ (table : Tabled) (graph : List Obj) where
       ap (λ ls. left_of table graph ls walk.value walk.order) (no_levels walk blocks ends) ∙ ap (λ x. left_of table graph [] x walk.order) value
       ∙ ap (λ os. left_of table graph [] (Some (v, t)) os) order
 
-  -- where no value comes next, that is what is left
+  -- If no value comes next, then the remaining chunks are those of the levels.
   pub none_next : (walk : Walk) → walk.value ≡ None → left_of table graph (levels_of walk) None walk.order ≡ pieces_left table graph walk
   none_next walk none = ap (λ value. left_of table graph (levels_of walk) value walk.order) (sym none)
 
-  -- at the end they are those of the pieces with labels
+  -- At the end, the marked objects are those with labels.
   pub counted_all : (all : List Piece) (walk : Walk) (again : List Bool) (order : List ℕ) → AreCounted table graph all walk again → pieces_left table graph walk ≡ [] → order ≡ walk.order
       → filter (λ o. get_or again o false) order ≡ labelled all
   counted_all all walk again order are none is =

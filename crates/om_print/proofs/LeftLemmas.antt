@@ -1,4 +1,4 @@
--- What is left of a walk, step by step.
+-- The remaining chunks of a traversal, step by step.
 use Rattle.std.proofs.Common.{ℕ, zero, suc, ◌≡◌, ◌+◌, ◌-◌, ◌<◌, ◌≤◌, ◌∙◌, List, [], ◌∷◌, ◌++◌, length, drop, reverse, refl, sym, ap, arith, append_assoc, Option, Some, None}
 use Rattle.std.specs.Prelude.{slice_get}
 use Rattle.std.proofs.lemmas.List.{length-append, drop_all}
@@ -21,7 +21,7 @@ use Rattle.om_print.specs.Walking.{needs_left, meet, parts_left, parts_after, le
 module _ (table : Tabled) (graph : List Obj) where
   -- ---- the levels
 
-  -- what comes first inside comes first
+  -- The first chunks inside come first.
   front : (n : ℕ) (levels : List Level) (p : List Piece) (m : Met) → after_inner table graph n levels (led_by p m) ≡ led_by p (after_inner table graph n levels m)
   front n [] p m = refl
   front zero (level ∷ levels) p m = refl
@@ -30,7 +30,7 @@ module _ (table : Tabled) (graph : List Obj) where
       ap (λ (x : Met). led_by x.pieces (level_left table graph n level x.seen)) (front n levels p m)
       ∙ ap (λ ps. met ps (level_left table graph n level k.seen).seen) (append_assoc p k.pieces (level_left table graph n level k.seen).pieces)
 
-  -- the innermost one comes before the others
+  -- The innermost level comes before the others.
   innermost : (n k : ℕ) (levels : List Level) (level : Level) (m : Met) → n ≡ length levels + suc k
       → after_inner table graph n (levels ++ level ∷ []) m ≡ after_inner table graph n levels (led_by m.pieces (level_left table graph k level m.seen))
   innermost zero k levels level m is = absurd (omega arith)
@@ -44,7 +44,7 @@ module _ (table : Tabled) (graph : List Obj) where
   room : (d : ℕ) → d ≤ length graph → length graph + 1 - d ≡ suc (length graph - d)
   room d few = omega arith
 
-  -- a value that opens no block
+  -- A value that opens no block.
   pub value_left : (levels : List Level) (v : Val) (t : ℕ) (order later : List ℕ) (p : List Piece) → length levels ≤ length graph
       → meet table graph (suc (length graph - length levels)) (reverse order) v t ≡ led_by p (met [] (reverse later))
       → left_of table graph levels (Some (v, t)) order ≡ p ++ left_of table graph levels None later
@@ -54,7 +54,7 @@ module _ (table : Tabled) (graph : List Obj) where
       ∙ ap (λ m. (after_inner table graph (length graph + 1) levels m).pieces) is
       ∙ ap (λ (m : Met). m.pieces) (front (length graph + 1) levels p (met [] (reverse later)))
 
-  -- one that opens a block
+  -- A value that opens a block.
   pub block_left : (levels : List Level) (block : OpenBlock) (v : Val) (t : ℕ) (order later : List ℕ) (p : List Piece) → length levels ≤ length graph
       → meet table graph (suc (length graph - length levels)) (reverse order) v t ≡ led_by p (parts_left table graph (length graph - length levels) block (reverse later))
       → left_of table graph levels (Some (v, t)) order ≡ p ++ left_of table graph (levels ++ Open block ∷ []) None later
@@ -69,7 +69,7 @@ module _ (table : Tabled) (graph : List Obj) where
 
   -- ---- parts
 
-  -- of a level only its end may be left
+  -- Only the end of a level may be left.
   abbrev pub IsAt : Level → ℕ → Type 0
   IsAt level end = (n : ℕ) (seen : List ℕ) → level_left table graph n level seen ≡ met (Text (end_text end) ∷ []) seen
 
@@ -89,7 +89,7 @@ module _ (table : Tabled) (graph : List Obj) where
       ∙ ap (λ m. (after_inner table graph n levels m).pieces) (is_at k (reverse order))
       ∙ ap (λ (m : Met). m.pieces) (front n levels (Text (end_text end) ∷ []) (met [] (reverse order)))
 
-  -- it is what a block is after its next part
+  -- The level is that of a block after its next part.
   abbrev pub IsAfter : OpenBlock → Level → Type 0
   IsAfter block level = (n : ℕ) (seen : List ℕ) → level_left table graph n level seen ≡ parts_after table graph n block seen
 
@@ -102,7 +102,7 @@ module _ (table : Tabled) (graph : List Obj) where
       ap (λ (t : List ℕ). met (Text t ∷ []) seen) is.1
       ∙ ap (λ needs. parts_from (shape_in table) (names_in table) graph (meet table graph n) (frame_in block.frame) (vals.Ref block.object) (suc block.next) needs seen) (sym none)
 
-  -- what remains after one more part is met
+  -- The remaining chunks after one more part is visited.
   pub part_next : (n : ℕ) (block : OpenBlock) (next : Level) (seen : List ℕ) (i t : ℕ) (w : Val) → slice_get (needs_in block.needs) block.next ≡ Some (i, t) → typed_field graph block.object i ≡ Some w → IsAfter block next
       → parts_left table graph n block seen
       ≡ led_by (Text (before_part (frame_in block.frame) block.next) ∷ []) (led_by (meet table graph n seen w t).pieces (level_left table graph n next (meet table graph n seen w t).seen))
@@ -136,7 +136,7 @@ module _ (table : Tabled) (graph : List Obj) where
   unfolding left_of
   none_left levels order none = rw none refl
 
-  -- ---- the whole
+  -- ---- the whole value
 
   pub start_left : (v : Val) (t : ℕ) → left_of table graph [] (Some (v, t)) [] ≡ pieces_of (shape_in table) (names_in table) graph v t
   unfolding left_of

@@ -1,4 +1,4 @@
--- The levels of a walk, as blocks and ends come and go.
+-- The levels of a traversal as blocks and ends are added and removed.
 use Rattle.std.proofs.Common.{ℕ, suc, ◌≡◌, ◌+◌, ◌<◌, ◌≤◌, ◌∙◌, List, [], ◌∷◌, ◌++◌, length, take, drop, map, get_or, refl, sym, ap, subst, arith, append_assoc, append-nil, Option, Some, None}
 use Rattle.std.specs.Prelude.{option_to_list}
 use Rattle.std.proofs.lemmas.List.{length-append, map_push, take_all, drop_all, take-append-le, drop-append-le}
@@ -7,7 +7,7 @@ use Rattle.om_print.specs.declared.walk.Walk.{Walk}
 use Rattle.om_print.proofs.MarkLemmas.{last_split}
 use Rattle.om_print.specs.Levels.{Level, Open, Ended, levels_from, levels_of, last_outside, AreNested, with_next, blocks_after, level_after}
 
--- ---- how many ends are outside
+-- ---- the number of ends outside
 
 pub outside_last : (p : ℕ) (blocks : List OpenBlock) (block : OpenBlock) → last_outside p (blocks ++ block ∷ []) ≡ block.outside
 outside_last p [] block = refl
@@ -34,9 +34,9 @@ nested_outer p [] block n nested = nested
 nested_outer p (b ∷ blocks) block n nested =
     let r = nested_outer b.outside blocks block n nested.1 in ((nested.0, r.0), r.1)
 
--- ---- one level more
+-- ---- one more level
 
--- an end, inside of all blocks
+-- An end inside of all blocks.
 pub level_ended : (p : ℕ) (blocks : List OpenBlock) (ends : List ℕ) (end : ℕ) → AreNested p blocks (length ends) → levels_from p blocks (ends ++ end ∷ []) ≡ levels_from p blocks ends ++ Ended end ∷ []
 level_ended p [] ends end nested = ap (map Ended) (drop-append-le p ends (end ∷ []) nested) ∙ map_push Ended (drop p ends) end
 level_ended p (b ∷ blocks) ends end nested =
@@ -45,7 +45,7 @@ level_ended p (b ∷ blocks) ends end nested =
     ∙ ap (λ (ls : List Level). map Ended (drop p (take b.outside ends)) ++ Open b ∷ ls) (level_ended b.outside blocks ends end nested.1)
     ∙ sym (append_assoc (map Ended (drop p (take b.outside ends))) (Open b ∷ levels_from b.outside blocks ends) (Ended end ∷ []))
 
--- a block, inside of all ends
+-- A block inside of all ends.
 pub level_opened : (p : ℕ) (blocks : List OpenBlock) (block : OpenBlock) (ends : List ℕ) → block.outside ≡ length ends → levels_from p (blocks ++ block ∷ []) ends ≡ levels_from p blocks ends ++ Open block ∷ []
 level_opened p [] block ends all =
     ap (λ (es : List ℕ). map Ended (drop p es) ++ Open block ∷ map Ended (drop block.outside ends)) (take_all block.outside ends (omega (arith, all)))
@@ -69,7 +69,7 @@ no_levels walk blocks ends = ap (λ (bs : List OpenBlock). levels_from 0 bs walk
 pub no_nested : (walk : Walk) → walk.stack.items ≡ [] → AreNested 0 walk.stack.items (length walk.ends.items)
 no_nested walk blocks = subst (λ (bs : List OpenBlock). AreNested 0 bs (length walk.ends.items)) (sym blocks) (omega arith)
 
--- an end is the innermost level
+-- The innermost level is an end.
 pub end_level : (walk new : Walk) (end : ℕ) → AreNested 0 walk.stack.items (length walk.ends.items) → last_outside 0 walk.stack.items < length walk.ends.items
     → new.stack.items ≡ walk.stack.items → walk.ends.items ≡ new.ends.items ++ end ∷ []
     → (levels_of walk ≡ levels_of new ++ Ended end ∷ []) × AreNested 0 new.stack.items (length new.ends.items)
@@ -81,7 +81,7 @@ end_level walk new end nested some blocks ends =
       subst (λ (bs : List OpenBlock). AreNested 0 bs (length new.ends.items)) (sym blocks) inner,
     )
 
--- a block is the innermost level
+-- The innermost level is a block.
 pub record IsInnermost (walk : Walk) (outer : List OpenBlock) (block : OpenBlock) : Type 0 where
   pub blocks : walk.stack.items ≡ outer ++ block ∷ []
   pub outside : block.outside ≡ length walk.ends.items
@@ -101,14 +101,14 @@ innermost_is walk outer block nested none blocks =
       outer_nested = subst (AreNested 0 outer) all both.0;
     }
 
--- the block at the last place
+-- If no end is inside of the last block, then this block is the innermost level.
 pub innermost_at : (walk : Walk) (last : ℕ) (block : OpenBlock) → AreNested 0 walk.stack.items (length walk.ends.items) → length walk.ends.items ≤ last_outside 0 walk.stack.items
     → length walk.stack.items ≡ suc last → block ≡ get_or walk.stack.items last block → IsInnermost walk (take last walk.stack.items) block
 innermost_at walk last block nested none many is =
     innermost_is walk (take last walk.stack.items) block nested none
     (last_split walk.stack.items last block many ∙ ap (λ (b : OpenBlock). take last walk.stack.items ++ b ∷ []) (sym is))
 
--- the levels where that block was closed
+-- The levels after that block was closed.
 pub closed_levels : (walk new : Walk) (outer : List OpenBlock) (block : OpenBlock) → IsInnermost walk outer block → new.stack.items ≡ outer → new.ends.items ≡ walk.ends.items
     → (levels_of walk ≡ levels_of new ++ Open block ∷ []) × AreNested 0 new.stack.items (length new.ends.items)
 closed_levels walk new outer block inner blocks ends = (
@@ -116,7 +116,7 @@ closed_levels walk new outer block inner blocks ends = (
   subst (λ (bs : List OpenBlock). AreNested 0 bs (length new.ends.items)) (sym blocks) (subst (λ (es : List ℕ). AreNested 0 outer (length es)) (sym ends) inner.outer_nested),
 )
 
--- the levels where its next part has begun
+-- The levels after its next part has begun.
 pub passed_levels : (walk new : Walk) (outer : List OpenBlock) (block : OpenBlock) (next : ℕ) (end : Option ℕ) → IsInnermost walk outer block
     → new.stack.items ≡ blocks_after outer (with_next block next) end → new.ends.items ≡ walk.ends.items ++ option_to_list end
     → (levels_of new ≡ levels_from 0 outer walk.ends.items ++ level_after (with_next block next) end ∷ []) × AreNested 0 new.stack.items (length new.ends.items)

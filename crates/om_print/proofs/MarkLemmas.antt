@@ -1,4 +1,4 @@
--- Marks of the objects that were met.
+-- Marks of the objects that were visited.
 use Rattle.std.proofs.Common.{ℕ, zero, suc, ◌≡◌, ◌<◌, ◌≤◌, ◌==◌, ◌∙◌, ⊎_elim, Bool, true, false, List, [], ◌∷◌, ◌++◌, length, take, reverse, replicate, get_or, set, refl, sym, ap, subst, arith}
 use Rattle.std.specs.Prelude.{◌||◌}
 use Rattle.std.proofs.lemmas.Bool.Decides.{eqb_tells}
@@ -22,7 +22,7 @@ pub marked_more : (marks : List Bool) (order : List ℕ) (o : ℕ) → o < lengt
 marked_more marks order o inside marked x =
     mark_set marks o x inside ∙ ap (λ b. (o == x) || b) (marked x) ∙ sym (ap (λ seen. has seen x) (reversed_more order o))
 
--- ---- how many there are
+-- ---- the number of marks
 
 pub how_many_none : (n : ℕ) → how_many (replicate n false) ≡ 0
 how_many_none zero = refl

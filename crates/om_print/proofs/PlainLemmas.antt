@@ -1,4 +1,4 @@
--- What is put as long as no object is met again, one after the other.
+-- The text appended as long as no object occurs again, chunk by chunk.
 use Rattle.std.proofs.Common.{ℕ, ◌≡◌, ◌<◌, ◌∙◌, false, List, [], ◌∷◌, ◌++◌, length, replicate, refl, sym, ap, arith, append_assoc, append-nil, Some}
 use Rattle.std.specs.Prelude.{filter, IfSome, ◌||◌, slice_index_or, Bool}
 use Rattle.std.specs.List.{flat_map}
@@ -24,11 +24,11 @@ use Rattle.om_print.proofs.LevelLemmas.{same_levels, same_nested}
 use Rattle.om_print.proofs.MarkLemmas.{no_marks}
 use Rattle.om_print.proofs.LabelLemmas.{step_agains, append_associative, some_piece, first_left}
 
--- one piece of text
+-- One chunk of text.
 pub one_text : (old text bytes : List ℕ) → text ≡ old ++ bytes → text ≡ old ++ (bytes ++ [])
 one_text old text bytes put = put ∙ ap (λ t. old ++ t) (sym (append-nil bytes))
 
--- two texts, one after the other
+-- Two consecutive texts.
 pub then_text : (old text all front back : List ℕ) → text ≡ old ++ front → all ≡ text ++ back → all ≡ old ++ (front ++ back)
 then_text old text all front back put more = more ∙ ap (λ t. t ++ back) put ∙ append_assoc old front back
 
@@ -36,7 +36,7 @@ none_has : (xs : List ℕ) → filter (has []) xs ≡ []
 none_has [] = refl
 none_has (x ∷ xs) = none_has xs
 
--- without an object that is met again no object has a label
+-- If no object occurs again, then no object has a label.
 pub no_labels : (pieces : List Piece) → agains pieces ≡ [] → labelled pieces ≡ []
 no_labels pieces none = ap (λ all. filter (has all) (firsts pieces)) none ∙ none_has (firsts pieces)
 
@@ -64,7 +64,7 @@ module _ (table : Tabled) (graph : List Obj) where
     walk = then.walk;
   }
 
-  -- nothing is put
+  -- Nothing was appended.
   pub put_none : (walk : Walk) (text : List ℕ) → IsWalk table graph walk → IsPutOn table graph (pieces_left table graph walk) walk.order text text walk
   put_none walk text is = record {
     now = [];
@@ -75,7 +75,7 @@ module _ (table : Tabled) (graph : List Obj) where
     walk = is;
   }
 
-  -- the same walk, but for the value that comes next
+  -- The same state except for the next value.
   pub record IsSame (walk new : Walk) : Type 0 where
     pub blocks : new.stack.items ≡ walk.stack.items
     pub ends : new.ends.items ≡ walk.ends.items
@@ -95,7 +95,7 @@ module _ (table : Tabled) (graph : List Obj) where
     depth = rw (same_levels walk new same.blocks same.ends, same.order) is.depth;
   }
 
-  -- fewer are left after a step and more
+  -- A step and further ones leave fewer chunks.
   pub fewer_put : (left : List Piece) (met_before order text all : List ℕ) (step : Step) (between new : Walk) → Goes table graph left met_before step between
       → IsPutOn table graph (pieces_left table graph between) order text all new → length (pieces_left table graph new) < length left
   fewer_put left met_before order text all step between new goes then =
@@ -108,7 +108,7 @@ module _ (table : Tabled) (graph : List Obj) where
         length-append then.now (pieces_left table graph new),
       )
 
-  -- what was met and what is left are all, and none was met again
+  -- The visited chunks and the remaining ones are all chunks, and no object occurred again.
   pub counted_put : (walk new : Walk) (v : Val) (t : ℕ) (again : List Bool) (old text : List ℕ) → walk.value ≡ Some (v, t) → walk.stack.items ≡ [] → walk.ends.items ≡ [] → walk.order ≡ [] → again ≡ replicate (length graph) false
       → IsPutOn table graph (pieces_left table graph walk) walk.order old text new → AreCounted table graph (left_of table graph [] (Some (v, t)) []) new again
   counted_put walk new v t again old text value blocks ends order marks put =
@@ -125,9 +125,9 @@ module _ (table : Tabled) (graph : List Obj) where
             ap firsts split ∙ firsts-append put.now later ∙ ap (λ os. os ++ firsts later) (sym (put.order ∙ ap (λ os. os ++ firsts put.now) order));
       }
 
-  -- ---- what is compared
+  -- ---- comparison
 
-  -- the text begins with what is put so far
+  -- The text begins with the bytes printed so far.
   pub record IsTold (v : Val) (t : ℕ) (text rest : List ℕ) (walk : Walk) : Type 0 where
     pub front : List ℕ
     pub split : text ≡ front ++ rest
@@ -170,7 +170,7 @@ module _ (table : Tabled) (graph : List Obj) where
       ∙ ap (λ (bs : List ℕ). told.front ++ bs) (sym nothing)
       ∙ sym told.split
 
-  -- the whole text, where nothing is left
+  -- If nothing is left, then the whole text was appended.
   pub whole_put : (walk new : Walk) (old text : List ℕ) (all pieces : List Piece) → all ≡ pieces → pieces_left table graph walk ≡ all → pieces_left table graph new ≡ []
       → IsPutOn table graph (pieces_left table graph walk) walk.order old text new → text ≡ old ++ text_of pieces
   whole_put walk new old text all pieces are start none put =

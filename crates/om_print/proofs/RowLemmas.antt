@@ -1,4 +1,4 @@
--- Numbers in a row, one more at a time.
+-- Ranges of consecutive numbers, one more number at a time.
 use Rattle.std.proofs.Common.{ℕ, suc, ◌≡◌, ◌+◌, ◌-◌, ◌≤◌, ◌∙◌, [], ◌∷◌, ◌++◌, ap, arith}
 use Rattle.om_print.specs.Row.{row}
 

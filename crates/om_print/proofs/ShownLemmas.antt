@@ -1,4 +1,4 @@
--- The text of the pieces that are left.
+-- The text of the remaining chunks.
 use Rattle.std.proofs.Common.{ℕ, ◌≡◌, ◌∙◌, List, [], ◌∷◌, ◌++◌, length, take, refl, sym, ap, append_assoc, append-nil}
 use Rattle.std.specs.List.{flat_map}
 use Rattle.std.proofs.lemmas.Grind.{flat_map-append}
@@ -20,7 +20,7 @@ text_all objects left start pieces before text none begin is =
     sym (append-nil text) ∙ sym (ap (λ ps. text ++ flat_map (piece_text objects) ps) none) ∙ is
     ∙ ap (λ ps. before ++ flat_map (piece_text objects) ps) begin
 
--- with the labels of the pieces it is the whole text
+-- With the labels of the chunks, the text is the whole text.
 pub text_whole : (objects : List ℕ) (pieces : List Piece) (before text : List ℕ) → objects ≡ labelled pieces → text ≡ before ++ flat_map (piece_text objects) pieces → text ≡ before ++ text_of pieces
 text_whole objects pieces before text labels is = is ∙ ap (λ os. before ++ flat_map (piece_text os) pieces) labels
 

@@ -24,7 +24,7 @@ use Rattle.om_heap.specs.Heap.{object_at}
 use Rattle.om_heap.specs.Heap.{fields_of as parts_of, field_at as part_at}
 use Rattle.om_print.specs.Typed.{IsTypedAt}
 
--- ---- an integer fits
+-- ---- an integer matches its type
 
 word_wide : (z : ℤ) → IsInteger z → FitsSigned w64 z
 word_wide (pos n) h = omega (arith, ints)
@@ -40,7 +40,7 @@ if_fits false some = absurd (cc)
 pub integer_fits : (table : Table) (graph : List Obj) (z : ℤ) (t : ℕ) → IsTypedAt table graph (vals.Int z) t → IsTrue (fits_int (node_or_none (slice_get table.nodes t)) z)
 integer_fits table graph z t typed = if_fits (fits_int (node_or_none (slice_get table.nodes t)) z) typed.held.fits
 
--- ---- what has a type is typed
+-- ---- typed values
 
 nothing_typed : (table : Table) (graph : List Obj) → IsTyping (table_shapes table) graph []
 nothing_typed table graph = record {
@@ -59,7 +59,7 @@ typed_at table graph (vals.Ref o) t number has = record {
   held = record { fits = has.fits; listed = (t, has.typed.2, refl) };
 }
 
--- each value of the graph is typed where nothing is asked
+-- Each value of the graph has a wildcard type.
 module _ (table : Table) (graph : List Obj) where
   abbrev node : ℕ → ShapeOf ℕ
   node i = node_or_none (slice_get table.nodes i)
@@ -78,7 +78,7 @@ module _ (table : Table) (graph : List Obj) where
         held = record { fits = object_fits node Same graph u hidden refl o at.0 at.1; listed = (u, Contains-first {X = ℕ × ℕ} (o, u) [], refl) };
       }
 
--- ---- fields that are there
+-- ---- existing fields
 
 same_parts : (object : Obj) → values_of object ≡ parts_of object
 same_parts (objects.Block tag values) = refl
@@ -108,7 +108,7 @@ there graph o i v is = there_in graph o i v (slice_get graph o) refl is
 -- ---- the parts of a typed object
 
 module _ (table : Table) (graph : List Obj) (lawful : IsLawful table) where
-  -- the types that fields have are numbers of the table
+  -- The types of fields are numbers of the table.
   pub named_below : (i u : ℕ) (node : ShapeOf ℕ) (v : Val) (found : Option (ShapeOf ℕ)) (t : ℕ) → slice_get table.nodes t ≡ found → Contains (or_none (fields_of graph v (node_or_none found))) (i, u) → t < length table.nodes → u < length table.nodes
   named_below i u node v None t at_t needed within = absurd (no_node t table.nodes within at_t) where
     no_node : {X : Type 0} (t : ℕ) (xs : List X) → t < length xs → slice_get xs t ≡ None → ⊥

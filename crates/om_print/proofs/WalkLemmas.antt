@@ -1,4 +1,4 @@
--- One step of a walk.
+-- One step of a traversal.
 use Rattle.std.proofs.Common.{ℕ, suc, ◌≡◌, ◌+◌, ◌-◌, ◌<◌, ◌≤◌, ◌∙◌, true, false, cond, List, [], ◌∷◌, ◌++◌, length, drop, reverse, get_or, set, replicate, refl, sym, ap, subst, arith, append-nil, Option, Some, None, ℤ, pos, length-set}
 use Rattle.std.specs.Prelude.{All, Contains, IsTrue, Bool, slice_get, option_to_list, codes}
 use Rattle.std.proofs.lemmas.List.{length-append, length-replicate, length-map}
@@ -39,11 +39,11 @@ pub field_word_at : (graph : List Obj) (words : List ℕ) (i : ℕ) → All (IsF
 field_word_at graph words i valid inside = All-contains (IsFieldWord graph) words (get_or words i 0) valid (slice_get-Contains words i (get_or words i 0) (slice_get-get_or words i 0 inside))
 
 module _ (table : Tabled) (graph : List Obj) where
-  -- the blocks of all levels are met, and there are no more of those than objects
+  -- The blocks of all levels were visited, so there are at most as many levels as objects.
   pub few_levels : (walk : Walk) → IsWalk table graph walk → length (levels_of walk) ≤ length graph
   few_levels walk is = omega (arith, is.depth, is.counted, is.many, how_many_within walk.marks.items)
 
-  -- the step of a value that opens no block
+  -- The step of a value that opens no block.
   pub value_goes : (walk new : Walk) (v : Val) (t : ℕ) (step : Step) → IsWalk table graph walk → levels_of new ≡ levels_of walk → new.value ≡ None
       → meet table graph (suc (length graph - length (levels_of walk))) (reverse walk.order) v t ≡ led_by (step_pieces table graph step) (met [] (reverse new.order))
       → new.order ≡ walk.order ++ firsts (step_pieces table graph step) → IsStep table graph step → IsWalk table graph new
@@ -57,7 +57,7 @@ module _ (table : Tabled) (graph : List Obj) where
     walk = is_new;
   }
 
-  -- ---- values of which nothing is asked
+  -- ---- values at wildcard types
 
   pub meet_hidden : (k : ℕ) (seen : List ℕ) (v : Val) (t : ℕ) → is_asked (shape_in table t) ≡ false → meet table graph (suc k) seen v t ≡ met (Text hidden_text ∷ []) seen
   meet_hidden k seen v t hidden = ap (λ b. cond b (asked_met (shape_in table) (names_in table) graph (meet table graph k) seen v t) (met (Text hidden_text ∷ []) seen)) hidden
@@ -71,7 +71,7 @@ module _ (table : Tabled) (graph : List Obj) where
       → meet table graph (suc k) seen v t ≡ asked_met (shape_in table) (names_in table) graph (meet table graph k) seen v t
   meet_asked k seen v t asked = ap (λ b. cond b (asked_met (shape_in table) (names_in table) graph (meet table graph k) seen v t) (met (Text hidden_text ∷ []) seen)) asked
 
-  -- ---- values that are no objects, and objects that are met again
+  -- ---- values that are not objects, and objects that occur again
 
   pub integer_goes : (walk : Walk) (v : Val) (z : ℤ) (t : ℕ) → v ≡ vals.Int z → IsWalk table graph walk → walk.value ≡ None → IsTypedAt (table_of table) graph v t → IsTrue (is_asked (shape_in table t))
       → Goes table graph (left_of table graph (levels_of walk) (Some (v, t)) walk.order) walk.order (steps.Integer z t) walk
@@ -90,7 +90,7 @@ module _ (table : Tabled) (graph : List Obj) where
       ∙ ap (λ x. asked_met (shape_in table) (names_in table) graph (meet table graph (length graph - length (levels_of walk))) (reverse walk.order) x t) v_is in
       value_goes walk walk v t steps.Empty is refl none meets (sym (append-nil walk.order)) tt is
 
-  -- what is met where an object is met first
+  -- The chunks of the first visit of an object.
   abbrev first_met : ℕ → List ℕ → ℕ → ℕ → Met
   first_met k seen o t = object_met (shape_in table) (names_in table) graph (meet table graph k) (o ∷ seen) o t (slice_get graph o)
 
@@ -109,7 +109,7 @@ module _ (table : Tabled) (graph : List Obj) where
       ap (λ x. meet table graph (suc k) seen x t) v_is ∙ met_marked k seen o t asked (sym (is.marked o) ∙ marked) in
       value_goes walk walk v t (steps.Again o) is refl none meets (sym (append-nil walk.order)) inside is
 
-  -- ---- objects that are met first
+  -- ---- first visits of objects
 
   pub record IsMarked (walk new : Walk) (o : ℕ) : Type 0 where
     pub value : new.value ≡ None
@@ -216,9 +216,9 @@ module _ (table : Tabled) (graph : List Obj) where
         };
       }
 
-  -- ---- where no value comes next
+  -- ---- steps without a next value
 
-  -- a level less, of which only this end was left
+  -- A level whose end alone was left is removed.
   pub record IsClosed (walk new : Walk) (level : Level) (end : ℕ) : Type 0 where
     pub value : new.value ≡ None
     pub levels : levels_of walk ≡ levels_of new ++ level ∷ []
@@ -256,7 +256,7 @@ module _ (table : Tabled) (graph : List Obj) where
         };
       }
 
-  -- the end that is the innermost level
+  -- The end at the innermost level.
   pub end_goes : (walk new : Walk) (end : ℕ) → IsWalk table graph walk → last_outside 0 walk.stack.items < length walk.ends.items → new.value ≡ None → new.stack.items ≡ walk.stack.items
       → walk.ends.items ≡ new.ends.items ++ end ∷ [] → new.marks.items ≡ walk.marks.items → new.order ≡ walk.order
       → Goes table graph (left_of table graph (levels_of walk) None walk.order) walk.order (steps.Closing end) new
@@ -275,7 +275,7 @@ module _ (table : Tabled) (graph : List Obj) where
   pub block_open : (walk : Walk) (outer : List OpenBlock) (block : OpenBlock) → IsWalk table graph walk → walk.stack.items ≡ outer ++ block ∷ [] → All (IsOpen table graph) outer × IsOpen table graph block
   block_open walk outer block is blocks = All-pop (IsOpen table graph) walk.stack.items outer (Some block) blocks is.blocks
 
-  -- the end of the innermost block, of which no part is left
+  -- The end of the innermost block, which has no remaining part.
   pub block_goes : (walk new : Walk) (outer : List OpenBlock) (block : OpenBlock) (end : ℕ) → IsWalk table graph walk → IsInnermost walk outer block → length (needs_in block.needs) ≤ block.next
       → end_text end ≡ (frame_in block.frame).closing → new.value ≡ None → new.stack.items ≡ outer → new.ends.items ≡ walk.ends.items → new.marks.items ≡ walk.marks.items → new.order ≡ walk.order
       → Goes table graph (left_of table graph (levels_of walk) None walk.order) walk.order (steps.Closing end) new
@@ -309,7 +309,7 @@ module _ (table : Tabled) (graph : List Obj) where
   no_fields_none : (n tag : ℕ) (values : List Val) → IsObject n (objects.Block tag values) → 0 < length values
   no_fields_none n tag values valid = valid.1
 
-  -- a block has fields
+  -- A block has fields.
   pub some_fields : (o tag : ℕ) → IsGraph graph → o < length graph → object_at graph o ≡ objects.Block tag (fields_of (object_at graph o)) → 0 < length (fields_of (object_at graph o))
   some_fields o tag valid inside is =
       no_fields_none (length graph) tag (fields_of (object_at graph o))
@@ -317,7 +317,7 @@ module _ (table : Tabled) (graph : List Obj) where
 
   -- ---- the parts of an object that is opened
 
-  -- a part is there and typed, hidden or not
+  -- A part exists and is typed, at a wildcard type or another one.
   pub open_parts : (o t : ℕ) (needs : List (ℕ × ℕ)) → IsGraph graph → o < length graph → IsLawful (table_of table) → IsTypedAt (table_of table) graph (vals.Ref o) t → needs ≡ or_none (needed_of graph (vals.Ref o) (shape_in table t))
       → (k i u : ℕ) → slice_get needs k ≡ Some (i, u) → IsPart table graph o i u
   open_parts o t needs is_graph inside lawful typed is k i u at_k = by (is_asked (shape_in table u)) refl where
@@ -341,7 +341,7 @@ module _ (table : Tabled) (graph : List Obj) where
               (named_below (table_of table) graph lawful i u (shape_in table t) (vals.Ref o) (slice_get table.nodes t) t refl among typed.number) hidden;
         }
 
-  -- the value of a field's word is the field
+  -- The value of a field's word is the field.
   pub word_is_field : (block : OpenBlock) (i : ℕ) (v : Val) → IsGraph graph → IsOpen table graph block → i < length (fields_of (object_at graph block.object))
       → IsValue (length graph) v → get_or block.fields.now i 0 ≡ word_of graph v → v ≡ field_at graph block.object i
   word_is_field block i v valid is short is_value word =
@@ -351,7 +351,7 @@ module _ (table : Tabled) (graph : List Obj) where
   pub words_many : (block : OpenBlock) → IsOpen table graph block → length block.fields.now ≡ length (fields_of (object_at graph block.object))
   words_many block is = ap length is.words ∙ length-map (fields_of (object_at graph block.object)) (word_of graph)
 
-  -- the next part of the innermost block comes next
+  -- The next part of the innermost block comes next.
   pub record IsAdvanced (walk new : Walk) (outer : List OpenBlock) (block : OpenBlock) (i t : ℕ) (v : Val) (end : Option ℕ) : Type 0 where
     pub value : new.value ≡ Some (v, t)
     pub blocks : new.stack.items ≡ blocks_after outer (with_next block (block.next + 1)) end

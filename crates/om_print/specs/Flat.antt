@@ -1,4 +1,4 @@
--- Values that are put without a walk, since none of their objects is met twice.
+-- The fast path for values in which no object occurs twice.
 use Rattle.std.specs.Prelude.{ℕ, suc, ◌<◌, ◌≤◌, ◌≡◌, List, [], ◌∷◌, ◌++◌, length, flat_map, All}
 use Rattle.std.specs.Prelude.{Bool, true, false, Option, Some, None}
 use Rattle.om_model.specs.declared.value.Val.{Val}
@@ -11,18 +11,18 @@ use Rattle.om_print.specs.Put.{IsGrown}
 use Rattle.om_print.specs.Walking.{meet, parts_left}
 use Rattle.om_print.specs.declared.block.OpenBlock.{OpenBlock}
 
--- the whole text is put, or some bytes
+-- The whole text was appended, or some bytes were.
 abbrev pub PutsWhole : List ℕ → List ℕ → List ℕ → Bool → Type 0
 PutsWhole whole old text true = text ≡ old ++ whole
 PutsWhole whole old text false = IsGrown old text
 
--- a value is met as these pieces, and then no object above this number was met
+-- A visit of the value gives these chunks, and then no object above this number was visited.
 abbrev pub IsMetAs : List Piece → ℕ → Met → Type 0
 IsMetAs pieces last m = (m.pieces ≡ pieces) × All (λ o. o ≤ last) m.seen
 
 module _ (table : Tabled) (graph : List Obj) where
-  -- A value is put as it is met wherever no object above the last number was met before; then none
-  -- above the next number was.
+  -- The text of the value was appended as it is whenever no object above `last` was visited before.
+  -- Afterwards no object above `next` was visited.
   pub record IsPutFlat (v : Val) (t last next : ℕ) (old text : List ℕ) : Type 0 where
     pub pieces : List Piece
     pub fresh : agains pieces ≡ []
@@ -31,12 +31,12 @@ module _ (table : Tabled) (graph : List Obj) where
     pub met_as : (n : ℕ) (seen : List ℕ) → All (λ o. o ≤ last) seen
         → IsMetAs pieces next (meet table graph (suc n) seen v t)
 
-  -- a value is put, or some bytes
+  -- The value was appended, or some bytes were.
   abbrev pub PutsFlat : Val → ℕ → ℕ → List ℕ → List ℕ → Option ℕ → Type 0
   PutsFlat v t last old text (Some next) = IsPutFlat v t last next old text
   PutsFlat v t last old text None = IsGrown old text
 
-  -- all parts of a block are put, and what stands after them
+  -- All parts of a block were appended, and the text after them.
   pub record ArePutFlat (block : OpenBlock) (old text : List ℕ) : Type 0 where
     pub pieces : List Piece
     pub fresh : agains pieces ≡ []
@@ -44,7 +44,7 @@ module _ (table : Tabled) (graph : List Obj) where
     pub met_as : (n : ℕ)
         → (parts_left table graph (suc n) (with_next block 0) (block.object ∷ [])).pieces ≡ pieces
 
-  -- these are put, or some bytes
+  -- The parts were appended, or some bytes were.
   abbrev pub PutsParts : OpenBlock → List ℕ → List ℕ → Bool → Type 0
   PutsParts block old text true = ArePutFlat block old text
   PutsParts block old text false = IsGrown old text

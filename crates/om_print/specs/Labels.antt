@@ -1,4 +1,4 @@
--- Numbers of labels, by the objects' numbers.
+-- The numbers of labels, by the numbers of objects.
 use Rattle.std.specs.Prelude.{ℕ, ◌<◌, ◌≤◌, ◌-◌, ◌≡◌, ◌||◌, Bool, true, false, List, [], ◌∷◌, ◌++◌}
 use Rattle.std.specs.Prelude.{length, slice_index_or, slice_set}
 use Rattle.om_model.specs.declared.value.Obj.{Obj}
@@ -10,12 +10,12 @@ use Rattle.om_print.specs.declared.walk.Step.TheVariants as steps
 use Rattle.om_print.specs.declared.labels.Labels.{Labels}
 use Rattle.om_print.specs.declared.walk.Walk.{Walk}
 
--- from the first one up to, and without, the end
+-- The number is in the range from `first` up to `end`, exclusive.
 abbrev pub IsBetween : ℕ → ℕ → ℕ → Type 0
 IsBetween first end o = (first ≤ o) × (o < end)
 
--- the number of each object among these, by a row that begins at the first one: an object before
--- the row or past it is none of these
+-- `numbers` has the index of each object among these, for the objects from `first` on. An object
+-- before the range or beyond it is none of these.
 pub record AreNumbers (objects : List ℕ) (first : ℕ) (numbers : List ℕ) : Type 0 where
   pub before : (o : ℕ) → o < first → length objects ≡ number_in objects o
   pub from_first : (o : ℕ) → first ≤ o
@@ -24,22 +24,22 @@ pub record AreNumbers (objects : List ℕ) (first : ℕ) (numbers : List ℕ) : 
 abbrev pub AreLabels : Labels → Type 0
 AreLabels labels = AreNumbers labels.objects.items labels.first labels.numbers.items
 
--- the objects that a step meets again
+-- The objects that a step visits again.
 abbrev pub agains_of : Step → List ℕ
 agains_of (steps.Again o) = o ∷ []
 agains_of step = []
 
--- the marks of the objects that are met again, after a step
+-- The marks of the objects that occur again, after a step.
 abbrev pub marks_after : Step → List Bool → List Bool
 marks_after (steps.Again o) marks = slice_set marks o true
 marks_after step marks = marks
 
--- there is a mark for the object
+-- There is a mark for the object.
 abbrev pub IsMarkable : ℕ → Step → Type 0
 IsMarkable n (steps.Again o) = o < n
 IsMarkable n step = Unit {0}
 
--- marks and meetings so far, and those in the pieces that are left, are those in all pieces
+-- The marks and visits so far, with those of the remaining chunks, are those of all chunks.
 pub record AreCounted (table : Tabled) (graph : List Obj) (all : List Piece) (walk : Walk)
     (again : List Bool) : Type 0 where
   pub is_walk : IsWalk table graph walk

@@ -1,4 +1,4 @@
--- What is put as long as no object is met again.
+-- The text appended as long as no object occurs again.
 use Rattle.std.specs.Prelude.{ℕ, ◌≡◌, List, [], ◌∷◌, ◌++◌, flat_map}
 use Rattle.om_model.specs.declared.value.Obj.{Obj}
 use Rattle.om_type_table.specs.declared.tabled.Tabled.{Tabled}
@@ -9,7 +9,7 @@ use Rattle.om_print.specs.declared.walk.Walk.{Walk}
 use Rattle.om_print.specs.Walking.{pieces_left, IsWalk, IsBegun}
 
 module _ (table : Tabled) (graph : List Obj) where
-  -- the first of the pieces that were left are put, none of which meets an object again
+  -- The first of the remaining chunks were appended, and none of them visits an object again.
   pub record IsPutOn (left : List Piece) (met_before old text : List ℕ) (new : Walk) : Type 0 where
     pub now : List Piece
     pub pieces : left ≡ now ++ pieces_left table graph new
@@ -18,7 +18,7 @@ module _ (table : Tabled) (graph : List Obj) where
     pub put : text ≡ old ++ flat_map (piece_text []) now
     pub walk : IsWalk table graph new
 
-  -- the block of an object is opened, and what stands before its parts is put
+  -- The block of an object is opened, and the text before its parts was appended.
   pub record IsOpened (o t tag outside : ℕ) (blocks opened : List OpenBlock) (old text : List ℕ)
       : Type 0 where
     pub block : OpenBlock

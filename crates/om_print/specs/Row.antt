@@ -1,7 +1,7 @@
--- Numbers in a row.
+-- Ranges of consecutive numbers.
 use Rattle.std.specs.Prelude.{ℕ, zero, suc, ◌+◌, List, [], ◌∷◌, ◌++◌}
 
--- so many, from a first one on
+-- That many numbers from `first` on.
 abbrev pub row : ℕ → ℕ → List ℕ
 row first zero = []
 row first (suc n) = row first n ++ (first + n) ∷ []

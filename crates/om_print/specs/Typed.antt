@@ -1,11 +1,11 @@
--- Values that are typed at a number of a table of types.
+-- Values that have a type of a table, by its number.
 use Rattle.std.specs.Prelude.{ℕ, ◌<◌, List, length}
 use Rattle.om_model.specs.declared.value.Val.{Val}
 use Rattle.om_model.specs.declared.value.Obj.{Obj}
 use Rattle.om_types.specs.Table.{Table, table_shapes}
 use Rattle.om_types.specs.Typing.{IsHeld, IsTyping}
 
--- the value fits the type, and some typing lists it
+-- The value matches the type, and some typing lists it.
 pub record IsTypedAt (table : Table) (graph : List Obj) (v : Val) (at : ℕ) : Type 0 where
   pub number : at < length table.nodes
   pub pairs : List (ℕ × ℕ)

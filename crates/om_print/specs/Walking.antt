@@ -1,4 +1,4 @@
--- Where a walk is among the pieces of a value.
+-- The state of a traversal among the chunks of a value.
 use Rattle.std.specs.Prelude.{ℕ, suc, zero, ◌+◌, ◌-◌, ◌<◌, ◌≤◌, ◌≡◌, List, [], ◌∷◌, ◌++◌, length}
 use Rattle.std.specs.Prelude.{drop, reverse, map, All, Option, None, Some, IfSome, IsTrue}
 use Rattle.std.specs.Prelude.{slice_get, slice_index_or, Bool, true, false, codes}
@@ -26,17 +26,17 @@ use Rattle.om_print.specs.declared.walk.Walk.{Walk}
 
 -- ---- marks
 
--- exactly the objects that were met have one
+-- An object has a mark if and only if it was visited.
 abbrev pub AreMarked : List Bool → List ℕ → Type 0
 AreMarked marks order = (o : ℕ) → slice_index_or marks o false ≡ has (reverse order) o
 
--- how many marks are set
+-- The number of marks that are set.
 abbrev pub how_many : List Bool → ℕ
 how_many [] = 0
 how_many (true ∷ marks) = suc (how_many marks)
 how_many (false ∷ marks) = how_many marks
 
--- ---- what is left
+-- ---- the remaining chunks
 
 abbrev pub needs_left : OpenBlock → List (ℕ × ℕ)
 needs_left block = drop block.next (needs_in block.needs)
@@ -45,13 +45,13 @@ module _ (table : Tabled) (graph : List Obj) where
   abbrev pub meet : ℕ → List ℕ → Val → ℕ → Met
   meet n seen v t = met_within (shape_in table) (names_in table) graph n seen v t
 
-  -- the parts of a block that are left, where n values may be one inside the other
+  -- The remaining parts of a block, for values nested at most `n` deep.
   abbrev pub parts_left : ℕ → OpenBlock → List ℕ → Met
   parts_left n block seen =
       parts_from (shape_in table) (names_in table) graph (meet n) (frame_in block.frame)
       (vals.Ref block.object) block.next (needs_left block) seen
 
-  -- the same without the next part
+  -- The remaining parts without the next one.
   abbrev pub parts_after : ℕ → OpenBlock → List ℕ → Met
   parts_after n block seen =
       parts_from (shape_in table) (names_in table) graph (meet n) (frame_in block.frame)
@@ -61,19 +61,19 @@ module _ (table : Tabled) (graph : List Obj) where
   level_left n (Open block) seen = parts_left n block seen
   level_left n (Ended end) seen = met (Text (end_text end) ∷ []) seen
 
-  -- the levels, the outermost first, after what is inside all of them
+  -- The chunks of the levels, the outermost first, after the chunks inside all of them.
   abbrev pub after_inner : ℕ → List Level → Met → Met
   after_inner n [] inside = inside
   after_inner zero (level ∷ levels) inside = inside
   after_inner (suc n) (level ∷ levels) inside =
       let m = after_inner n levels inside in led_by m.pieces (level_left n level m.seen)
 
-  -- the value that comes next, if one does
+  -- The chunks of the next value, if there is one.
   abbrev pub value_met : ℕ → Option (Val × ℕ) → List ℕ → Met
   value_met n None seen = met [] seen
   value_met n (Some next) seen = meet n seen next.0 next.1
 
-  -- the pieces that are left, where these objects were met in this order
+  -- The remaining chunks, after these objects were visited in this order.
   unfoldable pub left_of : List Level → Option (Val × ℕ) → List ℕ → List Piece
   left_of levels value order =
       (after_inner (length graph + 1) levels
@@ -95,7 +95,7 @@ module _ (table : Tabled) (graph : List Obj) where
   step_pieces (steps.Before frame i) = Text (before_part (frame_in frame) i) ∷ []
   step_pieces (steps.Closing end) = Text (end_text end) ∷ []
 
-  -- it names objects and types that are there, and integers at types that they fit
+  -- The step refers to existing objects and types, and to integers that match their types.
   abbrev pub IsStep : Step → Type 0
   IsStep (steps.Integer z t) = (t < length table.nodes) × IsTrue (fits_int (shape_in table t) z)
   IsStep (steps.Again o) = o < length graph
@@ -103,9 +103,9 @@ module _ (table : Tabled) (graph : List Obj) where
   IsStep (steps.Opening o frame) = o < length graph
   IsStep step = Unit {0}
 
-  -- ---- what holds of a walk
+  -- ---- the invariant of a traversal
 
-  -- field i of an object is there and typed
+  -- Field `i` of an object exists and is typed.
   pub record IsPart (o i t : ℕ) : Type 0 where
     pub there : i < length (fields_of (object_at graph o))
     pub field : typed_field graph o i ≡ Some (field_at graph o i)
@@ -118,7 +118,7 @@ module _ (table : Tabled) (graph : List Obj) where
     pub parts : (k i t : ℕ) → slice_get (needs_in block.needs) k ≡ Some (i, t)
         → IsPart block.object i t
 
-  -- the block is that of an object, before its first part, inside of these many ends
+  -- The block is that of an object, before its first part, inside of this number of ends.
   pub record IsBegun (o t tag many : ℕ) (block : OpenBlock) : Type 0 where
     pub object : block.object ≡ o
     pub frame : frame_in block.frame
@@ -140,7 +140,7 @@ module _ (table : Tabled) (graph : List Obj) where
     pub inside : All (λ o. o < length graph) walk.order
     pub depth : length (levels_of walk) ≤ length walk.order
 
-  -- a step takes its pieces from those that were left
+  -- A step takes its chunks from the remaining ones.
   pub record Goes (left : List Piece) (met_before : List ℕ) (step : Step) (new : Walk)
       : Type 0 where
     pub pieces : left ≡ step_pieces step ++ pieces_left new

@@ -1,4 +1,4 @@
-//! Blocks whose parts are being met.
+//! Blocks whose parts are being visited.
 
 ghost use Rattle.std.specs.Prelude.{◌≡◌, ◌<◌, ◌+◌, ◌^◌, length, slice_get, IfSome};
 ghost use Rattle.om_fits.specs.Needs.{needs_in};
@@ -8,8 +8,9 @@ use crate::ends::end_of;
 use om_fits::Needs;
 use om_leaves::Frame;
 
-/// A block, the words of its fields, what stands around its parts, the fields that they are, the
-/// number of the next one, and how many ends are outside of it.
+/// A block that is being visited. It has the words of its fields, the text around its parts, the
+/// fields that are its parts, and the index of the next part. `outside` is the number of ends
+/// outside of the block.
 #[derive(Clone, Copy)]
 pub struct OpenBlock<'a> {
     pub object: u64,
@@ -21,20 +22,20 @@ pub struct OpenBlock<'a> {
 }
 
 impl OpenBlock<'_> {
-    /// The field that is the next part and the number of its type, if there is one.
+    /// Returns the field that is the next part and its type number, if there is a next part.
     #[inline(always)]
     pub fn next_need(&self) -> Option<(u64, usize)>
         ensures need { result ≡ slice_get (needs_in self.now.needs) self.now.next }
         ensures more { IfSome result (λ _. self.now.next + 1 < 2 ^ 64) }
     {
-        // The most common case is told from the others once.
+        // This match tests for the most common case only once.
         match self.needs {
             Needs::Listed(types) => need_at(Needs::Listed(types), self.next),
             needs => need_at(needs, self.next),
         }
     }
 
-    /// The end of the block, if its next part is its last one.
+    /// Returns the end of the block if its next part is its last one.
     #[inline(always)]
     pub fn last_end(&self) -> Option<u8>
         requires { self.now.next < length (needs_in self.now.needs) }
@@ -47,7 +48,7 @@ impl OpenBlock<'_> {
     }
 }
 
-// Need k, if there is one.
+// Returns part `k`, if there is one.
 #[inline(always)]
 fn need_at(needs: Needs<'_>, k: u64) -> Option<(u64, usize)>
     ensures need { result ≡ slice_get (needs_in needs.entry) k }

@@ -1,4 +1,4 @@
-//! The text of a graph as it is.
+//! The raw text of a graph, without a type.
 
 ghost use Rattle.std.specs.Prelude.{◌≡◌, ◌++◌, OnOk};
 ghost use Rattle.om_show.specs.Dumped.{dump_text};
@@ -7,7 +7,7 @@ use om_heap::{Placed, Rooted};
 use om_leaves::{put_object_line, put_root_line};
 use om_model::Memory;
 
-/// Puts the lines of a graph as it is.
+/// Appends the lines of a graph, without a type.
 #[tactic(auto, unfolding(om_show::specs::Dumped::dump_text))]
 pub fn put_dump(text: &mut Vec<u8>, value: &Rooted<'_>) -> Result<(), Memory>
     ensures { OnOk result

@@ -1,4 +1,5 @@
-//! What stands after parts, told by one byte, which is `]` where they are those of an array.
+//! The text after the parts of a block, encoded in one byte. The byte `]` stands for the closing
+//! bracket of an array.
 
 ghost use Rattle.std.specs.Prelude.{ℕ, List as Seq, ◌≡◌, ◌++◌, OnOk};
 ghost use Rattle.om_leaves.specs.Frames.{named_frame};
@@ -9,7 +10,7 @@ use om_leaves::{Frame, put_few};
 use om_model::Memory;
 use om_model::list::List;
 
-/// What stands after the parts.
+/// Returns the end of the parts.
 #[inline(always)]
 pub fn end_of(frame: &Frame<'_>) -> u8
     ensures { end_text result ≡ (frame_in frame.now).closing }
@@ -22,7 +23,7 @@ pub fn end_of(frame: &Frame<'_>) -> u8
     }
 }
 
-// What stands after fields of these names.
+// Returns the end of fields with these names.
 #[inline(always)]
 fn end_of_fields(fields: &[List<u8>]) -> u8
     ensures { (name : Seq ℕ) → end_text result ≡ (named_frame name fields.now).closing }
@@ -30,7 +31,7 @@ fn end_of_fields(fields: &[List<u8>]) -> u8
     if fields.is_empty() { b')' } else { b'}' }
 }
 
-/// Puts what stands after parts.
+/// Appends the text after the parts.
 #[inline(always)]
 pub fn put_end(text: &mut Vec<u8>, end: u8) -> Result<(), Memory>
     ensures { OnOk result (text.new.items ≡ text.old.items ++ end_text end) }

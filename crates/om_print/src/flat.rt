@@ -1,4 +1,4 @@
-//! The text of a value none of whose objects is met twice, as is plain to see, put without a walk.
+//! Fast path for values in which clearly no object occurs twice. It prints without a traversal.
 
 ghost use Rattle.std.specs.Prelude.{◌≡◌, ◌<◌, length, IfOk, IsTrue};
 ghost use Rattle.om_model.specs.declared.value.Val.TheVariants as vals;
@@ -22,11 +22,12 @@ use om_model::Memory;
 use om_model::value::Val;
 use om_type_table::TypeTable;
 
-// How many parts an object has at most that is put without a walk.
+// The maximal number of parts of an object on the fast path.
 const FEW: u64 = 8;
 
-/// Puts the text of an integer, or of an object that has no parts or a few that have none, where
-/// the objects among them have rising numbers. It tells whether the whole text was put.
+/// Appends the text of an integer, or of an object without parts, or of an object with few parts
+/// that have no parts themselves. The objects among the parts must have ascending numbers. Returns
+/// true if it appended the whole text. Otherwise it may have appended some bytes.
 pub fn put_flat(
     text: &mut Vec<u8>,
     value: &Rooted<'_>,
@@ -59,7 +60,8 @@ pub fn put_flat(
     }
 }
 
-// The same of an object.
+// Appends the text of an object, under the same conditions. Returns true if it appended the whole
+// text.
 #[inline(always)]
 fn put_flat_object(
     text: &mut Vec<u8>,
@@ -90,7 +92,8 @@ fn put_flat_object(
     Ok(whole)
 }
 
-// Puts the parts of a block and what stands after them, up to a part that is not flat.
+// Appends the parts of a block and the text after them. Stops at the first part that the fast path
+// cannot print. Returns true if it appended all parts.
 #[inline(always)]
 fn put_flat_parts(
     text: &mut Vec<u8>,
@@ -122,8 +125,9 @@ fn put_flat_parts(
     Ok(true)
 }
 
-// Puts a value of this word that has no parts, if it is no object up to the last number, and tells
-// up to which number objects may have been met.
+// Appends the value of this word if it has no parts and is not an object up to number `last`.
+// Returns the greatest number of an object that may have been visited, or `None` if the value is
+// not printed.
 #[inline(always)]
 fn put_flat_part(
     text: &mut Vec<u8>,

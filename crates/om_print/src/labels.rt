@@ -1,4 +1,4 @@
-//! Labels of the objects that are met again.
+//! Labels of the objects that occur more than once.
 
 ghost use Rattle.std.specs.Prelude.{◌≡◌, ◌<◌, ◌++◌, length, true, false, All, IfOk, OnOk, filter};
 ghost use Rattle.std.specs.Prelude.{slice_index_or, decimal, vec_len, codes};
@@ -11,20 +11,20 @@ use om_leaves::put;
 use om_model::Memory;
 use std::alloc::Global;
 
-/// The objects that have labels, by the numbers of these.
+/// The objects that have labels, in the order of their labels.
 #[derive(Drop)]
 pub struct Labels {
     objects: Vec<u64>,
-    // the least of them, where there are any
+    // The least labelled object, if there is one.
     first: u64,
-    // of each object from the first to the greatest one the number of its label, and of one without
-    // a label how many labels there are
+    // For each object from the first to the greatest labelled one, the number of its label. For an
+    // object without a label, the number of labels.
     numbers: Vec<u64>,
 }
 
 impl Labels {
-    /// The labels of these objects, among so many. They take memory for the objects between the
-    /// least and the greatest of these alone.
+    /// Returns the labels of these objects, which are below `count`. The memory is proportional to
+    /// the range between the least and the greatest of them.
     pub fn new(alloc: Global, objects: Vec<u64>, count: u64) -> Result<Labels, Memory>
         requires { All (λ o. o < count) objects.items }
         ensures objects { IfOk result (λ labels. labels.objects.items ≡ objects.items) }
@@ -39,7 +39,7 @@ impl Labels {
         })
     }
 
-    /// Puts what stands before an object where it is met first: its label, if it has one.
+    /// Appends the text before an object at its first occurrence: its label, if it has one.
     pub fn put_first(&self, text: &mut Vec<u8>, o: u64) -> Result<(), Memory>
         requires { AreLabels self.now }
         ensures { OnOk result
@@ -53,7 +53,7 @@ impl Labels {
         put(text, b"=")
     }
 
-    /// Puts the label of an object.
+    /// Appends the label of an object.
     pub fn put_again(&self, text: &mut Vec<u8>, o: u64) -> Result<(), Memory>
         requires { AreLabels self.now }
         ensures { OnOk result
@@ -62,7 +62,7 @@ impl Labels {
         put_label(text, self.number_of(o))
     }
 
-    // The number of an object's label, and how many labels there are where it has none.
+    // Returns the number of an object's label, or the number of labels if the object has none.
     #[inline(always)]
     fn number_of(&self, o: u64) -> u64
         requires { AreLabels self.now }
@@ -80,7 +80,7 @@ impl Labels {
     }
 }
 
-/// Puts the label of this number.
+/// Appends the label with this number.
 pub fn put_label(text: &mut Vec<u8>, n: u64) -> Result<(), Memory>
     ensures { OnOk result (text.new.items ≡ text.old.items ++ (codes "#" ++ decimal n)) }
 {
@@ -94,7 +94,7 @@ fn put_number(text: &mut Vec<u8>, n: u64) -> Result<(), Memory>
     put(text, Buffer::new().format(n).as_bytes())
 }
 
-/// Marks an object that is met again.
+/// Marks an object that occurs again.
 #[inline(always)]
 pub fn mark_again(again: &mut Vec<bool>, step: Step<'_>)
     requires { IsMarkable (vec_len again.old) step }
@@ -106,7 +106,7 @@ pub fn mark_again(again: &mut Vec<bool>, step: Step<'_>)
     }
 }
 
-/// Those of the objects that have a mark.
+/// Returns the objects of `order` that are marked.
 pub fn objects_again(alloc: Global, order: &[u64], again: &[bool]) -> Result<Vec<u64>, Memory>
     requires { All (λ o. o < length again.now) order.now }
     ensures { IfOk result
@@ -121,13 +121,13 @@ pub fn objects_again(alloc: Global, order: &[u64], again: &[bool]) -> Result<Vec
     Ok(objects)
 }
 
-// The numbers from the first one up to, and without, the end.
+// The numbers from `first` up to `end`, exclusive.
 struct Span {
     first: u64,
     end: u64,
 }
 
-// What these objects span, among so many.
+// Returns the range of these objects, which are below `count`.
 fn span_of(objects: &[u64], count: u64) -> Span
     requires { All (λ o. o < count) objects.now }
     ensures { All (IsBetween result.first result.end) objects.now }
@@ -141,7 +141,8 @@ fn span_of(objects: &[u64], count: u64) -> Span
     Span { first, end }
 }
 
-// The number of each object of the span among these, and how many these are for the others.
+// Returns for each object of the range its index among these objects, or their number if it is none
+// of them.
 fn number_objects(alloc: Global, objects: &[u64], first: u64, end: u64) -> Result<Vec<u64>, Memory>
     requires { All (IsBetween first end) objects.now }
     ensures { IfOk result (λ numbers. AreNumbers objects.now first numbers.items) }

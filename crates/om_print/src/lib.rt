@@ -1,5 +1,7 @@
-//! Puts texts: of a graph as it is, and of a value at a type, with labels for the objects that are
-//! met again; and tells whether a text is that of a value.
+//! Prints values: a graph without a type (`dump`), and a value at a type with labels for the
+//! objects that occur more than once (`show`). It also compares a given text with the text of a
+//! value (`is_shown`) without building that text as a whole. The definitions of the texts are in
+//! other crates.
 #![tactic(auto)]
 
 mod block;

@@ -1,4 +1,4 @@
-//! Objects in the order in which they were met.
+//! Objects in the order of their first visits.
 
 ghost use Rattle.std.specs.Prelude.{◌≡◌, ◌∷◌, [], ◌++◌, IfOk, OnOk};
 
@@ -6,11 +6,12 @@ use om_model::Memory;
 use std::alloc::Global;
 use std::marker::Model;
 
-/// Objects in an order: those of a row, and then others. A value that was read has its objects in a
-/// row, which takes no memory. Contracts see the list of the objects.
+/// A list of objects: a range of consecutive numbers, followed by others. A value that was read has
+/// its objects in such a range, which takes no memory. In contracts, its model is the list of the
+/// objects.
 #[derive(Drop)]
 pub struct Order {
-    // the row goes from the first up to, and without, the next
+    // The range from `first` up to `next`, exclusive.
     first: u64,
     next: u64,
     others: Vec<u64>,
@@ -28,7 +29,7 @@ impl Model for Order {
 }
 
 impl Order {
-    /// No object. A row that begins with this one takes no memory.
+    /// Returns the empty list. A range that begins with `first` takes no memory.
     pub fn new(alloc: Global, first: u64) -> Order
         ensures { result ≡ [] }
     {
@@ -39,13 +40,13 @@ impl Order {
         }
     }
 
-    /// The object that would go on with the row.
+    /// Returns the object that would extend the range.
     #[inline(always)]
     pub fn next(&self) -> u64 {
         self.next
     }
 
-    /// Puts an object at the end.
+    /// Appends an object.
     #[inline(always)]
     pub fn push(&mut self, o: u64) -> Result<(), Memory>
         ensures { OnOk result (self.new ≡ self.old ++ o ∷ []) }
@@ -57,7 +58,7 @@ impl Order {
         Ok(self.others.push(o)?)
     }
 
-    /// The objects.
+    /// Returns the objects.
     pub fn numbers(&self, alloc: Global) -> Result<Vec<u64>, Memory>
         ensures { IfOk result (λ numbers. numbers.items ≡ self.now) }
     {

@@ -1,4 +1,4 @@
-//! The text of the values that are left, as long as no object is met again.
+//! The text of the remaining values, as long as no object occurs again.
 
 ghost use Rattle.std.specs.Prelude.{◌≡◌, ◌<◌, ◌≤◌, ◌+◌, ◌++◌, length, Some, None, [], true, false};
 ghost use Rattle.std.specs.Prelude.{slice_index, slice_index_or, IfOk, IsTrue, OnOk, vec_len};
@@ -25,8 +25,8 @@ use om_model::Memory;
 use om_model::value::Val;
 use om_type_table::TypeTable;
 
-/// Puts the text of the values that are left up to an object that is met again, and tells whether
-/// there was none.
+/// Appends the text of the remaining values up to the first object that occurs again. Returns true
+/// if there was no such object.
 pub fn put_until_again<'a>(
     text: &mut Vec<u8>,
     heap: &'a Heap,
@@ -47,8 +47,8 @@ pub fn put_until_again<'a>(
     Ok(fresh)
 }
 
-/// Puts some of the text of the values that are left, as long as it has fewer bytes than these, and
-/// tells whether no object was met again.
+/// Appends text of the remaining values while it has fewer than a given number of bytes. Returns
+/// true if no object occurred again.
 pub fn put_some<'a>(
     text: &mut Vec<u8>,
     heap: &'a Heap,
@@ -69,7 +69,8 @@ pub fn put_some<'a>(
     Ok(fresh)
 }
 
-// Puts what the value that comes next begins with, if one does and is no object that was met.
+// Appends the beginning of the next value, if there is one and it is not an object that occurred
+// before.
 fn put_next<'a>(
     text: &mut Vec<u8>,
     heap: &'a Heap,
@@ -91,7 +92,7 @@ fn put_next<'a>(
     Ok(fresh)
 }
 
-// Puts the end that is the innermost level, or what comes next in the innermost block.
+// Appends the end at the innermost level, or the next text of the innermost block.
 #[inline(always)]
 fn put_part<'a>(
     text: &mut Vec<u8>,
@@ -120,8 +121,8 @@ fn put_part<'a>(
     put_in(text, heap, table, walk)
 }
 
-// Puts what stands before the next part of the innermost block and what this begins with, or what
-// stands after the last.
+// Appends the text before the next part of the innermost block and the beginning of that part. If
+// there is no next part, appends the text after the last one.
 #[inline(always)]
 fn put_in<'a>(
     text: &mut Vec<u8>,
@@ -159,7 +160,7 @@ fn put_in<'a>(
     Ok(fresh)
 }
 
-/// The word of a field.
+/// Returns the word of a field.
 #[inline(always)]
 pub fn word_at(fields: &[u64], i: u64) -> u64
     requires { i < length fields.now }
@@ -168,8 +169,8 @@ pub fn word_at(fields: &[u64], i: u64) -> u64
     fields[i as usize]
 }
 
-// Puts what a value of this word begins with, if it is no object that was met: such a one comes
-// next.
+// Appends the beginning of the value of this word. If the value is an object that occurred before,
+// then it becomes the next value instead.
 #[inline(always)]
 fn put_value<'a>(
     text: &mut Vec<u8>,
@@ -217,7 +218,7 @@ fn put_value<'a>(
     }
 }
 
-// Puts what an object that was not met begins with.
+// Appends the beginning of an object that has not occurred before.
 #[inline(always)]
 fn put_object<'a>(
     text: &mut Vec<u8>,
@@ -254,7 +255,7 @@ fn put_object<'a>(
     Ok(())
 }
 
-/// Puts an object without parts at the type of this number.
+/// Appends an object without parts at the type with this number.
 #[inline(always)]
 pub fn put_leaf(
     text: &mut Vec<u8>,
@@ -275,7 +276,7 @@ pub fn put_leaf(
     put_object_at(text, heap, word, table.shape(at), table.names(at))
 }
 
-// Puts what stands before the parts of a block, and opens it.
+// Appends the text before the parts of a block, and opens the block.
 #[inline(never)]
 fn put_block<'a>(
     text: &mut Vec<u8>,

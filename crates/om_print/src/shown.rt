@@ -25,7 +25,7 @@ use om_model::value::Val;
 use om_type_table::TypeTable;
 use std::alloc::Global;
 
-/// Puts the text of a value at a type of the table.
+/// Appends the text of a value at a type of the table.
 pub fn put_shown_at(
     text: &mut Vec<u8>,
     alloc: Global,
@@ -56,8 +56,8 @@ pub fn put_shown_at(
     Ok(())
 }
 
-// Puts the text if no object has a label. Where one is met again it stops, and tells the objects
-// that have labels.
+// Appends the text if no object has a label. If an object occurs again, the function stops
+// appending and returns the objects that have labels.
 fn put_without_labels(
     text: &mut Vec<u8>,
     alloc: Global,
@@ -88,7 +88,7 @@ fn put_without_labels(
     Ok(Some(objects))
 }
 
-// Puts the text with these labels.
+// Appends the text with these labels.
 #[inline(never)]
 fn put_with_labels(
     text: &mut Vec<u8>,
@@ -115,7 +115,7 @@ fn put_with_labels(
     Ok(())
 }
 
-// Puts the pieces of a step.
+// Appends the text of a step.
 fn put_step(
     text: &mut Vec<u8>,
     heap: &Heap,
@@ -149,7 +149,7 @@ fn put_step(
     }
 }
 
-// Puts the pieces of a step where no object has a label.
+// Appends the text of a step if no object has a label.
 #[inline(always)]
 fn put_plain(
     text: &mut Vec<u8>,

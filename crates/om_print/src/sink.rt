@@ -1,4 +1,4 @@
-//! The same texts put to a sink. All memory is taken before the first byte is put.
+//! Writes the texts to a sink. All memory is allocated before the first byte is written.
 
 ghost use Rattle.std.specs.Prelude.{◌≡◌, IsErrOf};
 ghost use Rattle.om_types.specs.Table.{table_shapes};
@@ -17,8 +17,8 @@ use om_heap::Rooted;
 use om_type_table::TypeTable;
 use std::alloc::Global;
 
-/// Puts the text of a value at the type that was asked for. After a fault a proper prefix was put,
-/// out of memory nothing.
+/// Writes the text of a value at the requested type. If writing fails, a proper prefix was written.
+/// If memory runs out, nothing was written.
 pub fn show<K: Sink>(
     alloc: Global,
     value: &Rooted<'_>,
@@ -39,7 +39,7 @@ pub fn show<K: Sink>(
     Ok(())
 }
 
-/// Puts the lines of a graph as it is to a sink.
+/// Writes the lines of a graph to a sink, without a type.
 pub fn dump<K: Sink>(alloc: Global, value: &Rooted<'_>, out: &mut K) -> Result<(), WriteError>
     ensures puts { Writes (change (K.state out.old) (K.state out.new))
         (dump_text value.now.heap.now value.now.root) result }

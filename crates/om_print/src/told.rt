@@ -1,5 +1,5 @@
-//! Whether a text is that of a value. The value's own text is put a few bytes at a time, and each
-//! time compared with what is left.
+//! Compares a text with the text of a value. The value's text is printed in small chunks, each of
+//! which is compared with the rest of the given text.
 
 ghost use Rattle.std.specs.Prelude.{◌≡◌, ◌<◌, ◌++◌, length, IfOk, IfSome, IsTrue};
 ghost use Rattle.om_types.specs.Table.{table_shapes};
@@ -15,10 +15,10 @@ use om_model::Memory;
 use om_type_table::TypeTable;
 use std::alloc::Global;
 
-/// How many bytes are put at a time, or some more.
+/// The size of a chunk in bytes. A chunk may be somewhat longer.
 const FEW: usize = 4096;
 
-// What follows this front, if the text begins with it.
+// Returns the rest of the text after this prefix, if the text begins with it.
 fn after<'t>(text: &'t [u8], front: &[u8]) -> Option<&'t [u8]>
     ensures { IfSome result (λ rest. text.now ≡ front.now ++ rest.now) }
 {
@@ -29,8 +29,8 @@ fn after<'t>(text: &'t [u8], front: &[u8]) -> Option<&'t [u8]>
     }
 }
 
-/// Whether the text of a value at a type of the table is this one. Where an object has a label the
-/// answer is no, whatever the text.
+/// Returns true if this is the text of the value at a type of the table. If an object has a label,
+/// returns false for every text.
 pub fn is_shown(
     alloc: Global,
     value: &Rooted<'_>,

@@ -1,4 +1,5 @@
-//! The pieces of a value at a type, depth first and parts from left to right.
+//! A depth-first traversal of a value at a type, which visits parts from left to right and yields
+//! the chunks of its text.
 
 ghost use Rattle.std.specs.Prelude.{◌≡◌, ◌<◌, ◌≤◌, ◌+◌, option_map, length, Some, None, All, IfOk};
 ghost use Rattle.std.specs.Prelude.{OnOk, IsTrue, [], true, false, slice_index, slice_index_or};
@@ -28,44 +29,44 @@ use om_model::value::Val;
 use om_type_table::TypeTable;
 use std::alloc::Global;
 
-/// One piece, or two of an object that is met for the first time.
+/// A step, which stands for one chunk, or for two chunks at the first visit of an object.
 #[derive(Clone, Copy)]
 pub enum Step<'a> {
-    /// An integer at the type of this number.
+    /// An integer at the type with this number.
     Integer(i64, usize),
     /// The array without elements.
     Empty,
-    /// A value of which nothing is asked.
+    /// A value at a wildcard type.
     Hidden,
-    /// An object that was met before.
+    /// An object that was visited before.
     Again(u64),
-    /// An object without parts at the type of this number.
+    /// An object without parts, at the type with this number.
     Leaf(u64, usize),
-    /// A block, and what stands around its parts.
+    /// A block, and the text around its parts.
     Opening(u64, Frame<'a>),
-    /// What stands before this part.
+    /// The text before this part.
     Before(Frame<'a>, u64),
-    /// What stands after the parts, told by its end.
+    /// The text after the parts, encoded by its end.
     Closing(u8),
 }
 
-/// A place among the pieces of a value. Of a block whose last part has begun only the end is kept,
-/// which is all that a long list takes.
+/// A position among the chunks of a value. If the last part of a block has begun, the traversal
+/// keeps only the end of the block. A long list therefore takes one byte for each item.
 #[derive(Drop)]
 pub struct Walk<'a> {
-    // the value that comes next and the number of its type, where a value does
+    // The next value and its type number, if a value comes next.
     pub value: Option<(Val, usize)>,
-    // the blocks of which parts are left, the innermost last
+    // The blocks with remaining parts, the innermost last.
     pub stack: Vec<OpenBlock<'a>>,
-    // the ends of the others that are open, the innermost last
+    // The ends of the other open blocks, the innermost last.
     pub ends: Vec<u8>,
-    // which objects were met, by their numbers, and in which order
+    // For each object whether it was visited, and the order of the visits.
     pub marks: Vec<bool>,
     pub order: Order,
 }
 
 impl<'a> Walk<'a> {
-    /// Before the first piece.
+    /// Returns the position before the first chunk.
     pub fn new(
         alloc: Global,
         value: &Rooted<'_>,
@@ -88,7 +89,7 @@ impl<'a> Walk<'a> {
         })
     }
 
-    /// The next step.
+    /// Returns the next step.
     #[inline(always)]
     pub fn next(&mut self, heap: &'a Heap, table: &'a TypeTable) -> Result<Option<Step<'a>>, Memory>
         requires walk { IsWalk table.now heap.now self.old }
@@ -104,7 +105,7 @@ impl<'a> Walk<'a> {
         Ok(Some(self.meet(&value, table, at)?))
     }
 
-    // The step of a value that comes next.
+    // Returns the step of the next value.
     #[inline(always)]
     fn meet(
         &mut self,
@@ -135,7 +136,7 @@ impl<'a> Walk<'a> {
         }
     }
 
-    // The step of an object that was not met.
+    // Returns the step of an object that was not visited before.
     #[inline(always)]
     fn meet_first(
         &mut self,
@@ -169,7 +170,8 @@ impl<'a> Walk<'a> {
         Ok(Step::Opening(o, block.frame))
     }
 
-    // The step where no value comes next: after the last part of the innermost level, or in it.
+    // Returns the step if no value comes next: the end at the innermost level, or a step in the
+    // innermost block.
     #[inline(always)]
     pub fn go_on(&mut self, heap: &Heap, table: &TypeTable) -> Result<Option<Step<'a>>, Memory>
         requires walk { IsWalk table.now heap.now self.old }
@@ -191,7 +193,7 @@ impl<'a> Walk<'a> {
         Ok(Some(self.go_in(heap, table)?))
     }
 
-    // The step in the innermost block: before its next part, or after its last one.
+    // Returns the step in the innermost block: before its next part, or after its last one.
     #[inline(always)]
     fn go_in(&mut self, heap: &Heap, table: &TypeTable) -> Result<Step<'a>, Memory>
         requires walk { IsWalk table.now heap.now self.old }
@@ -218,7 +220,7 @@ impl<'a> Walk<'a> {
         Ok(Step::Before(block.frame, block.next))
     }
 
-    // How many ends are outside of the innermost block.
+    // Returns the number of ends outside of the innermost block.
     #[inline(always)]
     fn outside(&self) -> usize
         ensures { result ≡ last_outside 0 self.now.stack.items }
@@ -229,7 +231,7 @@ impl<'a> Walk<'a> {
         self.stack[self.stack.len() - 1].outside
     }
 
-    /// Whether the innermost level is an end.
+    /// Returns true if the innermost level is an end.
     #[inline(always)]
     pub fn has_end(&self) -> bool
         ensures some { result ≡ true → last_outside 0 self.now.stack.items < vec_len self.now.ends }
@@ -239,7 +241,7 @@ impl<'a> Walk<'a> {
         self.outside() < self.ends.len()
     }
 
-    /// Whether no level is left.
+    /// Returns true if no level is left.
     #[inline(always)]
     pub fn has_none(&self) -> bool
         ensures none { result ≡ true → self.now.stack.items ≡ [] }
@@ -249,7 +251,8 @@ impl<'a> Walk<'a> {
         self.stack.is_empty() && self.ends.is_empty()
     }
 
-    /// Goes past a part of the innermost block, which is the last one where there is an end.
+    /// Advances over a part of the innermost block. If `end` is given, then the part is the last
+    /// one.
     #[inline(always)]
     pub fn pass_part(&mut self, last: usize, next: u64, end: Option<u8>) -> Result<(), Memory>
         requires { last + 1 ≡ vec_len self.old.stack }
@@ -268,7 +271,7 @@ impl<'a> Walk<'a> {
     }
 }
 
-// The object that a value is, if it is one.
+// Returns the object to which a value refers, or 0 if it is not a reference.
 fn first_object(v: Val) -> u64 {
     match v {
         Val::Ref(o) => o,
@@ -276,8 +279,8 @@ fn first_object(v: Val) -> u64 {
     }
 }
 
-// The value of a field, by the words of all of them. It is found soonest where it is the object of
-// this number.
+// Returns the value of a field, given the words of all fields. The fast path is a reference to the
+// object `near`.
 #[inline(always)]
 pub fn value_at(heap: &Heap, fields: &[u64], i: u64, near: u64) -> Val
     requires valid { All (IsFieldWord heap.now) fields.now }
@@ -292,7 +295,7 @@ pub fn value_at(heap: &Heap, fields: &[u64], i: u64, near: u64) -> Val
     heap.value_of(word)
 }
 
-// A block before its first part, inside of so many ends.
+// Returns a block before its first part, which is inside of a given number of ends.
 #[inline(always)]
 pub fn open_block<'a>(
     placed: &Placed<'a>,
@@ -333,7 +336,8 @@ pub fn open_block<'a>(
     }
 }
 
-// These needs, or none. Each case is named so that its parts are copied one by one.
+// Returns these parts, or no parts. The match names each variant, so that its components are copied
+// one by one.
 #[inline(always)]
 fn needs_or_none(needs: Option<Needs<'_>>) -> Needs<'_>
     ensures { needs_in result ≡ or_none (option_map needs_in needs.entry) }

@@ -1,4 +1,4 @@
-//! The laws. Each function does nothing: what it ensures is the law.
+//! The theorems as contracts of lemma functions, which do nothing.
 
 ghost use Rattle.om_promises.specs.Causes.{AreAsTold, AreMeant, IfAlone, IfWords, OnlyOpenFault};
 ghost use Rattle.om_promises.specs.Causes.{OnlyTooLong, IfMissing, IfFileTooLong, IfFiles};
@@ -12,20 +12,22 @@ ghost use Rattle.om_promises.specs.Outside.{OnlyReadFault, OnlyWriteFault};
 ghost use Rattle.om_promises.specs.Promises.{IfStop, IfEnd, IfUsage};
 ghost use Rattle.om_promises.specs.StreamLaws.{HasOneStream};
 
-/// Bytes are one list of values, one after another, and one end after them.
+/// States that each list of bytes is exactly one list of values, followed by exactly one kind of
+/// end.
 pub fn one_stream()
     ensures { HasOneStream }
 {}
 
-/// What may be done by commands, the files that they want, and what they say of their input by it.
+/// A command in the general form: its tasks, the files that it requests, and its output for each
+/// item of the input.
 pub trait Act {
     ghost acts: { Type 0 };
 
     ghost commands: { Commands acts };
 }
 
-/// Lawful commands have one outcome. The input holds one stop at most, which stays when bytes
-/// follow, and comes last.
+/// States that lawful commands have at most one outcome. The input contains at most one exit
+/// reason. It remains if more bytes follow, and it comes last.
 pub fn lawful_commands<A: Act>()
     requires { AreLawful A.commands }
     ensures outcome { HaveOneOutcome A.commands }
@@ -34,13 +36,15 @@ pub fn lawful_commands<A: Act>()
     ensures last { StopsAreLast A.commands }
 {}
 
-/// All that is promised of a call follows from its account, where the commands are lawful.
+/// States that the specification of a run follows from the account of the run, if the commands are
+/// lawful.
 pub fn promised<A: Act>()
     requires { AreLawful A.commands }
     ensures { ArePromised A.commands }
 {}
 
-/// What follows from that: where a status has to come, and what one tells.
+/// States what follows from the specification: when a status must be returned, and what a returned
+/// status means.
 pub fn promises_of_commands<A: Act>()
     requires { AreLawful A.commands }
     ensures stop { Follow A.commands (IfStop A.commands) }
@@ -62,7 +66,8 @@ pub fn promises_of_commands<A: Act>()
     ensures complete { Follow A.commands (IsComplete A.commands) }
 {}
 
-/// What follows besides, where files are taken turn by turn: the causes that are files.
+/// States what else follows for commands that request their files turn by turn: the statuses that
+/// files cause.
 pub fn files_in_turns<A: Act>()
     requires lawful { AreLawful A.commands }
     requires turns { AreInTurns A.commands }

@@ -1,4 +1,4 @@
--- What holds of what is built from tokens that come one at a time.
+-- Properties of a graph that is built from tokens one at a time.
 use Rattle.std.proofs.Common.{◌≡◌, ℕ, ◌+◌, ◌-◌, ◌<◌, inl, inr, ◌↔◌, IsSome, List, [], ◌∷◌, ◌++◌, length, map, get_or, All, HoldsAt, Option, Some, None, pos, refl, ap, sym, ◌∙◌, arith, length-append, length-set}
 use Rattle.std.proofs.lemmas.List.{length_push, length-replicate, get_or-set_same, get_or-set_other, get_or_append_left, get_or_at}
 use Rattle.std.proofs.lemmas.Bool.{cases_eq}
@@ -30,7 +30,7 @@ HasSize-with_field size i v (objs.I32 z) h = h
 HasSize-with_field size i v (objs.I64 z) h = h
 HasSize-with_field size i v (objs.Native z) h = h
 
--- an object keeps its size when a field is set
+-- If a field is set, then each object keeps its size.
 HasSize-set_field : (all : List Obj) (size k b i : ℕ) (v : Val) → k < length all → HoldsAt (HasSize size) all k → HoldsAt (HasSize size) (set_field all b i v) k
 HasSize-set_field all size k b i v h p d =
     let old : Obj = get_or all b (objs.I32 (pos 0)) in
@@ -50,7 +50,7 @@ IsOpenIn-set_field all b i v o h = record {
   at = h.at ∙ sym (word_of-set_field all b i v (vals.Ref o.object));
 }
 
--- and when more objects follow
+-- If more objects follow, then the block stays open.
 IsOpenIn-append : (xs ys : List Obj) (o : OpenBlock) → IsOpenIn xs o → IsOpenIn (xs ++ ys) o
 IsOpenIn-append xs ys o h = record {
   object = let l = length-append xs ys in let k = h.object in omega arith;
@@ -69,7 +69,7 @@ AreOpen-set_field all b i v bs h = AreOpen-in all (set_field all b i v) (IsOpenI
 pub AreOpen-append : (xs ys : List Obj) (bs : List OpenBlock) → AreOpen xs bs → AreOpen (xs ++ ys) bs
 AreOpen-append xs ys bs h = AreOpen-in xs (xs ++ ys) (IsOpenIn-append xs ys) bs h
 
--- the innermost one gets a field
+-- The innermost block receives a field.
 AreOpen-still_open : (all : List Obj) (b : OpenBlock) (outer : List OpenBlock) → AreOpen all (b ∷ outer) → AreOpen all (still_open (advanced b 1) outer)
 AreOpen-still_open all b outer h =
     let k = h.0.next in
@@ -79,12 +79,12 @@ AreOpen-still_open all b outer h =
           (record { object = h.0.object; next = omega arith; size = h.0.size; at = h.0.at }, h.1, h.2)
     ]
 
--- an object after them all
+-- A new object comes after all open blocks.
 all_below : (all : List Obj) (bs : List OpenBlock) (c : ℕ) → length all ≡ c → AreOpen all bs → All (λ o. o.object < c) bs
 all_below all [] c e h = All-nil (λ o. o.object < c)
 all_below all (b ∷ outer) c e h = All-cons (λ o. o.object < c) b outer (let k = h.0.object in omega arith) (all_below all outer c e h.2)
 
--- a token opens its block
+-- A token opens its block.
 AreOpen-opened : (t : Token) (all : List Obj) (bs : List OpenBlock) (c at : ℕ) → IsToken t → length all ≡ c → at ≡ word_of (all ++ blank t) (vals.Ref c) → AreOpen all bs
     → AreOpen (all ++ blank t) (opened t c at ++ bs)
 AreOpen-opened (integer z) all bs c at h e w k = AreOpen-append all [] bs k
@@ -104,7 +104,7 @@ AreOpen-opened (block tag size) all bs c at h e w k =
     )
 AreOpen-opened (leaf o) all bs c at h e w k = AreOpen-append all (o ∷ []) bs k
 
--- ---- a step keeps what is built well
+-- ---- a step preserves the open blocks
 
 keeps_open : (all : List Obj) (bs : List OpenBlock) (r : Option Val) (t : Token) → IsToken t → AreOpen all bs
     → AreOpen (absorb (building all bs r) t).objects (absorb (building all bs r) t).open_blocks
@@ -142,12 +142,12 @@ WellOpen-fill v all (b ∷ outer) r h = record {
 pub WellOpen-start : WellOpen start
 WellOpen-start = record { are_open = tt; rooted = λ e. refl }
 
--- ---- how many values are to come
+-- ---- the number of pending values
 
 to_come_cons : (b : OpenBlock) (bs : List OpenBlock) → fields_to_come (b ∷ bs) ≡ (b.size - b.next) + fields_to_come bs
 to_come_cons b bs = sum_by-cons (λ o. o.size - o.next) b bs
 
--- ---- how many objects there are
+-- ---- the number of objects
 
 length_fill : (v : Val) (all : List Obj) (bs : List OpenBlock) (r : Option Val) → length (fill v all bs r).objects ≡ length all
 length_fill v all [] r = refl
@@ -177,7 +177,7 @@ length-from_start ts h = let l = length-absorb_all start ts h in omega arith
 
 -- ---- the end
 
--- with the root there, no value is to come just where no block is open
+-- If no field is pending, then no block is open.
 all_full : (all : List Obj) (bs : List OpenBlock) → AreOpen all bs → fields_to_come bs ≡ 0 → bs ≡ []
 all_full all [] h e = refl
 all_full all (b ∷ outer) h e = let s = to_come_cons b outer in let k = h.0.next in absurd (omega arith)
@@ -190,15 +190,15 @@ root_came : (r : Option Val) → root_to_come r ≡ 0 → IsSome r
 root_came None e = absurd (omega arith)
 root_came (Some v) e = refl
 
--- nothing is to come where the root is there and no block is open
+-- If the root is read and no block is open, then no value is pending.
 pub to_come-done : (state : Building) → IsSome state.root → state.open_blocks ≡ [] → to_come state ≡ 0
 to_come-done state k e = let r = root_is_there state.root k in rw e (omega arith)
 
--- and only there
+-- If no value is pending, then the root is read and no block is open.
 pub done-to_come : (state : Building) → WellOpen state → to_come state ≡ 0 → IsSome state.root × (state.open_blocks ≡ [])
 done-to_come state w e =
     (root_came state.root (omega arith), all_full state.objects state.open_blocks w.are_open (omega arith))
 
--- so with the root there, just where no block is open
+-- If the root is read, then no block is open if and only if no value is pending.
 pub ends : (state : Building) → WellOpen state → IsSome state.root → (state.open_blocks ≡ []) ↔ (to_come state ≡ 0)
 ends state w k = (to_come-done state k, λ e. (done-to_come state w e).1)

@@ -1,4 +1,4 @@
--- Tokens that are taken without the judge.
+-- Tokens that are read on the fast path.
 use Rattle.std.proofs.Common.{ℕ, suc, ◌≡◌, ◌+◌, ◌-◌, ◌<◌, ◌≤◌, List, [], ◌∷◌, ◌++◌, length, take, drop, get_or, Option, Some, Ok, None, true, arith, ap, ◌∙◌, subst, subst₂, take-take}
 use Rattle.std.proofs.lemmas.List.{length-take}
 use Rattle.om_model.specs.Bytes.{AreBytes}
@@ -22,7 +22,7 @@ use Rattle.om_format.proofs.SpellValues.{IsToken-spelled}
 use Rattle.om_read.specs.Contents.{SpellsTokenAfter}
 use Rattle.om_read.proofs.PiecesLemmas.{token_is_read, length_rest, taken_on}
 
--- the object of a token with which the place goes on has room
+-- If the totals advance by a token, then there is room for the token's object.
 pub advance_fits : (header : List ℕ) (before : List (List ℕ)) (place next : Totals) (state : Bounded) (n : ℕ) (measure : Option Measure) → Builds header before place state
     → AreTotals next (moved (context_of place) n measure) → Fits state measure
 advance_fits header before place next state n measure h m =
@@ -30,7 +30,7 @@ advance_fits header before place next state n measure h m =
     let room : state.room ≡ next.head.w64 = h.room ∙ ap (λ x. x.w64) m.head in
     omega (arith, m.w64, h.sums.w64, next.within64)
 
--- the bytes of a token are its code and those after it
+-- The bytes of a token are its code and the bytes after it.
 spelled_after : (bytes : List ℕ) (kind : CodeKind) (t : Token) → 0 < length bytes → kind_of (get_or bytes 0 0) ≡ Ok kind
     → Spells t (take (raw_length bytes) bytes) → SpellsAfter kind (take (fixed_bytes kind + variable_bytes kind (drop 1 bytes)) (drop 1 bytes)) t
 spelled_after [] kind t some k s = absurd (omega arith)
@@ -41,7 +41,7 @@ spelled_after (code ∷ rest) kind t some k s =
     subst (λ r. SpellsFrom r (take n rest) t) k whole.1
 
 module _ (header : List ℕ) (before : List (List ℕ)) (place next : Totals) (state state' : Bounded) (bytes : List ℕ) (valid : AreBytes bytes) (some : 0 < length bytes) (is_open : 0 < place.pending) (h : Builds header before place state) where
-  -- a token of this kind is taken
+  -- A token of this kind is read.
   pub common_taken : (kind : CodeKind) (n : ℕ) → n ≡ 1 + fixed_bytes kind + variable_bytes kind (drop 1 bytes) → kind_of (get_or bytes 0 0) ≡ Ok kind → PassesTo place (get_or bytes 0 0) kind (drop 1 bytes) next
       → ((t : Token) → SpellsAfter kind (take (fixed_bytes kind + variable_bytes kind (drop 1 bytes)) (drop 1 bytes)) t → state' ≡ absorb_in state t)
       → TakesOne header before bytes place state next state' n
@@ -62,7 +62,7 @@ module _ (header : List ℕ) (before : List (List ℕ)) (place next : Totals) (s
       let s = next_spelled header before place state bytes valid h j.0 j.1 in
       (s.0, spelled_after bytes kind s.0 some k s.1, IsToken-spelled s.0 (take (raw_length bytes) bytes) s.1, s.2)
 
--- ---- one after another
+-- ---- one token after another
 
 pub one_taken : (limit : ℕ) (taken bytes : List ℕ) (place next : Totals) (state state' : Bounded) (n : ℕ) → 0 < place.pending → (l : LeadsAs (Some place) limit taken state []) → 0 < n
     → TakesOne l.0 l.1 bytes place state next state' n → TakesCommon limit taken bytes next state' n
@@ -79,7 +79,7 @@ one_more_taken limit taken bytes place next state state' a n is_open t some take
     let r = one_taken limit (taken ++ take a bytes) rest place next state state' n is_open t.2 some takes in
     (omega (arith, r.0, t.0, length_rest bytes a), λ last. (omega (arith, some), (r.1 last).1), subst (λ xs. LeadsAs (Some next) limit xs state' []) (taken_on taken bytes a n) r.2)
 
--- what is taken of the first bytes is taken of all
+-- If tokens are read from a prefix of the bytes, then they are read from all of the bytes.
 pub front_taken : (limit : ℕ) (taken bytes : List ℕ) (most : ℕ) (next : Totals) (state : Bounded) (n : ℕ) → TakesCommon limit taken (take most bytes) next state n
     → TakesCommon limit taken bytes next state n
 front_taken limit taken bytes most next state n t =
@@ -87,9 +87,9 @@ front_taken limit taken bytes most next state n t =
     let same : take n (take most bytes) ≡ take n bytes = take-take n most bytes (omega (arith, t.0, few)) in
     (omega (arith, t.0, few), t.1, subst (λ xs. LeadsAs (Some next) limit (taken ++ xs) state []) same t.2)
 
--- ---- what a token of some kind says, by the bytes after its code
+-- ---- the result of a token by its kind and the bytes after its code
 
--- the place to which it passes
+-- The totals to which the token leads.
 pub passes_from : (place next : Totals) (code : ℕ) (kind : CodeKind) (rest : List ℕ) (len : ℕ) (measure : Option Measure) → len ≡ fixed_bytes kind + variable_bytes kind rest → len ≤ length rest → IsPlain kind
     → field_refusal (context_of place) code kind rest ≡ None → measure ≡ measure_after kind rest → Advances place (1 + len) measure next true → PassesTo place code kind rest next
 passes_from place next code kind rest len measure l within plain sound m a =

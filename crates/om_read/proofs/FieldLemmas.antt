@@ -1,4 +1,4 @@
--- Fields of a block among objects that are set one after another.
+-- Setting the fields of a block one after another.
 use Rattle.std.proofs.Common.{◌≡◌, ℕ, suc, ◌+◌, ◌<◌, List, [], ◌∷◌, ◌++◌, length, refl, ap, sym, ◌∙◌, arith, append_assoc, add-zero, eq-eqb, ne_eqb}
 use Rattle.std.proofs.lemmas.List.{set_at, length_push}
 use Rattle.om_model.specs.declared.value.Val.{Val}
@@ -9,12 +9,12 @@ use Rattle.om_read.specs.declared.build.OpenBlock.{OpenBlock}
 use Rattle.om_heap.specs.Heap.{set_field}
 use Rattle.om_heap.proofs.FieldLemmas.{length-set_field, set_field-append, set_field_at}
 
--- the fields from i on, one after another
+-- Sets the fields from index `i` on, one after another.
 abbrev pub set_fields : List Obj → ℕ → ℕ → List Val → List Obj
 set_fields all b i [] = all
 set_fields all b i (v ∷ values) = set_fields (set_field all b i v) b (i + 1) values
 
--- several fields
+-- Several fields.
 
 pub set_fields-append : (xs ys : List Obj) (b i : ℕ) (values : List Val) → b < length xs → set_fields (xs ++ ys) b i values ≡ set_fields xs b i values ++ ys
 set_fields-append xs ys b i [] h = refl
@@ -22,7 +22,7 @@ set_fields-append xs ys b i (v ∷ values) h =
     ap (λ all. set_fields all b (i + 1) values) (set_field-append xs ys b i v h)
     ∙ set_fields-append (set_field xs b i v) ys b (i + 1) values (rw length-set_field h)
 
--- the fields of the last block after its first ones
+-- The fields of the last block after its first fields.
 set_fields_from : (xs : List Obj) (tag : ℕ) (front rest : List Val) (b i : ℕ) (values : List Val) → length xs ≡ b → length front ≡ i → length rest ≡ length values
     → set_fields (xs ++ objs.Block tag (front ++ rest) ∷ []) b i values ≡ xs ++ objs.Block tag (front ++ values) ∷ []
 set_fields_from xs tag front [] b i [] e d l = refl
@@ -35,12 +35,12 @@ set_fields_from xs tag front (r ∷ rest) b i (v ∷ values) e d l =
     ∙ set_fields_from xs tag (front ++ v ∷ []) rest b (i + 1) values e (length_push front v ∙ ap (λ n. n + 1) d) (omega arith)
     ∙ ap (λ vs. xs ++ objs.Block tag vs ∷ []) (append_assoc front (v ∷ []) values)
 
--- all the fields of the last block
+-- All fields of the last block.
 pub set_fields_at : (xs : List Obj) (tag : ℕ) (old : List Val) (b : ℕ) (values : List Val) → length xs ≡ b → length old ≡ length values
     → set_fields (xs ++ objs.Block tag old ∷ []) b 0 values ≡ xs ++ objs.Block tag values ∷ []
 set_fields_at xs tag old b values e l = set_fields_from xs tag [] old b 0 values e refl l
 
--- an open block
+-- A block that is not full is open.
 
 pub still_open_below : (b : OpenBlock) (outer : List OpenBlock) → b.next < b.size → still_open b outer ≡ b ∷ outer
 still_open_below b outer h = rw (ne_eqb b.next b.size (omega arith))

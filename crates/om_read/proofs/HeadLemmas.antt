@@ -1,4 +1,4 @@
--- What the steps of a header come to.
+-- The result of the steps of a header.
 use Rattle.std.proofs.Common.{ℕ, ◌≡◌, ◌≢◌, ◌⊎◌, inl, inr, ⊎_elim, ◌+◌, ◌<◌, ◌≤◌, List, [], ◌∷◌, length, take, Bool, true, false, cond, eqb, ltb, Some, None, Option, Result, Ok, Err, arith, refl, ap, sym, ◌∙◌, subst}
 use Rattle.std.proofs.lemmas.Bool.{le-ltb, lt-ltb, cases_lt}
 use Rattle.std.proofs.lemmas.Bool.Decides.{nat_tests}
@@ -26,14 +26,14 @@ bad m s b c =
     let v : eqb m compressed_magic ≡ false = grind (arith, nat_tests) in
     rw (v, t, u) refl
 
--- a step that is decided in n bytes, at the front of others
+-- The first step is decided in `n` bytes.
 decided : (n k : ℕ) (r : Option ReadRefusal) (steps : List Step) → k ≤ n → first_refusal n (step k r ∷ steps) ≡ or_else r (first_refusal n steps)
 decided n k r steps h = rw (le-ltb n k h) refl
 
 undecided : (n k : ℕ) (r : Option ReadRefusal) (steps : List Step) → n < k → first_refusal n (step k r ∷ steps) ≡ None
 undecided n k r steps h = rw (lt-ltb n k h) refl
 
--- the steps after that of the magic
+-- The steps after the magic number.
 abbrev after_magic : ℕ → List ℕ → List Step
 after_magic limit bytes =
     step (header_length bytes) (fails_if (ltb limit (head_of bytes).w64) (TooLarge Words (head_of bytes).w64 limit))
@@ -56,11 +56,11 @@ header_bad limit bytes h s b c = first_decided limit bytes h ∙ ap (λ r. or_el
 pub header_compressed : (limit : ℕ) (bytes : List ℕ) → 4 ≤ length bytes → magic bytes ≡ compressed_magic → header_refusal limit bytes ≡ Some Compressed
 header_compressed limit bytes h e = first_decided limit bytes h ∙ ap (λ m. or_else (magic_refusal m) (first_refusal (length bytes) (after_magic limit bytes))) e
 
--- after a right magic
+-- The steps after a valid magic number.
 after_good : (limit : ℕ) (bytes : List ℕ) → HasMagic bytes → 4 ≤ length bytes → header_refusal limit bytes ≡ first_refusal (length bytes) (after_magic limit bytes)
 after_good limit bytes h four = first_decided limit bytes four ∙ ap (λ r. or_else r (first_refusal (length bytes) (after_magic limit bytes))) (none_from_magic (magic bytes) h)
 
--- a right magic whose header is not whole
+-- If the magic number is valid and the header is incomplete, then nothing is refused.
 waits : (limit : ℕ) (bytes : List ℕ) → (4 ≤ length bytes → HasMagic bytes) → length bytes < header_length bytes → (4 ≤ length bytes) ⊎ (length bytes < 4)
     → header_refusal limit bytes ≡ None
 waits limit bytes h short (inl four) =
@@ -81,13 +81,13 @@ header_waits limit bytes k h some e =
     let short : length bytes < header_length bytes = grind (arith, nat_tests) in
     (waits limit bytes h short (four_or_few (length bytes)), short)
 
--- ---- a whole header
+-- ---- a complete header
 
 start_is : (b : Bool) (big small : Head) → big.big ≡ true → small.big ≡ false → cond {A = ℕ} (cond b big small).big 32 20 ≡ cond {A = ℕ} b 32 20
 start_is true big small p q = rw p refl
 start_is false big small p q = rw q refl
 
--- where a header ends, by what it states
+-- The end of a header, by what it states.
 pub start_length : (bytes : List ℕ) → cond {A = ℕ} (head_of bytes).big 32 20 ≡ header_length bytes
 unfolding head_of
 start_length bytes = start_is (eqb (magic bytes) big_magic) (big_head bytes) (small_head bytes) refl refl

@@ -1,4 +1,4 @@
--- What is left for tokens that surely pass.
+-- The room that remains for tokens that surely pass.
 use Rattle.std.proofs.Common.{ℕ, ◌≡◌, inl, inr, ◌+◌, ◌-◌, ◌^◌, ◌<◌, ◌≤◌, List, [], true, false, cond, Option, Some, None, arith, refl, ap, sym, subst, ◌∙◌}
 use Rattle.std.proofs.lemmas.Bool.{cases_lt}
 use Rattle.om_model.specs.declared.header.Head.{Head}
@@ -13,7 +13,7 @@ use Rattle.om_read.specs.Pieces.{LeadsAs}
 use Rattle.om_read.specs.Left.{Leaves, Spends, IsSpent, limit_of}
 use Rattle.om_read.proofs.TotalsLemmas.{totals_are}
 
--- a token makes one object at most
+-- A token makes at most one object.
 one_object : (measure : Option Measure) → of_object (λ _. 1) measure ≤ 1
 one_object None = omega arith
 one_object (Some m) = omega arith
@@ -21,7 +21,7 @@ one_object (Some m) = omega arith
 limit_small : (head : Head) → head.big ≡ false → limit_of head ≡ head.w32
 limit_small head e = ap (λ b. cond b (2 ^ 62) head.w32) e
 
--- what is spent is that by which the place goes on
+-- The room decreases by what the totals increase.
 module _ (first place : Totals) (n k : ℕ) (left left' : Left) (measure : Option Measure) (leaves : Leaves first n place left) (is_open : 0 < left.pending) (some : 0 < k) (spends : Spends left k measure left')
     (spent : left'.pending ≡ 0 → IsSpent first.head (place.objects + of_object (λ _. 1) measure) left')
     (few32 : AreFew words32 measure k) (few64 : AreFew words64 measure k) where
@@ -75,7 +75,7 @@ module _ (first place : Totals) (n k : ℕ) (left left' : Left) (measure : Optio
     ),
   )
 
--- where data of the value are left a value is to come
+-- If data of the value remain, then a value is pending.
 pub still_open : (first place : Totals) (n m : ℕ) (left : Left) → Leaves first n place left → (place.pending ≡ 0 → place.taken ≡ place.head.length)
     → first.taken + m ≤ first.head.length → n < m → 0 < left.pending
 still_open first place n m left leaves ends within lt =
@@ -84,7 +84,7 @@ still_open first place n m left leaves ends within lt =
       | inr none ↦ absurd (omega (arith, ends (omega (arith, leaves.pending)), leaves.taken, ap (λ (h : Head). h.length) leaves.head))
     ]
 
--- a place with the same numbers serves as well
+-- Totals with the same numbers are interchangeable.
 pub same_place : (limit : ℕ) (taken : List ℕ) (place place' : Totals) (state : Bounded) → AreTotals place' (context_of place) → LeadsAs (Some place) limit taken state [] → LeadsAs (Some place') limit taken state []
 same_place limit taken place place' state same l =
     let h = l.2 in

@@ -27,9 +27,9 @@ use Rattle.om_heap.specs.Heap.{heap_words}
 use Rattle.om_read.proofs.BuildLemmas.{length-from_start, absorb_all_push}
 use Rattle.om_read.proofs.RoomLemmas.{heap_words-from_start}
 
--- ---- where the next token leads
+-- ---- the totals after the next token
 
--- the context after the next token is that with the token
+-- The context after the next token is the context of all tokens including it.
 pub context_after : (header : List ℕ) (before : List (List ℕ)) (rest : List ℕ) → IsOpen before → raw_length rest ≤ length rest
     → after (context header before) rest ≡ context header (with_next before rest)
 context_after header before rest is_open h =
@@ -42,11 +42,11 @@ context_after header before rest is_open h =
     sym (sums_of-push (map raw_measure before) (raw_measure rest) is_open) ∙ ap sums_of measures in
     λ i. record (context header before) { taken = len i; sums = all i }
 
--- the bytes that the next token takes
+-- The bytes of the next token.
 pub next_taken : (c : Context) (rest : List ℕ) (place next : Totals) → AreTotals place c → AreTotals next (after c rest) → next.taken ≡ place.taken + raw_length rest
 next_taken c rest place next s t = let e = s.taken in let f = t.taken in omega arith
 
--- its fields are few
+-- The next token has few fields.
 pub next_fields : (c : Context) (rest : List ℕ) (place next : Totals) → AreTotals place c → AreTotals next (after c rest) → 0 < place.pending → next.pending < 2 ^ 53
     → of_object fields (raw_measure rest) < 2 ^ 53
 next_fields c rest place next s t some few =
@@ -54,21 +54,21 @@ next_fields c rest place next s t some few =
     let f = t.pending in
     omega arith
 
--- ---- what it spells
+-- ---- the value of the next token
 
--- as many objects are there as the tokens made
+-- The number of objects is the number that the tokens made.
 pub objects_built : (header : List ℕ) (before : List (List ℕ)) (place : Totals) (state : Bounded) → Builds header before place state
     → length state.built.objects ≡ objects (map raw_measure before)
 objects_built header before place state h =
     ap (λ (b : Building). length b.objects) h.builds ∙ length-from_start h.tokens h.are_tokens ∙ ap objects (sym (raw_measures-spelled h.tokens before h.spells))
 
--- the objects have the words of the tokens
+-- The words of the objects are the words of the tokens.
 pub words_built : (header : List ℕ) (before : List (List ℕ)) (place : Totals) (state : Bounded) → Builds header before place state
     → heap_words state.built.objects ≡ all_words64 (map raw_measure before)
 words_built header before place state h =
     ap (λ (b : Building). heap_words b.objects) h.builds ∙ heap_words-from_start h.tokens h.are_tokens ∙ ap all_words64 (sym (raw_measures-spelled h.tokens before h.spells))
 
--- the next one has room
+-- There is room for the object of the next token.
 pub next_fits : (header : List ℕ) (before : List (List ℕ)) (place next : Totals) (state : Bounded) (rest : List ℕ) → Builds header before place state
     → AreTotals next (after (context header before) rest) → next.w64 ≤ next.head.w64 → Fits state (raw_measure rest)
 next_fits header before place next state rest h sums within =
@@ -77,7 +77,7 @@ next_fits header before place next state rest h sums within =
     let room : state.room ≡ next.head.w64 = h.room ∙ ap (λ x. x.w64) (sym same) in
     omega (arith, sums.w64)
 
--- the next token spells one that refers back
+-- The bytes of the next token encode a token that refers back.
 pub next_spelled : (header : List ℕ) (before : List (List ℕ)) (place : Totals) (state : Bounded) (rest : List ℕ) → AreBytes rest → Builds header before place state
     → first_refusal (length rest) (token_steps (context header before) rest) ≡ None → raw_length rest ≤ length rest
     → (t : Token) × Spells t (take (raw_length rest) rest) × RefersBack t (length state.built.objects)
@@ -86,7 +86,7 @@ next_spelled header before place state rest bytes h none whole =
     let s = SpelledThere-passes header before (take (raw_length rest) rest) (AreBytes-take (raw_length rest) rest bytes) p.raw p.passes in
     (s.token, s.spells, subst (RefersBack s.token) (sym (objects_built header before place state h)) s.refers_back)
 
--- and it leads on
+-- The next token leads to the next state.
 pub next_leads : (header : List ℕ) (before : List (List ℕ)) (place next : Totals) (state state' : Bounded) (rest : List ℕ) → AreBytes rest → 0 < place.pending → Builds header before place state
     → first_refusal (length rest) (token_steps (context header before) rest) ≡ None → raw_length rest ≤ length rest → AreTotals next (after (context header before) rest)
     → ((t : Token) → Spells t (take (raw_length rest) rest) → state' ≡ absorb_in state t)
@@ -103,7 +103,7 @@ next_leads header before place next state state' rest bytes some h none whole su
       room = ap (λ (b : Bounded). b.room) (adds s.token s.spells) ∙ h.room ∙ ap (λ x. x.w64) (sym h.sums.head ∙ sums.head);
     }
 
--- ---- what is not whole, or refused
+-- ---- incomplete or refused tokens
 
 pub nothing_left : (c : Context) (rest : List ℕ) → length rest ≡ 0 → (first_refusal (length rest) (token_steps c rest) ≡ None) × (length rest < raw_length rest)
 unfolding token_steps

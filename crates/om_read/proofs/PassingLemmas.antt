@@ -1,4 +1,4 @@
--- A token that surely passes is the next one.
+-- A token that surely passes is the next token.
 use Rattle.std.proofs.Common.{ℕ, ◌≡◌, ◌⊎◌, inl, inr, ◌+◌, ◌<◌, ◌≤◌, List, [], ◌∷◌, length, take, drop, get_or, Option, Some, Ok, arith, ap, sym, ◌∙◌, subst}
 use Rattle.std.proofs.lemmas.Bool.{cases_lt}
 use Rattle.om_model.specs.declared.code.CodeKind.{CodeKind}
@@ -14,16 +14,16 @@ use Rattle.om_read.specs.declared.totals.Totals.{Totals}
 use Rattle.om_read.specs.Totals.{AreTotals, IsNext, PassesTo, context_of, IsPlain}
 use Rattle.om_read.proofs.StepLemmas.{bytes_length, bytes_after}
 
--- the variable bytes are within the data
+-- The variable bytes are within the data.
 variable_fits : (c : Context) (kind : CodeKind) (custom : Option CustomKind) (rest : List ℕ) → IsPlain kind → c.taken + token_length kind rest ≤ c.head.length → VariableFits c kind custom rest
 variable_fits c (kinds.Custom old) (Some customs.Native) rest plain h = absurd plain
 variable_fits c kind custom rest plain h = omega arith
 
--- a count that is none or this
+-- A stated count is 0 or equal to this number.
 none_or : (m n : ℕ) → (0 < m → m ≡ n) → (m ≡ 0) ⊎ (m ≡ n)
 none_or m n h = elim (cases_lt 0 m) [ inl some ↦ inr (h some) | inr none ↦ inl (omega arith) ]
 
--- what its steps ask holds
+-- The conditions of the token's steps hold.
 facts_from_place : (place next : Totals) (code : ℕ) (kind : CodeKind) (rest : List ℕ) → PassesTo place code kind rest next → TokenFacts (context_of place) kind rest
 facts_from_place place next code kind rest p =
     let c : Context = context_of place in

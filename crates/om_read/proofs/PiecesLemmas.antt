@@ -1,4 +1,4 @@
--- What a header, a token or a part of one adds to the bytes that were taken (`LeadsAs`).
+-- The effect of a header, a token or a part of one on the consumed bytes (`LeadsAs`).
 use Rattle.std.proofs.Common.{ℕ, ◌≡◌, inl, inr, ◌+◌, ◌-◌, ◌<◌, ◌≤◌, List, [], ◌++◌, length, take, drop, Option, Some, None, Ok, Err, arith, refl, ap, sym, ◌∙◌, subst, append_assoc, append-nil, length-append, take_at, take_all, take-take, take-add}
 use Rattle.std.proofs.Math.Seq.{take-append-add}
 use Rattle.std.specs.List.{concat}
@@ -29,14 +29,14 @@ use Rattle.om_read.proofs.HeadLemmas.{first_undecided}
 use Rattle.om_read.proofs.NextLemmas.{context_after}
 use Rattle.om_read.proofs.ReadingLemmas.{unless_memory, refusal_is_read}
 
--- ---- a part, and more bytes
+-- ---- a part and more bytes
 
 take_joined : (part more : List ℕ) (n : ℕ) → length part ≤ n → take n (part ++ more) ≡ part ++ take (n - length part) more
 take_joined part more n l =
     let e : n ≡ length part + (n - length part) = omega arith in
     ap (λ k. take k (part ++ more)) e ∙ take-append-add part more (n - length part)
 
--- a part of a token is shorter than the token that it becomes
+-- A part of a token is shorter than the token that it becomes.
 raw_grows : (part more : List ℕ) → IsPart part → length part < raw_length (part ++ more)
 raw_grows part more p =
     elim (cases_lt (length part) (raw_length (part ++ more))) [
@@ -47,7 +47,7 @@ raw_grows part more p =
           absurd (omega (arith, f, p))
     ]
 
--- and a part of a header than the header
+-- A part of a header is shorter than the header that it becomes.
 header_grows : (part more : List ℕ) → length part < header_length part → length part < header_length (part ++ more)
 header_grows part more p =
     elim (cases_lt (length part) (header_length (part ++ more))) [
@@ -59,18 +59,18 @@ header_grows part more p =
           absurd (omega (arith, f, p))
     ]
 
--- no bytes of a token refuse nothing
+-- If no byte of a token is there, then nothing is refused.
 nothing_refused : (header : List ℕ) (before : List (List ℕ)) → token_refusal header before [] ≡ None
 unfolding token_steps
 nothing_refused header before = refl
 
--- no bytes are a part of a header
+-- The empty list is a part of a header.
 pub nothing_read : (limit : ℕ) → InHeader limit []
 nothing_read limit = header_goes_on limit [] (first_undecided limit [] (omega arith)) (omega (arith, header_length-from []))
 
 -- ---- refusals
 
--- what is refused in the first bytes is refused in all
+-- If a prefix is refused, then all of the bytes are refused.
 UnlessMemory-map : (r : ReadRefusal) (P Q : Type 0) → (P → Q) → UnlessMemory r P → UnlessMemory r Q
 UnlessMemory-map r P Q f h = (unless_memory r Q).0 (λ ne. elim ((unless_memory r P).1 h) [ inl e ↦ absurd (ne e) | inr p ↦ f p ])
 
@@ -201,16 +201,16 @@ module _ (limit : ℕ) (taken part more header : List ℕ) (before : List (List 
         ),
       )
 
--- ---- pieces
+-- ---- chunks
 
--- what leads to pieces, by the reading's own limit and the part
+-- The state by the reading's own limit and its buffered part.
 pub leads_at : (limit : ℕ) (taken : List ℕ) (pieces : Pieces) (part : List ℕ) → LeadsPieces limit taken pieces → pieces.part.items ≡ part
     → LeadsAs pieces.reading.totals pieces.reading.limit taken pieces.reading.builder part
 leads_at limit taken pieces part h e =
     subst (λ (k : ℕ). LeadsAs pieces.reading.totals k taken pieces.reading.builder part) (sym h.0)
     (subst (λ (xs : List ℕ). LeadsAs pieces.reading.totals limit taken pieces.reading.builder xs) e h.1)
 
--- where no token was taken by itself all still leads there
+-- If the fast path read no token, then the bytes lead to the same state.
 pub still_leads : (limit : ℕ) (taken rest : List ℕ) (pieces : Pieces) (new : Reading) (n : ℕ) → LeadsPieces limit taken pieces → pieces.part.items ≡ [] → new.limit ≡ pieces.reading.limit → n ≡ 0
     → ((bytes : List ℕ) → LeadsAs pieces.reading.totals pieces.reading.limit bytes pieces.reading.builder []
     → (n ≤ length rest) × LeadsAs new.totals pieces.reading.limit (bytes ++ take n rest) new.builder [])
@@ -221,7 +221,7 @@ still_leads limit taken rest pieces new n h none same zero takes =
     subst (λ (k : ℕ). LeadsAs new.totals k taken new.builder []) (sym same)
     (subst (λ xs. LeadsAs new.totals pieces.reading.limit xs new.builder []) e t)
 
--- no part waited
+-- Case: nothing was buffered.
 pub next_taken_whole : (limit : ℕ) (taken rest : List ℕ) (len : ℕ) (new : Reading) → NextRead limit taken [] rest new (Ok len)
     → (0 < len) × (len ≤ length rest) × LeadsAs new.totals limit (taken ++ take len rest) new.builder []
 next_taken_whole limit taken rest len new n =
@@ -229,7 +229,7 @@ next_taken_whole limit taken rest len new n =
     (omega (arith, n.0), omega (arith, n.1), subst (λ k. LeadsAs new.totals limit (taken ++ take k rest) new.builder []) e n.2)
 
 module _ (limit : ℕ) (taken part rest : List ℕ) (most : ℕ) (new : Reading) where
-  -- the part and some of the bytes make it whole
+  -- Case: the buffered part and some of the bytes make a complete token.
   pub joined_whole : (len : ℕ) → NextRead limit taken part (take most rest) new (Ok len)
       → (0 < len - length part) × (len - length part ≤ length rest) × LeadsAs new.totals limit (taken ++ take (len - length part) rest) new.builder []
   joined_whole len n =
@@ -238,7 +238,7 @@ module _ (limit : ℕ) (taken part rest : List ℕ) (most : ℕ) (new : Reading)
       let same : take k (take most rest) ≡ take k rest = take-take k most rest (omega (arith, n.1, few)) in
       (omega (arith, n.0), omega (arith, n.1, few), subst (λ xs. LeadsAs new.totals limit (taken ++ xs) new.builder []) same n.2)
 
-  -- or not yet
+  -- Case: they do not make a complete token yet.
   pub joined_part : 0 < most → 0 < length rest → NextRead limit taken part (take most rest) new (Err NeedMore)
       → (0 < length (take most rest)) × (length (take most rest) ≤ length rest)
       × LeadsAs new.totals limit (taken ++ take (length (take most rest)) rest) new.builder (part ++ take most rest)
@@ -254,14 +254,14 @@ module _ (limit : ℕ) (taken part rest : List ℕ) (most : ℕ) (new : Reading)
       append_assoc taken (take most rest) (drop most rest) ∙ ap (λ xs. taken ++ xs) (take-append-drop most rest) in
       subst (λ xs. RefusedIn limit xs r) same (refused_more limit (taken ++ take most rest) (drop most rest) r n)
 
--- the rest of a piece, as a slice from a place on
+-- The rest of a chunk as a slice from an offset on.
 rest_is : (piece : List ℕ) (a : ℕ) → take (length piece - a) (drop a piece) ≡ drop a piece
 rest_is piece a = take_all (length piece - a) (drop a piece) (omega (arith, length-drop a piece))
 
 pub length_rest : (piece : List ℕ) (a : ℕ) → length (take (length piece - a) (drop a piece)) ≡ length piece - a
 length_rest piece a = ap length (rest_is piece a) ∙ length-drop a piece
 
--- one part of a piece after another
+-- One part of a chunk after another.
 pub taken_on : (taken piece : List ℕ) (a b : ℕ) → (taken ++ take a piece) ++ take b (take (length piece - a) (drop a piece)) ≡ taken ++ take (a + b) piece
 taken_on taken piece a b =
     ap (λ xs. (taken ++ take a piece) ++ take b xs) (rest_is piece a)
@@ -274,7 +274,7 @@ rest_on taken piece a =
     ∙ append_assoc taken (take a piece) (drop a piece)
     ∙ ap (λ xs. taken ++ xs) (take-append-drop a piece)
 
--- a value is still to come
+-- A value is still pending.
 pub open_from : (o : Option Totals) (totals : Totals) → o ≡ Some totals → (IsWhole o → ⊥) → 0 < totals.pending
 open_from o totals e open_is =
     let f : totals.pending ≡ 0 → ⊥ = subst (λ (x : Option Totals). IsWhole x → ⊥) e open_is in

@@ -1,4 +1,4 @@
--- What leads to a reader (`Leads`): a front, or a whole value with its graph.
+-- The bytes that lead to a reader (`Leads`): a prefix of a value, or a whole value with its graph.
 use Rattle.std.proofs.Common.{ℕ, ◌≡◌, ◌↔◌, inl, inr, ◌<◌, ◌≤◌, Bool, true, false, List, [], ◌∷◌, ◌++◌, length, take, Option, Some, None, Ok, arith, refl, ap, sym, ◌∙◌, subst, append-nil, take_all}
 use Rattle.std.specs.Prelude.{IsTrue, IsSome}
 use Rattle.std.specs.List.{concat}
@@ -28,7 +28,7 @@ use Rattle.om_read.proofs.PiecesLemmas.{open_from}
 
 -- ---- a whole value
 
--- the tree that the bytes spell, which is what was built
+-- The tree that the bytes encode, which is the graph that was built.
 pub record DoneTree (limit : ℕ) (taken : List ℕ) (state : Bounded) : Type 0 where
   pub tree : Tree
   pub spelled : SpelledUnder limit taken tree
@@ -57,7 +57,7 @@ pieces_done limit taken pieces a h w = as_done pieces.reading.totals limit taken
 pub root_is_there : (limit : ℕ) (taken : List ℕ) (state : Bounded) → DoneTree limit taken state → IsSome state.built.root
 root_is_there limit taken state d = subst (λ (r : Option Val). IsSome r) (sym (ap (λ (b : Building). b.root) d.built)) refl
 
--- ---- a front
+-- ---- a prefix
 
 as_front : (o : Option Totals) (limit : ℕ) (taken : List ℕ) (state : Bounded) (part : List ℕ) → LeadsAs o limit taken state part → (IsWhole o → ⊥) → IsFront limit taken
 as_front None limit taken state part h n = inl (subst (InHeader limit) (sym h.0) h.1)
@@ -80,7 +80,7 @@ as_front (Some totals) limit taken state part h n =
 pub pieces_front : (limit : ℕ) (taken : List ℕ) (pieces : Pieces) → LeadsPieces limit taken pieces → (IsWhole pieces.reading.totals → ⊥) → IsFront limit taken
 pieces_front limit taken pieces h n = as_front pieces.reading.totals limit taken pieces.reading.builder pieces.part.items h.1 n
 
--- ---- what is held
+-- ---- the bounds of the state
 
 pub as_within : (o : Option Totals) (limit : ℕ) (taken : List ℕ) (state : Bounded) (part : List ℕ) → LeadsAs o limit taken state part → IsWithin limit o state
 as_within None limit taken state part h = ap (λ (b : Building). heap_words b.objects) h.2
@@ -90,7 +90,7 @@ as_within (Some totals) limit taken state part h =
     let facts = HeaderFacts-passes limit h.0 h.2.header_passes in
     (totals.room, few, subst (λ x. x.w64 ≤ limit) h.2.builds.sums.head facts.words)
 
--- ---- the answers of a reader
+-- ---- the results of a reader
 
 pub feeds_from : (limit : ℕ) (taken piece : List ℕ) (new : Reader) (n : ℕ) (done : Bool) → AreBytes taken → AreBytes piece → new.refusal ≡ None
     → TakesPiece limit taken piece new.pieces (Ok n) → (IsTrue done ↔ IsWhole new.pieces.reading.totals) → Feeds limit taken piece new (record { taken = n; done = done })

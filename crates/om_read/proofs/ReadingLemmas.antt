@@ -1,11 +1,11 @@
--- What an answer of out of memory says.
+-- The meaning of a refusal for lack of memory.
 use Rattle.std.proofs.Common.{ℕ, ◌≡◌, ◌≢◌, ◌⊎◌, inl, inr, ◌≤◌, List, length, take, refl}
 use Rattle.om_model.specs.declared.refusal.ReadRefusal.{ReadRefusal}
 use Rattle.om_model.specs.declared.refusal.ReadRefusal.TheVariants as refusals
 use Rattle.om_format.specs.Front.{IsRefused}
 use Rattle.om_read.specs.Reading.{UnlessMemory, RefusedIn}
 
--- an answer of out of memory says nothing, each other one what it says
+-- A refusal for lack of memory states nothing; every other refusal states `P`.
 pub unless_memory : (r : ReadRefusal) (P : Type 0) → ((r ≢ refusals.Memory → P) → UnlessMemory r P) × (UnlessMemory r P → (r ≡ refusals.Memory) ⊎ P)
 unless_memory refusals.Memory P = (λ f. tt, λ p. inl refl)
 unless_memory (refusals.BadMagic a) P = (λ f. f (λ e. cc e), λ p. inr p)

@@ -15,7 +15,7 @@ use Rattle.om_read.proofs.NextLemmas.{words_built}
 use Rattle.om_read.specs.Left.{Leaves, Spends, Runs, Goes, Keeps, HasEnough, AtLeast, IsAfter}
 use Rattle.om_read.proofs.LeftLemmas.{goes_on}
 
--- a small block has few fields
+-- A small block has few fields.
 pub few_fields : (size : ℕ) → size < 8 → of_object fields (block_measure size) < 8
 few_fields zero h = omega arith
 few_fields (suc n) h = omega arith
@@ -60,11 +60,12 @@ module _ (first place : Totals) (n k : ℕ) (from left : Left) (old new : Run) (
         m.2,
       )
 
--- the words of a token do not carry what is kept too far
+-- The words of a token do not overflow the excess of the run.
 pub extra_room : (from left : Left) (run : Run) (words : ℕ) → Runs from left run → words ≤ left.w32 → run.extra + words < 2 ^ 64
 extra_room from left run words h le = omega (arith, h.extra, h.fewer, h.short)
 
--- tokens of k bytes are taken in a run, and there is enough for those that begin in so many bytes
+-- Tokens of `k` bytes are read in a run, and the room suffices for all tokens that begin in the
+-- first `most` bytes.
 abbrev pub IsUnderway : Totals → ℕ → List ℕ → List ℕ → Left → Run → Bounded → ℕ → ℕ → Type 0
 IsUnderway first limit taken bytes from run state k most =
     (next : Totals) × (left : Left) × Leaves first (0 + k) next left × Runs from left run × AtLeast (16 * most + 512 - 16 * k) left × TakesCommon limit taken bytes next state k
@@ -74,7 +75,7 @@ IsUnderway first limit taken bytes from run state k most =
 pub run_begins : (from : Left) → from.w32 < 2 ^ 64 → Runs from from (record { pending = from.pending; extra = 0 })
 run_begins from short = record { pending = refl; short = short; fewer = omega arith; extra = omega arith }
 
--- what was spent
+-- The room that the run consumed.
 pub run_ends : (first next : Totals) (n limit : ℕ) (taken before : List ℕ) (from left : Left) (run : Run) (state state' : Bounded) → LeadsAs (Some first) limit before state [] → LeadsAs (Some next) limit taken state' []
     → Leaves first 0 first from → Leaves first (0 + n) next left → Runs from left run
     → (heap_words state.built.objects ≤ heap_words state'.built.objects)

@@ -1,4 +1,4 @@
--- How large the object of a token is, by the token's bytes.
+-- The size of a token's object, by the token's bytes.
 use Rattle.std.proofs.Common.{ℕ, zero, suc, ◌≡◌, ◌+◌, ◌*◌, ◌/◌, ◌^◌, ◌<◌, ◌≤◌, List, take, Option, Some, None, arith, get_or, subst, length, [], ◌∷◌}
 use Rattle.std.specs.Option.{ForSome}
 use Rattle.om_model.specs.declared.code.CodeKind.{CodeKind}
@@ -51,13 +51,13 @@ are_small (kinds.Double little) rest v f = tt
 are_small (kinds.Doubles width little) rest v f = omega arith
 are_small (kinds.Custom old) rest v f = small_custom (custom_of (take 3 rest))
 
--- the object of a token of few bytes and few fields is small
+-- If a token has few bytes and few fields, then its object is small.
 pub measure_small : (kind : CodeKind) (rest : List ℕ) → variable_bytes kind rest < 2 ^ 60 → of_object fields (measure_after kind rest) < 2 ^ 60 → ForSome (measure_after kind rest) IsCountable
 measure_small kind rest v f = for_some (measure_after kind rest) (are_small kind rest v f)
 
 -- ---- words
 
--- an object has no more words than this, on 32 and on 64 bits
+-- An upper bound of the words of an object, on 32 and on 64 bits.
 abbrev pub most_words : Measure → ℕ
 most_words (measures.Block n) = 1 + n
 most_words (measures.Bytes n) = 1 + (n + 4) / 4
@@ -65,7 +65,7 @@ most_words measures.Double = 3
 most_words (measures.Doubles n) = 1 + 2 * n
 most_words (measures.Custom a b) = 2 + (a + b + 7) / 4
 
--- words, on 32 bits or on 64
+-- A measure of words, on 32 bits or on 64 bits.
 abbrev pub AreWords : (Measure → ℕ) → Type 0
 AreWords words = (m : Measure) → words m ≤ most_words m
 
@@ -83,7 +83,7 @@ words64-within measures.Double = omega arith
 words64-within (measures.Doubles n) = omega arith
 words64-within (measures.Custom a b) = omega arith
 
--- the words of a small object
+-- The words of a small object.
 pub words-small : (m : Measure) → IsCountable m → most_words m < 2 ^ 62
 words-small (measures.Block n) h = omega arith
 words-small (measures.Bytes n) h = omega arith
@@ -91,7 +91,7 @@ words-small measures.Double h = omega arith
 words-small (measures.Doubles n) h = omega arith
 words-small (measures.Custom a b) h = omega arith
 
--- ---- words against bytes
+-- ---- words compared with bytes
 
 few_block : (n k : ℕ) → AreFew most_words (block_measure n) (1 + k)
 few_block zero k = omega arith
@@ -127,7 +127,7 @@ few_words64 kind rest = few_by words64 (measure_after kind rest) _ words64-withi
 
 -- ---- eight bytes
 
--- both readings of them
+-- Eight bytes in both byte orders.
 pub little_eight : (bytes : List ℕ) → length bytes ≡ 8 → from_le_bytes w64 bytes ≡ little_number bytes
 little_eight (a ∷ b ∷ c ∷ d ∷ e ∷ f ∷ g ∷ h ∷ []) e8 = omega arith
 little_eight [] e8 = absurd (omega arith)

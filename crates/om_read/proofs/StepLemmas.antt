@@ -1,4 +1,4 @@
--- What the steps of a token come to.
+-- The result of the steps of a token.
 use Rattle.std.proofs.Common.{ℕ, suc, ◌≡◌, ◌+◌, ◌<◌, ◌≤◌, List, [], ◌∷◌, ◌++◌, length, take, drop, get_or, Bool, true, false, Option, Some, None, Result, Ok, Err, cond, ltb, arith, refl, ap, sym, ◌∙◌, subst, add-one}
 use Rattle.std.proofs.lemmas.Bool.{ltb-true, le-ltb}
 use Rattle.std.specs.Prelude.{IsErr}
@@ -22,7 +22,7 @@ use Rattle.om_read.proofs.TotalsLemmas.{progress-append}
 
 -- ---- progress and the first refusal
 
--- what progress says of the first refusal
+-- What the progress implies for the first refusal.
 abbrev pub Tells : Progress → Option ReadRefusal → Type 0
 Tells passed o = o ≡ None
 Tells waiting o = o ≡ None
@@ -38,7 +38,7 @@ pub progress-tells : (n : ℕ) (steps : List Step) → Tells (progress n steps) 
 progress-tells n [] = refl
 progress-tells n (s ∷ steps) = tells_once (ltb n s.ends) s.refusal (progress n steps) (first_refusal n steps) (progress-tells n steps)
 
--- a step that waits ends after the bytes
+-- A step that waits ends after the bytes.
 waiting_once : (b : Bool) (o : Option ReadRefusal) (p : Progress) → and_then (once b o) p ≡ waiting → (b ≡ true → ⊥) → p ≡ waiting
 waiting_once true o p e not_true = absurd (not_true refl)
 waiting_once false None p e not_true = e
@@ -56,7 +56,7 @@ waiting_short low high n (s ∷ steps) within w =
 
 -- ---- a token
 
--- the steps in their groups are those of the token
+-- The groups of steps together are the steps of the token.
 pub steps_are : (c : Context) (code : ℕ) (kind : CodeKind) (rest : List ℕ) → kind_of code ≡ Ok kind
     → and_then (progress (length rest + 1) (entry_steps c code kind rest))
     (and_then (progress (length rest + 1) (variable_steps c kind (custom_of (take 3 rest)) rest)) (progress (length rest + 1) (closing_steps c kind rest)))
@@ -70,7 +70,7 @@ steps_are c code kind rest e =
     ∙ sym (ap (progress n) (token_steps-ok c code kind rest e))
     ∙ ap (λ m. progress m (token_steps c (code ∷ rest))) (add-one (length rest))
 
--- an answer that stops
+-- Case: an error.
 pub judged_stop : (c : Context) (bytes : List ℕ) (x : Result Totals Unread) → answered x ≡ progress (length bytes) (token_steps c bytes) → IsErr x → IsNext c bytes x
 judged_stop c bytes (Ok next) e h = cc
 judged_stop c bytes (Err NeedMore) e h = (
@@ -80,16 +80,16 @@ judged_stop c bytes (Err NeedMore) e h = (
 judged_stop c bytes (Err (Refused r)) e h =
     subst (λ p. Tells p (first_refusal (length bytes) (token_steps c bytes))) (sym e) (progress-tells (length bytes) (token_steps c bytes))
 
--- an answer that goes on
+-- Case: all steps pass.
 pub judged_pass : (c : Context) (bytes : List ℕ) → passed ≡ progress (length bytes) (token_steps c bytes) → first_refusal (length bytes) (token_steps c bytes) ≡ None
 judged_pass c bytes e = subst (λ p. Tells p (first_refusal (length bytes) (token_steps c bytes))) (sym e) (progress-tells (length bytes) (token_steps c bytes))
 
--- a code that begins no token
+-- Case: a code that begins no token.
 pub judged_fault : (c : Context) (code : ℕ) (fault : CodeFault) (rest : List ℕ) → kind_of code ≡ Err fault
     → first_refusal (length (code ∷ rest)) (token_steps c (code ∷ rest)) ≡ Some (code_refusal fault (place c) code)
 judged_fault c code fault rest e = rw (token_steps-err c code fault rest e) (rw (le-ltb (suc (length rest)) 1 (omega arith)) refl)
 
--- ---- the same, of bytes that begin with the token
+-- ---- the same for bytes that begin with the token
 
 pub bytes_steps_are : (c : Context) (bytes : List ℕ) (code : ℕ) (rest : List ℕ) (kind : CodeKind) → 0 < length bytes → code ≡ get_or bytes 0 0 → rest ≡ drop 1 bytes
     → kind_of code ≡ Ok kind

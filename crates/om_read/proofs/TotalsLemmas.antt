@@ -1,4 +1,4 @@
--- Sums with one token more.
+-- Totals with one more token.
 use Rattle.std.proofs.Common.{ℕ, ◌≡◌, List, [], ◌∷◌, ◌++◌, Bool, true, false, Option, Some, None, Result, Ok, Err, ap, subst, sym, ◌∙◌, refl, ltb}
 use Rattle.om_model.specs.declared.refusal.ReadRefusal.{ReadRefusal}
 use Rattle.om_format.specs.Step.{Context, Step, or_else}
@@ -9,7 +9,7 @@ use Rattle.om_read.specs.declared.unread.Unread.TheVariants.{NeedMore, Refused}
 use Rattle.std.specs.Prelude.{IsErr}
 use Rattle.om_read.specs.Progress.{Progress, passed, waiting, failed, and_then, once, of_refusal, answered, progress}
 
--- three steps that are decided and passed, and then more
+-- Three steps are decided and passed; the rest decides.
 pub go_on : (b : Bool) (o w v : Option ReadRefusal) (p more : Progress) → b ≡ false → o ≡ None → or_else w v ≡ None → p ≡ more
     → p ≡ and_then (once b o) (and_then (once b w) (and_then (once b v) more))
 go_on true o w v p more d e f g = cc
@@ -18,7 +18,8 @@ go_on false None (Some r) v p more d e f g = cc
 go_on false None None (Some r) p more d e f g = cc
 go_on false None None None p more d e f g = g
 
--- a step that is decided and passed, and then the first of two that are decided and not both passed
+-- One step is decided and passed; then the first of two steps that are decided and not both passed
+-- decides.
 pub stops_at : (b : Bool) (o w v e : Option ReadRefusal) (p more : Progress) → b ≡ false → o ≡ None → e ≡ or_else w v → p ≡ of_refusal e → (p ≡ passed → ⊥)
     → p ≡ and_then (once b o) (and_then (once b w) (and_then (once b v) more))
 stops_at true o w v e p more d n f g h = cc
@@ -27,7 +28,7 @@ stops_at false None (Some r) v e p more d n f g h = g ∙ ap of_refusal f
 stops_at false None None (Some r) e p more d n f g h = g ∙ ap of_refusal f
 stops_at false None None None e p more d n f g h = absurd (h (g ∙ ap of_refusal f))
 
--- steps one list after another
+-- Two lists of steps, one after the other.
 pub progress-append : (n : ℕ) (xs ys : List Step) → progress n (xs ++ ys) ≡ and_then (progress n xs) (progress n ys)
 progress-append n [] ys = refl
 progress-append n (x ∷ xs) ys = ap (and_then (once (ltb n x.ends) x.refusal)) (progress-append n xs ys) ∙ regroup (once (ltb n x.ends) x.refusal) (progress n xs) (progress n ys)
@@ -37,7 +38,7 @@ progress-append n (x ∷ xs) ys = ap (and_then (once (ltb n x.ends) x.refusal)) 
     regroup waiting q r = refl
     regroup (failed s) q r = refl
 
--- a place with the sums of a context is where the context is
+-- If the totals have the sums of a context, then they describe that context.
 pub totals_are : (place : Totals) (c : Context) → AreTotals place c → c ≡ context_of place
 totals_are place c h = λ i. record {
   head = h.head i;
@@ -46,11 +47,11 @@ totals_are place c h = λ i. record {
   sums = sums (h.objects i) (h.pending i) (h.w32 i) (h.w64 i);
 }
 
--- what is next there is next in the context
+-- The next token at the totals is the next token in the context.
 pub next_there : (place : Totals) (c : Context) (bytes : List ℕ) (x : Result Totals Unread) → AreTotals place c → IsNext (context_of place) bytes x → IsNext c bytes x
 next_there place c bytes x h n = subst (λ (y : Context). IsNext y bytes x) (sym (totals_are place c h)) n
 
--- an answer that stops has not passed all steps
+-- If the result is an error, then not all steps passed.
 pub not_passed : {X : Type 0} (x : Result X Unread) → IsErr x → answered x ≡ passed → ⊥
 not_passed (Ok x) e h = cc
 not_passed (Err NeedMore) e h = cc

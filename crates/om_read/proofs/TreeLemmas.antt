@@ -1,4 +1,4 @@
--- What the tokens of a tree build.
+-- The graph that the tokens of a tree build.
 use Rattle.std.proofs.Common.{◌≡◌, ℕ, ◌+◌, ◌<◌, ◌≤◌, List, [], ◌∷◌, ◌++◌, length, replicate, Option, Some, None, pos, refl, ap, ap₂, sym, ◌∙◌, arith, append-nil, append_assoc, length-append}
 use Rattle.std.proofs.lemmas.List.{length_push, length-replicate}
 use Rattle.std.proofs.lemmas.List.Sums.{fold-append}
@@ -15,7 +15,7 @@ use Rattle.om_heap.proofs.FieldLemmas.{length-set_field, set_field-append}
 use Rattle.om_format.proofs.Counts.{leaf_fields, length-objects_of, length-roots}
 use Rattle.om_read.proofs.FieldLemmas.{set_fields, set_fields-append, set_fields_at, still_open_below, still_open_full, advanced-zero, advanced-suc}
 
--- the tokens of trees set the next fields of an open block, and their objects come after the others
+-- The tokens of the trees set the next fields of an open block, and their objects are appended.
 abbrev pub FillsFields : Forest → Type 0
 FillsFields f =
     (all : List Obj) (b : OpenBlock) (outer : List OpenBlock) (r : Option Val)
@@ -23,13 +23,13 @@ FillsFields f =
     → absorb_all (building all (still_open b outer) r) (forest_tokens f)
     ≡ building (set_fields all b.object b.next (roots f (length all)) ++ all_objects f (length all)) (still_open (advanced b (trees_in f)) outer) r
 
--- the trees after a token, once it is placed, complete its object
+-- The trees after a token complete the object of the token.
 abbrev CompletesObject : Token → Forest → Type 0
 CompletesObject t f =
     (xs : List Obj) (c at : ℕ) (outer : List OpenBlock) (r : Option Val) → length xs ≡ c
     → absorb_all (building (xs ++ blank t) (opened t c at ++ outer) r) (forest_tokens f) ≡ building (xs ++ objects_of (node t f) c) outer r
 
--- a token without fields has no trees after it
+-- A token without fields is followed by no trees.
 no_trees : (t : Token) (f : Forest) → trees_in f ≡ 0 → CompletesObject t none → CompletesObject t f
 no_trees t none e h = h
 no_trees t (more tree f) e h = absurd (omega arith)
@@ -57,7 +57,7 @@ completes (shared offset) f h fills = no_trees (shared offset) f h.1 (λ xs c at
 completes (block tag size) f h fills = completes_block tag size f h.0.1 h.1 fills
 completes (leaf o) f h fills = no_trees (leaf o) f (h.1 ∙ leaf_fields o) (λ xs c at outer r l. refl)
 
--- the tokens of a tree set the next field of an open block
+-- The tokens of a tree set the next field of an open block.
 mutual
   pub absorb_tree : (tree : Tree) (all : List Obj) (b : OpenBlock) (outer : List OpenBlock) (r : Option Val)
       → IsTree tree → b.object < length all
@@ -92,11 +92,11 @@ mutual
       ∙ append_assoc (set_fields xs b.object (b.next + 1) (roots f c)) ys (all_objects f c))
       (ap (λ o. still_open o outer) (advanced-suc b (trees_in f)))
 
--- with no open block it is the root
+-- If no block is open, then the tree becomes the root.
 pub absorb_root : (tree : Tree) (all : List Obj) (r : Option Val) → IsTree tree
     → absorb_all (building all [] r) (tokens tree) ≡ building (all ++ objects_of tree (length all)) [] (Some (root tree (length all)))
 absorb_root (node t f) all r h = completes t f h (absorb_forest f h.2) all (length all) (word_of (all ++ blank t) (vals.Ref (length all))) [] (Some (value_of t (length all))) refl
 
--- from the start the tokens of a tree build it
+-- From the empty state, the tokens of a tree build that tree.
 pub absorb_start : (tree : Tree) → IsTree tree → absorb_all start (tokens tree) ≡ building (objects_of tree 0) [] (Some (root tree 0))
 absorb_start tree h = absorb_root tree [] None h

@@ -1,4 +1,4 @@
--- What the steps of a header come to (`intext.h` lays it out).
+-- The result of the steps of a header (its format is in `intext.h`).
 use Rattle.std.specs.Prelude.{ℕ, ◌≡◌, ◌<◌, ◌≤◌, List, [], ◌∷◌, length, take, nat_lt, ◌==◌}
 use Rattle.std.specs.Prelude.{if◌then◌else◌, Some, None, Result, Ok, Err}
 use Rattle.om_format.specs.Header.{header_length}
@@ -12,7 +12,8 @@ use Rattle.om_read.specs.declared.unread.Unread.TheVariants.{NeedMore, Refused}
 use Rattle.om_read.specs.declared.totals.Totals.{Totals}
 use Rattle.om_read.specs.Totals.{AreTotals}
 
--- a refusal, no whole header yet, or the place after it
+-- The result is a refusal, or the header is incomplete, or the result is the totals after the
+-- header.
 abbrev pub JudgedHeader : ℕ → List ℕ → Result Totals Unread → Type 0
 JudgedHeader limit bytes (Err (Refused r)) = header_refusal limit bytes ≡ Some r
 JudgedHeader limit bytes (Err NeedMore) =
@@ -21,7 +22,7 @@ JudgedHeader limit bytes (Ok place) =
     (header_refusal limit bytes ≡ None) × (header_length bytes ≤ length bytes)
     × AreTotals place (context (take (header_length bytes) bytes) [])
 
--- the steps after a right magic
+-- The steps after a valid magic number.
 abbrev pub stated_steps : ℕ → Head → List Step
 stated_steps limit head =
     step 0 (fails_if (nat_lt limit head.w64) (TooLarge Words head.w64 limit))
@@ -29,13 +30,13 @@ stated_steps limit head =
     ∷ step 0 (fails_if (head.length == 0) (Overlong (if head.big then 32 else 20) 1 0))
     ∷ []
 
--- the place after a header, before the first token
+-- The totals after a header, before the first token.
 abbrev pub start_of : Head → Totals → Type 0
 start_of head place =
     (place.head ≡ head) × (place.start ≡ (if head.big then 32 else 20)) × (place.taken ≡ 0)
     × (place.objects ≡ 0) × (place.pending ≡ 1) × (place.w32 ≡ 0) × (place.w64 ≡ 0)
 
--- what they come to
+-- The result of `stated_steps`.
 abbrev pub Begins : ℕ → Head → Result Totals Unread → Type 0
 Begins limit head (Err (Refused r)) = first_refusal 0 (stated_steps limit head) ≡ Some r
 Begins limit head (Err NeedMore) = ⊥

@@ -1,4 +1,4 @@
--- What is left at a place for the tokens to come, and what a token spends of it.
+-- The room that remains for the next tokens, and how a token reduces it.
 use Rattle.std.specs.Prelude.{ℕ, ◌≡◌, ◌+◌, ◌*◌, ◌^◌, ◌<◌, ◌≤◌, false, List, Option, if◌then◌else◌}
 use Rattle.om_model.specs.declared.header.Head.{Head}
 use Rattle.om_model.specs.declared.code.Measure.{Measure}
@@ -10,11 +10,11 @@ use Rattle.om_read.specs.Build.{Bounded}
 use Rattle.om_read.specs.Reading.{Builds, TakesOne}
 use Rattle.om_read.specs.Pieces.{TakesCommon}
 
--- the words on 32 bits that a header allows; a big one states none
+-- The words on 32 bits that a header allows. A big header states none.
 abbrev pub limit_of : Head → ℕ
 limit_of head = if head.big then 2 ^ 62 else head.w32
 
--- this is left at the place, which is n bytes after the first
+-- `left` is the room that remains at `place`, which is `n` bytes after `first`.
 pub record Leaves (first : Totals) (n : ℕ) (place : Totals) (left : Left) : Type 0 where
   pub head : place.head ≡ first.head
   pub start : place.start ≡ first.start
@@ -24,27 +24,29 @@ pub record Leaves (first : Totals) (n : ℕ) (place : Totals) (left : Left) : Ty
   pub w32 : left.w32 + place.w32 ≡ limit_of place.head
   pub w64 : left.w64 + place.w64 ≡ place.head.w64
 
--- a token of n bytes whose object has this measure is taken from it
+-- A token of `n` bytes whose object has this measure reduces the room from `old` to `new`.
 pub record Spends (old : Left) (n : ℕ) (measure : Option Measure) (new : Left) : Type 0 where
   pub slack : new.slack + (n + of_object fields measure) ≡ old.slack + 1
   pub pending : new.pending + 1 ≡ old.pending + of_object fields measure
   pub w32 : new.w32 + of_object words32 measure ≡ old.w32
   pub w64 : new.w64 + of_object words64 measure ≡ old.w64
 
--- nothing is left, and there are as many objects as the header states, if it states some
+-- No room remains, and if the header states a number of objects, then it is the number of objects.
 pub record IsSpent (head : Head) (objects : ℕ) (left : Left) : Type 0 where
   pub slack : left.slack ≡ 0
   pub w32 : head.big ≡ false → left.w32 ≡ 0
   pub w64 : left.w64 ≡ 0
   pub count : 0 < head.objects → head.objects ≡ objects
 
--- the place is n bytes after the first, with this left, and the tokens before it build this
+-- `place` is `n` bytes after `first`, `left` is the room that remains there, and the tokens before
+-- it build `state`.
 pub record Stands (first : Totals) (n : ℕ) (header : List ℕ) (before : List (List ℕ))
     (place : Totals) (left : Left) (state : Bounded) : Type 0 where
   pub leaves : Leaves first n place left
   pub builds : Builds header before place state
 
--- one token of k bytes is taken and leads on; or none is taken and all stays
+-- Either one token of `k` bytes is read and leads to the new state, or `k` is 0 and nothing
+-- changes.
 abbrev pub TakesLeft : Totals → ℕ → List ℕ → List (List ℕ) → List ℕ → Totals → Left → Bounded → Left
     → Bounded → ℕ → Type 0
 TakesLeft first n header before bytes place left state left' state' k =
@@ -53,46 +55,47 @@ TakesLeft first n header before bytes place left state left' state' k =
     → (next : Totals) × Leaves first (n + k) next left'
     × TakesOne header before bytes place state next state' k)
 
--- tokens of k bytes are taken
+-- Tokens of `k` bytes are read.
 abbrev pub TakesAll : Totals → ℕ → ℕ → List ℕ → List ℕ → Left → Bounded → ℕ → Type 0
 TakesAll first n limit taken bytes left' state' k =
     (next : Totals) × Leaves first (n + k) next left' × TakesCommon limit taken bytes next state' k
 
 -- ---- runs
 
--- at least so much of each is left
+-- At least `k` of each resource remains.
 abbrev pub AtLeast : ℕ → Left → Type 0
 AtLeast k left = (k ≤ left.slack) × (k ≤ left.w32) × (k ≤ left.w64)
 
--- enough for a common token
+-- The room suffices for one common token.
 abbrev pub HasEnough : Left → Type 0
 HasEnough left = AtLeast 512 left
 
--- enough for the common tokens that begin in so many bytes
+-- The room suffices for all common tokens that begin in `most` bytes.
 abbrev pub HasPlenty : Left → ℕ → Type 0
 HasPlenty left most = AtLeast (16 * most + 512) left
 
--- a token of k bytes takes no more than this
+-- A token of `k` bytes needs no more than this room.
 pub record Keeps (old : Left) (k : ℕ) (new : Left) : Type 0 where
   pub slack : old.slack ≤ new.slack + 16 * k
   pub w32 : old.w32 ≤ new.w32 + 16 * k
   pub w64 : old.w64 ≤ new.w64 + 16 * k
 
--- this was left where the run began and this is left now, of which the run keeps so much
+-- `from` is the room where the run began, `left` is the room now, and `run` is the state of the
+-- run.
 pub record Runs (from left : Left) (run : Run) : Type 0 where
   pub pending : left.pending ≡ run.pending
   pub short : from.w32 < 2 ^ 64
   pub fewer : left.w64 ≤ from.w64
   pub extra : from.w32 + left.w64 ≡ from.w64 + (left.w32 + run.extra)
 
--- a value is still to come after a token whose object has this measure
+-- After a token whose object has this measure a value is still pending.
 pub record Goes (old : Run) (measure : Option Measure) (new : Run) : Type 0 where
   pub some : 0 < new.pending
   pub pending : new.pending + 1 ≡ old.pending + of_object fields measure
   pub extra : new.extra + of_object words64 measure ≡ old.extra + of_object words32 measure
 
--- one token of k bytes is taken and leads on, and a value is still to come; or none is taken and
--- all stays
+-- Either one token of `k` bytes is read, leads to the new state, and leaves a value pending; or `k`
+-- is 0 and nothing changes.
 abbrev pub RunsOn : Totals → ℕ → List ℕ → List (List ℕ) → List ℕ → Totals → Left → Left → Run
     → Bounded → Run → Bounded → ℕ → Type 0
 RunsOn first n header before bytes place from left run state run' state' k =
@@ -102,13 +105,13 @@ RunsOn first n header before bytes place from left run state run' state' k =
     × Keeps left k left' × (0 < run'.pending)
     × TakesOne header before bytes place state next state' k)
 
--- tokens of k bytes are taken in a run
+-- Tokens of `k` bytes are read in a run.
 abbrev pub RunsAll : Totals → ℕ → List ℕ → List ℕ → Left → Run → Bounded → ℕ → Type 0
 RunsAll first limit taken bytes from run state' k =
     (next : Totals) × (left : Left) × Leaves first (0 + k) next left × Runs from left run
     × TakesCommon limit taken bytes next state' k
 
--- so many bytes and words on 64 bits were spent in the run
+-- The run consumed `n` bytes and `spent` words on 64 bits.
 pub record IsAfter (from left : Left) (run : Run) (n spent : ℕ) : Type 0 where
   pub runs : Runs from left run
   pub taken : left.slack + left.pending + n ≡ from.slack + from.pending

@@ -1,5 +1,5 @@
--- What is held of the bytes of a value that were taken: the header, whole tokens and what they
--- build, and a part of the next.
+-- The state after some bytes of a value: the header, the complete tokens and the graph that they
+-- build, and the buffered part of the next token.
 use Rattle.std.specs.Prelude.{ℕ, ◌+◌, ◌-◌, ◌<◌, ◌≤◌, ◌≡◌, List, [], ◌++◌, length, take, Option}
 use Rattle.std.specs.Prelude.{Some, None, Result, Ok, Err}
 use Rattle.std.specs.List.{concat}
@@ -14,8 +14,9 @@ use Rattle.om_read.specs.declared.pieces.Pieces.{Pieces}
 use Rattle.om_read.specs.Build.{Bounded, start}
 use Rattle.om_read.specs.Reading.{Builds, RefusedIn}
 
--- a header and tokens that pass, their sums and what they build, and a part of the next token that
--- passes what is decided in it; after the last token nothing
+-- The header and the tokens pass, the totals are their sums, and the state is the graph that they
+-- build. The rest is a part of the next token and passes every step that it decides. After the last
+-- token the rest is empty.
 pub record LeadsTokens (limit : ℕ) (taken header : List ℕ) (before : List (List ℕ))
     (totals : Totals) (state : Bounded) (part : List ℕ) : Type 0 where
   pub bytes_are : taken ≡ header ++ (concat before ++ part)
@@ -26,19 +27,20 @@ pub record LeadsTokens (limit : ℕ) (taken header : List ℕ) (before : List (L
   pub passes : token_refusal header before part ≡ None
   pub ends : totals.pending ≡ 0 → part ≡ []
 
--- a part of a header that passes what is decided in it, or the header and what comes after it
+-- Either the bytes are a part of a header that passes every step that it decides, or they are a
+-- header and what follows it.
 abbrev pub LeadsAs : Option Totals → ℕ → List ℕ → Bounded → List ℕ → Type 0
 LeadsAs None limit taken state part = (taken ≡ part) × InHeader limit part × (state.built ≡ start)
 LeadsAs (Some totals) limit taken state part =
     (header : List ℕ) × (before : List (List ℕ))
     × LeadsTokens limit taken header before totals state part
 
--- all tokens are there
+-- All tokens are read.
 abbrev pub IsWhole : Option Totals → Type 0
 IsWhole None = ⊥
 IsWhole (Some totals) = totals.pending ≡ 0
 
--- ---- the next header or token, of which a part was taken before and more bytes come
+-- ---- the next header or token, of which a part was read before
 
 abbrev pub NextRead : ℕ → List ℕ → List ℕ → List ℕ → Reading → Result ℕ Unread → Type 0
 NextRead limit taken part more new (Ok len) =
@@ -48,28 +50,28 @@ NextRead limit taken part more new (Err NeedMore) =
     LeadsAs new.totals limit (taken ++ more) new.builder (part ++ more)
 NextRead limit taken part more new (Err (Refused refusal)) = RefusedIn limit (taken ++ more) refusal
 
--- tokens of so many bytes are taken, and after the last one of the value all data
+-- Tokens of `n` bytes are read. After the last token of the value, all of its data are read.
 abbrev pub TakesCommon : ℕ → List ℕ → List ℕ → Totals → Bounded → ℕ → Type 0
 TakesCommon limit taken bytes next new n =
     (n ≤ length bytes)
     × (next.pending ≡ 0 → (0 < n) × (next.taken ≡ next.head.length))
     × LeadsAs (Some next) limit (taken ++ take n bytes) new []
 
--- ---- pieces
+-- ---- chunks
 
--- these bytes lead to the reading and the part of the next
+-- The bytes lead to this reading and this buffered part.
 abbrev pub LeadsPieces : ℕ → List ℕ → Pieces → Type 0
 LeadsPieces limit taken pieces =
     (pieces.reading.limit ≡ limit)
     × LeadsAs pieces.reading.totals limit taken pieces.reading.builder pieces.part.items
 
--- so many of the bytes are taken, or some of them are refused
+-- At least one of the bytes is consumed, or some prefix of them is refused.
 abbrev pub Takes : ℕ → List ℕ → List ℕ → Pieces → Result ℕ ReadRefusal → Type 0
 Takes limit taken rest new (Ok n) =
     (0 < n) × (n ≤ length rest) × LeadsPieces limit (taken ++ take n rest) new
 Takes limit taken rest new (Err refusal) = RefusedIn limit (taken ++ rest) refusal
 
--- a whole piece is taken, or the front of it that ends the value
+-- The whole chunk is consumed, or the prefix of it that ends the value, or some prefix is refused.
 abbrev pub TakesPiece : ℕ → List ℕ → List ℕ → Pieces → Result ℕ ReadRefusal → Type 0
 TakesPiece limit taken piece new (Ok n) =
     (n ≤ length piece) × LeadsPieces limit (taken ++ take n piece) new

@@ -1,4 +1,4 @@
--- What a reader has read of the bytes that it took.
+-- The state of a reader after the bytes that it consumed.
 use Rattle.std.specs.Prelude.{ℕ, ◌+◌, ◌<◌, ◌≤◌, ◌≡◌, ◌⊎◌, true, false, List, [], ◌++◌, length, take}
 use Rattle.std.specs.Prelude.{Option, Some, None, Result, Ok, Err}
 use Rattle.om_model.specs.declared.refusal.ReadRefusal.{ReadRefusal}
@@ -17,44 +17,46 @@ use Rattle.om_read.specs.Build.{Bounded}
 use Rattle.om_read.specs.Pieces.{LeadsPieces, IsWhole}
 use Rattle.om_read.specs.Reading.{IsValueOf}
 
--- it has refused nothing
+-- The reader has refused nothing.
 abbrev pub IsReading : Reader → Type 0
 IsReading reader = reader.refusal ≡ None
 
--- the reader has taken these bytes, under this limit, and refused none: it holds what they say
+-- The reader has consumed these bytes under this limit and refused none of them. Its state is the
+-- state that these bytes produce.
 pub record Leads (limit : ℕ) (taken : List ℕ) (reader : Reader) : Type 0 where
   pub bytes : AreBytes taken
   pub reads : IsReading reader
   pub pieces : LeadsPieces limit taken reader.pieces
 
--- it has refused its bytes so, for good
+-- The reader has refused its bytes with this refusal, permanently.
 abbrev pub IsStopped : ReadRefusal → Reader → Type 0
 IsStopped refusal reader = reader.refusal ≡ Some refusal
 
--- a reader that was made and fed: some bytes lead to it, or it has refused them
+-- The invariant of a reader: some bytes lead to it, or it has refused its bytes.
 abbrev pub IsReader : Reader → Type 0
 IsReader reader =
     ((limit : ℕ) × (taken : List ℕ) × Leads limit taken reader)
     ⊎ ((refusal : ReadRefusal) × IsStopped refusal reader)
 
--- it has a whole value
+-- The reader has a complete value.
 abbrev pub IsDone : Reader → Type 0
 IsDone reader = IsReading reader × IsWhole reader.pieces.reading.totals
 
--- ---- a piece is taken
+-- ---- a chunk is consumed
 
 pub record Feeds (limit : ℕ) (taken piece : List ℕ) (new : Reader) (fed : Fed) : Type 0 where
-  -- a front of it, with which the bytes lead to the new reader
+  -- A prefix of the chunk is consumed, and all bytes with that prefix lead to the new reader.
   pub within : fed.taken ≤ length piece
   pub leads : Leads limit (taken ++ take fed.taken piece) new
-  -- not done: the whole piece, and the bytes are a front
+  -- If the value is not complete, then the whole chunk is consumed, and the bytes are a prefix of a
+  -- value.
   pub more : fed.done ≡ false → (fed.taken ≡ length piece) × IsFront limit (taken ++ piece)
-  -- done: up to the last byte of a value
+  -- If the value is complete, then the bytes up to the last consumed one encode a value.
   pub done : fed.done ≡ true
       → IsDone new × ((tree : Tree) × SpelledUnder limit (taken ++ take fed.taken piece) tree)
 
--- the values to come are no more than the bytes left, and the words no more than the header states
--- and the limit allows
+-- There are no more pending values than remaining data bytes. There are no more words than the
+-- header states, and the header states no more than the limit.
 abbrev pub IsWithin : ℕ → Option Totals → Bounded → Type 0
 IsWithin limit None built = heap_words built.built.objects ≡ 0
 IsWithin limit (Some totals) built =
@@ -63,8 +65,8 @@ IsWithin limit (Some totals) built =
 
 -- ---- the value, and the end of the input
 
--- the value of the tree that the bytes spell, of as many words as their header states, which are no
--- more than the limit
+-- The value is that of the tree that the bytes encode. It has exactly as many words as the header
+-- states, which is at most the limit.
 pub record Finishes (limit : ℕ) (taken : List ℕ) (value : Value) : Type 0 where
   pub tree : Tree
   pub spelled : SpelledUnder limit taken tree
@@ -72,7 +74,8 @@ pub record Finishes (limit : ℕ) (taken : List ℕ) (value : Value) : Type 0 wh
   pub words : heap_words value.heap ≡ (head_of taken).w64
   pub limited : heap_words value.heap ≤ limit
 
--- nothing was taken or all of a value; or the bytes are a front, and as many as is said
+-- `Ok` means that no byte was read or a complete value was. `Err` means that the bytes are a
+-- nonempty prefix of a value, and it contains their number.
 abbrev pub EndsInput : {U : Type 0} → ℕ → List ℕ → Result U Truncated → Type 0
 EndsInput limit taken (Ok unit) = (taken ≡ []) ⊎ ((tree : Tree) × SpelledUnder limit taken tree)
 EndsInput limit taken (Err truncated) =

@@ -1,5 +1,5 @@
--- What has been read of a value: its header and whole tokens, the place after them, and the graph
--- that they build.
+-- The part of a value that was read: its header and complete tokens, the totals after them, and the
+-- graph that they build.
 use Rattle.std.specs.Prelude.{ℕ, ◌≡◌, ◌≢◌, ◌-◌, ◌<◌, ◌≤◌, List, length, take, All, Some, None}
 use Rattle.std.specs.Prelude.{Result, Ok, Err}
 use Rattle.std.specs.List.{AllZip}
@@ -18,8 +18,8 @@ use Rattle.om_read.specs.declared.value.Value.{Value}
 use Rattle.om_read.specs.Totals.{AreTotals}
 use Rattle.om_read.specs.Build.{Bounded, start, absorb_all}
 
--- the place is that after these bytes, and the graph is built from the tokens that they spell, in
--- the room that the header states
+-- The totals are those after these bytes. The graph is built from the tokens that the bytes encode,
+-- within the words that the header states.
 pub record Builds (header : List ℕ) (before : List (List ℕ)) (place : Totals) (state : Bounded)
     : Type 0 where
   pub tokens : List Token
@@ -29,7 +29,8 @@ pub record Builds (header : List ℕ) (before : List (List ℕ)) (place : Totals
   pub builds : state.built ≡ absorb_all start tokens
   pub room : state.room ≡ place.head.w64
 
--- the next token, in the bytes that are left: a refusal, or it is not whole, or the place after it
+-- The result of the next token in the remaining bytes: a refusal, or an incomplete token, or the
+-- totals after it.
 abbrev pub NextOf : List ℕ → List (List ℕ) → List ℕ → Bounded → Result Totals Unread → Type 0
 NextOf header before rest state (Err NeedMore) =
     (first_refusal (length rest) (token_steps (context header before) rest) ≡ None)
@@ -40,8 +41,8 @@ NextOf header before rest state (Ok next) =
     (first_refusal (length rest) (token_steps (context header before) rest) ≡ None)
     × (raw_length rest ≤ length rest) × Builds header (with_next before rest) next state
 
--- one token is taken and leads on, by the last value to the end of the data; or nothing is taken
--- and all stays
+-- Either one token is read and leads to the new state, or nothing is read and nothing changes.
+-- After the last value, all data are read.
 abbrev pub TakesOne : List ℕ → List (List ℕ) → List ℕ → Totals → Bounded → Totals → Bounded → ℕ
     → Type 0
 TakesOne header before bytes place state next new n =
@@ -52,18 +53,18 @@ TakesOne header before bytes place state next new n =
 
 -- ---- a whole value
 
--- the value is the tree's, numbered from 0
+-- The value is the value of the tree, with objects numbered from 0.
 pub record IsValueOf (value : Value) (tree : Tree) : Type 0 where
   pub heap : value.heap ≡ objects_of tree 0
   pub root : value.root ≡ root tree 0
   pub valid : IsValue (length value.heap) value.root
 
--- this, unless memory runs out
+-- `P` holds, unless the refusal is that memory ran out.
 abbrev pub UnlessMemory : ReadRefusal → Type 0 → Type 0
 UnlessMemory Memory P = Unit {0}
 UnlessMemory refusal P = P
 
--- some of the first bytes are refused so, unless memory runs out
+-- Some prefix of the bytes is refused with this refusal, unless memory ran out.
 abbrev pub RefusedIn : ℕ → List ℕ → ReadRefusal → Type 0
 RefusedIn limit bytes refusal =
     UnlessMemory refusal ((n : ℕ) × (n ≤ length bytes) × IsRefused limit (take n bytes) refusal)

@@ -1,4 +1,4 @@
--- Where a place is in the words of the definitions, and the place after one token more.
+-- The relation of the totals to the contexts of om_format, and the totals after one more token.
 use Rattle.std.specs.Prelude.{ℕ, ◌≡◌, ◌+◌, ◌*◌, List, length, ◌<◌, ◌≤◌, Bool, true, false, Option}
 use Rattle.std.specs.Prelude.{Some, None, Result, Ok, Err}
 use Rattle.om_model.specs.declared.code.CodeKind.{CodeKind}
@@ -11,11 +11,11 @@ use Rattle.om_read.specs.declared.unread.Unread.{Unread}
 use Rattle.om_read.specs.declared.unread.Unread.TheVariants.{NeedMore, Refused}
 use Rattle.om_read.specs.declared.totals.Totals.{Totals}
 
--- four sums
+-- The record of the four sums.
 abbrev pub sums : ℕ → ℕ → ℕ → ℕ → Sums
 sums objects pending w32 w64 = record { objects = objects; pending = pending; w32 = w32; w64 = w64 }
 
--- where the place is
+-- The context that the totals describe.
 abbrev pub context_of : Totals → Context
 context_of place = record {
   head = place.head;
@@ -24,7 +24,7 @@ context_of place = record {
   sums = sums place.objects place.pending place.w32 place.w64;
 }
 
--- the same, part by part
+-- The totals describe this context, stated field by field.
 pub record AreTotals (place : Totals) (c : Context) : Type 0 where
   pub head : c.head ≡ place.head
   pub start : c.start ≡ place.start
@@ -34,13 +34,13 @@ pub record AreTotals (place : Totals) (c : Context) : Type 0 where
   pub w32 : c.sums.w32 ≡ place.w32
   pub w64 : c.sums.w64 ≡ place.w64
 
--- the context after the token that these bytes begin with
+-- The context after the token with which these bytes begin.
 abbrev pub after : Context → List ℕ → Context
 after c bytes =
     record c { taken = c.taken + raw_length bytes; sums = one_more c.sums (raw_measure bytes) }
 
--- what the steps of a token come to in bytes that begin with it: a refusal, no whole token yet, or
--- the place after it
+-- The result of the steps of a token in bytes that begin with it: a refusal, or an incomplete
+-- token, or the totals after it.
 abbrev pub IsNext : Context → List ℕ → Result Totals Unread → Type 0
 IsNext c bytes (Err (Refused r)) = first_refusal (length bytes) (token_steps c bytes) ≡ Some r
 IsNext c bytes (Err NeedMore) =
@@ -49,40 +49,41 @@ IsNext c bytes (Ok next) =
     (first_refusal (length bytes) (token_steps c bytes) ≡ None) × (raw_length bytes ≤ length bytes)
     × AreTotals next (after c bytes)
 
--- the context after a token of n bytes whose object has this measure
+-- The context after a token of `n` bytes whose object has this measure.
 abbrev pub moved : Context → ℕ → Option Measure → Context
 moved c n measure = record c { taken = c.taken + n; sums = one_more c.sums measure }
 
--- the context after a token of this kind
+-- The context after a token of this kind.
 abbrev pub after_kind : Context → CodeKind → List ℕ → Context
 after_kind c kind rest =
     moved c (1 + fixed_bytes kind + variable_bytes kind rest) (measure_after kind rest)
 
--- the words of an object, on 32 bits or on 64, are fewer than three for each byte of its token and
--- one for each field
+-- The words of an object (on 32 or on 64 bits) are fewer than three for each byte of its token and
+-- one for each field.
 abbrev pub AreFew : (Measure → ℕ) → Option Measure → ℕ → Type 0
 AreFew words measure n = of_object words measure + 1 ≤ 3 * n + of_object fields measure
 
--- all data, words and objects that the header states were taken
+-- All data, words and objects that the header states are consumed.
 pub record Ends (place : Totals) : Type 0 where
   pub taken : place.taken ≡ place.head.length
   pub w32 : place.head.big ≡ false → place.w32 ≡ place.head.w32
   pub w64 : place.w64 ≡ place.head.w64
   pub count : 0 < place.head.objects → place.head.objects ≡ place.objects
 
--- the place goes on so, and after the last value all that the header states was taken; or it stays
+-- If the result is true, then the totals advance by this token, and after the last value all that
+-- the header states is consumed. If it is false, the totals do not change.
 abbrev pub Advances : Totals → ℕ → Option Measure → Totals → Bool → Type 0
 Advances old n measure new true =
     (new.pending ≡ 0 → Ends new) × AreTotals new (moved (context_of old) n measure)
 Advances old n measure new false = new ≡ old
 
--- all kinds but customs
+-- All kinds but customs.
 abbrev pub IsPlain : CodeKind → Type 0
 IsPlain (kinds.Custom old) = ⊥
 IsPlain kind = Unit {0}
 
--- a token of this kind is whole in the bytes after its code, its fields are sound, and it leads to
--- the next place, at which after the last value all that the header states was taken
+-- A token of this kind is complete in the bytes after its code, its fields are sound, and it leads
+-- to the totals `next`. After the last value, all that the header states is consumed.
 pub record PassesTo (place : Totals) (code : ℕ) (kind : CodeKind) (rest : List ℕ) (next : Totals)
     : Type 0 where
   pub whole : fixed_bytes kind + variable_bytes kind rest ≤ length rest

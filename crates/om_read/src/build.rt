@@ -1,5 +1,5 @@
-//! The graph that tokens build, one token after another: a block's fields come after it
-//! (`intern.c`).
+//! Builds a graph from tokens that arrive one at a time, in preorder: the fields of a block follow
+//! the block (`intern.c`).
 
 ghost use Rattle.std.specs.Prelude.{◌≡◌, ◌≢◌, ◌+◌, ◌≤◌, ◌<◌, ◌^◌, ◌∷◌, length, OnOk, vec_len};
 ghost use Rattle.std.specs.Prelude.{vec_capacity, IsSome, Some, MatchBool, MatchResult};
@@ -15,8 +15,8 @@ use om_model::value::Val;
 use std::alloc::Global;
 use std::marker::Model;
 
-/// A block some of whose fields are still to come: the number of its object, its next field, how
-/// many it has, and the word that refers to it.
+/// A block whose fields are not all read yet: the number of its object, the index of its next
+/// field, its number of fields, and the word that refers to the block.
 #[derive(Clone, Copy)]
 pub struct OpenBlock {
     pub object: u64,
@@ -25,9 +25,10 @@ pub struct OpenBlock {
     pub at: u64,
 }
 
-/// The objects so far, the innermost open block, which is full where none is or one further out is
-/// the innermost, those further out, the last one nearest, the root once it has come, and how many
-/// words on 64 bits the objects may have.
+/// The state of a graph under construction: the objects so far, the open blocks, the root once it
+/// is read, and the maximum number of 64-bit words of the objects. `inner` is the innermost open
+/// block. If `inner` is full, then the last block of `outer` is the innermost one, or no block is
+/// open. `outer` contains the enclosing open blocks, outermost first.
 #[derive(Drop)]
 pub struct Builder {
     heap: Heap,
@@ -48,7 +49,7 @@ impl Model for Builder {
         IsBuilt (in_room (building b.heap (stack b.inner b.outer.items) b.root) b.room) };
 }
 
-/// Where the innermost block is full, the next one takes its place.
+/// If the innermost block is full, replaces it by the next enclosing block.
 #[inline(always)]
 fn settle(_heap: &Heap, inner: &mut OpenBlock, outer: &mut Vec<OpenBlock>)
     requires { AreOpen _heap.now (stack inner.old outer.old.items) }
@@ -64,7 +65,7 @@ fn settle(_heap: &Heap, inner: &mut OpenBlock, outer: &mut Vec<OpenBlock>)
     }
 }
 
-/// A value comes, whose word this is: it is the root, or the next field of the innermost open
+/// Stores a value, given as a heap word: as the root, or as the next field of the innermost open
 /// block.
 #[inline(always)]
 fn fill_next(
@@ -91,7 +92,8 @@ fn fill_next(
     inner.next += 1;
 }
 
-/// A block becomes the innermost, where there is room for the one that was.
+/// Makes a block the innermost open one. The capacity of `outer` suffices for the previous
+/// innermost block.
 #[inline(always)]
 fn open_in_room(inner: &mut OpenBlock, outer: &mut Vec<OpenBlock>, block: OpenBlock)
     requires room { inner.old.next ≢ inner.old.size → vec_len outer.old < vec_capacity outer.old }
@@ -104,7 +106,8 @@ fn open_in_room(inner: &mut OpenBlock, outer: &mut Vec<OpenBlock>, block: OpenBl
     *inner = block;
 }
 
-/// A block becomes the innermost, with room for one in it; out of memory nothing has changed.
+/// Makes a block the innermost open one and reserves memory for one more block in `outer`. If
+/// memory runs out, nothing changes.
 fn open_block(
     inner: &mut OpenBlock,
     outer: &mut Vec<OpenBlock>,
@@ -131,8 +134,8 @@ impl Builder {
     ghost use Rattle.om_read.specs.Build.{empty, in_room, fill_in, absorb_in, Fits};
     ghost use Rattle.om_model.specs.Graph.{IsInteger};
 
-    /// Nothing is built, in the memory of a heap that is done with, and the objects may have so
-    /// many words.
+    /// Creates an empty builder that reuses the memory of a discarded heap. The objects may have at
+    /// most `room` 64-bit words.
     pub fn over(alloc: Global, room: u64, heap: Heap) -> Builder
         ensures { result ≡ empty room }
     {
@@ -152,7 +155,7 @@ impl Builder {
         }
     }
 
-    /// The objects may have so many words.
+    /// Sets the maximum number of 64-bit words of the objects.
     pub fn allow(&mut self, room: u64)
         requires { heap_words self.old.built.objects ≤ room }
         ensures { self.new ≡ in_room self.old.built room }
@@ -160,7 +163,7 @@ impl Builder {
         self.room = room;
     }
 
-    /// How many objects there are.
+    /// Returns the number of objects.
     #[inline(always)]
     pub fn count(&self) -> u64
         ensures { result ≡ length self.now.built.objects }
@@ -168,7 +171,7 @@ impl Builder {
         self.heap.count()
     }
 
-    /// How many words the objects have together on 64 bits.
+    /// Returns the number of 64-bit words of all objects together.
     #[inline(always)]
     pub fn words(&self) -> u64
         ensures { result ≡ heap_words self.now.built.objects }
@@ -176,7 +179,7 @@ impl Builder {
         self.heap.words()
     }
 
-    /// A value comes.
+    /// Stores a value.
     #[inline(always)]
     fn fill(&mut self, v: Val)
         requires { IsValue (length self.old.built.objects) v }
@@ -194,7 +197,7 @@ impl Builder {
         );
     }
 
-    /// An integer.
+    /// Adds an integer.
     #[tactic(auto, using(crate::proofs::AbsorbLemmas::absorbed_integer))]
     pub fn integer(&mut self, value: i64)
         requires { IsInteger value }
@@ -203,7 +206,7 @@ impl Builder {
         self.fill(Val::Int(value));
     }
 
-    /// An atom. They are rare.
+    /// Adds an atom (a block without fields). Atoms are rare, so this function is not inlined.
     #[tactic(auto, using(crate::proofs::AbsorbLemmas::absorbed_atom))]
     #[inline(never)]
     pub fn atom(&mut self, tag: u8)
@@ -213,8 +216,8 @@ impl Builder {
         self.fill(Val::Atom(tag));
     }
 
-    /// A reference to the object so many places before the next one. It is called, so that the
-    /// loop of a run keeps its registers.
+    /// Adds a reference to the object `offset` numbers before the next object. This function is not
+    /// inlined, so that the loop of a run keeps its registers.
     #[tactic(auto, using(crate::proofs::AbsorbLemmas::absorbed_shared))]
     #[inline(never)]
     pub fn shared(&mut self, offset: u64)
@@ -226,7 +229,8 @@ impl Builder {
         self.fill(Val::Ref(count - offset));
     }
 
-    /// A block, whose fields are to come, or an atom where it has none.
+    /// Adds a block whose fields follow, or an atom if `size` is 0. Fails with `Memory` if memory
+    /// runs out.
     #[inline(always)]
     pub fn block(&mut self, tag: u8, size: u64) -> Result<(), Memory>
         requires range { tag ≤ 243 }
@@ -251,7 +255,8 @@ impl Builder {
         Ok(())
     }
 
-    /// A block, whose fields are to come, if no memory is needed for it.
+    /// Adds a block whose fields follow, if this needs no new memory. Returns whether the block was
+    /// added.
     #[inline(always)]
     pub fn block_in_room(&mut self, tag: u8, size: u64) -> bool
         requires range { tag ≤ 243 }
@@ -287,7 +292,7 @@ impl Builder {
         true
     }
 
-    /// A string.
+    /// Adds a string. Fails with `Memory` if memory runs out.
     pub fn bytes(&mut self, content: &[u8]) -> Result<(), Memory>
         requires small { length content.now < 2 ^ 53 }
         requires fits { Fits self.old (Some (measures.Bytes (length content.now))) }
@@ -298,7 +303,7 @@ impl Builder {
         Ok(())
     }
 
-    /// The same, if no memory is needed for it.
+    /// Adds a string, if this needs no new memory. Returns whether the string was added.
     #[inline(always)]
     pub fn bytes_in_room(&mut self, content: &[u8]) -> bool
         requires small { length content.now < 2 ^ 53 }
@@ -323,7 +328,7 @@ impl Builder {
         true
     }
 
-    /// A double.
+    /// Adds a double. Fails with `Memory` if memory runs out.
     pub fn double(&mut self, bits: u64) -> Result<(), Memory>
         requires { Fits self.old (Some measures.Double) }
         ensures { OnOk result (self.new ≡ absorb_in self.old (leaf (objects.Double bits))) }
@@ -333,7 +338,7 @@ impl Builder {
         Ok(())
     }
 
-    /// The same, if no memory is needed for it.
+    /// Adds a double, if this needs no new memory. Returns whether the double was added.
     #[inline(always)]
     pub fn double_in_room(&mut self, bits: u64) -> bool
         requires { Fits self.old (Some measures.Double) }
@@ -356,7 +361,7 @@ impl Builder {
         true
     }
 
-    /// An array of doubles.
+    /// Adds an array of doubles. Fails with `Memory` if memory runs out.
     pub fn doubles(&mut self, all: Vec<u64>) -> Result<(), Memory>
         requires some { 0 < vec_len all }
         requires small { vec_len all < 2 ^ 53 }
@@ -368,7 +373,7 @@ impl Builder {
         Ok(())
     }
 
-    /// A custom.
+    /// Adds a custom. Fails with `Memory` if memory runs out.
     pub fn custom(&mut self, value: Custom) -> Result<(), Memory>
         requires { Fits self.old (leaf_measure (custom_object value)) }
         ensures { OnOk result (self.new ≡ absorb_in self.old (leaf (custom_object value))) }
@@ -378,7 +383,7 @@ impl Builder {
         Ok(())
     }
 
-    /// Goes back to where nothing is built and no words may come. The memory stays.
+    /// Resets the builder: it contains no objects and allows no words. It keeps its memory.
     pub fn restart(&mut self)
         ensures { self.new ≡ empty 0 }
     {
@@ -394,7 +399,7 @@ impl Builder {
         self.room = 0;
     }
 
-    /// The graph, lent, and its root.
+    /// Borrows the complete graph and its root.
     pub fn lend(&self) -> Lent<'_>
         requires { IsSome self.now.built.root }
         ensures heap { result.heap.now ≡ self.now.built.objects }
@@ -406,7 +411,7 @@ impl Builder {
         }
     }
 
-    /// The graph and its root.
+    /// Returns the complete graph and its root.
     pub fn finish(self) -> Value
         requires { IsSome self.built.root }
         ensures heap { result.heap ≡ self.built.objects }

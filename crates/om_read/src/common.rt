@@ -1,5 +1,6 @@
-//! Most tokens pass for sure, by few tests, and need no memory: they are taken here, one after
-//! another. What is in doubt is left to the judge.
+//! Fast path. Most tokens surely pass, which a few tests decide, and need no new memory. This
+//! module reads such tokens one after another. It leaves every other token to the full check
+//! (`judge`).
 
 ghost use Rattle.std.specs.Prelude.{◌≡◌, ◌≤◌, ◌<◌, ◌+◌, ◌-◌, ℕ, List, [], length, take};
 ghost use Rattle.std.specs.Prelude.{slice_index, Some, None, Ok, IfSome, OnSome};
@@ -22,8 +23,9 @@ use om_codes::{Known, code_kind};
 use om_model::bytes::skip;
 use om_model::code::CodeKind;
 
-/// How many bytes the token has after its code, if its kind is a common one, it is whole and its
-/// fields are sound: a reference goes back to one of so many objects, where the header states some.
+/// Returns the number of bytes after the code of a token, if the token is of a common kind,
+/// complete, and its fields are sound. A reference is sound if it refers to one of the `objects`
+/// objects so far and the header states some objects.
 #[tactic(auto, using(crate::proofs::RunLemmas::few_fields))]
 #[inline(always)]
 pub fn sound_len(stated: u64, objects: u64, kind: Known, rest: &[u8]) -> Option<usize>
@@ -57,7 +59,7 @@ pub fn sound_len(stated: u64, objects: u64, kind: Known, rest: &[u8]) -> Option<
     Some(len)
 }
 
-/// Takes the next token, which is of this kind, if it surely passes and needs no memory.
+/// Reads the next token, which has this kind, if it surely passes and needs no new memory.
 #[tactic(auto, using(crate::proofs::SizeLemmas::measure_small))]
 #[inline(always)]
 fn take_kind(
@@ -98,7 +100,8 @@ fn take_kind(
     1 + len
 }
 
-/// Takes the next token, if it surely passes and needs no memory: how many bytes it has, or 0.
+/// Reads the next token, if it surely passes and needs no new memory. Returns its length in bytes,
+/// or 0 if it was not read.
 #[inline(always)]
 fn take_one(first: &Totals, left: &mut Left, builder: &mut Builder, bytes: &[u8]) -> usize
     requires some { 0 < length bytes.now }
@@ -110,7 +113,7 @@ fn take_one(first: &Totals, left: &mut Left, builder: &mut Builder, bytes: &[u8]
         → TakesLeft first.now n header before bytes.now place left.old builder.old left.new
         builder.new result }
 {
-    // The kinds that are named get code of their own.
+    // Each kind that is listed gets specialized code.
     match code_kind(bytes[0]) {
         Ok(CodeKind::SmallBlock(tag, size)) => {
             take_kind(first, left, builder, CodeKind::SmallBlock(tag, size), bytes)
@@ -134,8 +137,8 @@ fn take_one(first: &Totals, left: &mut Left, builder: &mut Builder, bytes: &[u8]
     }
 }
 
-/// Takes tokens that surely pass and need no memory: how many bytes they have. The bytes are data
-/// of the value, so that none is left after its last token.
+/// Reads tokens that surely pass and need no new memory, and returns their length in bytes. All the
+/// bytes are data of the value, so no bytes remain after its last token.
 #[inline(always)]
 fn take_all(first: &Totals, left: &mut Left, builder: &mut Builder, bytes: &[u8]) -> usize
     requires open { 0 < first.now.pending }
@@ -157,7 +160,7 @@ fn take_all(first: &Totals, left: &mut Left, builder: &mut Builder, bytes: &[u8]
     at
 }
 
-/// Those of the bytes that are data of the value.
+/// Returns the prefix of the bytes that is data of the value.
 #[inline(always)]
 fn data_in<'a>(first: &Totals, bytes: &'a [u8]) -> &'a [u8]
     ensures { result.now ≡ take (first.now.head.length - first.now.taken) bytes.now }
@@ -170,8 +173,8 @@ fn data_in<'a>(first: &Totals, bytes: &'a [u8]) -> &'a [u8]
     }
 }
 
-/// Takes tokens that surely pass and need no memory: how many bytes they have. While there is
-/// enough for each token, what is left is not compared at each.
+/// Reads tokens that surely pass and need no new memory, and returns their length in bytes. While
+/// there is enough room for every token, the room is not checked at each token.
 #[inline(always)]
 fn take_many(first: &Totals, left: &mut Left, builder: &mut Builder, bytes: &[u8]) -> usize
     requires open { 0 < first.now.pending }
@@ -190,7 +193,7 @@ fn take_many(first: &Totals, left: &mut Left, builder: &mut Builder, bytes: &[u8
     }
 }
 
-/// Takes tokens that surely pass and need no memory: how many bytes they have.
+/// Reads tokens that surely pass and need no new memory. Returns their length in bytes.
 pub fn take_common(totals: &mut Totals, builder: &mut Builder, bytes: &[u8]) -> usize
     requires open { 0 < totals.old.pending }
     requires leads { (limit : ℕ) × (taken : List ℕ)

@@ -1,4 +1,4 @@
-//! What the content of a token says, once the token has passed.
+//! Decodes the contents of tokens that have passed the checks.
 
 ghost use Rattle.std.specs.Prelude.{◌≡◌, ◌*◌, length, IfOk};
 ghost use Rattle.om_model.specs.Bytes.{SpellsDoubles};
@@ -11,7 +11,8 @@ use om_model::bytes::{double, signed, skip};
 use om_model::code::{Custom, CustomKind};
 use std::alloc::Global;
 
-/// The doubles that so many times eight bytes spell.
+/// Decodes `count` doubles of eight bytes each, in the byte order that `little` selects. Fails with
+/// `Memory` if memory runs out.
 pub fn doubles_of(
     alloc: Global,
     bytes: &[u8],
@@ -29,7 +30,7 @@ pub fn doubles_of(
     Ok(all)
 }
 
-/// The value of a custom, after whose code stands `rest`.
+/// Decodes the value of a custom from the bytes after its code.
 pub fn custom_value(rest: &[u8]) -> Custom
     requires { (t : Token) × SpellsCustom rest.now t }
     ensures { (t : Token) → SpellsCustom rest.now t → t ≡ leaf (custom_object result) }

@@ -1,4 +1,4 @@
-//! What a whole token adds to the graph (`intern.c`).
+//! Adds a complete token to the graph (`intern.c`).
 
 ghost use Rattle.std.specs.Prelude.{◌≡◌, ◌≤◌, ◌<◌, ◌*◌, ◌/◌, ◌%◌, ◌^◌, ℕ, List, length, OnOk, Some};
 ghost use Rattle.std.specs.Prelude.{MatchBool};
@@ -20,7 +20,7 @@ use om_model::bytes::{big_endian, double, signed, skip};
 use om_model::code::CodeKind;
 use std::alloc::Global;
 
-/// A block or an atom, by its header word.
+/// Adds the block or atom that a header word describes.
 fn word(builder: &mut Builder, bytes: &[u8]) -> Result<(), Memory>
     requires few { length bytes.now ≤ 8 }
     requires range { number bytes.now % 256 ≤ 243 }
@@ -32,7 +32,7 @@ fn word(builder: &mut Builder, bytes: &[u8]) -> Result<(), Memory>
     builder.block((header % 256) as u8, header / 1024)
 }
 
-/// An array of so many doubles.
+/// Adds an array of `count` doubles.
 fn doubles(
     alloc: Global,
     builder: &mut Builder,
@@ -52,8 +52,8 @@ fn doubles(
     builder.doubles(all)
 }
 
-/// The token of this kind, after whose code stands `rest`, comes, if it is one that may be common
-/// and no memory is needed for it.
+/// Adds the token of this kind whose bytes after the code are `rest`, if the kind is common and no
+/// new memory is needed. Returns whether the token was added.
 #[inline(always)]
 pub fn decode_in_room(builder: &mut Builder, kind: Known, rest: &[u8]) -> bool
     requires small { length rest.now < 2 ^ 53 }
@@ -94,7 +94,8 @@ pub fn decode_in_room(builder: &mut Builder, kind: Known, rest: &[u8]) -> bool
     }
 }
 
-/// The token of this kind, after whose code stands `rest`, comes.
+/// Adds the token of this kind whose bytes after the code are `rest`. Fails with `Memory` if memory
+/// runs out.
 #[inline(always)]
 pub fn decode(alloc: Global, builder: &mut Builder, kind: Known, rest: &[u8]) -> Result<(), Memory>
     requires small { length rest.now < 2 ^ 53 }

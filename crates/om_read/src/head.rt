@@ -1,4 +1,4 @@
-//! The steps of a header (`intext.h` lays it out).
+//! Checks a header (its format is in `intext.h`).
 
 ghost use Rattle.std.specs.Prelude.{◌≤◌, IfOk};
 ghost use Rattle.om_read.specs.Head.{JudgedHeader, Begins};
@@ -9,11 +9,12 @@ use om_headers::{HeadFault, HeaderStep, parse};
 use om_model::header::Head;
 use om_model::refusal::{ReadRefusal, Stated};
 
-/// More bytes than this no value's data may have.
+/// The maximum length in bytes of a value's data.
 const LENGTH_LIMIT: u64 = (1 << 48) - 1;
 
-/// Judges the header, by all the bytes that are there: the place after it, once it is whole and
-/// passes.
+/// Checks the header on all bytes that are there. Returns the totals after the header if it is
+/// complete and passes. Fails with `NeedMore` if the header is incomplete, and with `Refused` if a
+/// step fails. `limit` is the maximum number of 64-bit words.
 pub fn judge_header(bytes: &[u8], limit: u64) -> Result<Totals, Unread>
     ensures judged { JudgedHeader limit bytes.now result }
     ensures limited { IfOk result (λ place. place.head.w64 ≤ limit) }
@@ -26,7 +27,8 @@ pub fn judge_header(bytes: &[u8], limit: u64) -> Result<Totals, Unread>
     }
 }
 
-/// The place after a header, which states no more than may be, and some data.
+/// Checks that the header states at least one byte of data and no more words and bytes than the
+/// limits. Returns the totals after the header.
 fn begin(head: Head, limit: u64) -> Result<Totals, Unread>
     ensures begins { Begins limit head result }
     ensures limited { IfOk result (λ place. place.head.w64 ≤ limit) }

@@ -1,5 +1,5 @@
-//! What is left for tokens that surely pass, in few numbers, so that each test of a token is one
-//! subtraction.
+//! The room that remains for tokens that surely pass, in a few numbers: each check of a token is
+//! one subtraction.
 
 ghost use Rattle.std.specs.Prelude.{◌≡◌, ◌+◌, ◌<◌, ◌≤◌, ◌^◌, true, MatchBool};
 ghost use Rattle.std.specs.Option.{ForSome};
@@ -11,7 +11,8 @@ use om_headers::words_of;
 use om_model::code::Measure;
 use om_model::header::Head;
 
-/// Data bytes beyond one for each value to come, values to come, and words.
+/// The remaining room: data bytes beyond one for each pending value, pending values, words on 32
+/// bits and words on 64 bits.
 #[derive(Clone, Copy)]
 pub struct Left {
     pub slack: u64,
@@ -21,15 +22,15 @@ pub struct Left {
     ghost short: { slack + pending < 2 ^ 48 },
 }
 
-/// What a run of tokens keeps: the values to come, and by how much its words on 32 bits are more
-/// than those on 64.
+/// The state of a run of tokens: the pending values, and the excess of its words on 32 bits over
+/// its words on 64 bits.
 #[derive(Clone, Copy)]
 pub struct Run {
     pub pending: u64,
     pub extra: u64,
 }
 
-/// How many fields the object has.
+/// Returns the number of fields of the object.
 #[inline(always)]
 fn fields_of(measure: Measure) -> u64
     ensures { result ≡ fields measure }
@@ -40,7 +41,8 @@ fn fields_of(measure: Measure) -> u64
     }
 }
 
-/// The header states as many objects as there are with the one of this measure, or none.
+/// Returns true if the header states no number of objects, or exactly the number of objects
+/// including the one of this measure.
 #[inline(always)]
 fn is_count(stated: u64, objects: u64, measure: Option<Measure>) -> bool
     ensures { result ≡ true → 0 < stated → stated ≡ objects + of_object (λ _. 1) measure }
@@ -59,15 +61,15 @@ impl Left {
     ghost use Rattle.om_read.specs.Totals.{AreTotals, context_of};
     ghost use Rattle.om_read.specs.Left.{Leaves, Spends, IsSpent, limit_of, HasPlenty, IsAfter};
 
-    /// The words on 32 bits that a header allows. A big one states none, and this is more than its
-    /// data can come to.
+    /// Returns the number of words on 32 bits that a header allows. A big header states none, so
+    /// the result for it is more than its data can need.
     fn limit32(head: &Head) -> u64
         ensures { result ≡ limit_of head.now }
     {
         if head.big { 1 << 62 } else { head.w32 }
     }
 
-    /// What is left at this place.
+    /// Returns the room that remains at these totals.
     pub fn at(first: &Totals) -> Left
         ensures { Leaves first.now 0 first.now result }
     {
@@ -79,8 +81,8 @@ impl Left {
         }
     }
 
-    /// For the tokens that begin in so many bytes there is enough. It is 0 where only few of them
-    /// are there: then the run does not pay.
+    /// Returns the number of bytes for which the room surely suffices: for all common tokens that
+    /// begin in them. Returns 0 if that number is small, because a run is not worth its cost then.
     #[inline(always)]
     pub fn plenty(&self, len: usize) -> usize
         ensures plenty { 0 < result → HasPlenty self.now result }
@@ -102,7 +104,7 @@ impl Left {
         (least / 16 - 32) as usize
     }
 
-    /// What is left where `n` bytes and so many words on 64 bits were spent in a run.
+    /// Returns the room that remains after a run of `n` bytes that spent `spent` words on 64 bits.
     pub fn after(self, n: u64, spent: u64, run: Run) -> Left
         requires { (left : Left) × IsAfter self left run n spent }
         ensures { (left : Left) → IsAfter self left run n spent → result ≡ left }
@@ -115,7 +117,8 @@ impl Left {
         }
     }
 
-    /// Goes on after a token of `n` bytes whose object has this measure, if it fits.
+    /// Subtracts a token of `n` bytes whose object has this measure. Returns true if the token
+    /// fits.
     #[inline(always)]
     pub fn spend(&mut self, n: u64, measure: Option<Measure>) -> bool
         requires open { 0 < self.old.pending }
@@ -152,8 +155,8 @@ impl Left {
         true
     }
 
-    /// A value is to come; or nothing is left, and with the object of this measure there are as
-    /// many as the header states.
+    /// Returns true if a value is pending. Otherwise returns true only if no room remains and the
+    /// number of objects, including the one of this measure, is the number that the header states.
     #[inline(always)]
     pub fn is_sound(&self, first: &Totals, objects: u64, measure: Option<Measure>) -> bool
         ensures { result ≡ true → self.now.pending ≡ 0
@@ -168,7 +171,7 @@ impl Left {
         is_count(first.head.objects, objects, measure)
     }
 
-    /// The place that is reached, n bytes and so many objects after the first.
+    /// Returns the totals `n` bytes after the first ones, with `objects` objects.
     pub fn place(self, first: &Totals, n: u64, objects: u64) -> Totals
         requires { (place : Totals) × Leaves first.now n place self × (objects ≡ place.objects) }
         ensures { (place : Totals) → Leaves first.now n place self → objects ≡ place.objects
@@ -189,7 +192,8 @@ impl Left {
 impl Run {
     ghost use Rattle.om_read.specs.Left.{Goes};
 
-    /// Goes on after a token whose object has this measure, if a value is still to come.
+    /// Adds a token whose object has this measure to the run. Returns true if a value is still
+    /// pending.
     #[inline(always)]
     pub fn spend(&mut self, measure: Option<Measure>) -> bool
         requires open { 0 < self.old.pending }

@@ -1,5 +1,7 @@
-//! Reads a value from bytes: the steps of its header and its tokens, and the graph that they build
-//! (`intern.c`).
+//! Reads one marshalled value from bytes that arrive in chunks (`intern.c`). `Reader::feed` checks
+//! the header and the tokens and builds the graph. It refuses bytes only if some prefix of them is
+//! refused or memory runs out (`refuses`). `Reader::finish` returns the value that the bytes
+//! encode. The crate does not check types; it reads no input itself.
 #![tactic(auto)]
 
 mod build;

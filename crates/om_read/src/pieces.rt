@@ -1,4 +1,5 @@
-//! Bytes in pieces: the part of a header or a token that is not whole yet waits for more.
+//! Input in chunks: the bytes of an incomplete header or token are buffered until more bytes
+//! arrive.
 
 ghost use Rattle.std.specs.Prelude.{◌≡◌, ◌<◌, ℕ, List, [], length, take, Some};
 
@@ -9,10 +10,10 @@ use om_heap::Heap;
 use om_model::refusal::ReadRefusal;
 use std::alloc::Global;
 
-/// The most bytes that are joined to a part at a time.
+/// The maximum number of bytes that are appended to the buffered part at a time.
 const JOINED: usize = 4096;
 
-/// The first bytes, at most as many as are joined to a part at a time.
+/// Returns the first bytes, at most `JOINED` of them.
 fn joined(bytes: &[u8]) -> &[u8]
     ensures { result.now ≡ take 4096 bytes.now }
 {
@@ -23,7 +24,8 @@ fn joined(bytes: &[u8]) -> &[u8]
     }
 }
 
-/// What was read whole, and a part of the next header or token.
+/// The header and tokens that were read completely, and the buffered part of the next header or
+/// token.
 #[derive(Drop)]
 pub struct Pieces {
     pub reading: Reading,
@@ -34,7 +36,7 @@ impl Pieces {
     ghost use Rattle.om_model.specs.Bytes.{AreBytes};
     ghost use Rattle.om_read.specs.Pieces.{LeadsPieces, IsWhole, Takes, TakesPiece};
 
-    /// Nothing is read. The heap is done with.
+    /// Creates a state in which nothing is read. It reuses the memory of a discarded heap.
     pub fn over(alloc: Global, limit: u64, heap: Heap) -> Pieces
         ensures { LeadsPieces limit [] result }
     {
@@ -44,7 +46,7 @@ impl Pieces {
         }
     }
 
-    /// Goes back to where nothing is read. The memory stays.
+    /// Resets the state: nothing is read. It keeps its memory.
     pub fn restart(&mut self, limit: u64)
         ensures { LeadsPieces limit [] self.new }
     {
@@ -52,8 +54,8 @@ impl Pieces {
         self.part.clear();
     }
 
-    /// Takes a header or a token of the bytes, or all of them where they are a part of one. No part
-    /// waits.
+    /// Reads one header or token from the bytes. If they are only a part of one, buffers all of
+    /// them. The buffer is empty before.
     fn take_next(&mut self, alloc: Global, rest: &[u8]) -> Result<usize, ReadRefusal>
         requires none { self.old.part.items ≡ [] }
         requires some { 0 < length rest.now }
@@ -76,8 +78,7 @@ impl Pieces {
         }
     }
 
-    /// Takes the rest of the header or the token whose part waits, or joins some of the bytes to
-    /// it.
+    /// Completes the buffered header or token, or appends some of the bytes to the buffer.
     #[inline(never)]
     fn join_next(&mut self, alloc: Global, rest: &[u8]) -> Result<usize, ReadRefusal>
         requires some { 0 < length rest.now }
@@ -99,7 +100,7 @@ impl Pieces {
         }
     }
 
-    /// Takes some of the bytes.
+    /// Consumes some of the bytes.
     fn take_some(&mut self, alloc: Global, rest: &[u8]) -> Result<usize, ReadRefusal>
         requires some { 0 < length rest.now }
         requires open { IsWhole self.old.reading.totals → ⊥ }
@@ -114,7 +115,8 @@ impl Pieces {
         }
     }
 
-    /// Takes the bytes, or the front of them that ends the value.
+    /// Consumes the bytes, or the prefix of them that ends the value. Returns the number of bytes
+    /// consumed. Fails with the refusal if the value is refused.
     pub fn feed(&mut self, alloc: Global, piece: &[u8]) -> Result<usize, ReadRefusal>
         requires { (limit : ℕ) × (taken : List ℕ) × LeadsPieces limit taken self.old }
         ensures { (limit : ℕ) (taken : List ℕ) → LeadsPieces limit taken self.old
@@ -130,7 +132,7 @@ impl Pieces {
         Ok(taken)
     }
 
-    /// How many bytes were taken.
+    /// Returns the number of bytes consumed.
     pub fn taken(&self) -> u64
         ensures { (limit : ℕ) (taken : List ℕ) → LeadsPieces limit taken self.now
             → result ≡ length taken }
@@ -142,7 +144,7 @@ impl Pieces {
         }
     }
 
-    /// The value that was read, lent.
+    /// Borrows the value that was read.
     pub fn lend(&self) -> Lent<'_>
         requires leads { (limit : ℕ) × (taken : List ℕ) × AreBytes taken
             × LeadsPieces limit taken self.now }
@@ -153,7 +155,7 @@ impl Pieces {
         self.reading.builder.lend()
     }
 
-    /// The value that was read.
+    /// Returns the value that was read.
     pub fn finish(self) -> Value
         requires leads { (limit : ℕ) × (taken : List ℕ) × AreBytes taken
             × LeadsPieces limit taken self }

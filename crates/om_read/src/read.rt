@@ -1,4 +1,4 @@
-//! The next token: it is judged, and what it spells is added (`intern.c`).
+//! Reads the next token: checks it and adds what it encodes (`intern.c`).
 
 ghost use Rattle.std.specs.Prelude.{◌≡◌, ◌<◌, ◌^◌, ℕ, List, length, OnOk};
 ghost use Rattle.om_format.specs.Words.{of_object, fields};
@@ -17,7 +17,7 @@ use om_model::Memory;
 use om_model::bytes::skip;
 use std::alloc::Global;
 
-/// Adds what a whole token spells, whose object has room in the graph.
+/// Adds the value that a complete token encodes. The graph has room for the token's object.
 fn add(alloc: Global, builder: &mut Builder, token: &[u8]) -> Result<(), Memory>
     requires short { length token.now < 2 ^ 53 }
     requires small { of_object fields (raw_measure token.now) < 2 ^ 53 }
@@ -33,7 +33,7 @@ fn add(alloc: Global, builder: &mut Builder, token: &[u8]) -> Result<(), Memory>
     }
 }
 
-/// Judges the next token, and adds what it spells.
+/// Checks the next token and adds the value that it encodes. Returns the totals after the token.
 pub fn next_token(
     alloc: Global,
     builder: &mut Builder,

@@ -1,4 +1,4 @@
-//! A reader of one value, whose bytes come in pieces.
+//! A reader of one value whose bytes arrive in chunks.
 
 ghost use Rattle.std.specs.Prelude.{◌≡◌, ℕ, List, [], true, OnOk, IfOk, IfErr, ◌++◌};
 ghost use Rattle.om_model.specs.declared.refusal.ReadRefusal.{ReadRefusal};
@@ -10,21 +10,22 @@ use om_heap::Heap;
 use om_model::refusal::ReadRefusal;
 use std::alloc::Global;
 
-/// How many bytes of a piece were taken, and whether they complete the value.
+/// The result of a chunk: the number of bytes consumed, and whether they complete the value.
 #[derive(Clone, Copy)]
 pub struct Fed {
     pub taken: usize,
     pub done: bool,
 }
 
-/// The input ends inside a value, after so many of its bytes.
+/// The error for input that ends inside a value, with the number of bytes of the value that were
+/// there.
 #[derive(Clone, Copy)]
 pub struct Truncated {
     pub taken: u64,
 }
 
-/// What was read of one value, and the refusal once there is one. It does not keep the bytes that
-/// it took, but for a part of a header or a token.
+/// A reader of one value. It contains the graph so far and, after an error, the refusal. Of the
+/// consumed bytes it keeps only an incomplete header or token.
 #[derive(Drop)]
 pub struct Reader {
     alloc: Global,
@@ -36,7 +37,7 @@ impl Reader {
     ghost use Rattle.om_read.specs.Reader.{Leads, IsReader, IsReading, IsStopped, IsDone, Feeds};
     ghost use Rattle.om_read.specs.Reader.{IsWithin, Finishes, EndsInput};
 
-    /// A reader of a value of at most `limit` words on 64 bits. It takes no memory.
+    /// Creates a reader for a value of at most `limit` 64-bit words. It allocates no memory.
     pub fn new(alloc: Global, limit: u64) -> Reader
         ensures reader { IsReader result }
         ensures leads { Leads limit [] result }
@@ -45,8 +46,8 @@ impl Reader {
         Reader::over(alloc, limit, Heap::new(alloc))
     }
 
-    /// The same in the memory of a heap that is done with, as one after another of many values is
-    /// read.
+    /// Creates a reader that reuses the memory of a discarded heap. This serves to read many values
+    /// one after another.
     pub fn over(alloc: Global, limit: u64, heap: Heap) -> Reader
         ensures reader { IsReader result }
         ensures leads { Leads limit [] result }
@@ -59,7 +60,7 @@ impl Reader {
         }
     }
 
-    /// Goes back to where nothing was taken, to read the next of many values in the same memory.
+    /// Resets the reader, to read the next value in the same memory.
     pub fn restart(&mut self, limit: u64)
         ensures reader { IsReader self.new }
         ensures leads { Leads limit [] self.new }
@@ -69,20 +70,22 @@ impl Reader {
         self.refusal = None;
     }
 
-    /// Takes the piece, or the front of it up to the value's last byte (`intern.c`). A reader that
-    /// is done takes nothing.
+    /// Consumes the chunk, or the prefix of it up to the value's last byte (`intern.c`). A reader
+    /// that is done consumes nothing. Fails with a refusal if some prefix of the bytes is refused,
+    /// or if memory runs out; the reader then returns that refusal for ever.
     pub fn feed(&mut self, piece: &[u8]) -> Result<Fed, ReadRefusal>
-        // A reader that `new` made and `feed` kept is one.
+        // Every reader that `new` made and `feed` kept satisfies `IsReader`.
         requires { IsReader self.old }
         ensures reader { IsReader self.new }
         ensures feeds { (limit : ℕ) (taken : List ℕ) → Leads limit taken self.old
             → IfOk result (Feeds limit taken piece.now self.new) }
         ensures done { IfOk result (λ fed. fed.done ≡ true → IsDone self.new) }
         ensures reads { OnOk result (IsReading self.new) }
-        // A refusal comes where some prefix of the bytes is refused so, or memory runs out.
+        // If the result is a refusal, then some prefix of the bytes is refused for that reason, or
+        // memory ran out.
         ensures refuses { (limit : ℕ) (taken : List ℕ) → Leads limit taken self.old
             → IfErr result (RefusedIn limit (taken ++ piece.now)) }
-        // It is answered from then on.
+        // Every later call returns the same refusal.
         ensures stops { IfErr result (λ refusal. IsStopped refusal self.new) }
         ensures again { (refusal : ReadRefusal) → IsStopped refusal self.old
             → result ≡ Err refusal }
@@ -105,7 +108,7 @@ impl Reader {
         }
     }
 
-    /// The value, once it is complete, lent.
+    /// Borrows the complete value.
     pub fn lend(&self) -> Lent<'_>
         requires reader { IsReader self.now }
         requires done { IsDone self.now }
@@ -116,7 +119,7 @@ impl Reader {
         self.pieces.lend()
     }
 
-    /// The value, once it is complete.
+    /// Returns the complete value.
     pub fn finish(self) -> Value
         requires reader { IsReader self }
         requires done { IsDone self }
@@ -126,7 +129,7 @@ impl Reader {
         self.pieces.finish()
     }
 
-    /// The input ends here: inside a value, or not.
+    /// Handles the end of the input. Fails with `Truncated` if the input ends inside a value.
     pub fn at_end(&self) -> Result<(), Truncated>
         requires { IsReading self.now }
         ensures { (limit : ℕ) (taken : List ℕ) → Leads limit taken self.now

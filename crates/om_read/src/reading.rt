@@ -1,4 +1,4 @@
-//! The header and the tokens that were read whole, and what they build.
+//! The header and the tokens that were read completely, and the graph that they build.
 
 ghost use Rattle.std.specs.Prelude.{◌≡◌, ◌≤◌, ◌++◌, ◌↔◌, ℕ, List, [], length, take, None, IsTrue};
 
@@ -11,7 +11,8 @@ use crate::unread::Unread;
 use om_heap::Heap;
 use std::alloc::Global;
 
-/// The limit of words, the sums over the tokens once the header is whole, and what they build.
+/// The limit of 64-bit words, the totals over the tokens once the header is complete, and the graph
+/// under construction.
 #[derive(Drop)]
 pub struct Reading {
     pub limit: u64,
@@ -22,7 +23,7 @@ pub struct Reading {
 impl Reading {
     ghost use Rattle.om_read.specs.Pieces.{LeadsAs, IsWhole, NextRead};
 
-    /// Nothing is read. The heap is done with.
+    /// Creates a state in which nothing is read. It reuses the memory of a discarded heap.
     pub fn over(alloc: Global, limit: u64, heap: Heap) -> Reading
         ensures limit { result.limit ≡ limit }
         ensures leads { LeadsAs result.totals limit [] result.builder [] }
@@ -34,7 +35,7 @@ impl Reading {
         }
     }
 
-    /// Goes back to where nothing is read. The memory stays.
+    /// Resets the state: nothing is read. It keeps its memory.
     pub fn restart(&mut self, limit: u64)
         ensures limit { self.new.limit ≡ limit }
         ensures leads { LeadsAs self.new.totals limit [] self.new.builder [] }
@@ -44,7 +45,7 @@ impl Reading {
         self.builder.restart();
     }
 
-    /// The last token of the value was read.
+    /// Returns true if the last token of the value was read.
     pub fn is_done(&self) -> bool
         ensures { IsTrue result ↔ IsWhole self.now.totals }
     {
@@ -54,7 +55,7 @@ impl Reading {
         }
     }
 
-    /// Reads the header, where the bytes begin with all of it: how many bytes it has.
+    /// Reads the header, if the bytes begin with a complete one. Returns its length in bytes.
     fn next_header(&mut self, bytes: &[u8]) -> Result<usize, Unread>
         requires none { self.old.totals ≡ None }
         requires leads { (taken part more : List ℕ)
@@ -74,7 +75,8 @@ impl Reading {
         }
     }
 
-    /// Takes tokens after the header that surely pass and need no memory: how many bytes they have.
+    /// Reads tokens after the header that surely pass and need no new memory. Returns the number of
+    /// bytes consumed, which is 0 if the header is incomplete.
     pub fn take_common(&mut self, bytes: &[u8]) -> usize
         requires open { IsWhole self.old.totals → ⊥ }
         requires leads { (taken : List ℕ)
@@ -95,8 +97,9 @@ impl Reading {
         n
     }
 
-    /// Reads the header, or after it the next token, where the bytes begin with all of it: how many
-    /// bytes it has.
+    /// Reads the header or, after it, the next token, if the bytes begin with a complete one.
+    /// Returns its length in bytes. Fails with `NeedMore` if it is incomplete, and with `Refused`
+    /// if a step fails.
     pub fn next(&mut self, alloc: Global, bytes: &[u8]) -> Result<usize, Unread>
         requires open { IsWhole self.old.totals → ⊥ }
         requires leads { (taken part more : List ℕ)

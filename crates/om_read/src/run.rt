@@ -1,5 +1,6 @@
-//! Runs of common tokens, while there is enough for each of them: what is left is not compared at
-//! each token, and most of it is told at the end of the run. So few numbers are kept.
+//! Fast path for runs of common tokens. While there is enough room for every token, the room is not
+//! checked at each token. Most of the totals are computed at the end of the run, so the loop keeps
+//! few numbers.
 
 ghost use Rattle.std.specs.Prelude.{◌≡◌, ◌<◌, ◌≤◌, ◌^◌, ℕ, List, [], length, drop};
 ghost use Rattle.std.specs.Prelude.{slice_index, Some, Ok};
@@ -19,7 +20,7 @@ use crate::totals::Totals;
 use om_codes::Known;
 use om_model::code::CodeKind;
 
-/// The bytes after a token's code, of which it is known here that there is one.
+/// Returns the bytes after a token's code. There is at least one byte.
 #[inline(always)]
 fn after_code(bytes: &[u8]) -> &[u8]
     requires { 0 < length bytes.now }
@@ -28,8 +29,8 @@ fn after_code(bytes: &[u8]) -> &[u8]
     &bytes[1..]
 }
 
-/// Takes the next token, which is of this kind, if it surely passes, is not the last one and needs
-/// no memory.
+/// Reads the next token, which has this kind, if it surely passes, is not the last one and needs no
+/// new memory.
 #[tactic(auto, using(crate::proofs::SizeLemmas::measure_small))]
 #[inline(always)]
 fn run_kind(
@@ -68,7 +69,8 @@ fn run_kind(
     1 + len
 }
 
-/// The same of one whose code is below those of small blocks, integers and strings.
+/// Reads the next token as `run_kind` does, if its code is below the codes of small blocks,
+/// integers and strings.
 #[tactic(auto, unfolding(om_format::specs::Code::kind_of))]
 #[inline(always)]
 fn run_large(first: &Totals, now: &mut Run, builder: &mut Builder, bytes: &[u8]) -> usize
@@ -95,8 +97,8 @@ fn run_large(first: &Totals, now: &mut Run, builder: &mut Builder, bytes: &[u8])
     }
 }
 
-/// Takes the next token, if it surely passes, is not the last one and needs no memory: how many
-/// bytes it has, or 0. The most common ones are told by one test each.
+/// Reads the next token, if it surely passes, is not the last one and needs no new memory. Returns
+/// its length in bytes, or 0 if it was not read. One test each recognizes the most common tokens.
 #[tactic(auto, unfolding(om_format::specs::Code::kind_of))]
 #[inline(always)]
 fn run_one(first: &Totals, now: &mut Run, builder: &mut Builder, bytes: &[u8]) -> usize
@@ -135,8 +137,8 @@ fn run_one(first: &Totals, now: &mut Run, builder: &mut Builder, bytes: &[u8]) -
     run_large(first, now, builder, bytes)
 }
 
-/// Takes such tokens that begin in the first `most` bytes: how many bytes they have, and what is
-/// kept. It is called, so that it has the registers for itself.
+/// Reads tokens of the run that begin in the first `most` bytes. Returns their length in bytes and
+/// the state of the run. This function is not inlined, so that it has all registers.
 #[inline(never)]
 fn run_all(
     first: &Totals,
@@ -167,7 +169,7 @@ fn run_all(
     (at, now)
 }
 
-/// The less of the two.
+/// Returns the smaller of the two numbers.
 #[inline(always)]
 fn within(most: usize, len: usize) -> usize
     ensures most { result ≤ most }
@@ -176,8 +178,8 @@ fn within(most: usize, len: usize) -> usize
     if most < len { most } else { len }
 }
 
-/// Takes such tokens, where there is enough for those that begin in the first `most` bytes: how
-/// many bytes they have.
+/// Reads a run of common tokens, if there is enough room for those that begin in the first `most`
+/// bytes. Returns their length in bytes.
 pub fn run(
     first: &Totals,
     left: &mut Left,

@@ -1,4 +1,4 @@
-//! What the code of a token and its first bytes say of its size (`intext.h` has the codes).
+//! Computes the size of a token from its code and its first bytes (`intext.h` lists the codes).
 
 ghost use Rattle.std.specs.Prelude.{◌≡◌, ◌≤◌, ◌<◌, ◌+◌, ◌*◌, ◌^◌, length, take};
 ghost use Rattle.om_model.specs.Bytes.{number, number_in, signed};
@@ -12,7 +12,7 @@ use om_customs::ident;
 use om_model::bytes::big_endian;
 use om_model::code::{CodeKind, CustomKind, Measure};
 
-/// How many bytes each token of the kind has after its code.
+/// Returns the number of bytes that every token of the kind has after its code.
 pub fn fixed_len(kind: CodeKind) -> u64
     ensures { result ≡ fixed_bytes kind }
 {
@@ -28,7 +28,7 @@ pub fn fixed_len(kind: CodeKind) -> u64
     }
 }
 
-/// How many of those bytes the steps read: none of a double or a short integer.
+/// Returns how many of the fixed bytes the steps read: none for a double or a short integer.
 pub fn field_len(kind: CodeKind) -> usize
     ensures { result ≡ field_bytes kind }
 {
@@ -46,7 +46,7 @@ pub fn field_len(kind: CodeKind) -> usize
     }
 }
 
-/// The number of the first `width` bytes.
+/// Returns the number that the first `width` bytes encode, most significant byte first.
 pub fn number_at(rest: &[u8], width: u8) -> u64
     requires few { width ≤ 8 }
     requires whole { width ≤ length rest.now }
@@ -55,7 +55,8 @@ pub fn number_at(rest: &[u8], width: u8) -> u64
     big_endian(&rest[..usize::from(width)])
 }
 
-/// The integer of four bytes, the most significant first, in two's complement. It is one load.
+/// Decodes a four-byte integer in two's complement, most significant byte first. It compiles to one
+/// load.
 #[inline(always)]
 pub fn signed_four(bytes: &[u8]) -> i64
     requires { length bytes.now ≡ 4 }
@@ -65,7 +66,7 @@ pub fn signed_four(bytes: &[u8]) -> i64
     i64::from(value.cast_signed())
 }
 
-/// The bits of a double, whose eight bytes stand in either order. It is one load.
+/// Decodes the bits of a double from eight bytes in either byte order. It compiles to one load.
 #[tactic(auto, using(crate::proofs::SizeLemmas::little_eight, crate::proofs::SizeLemmas::big_eight))]
 #[inline(always)]
 pub fn double_bits(bytes: &[u8], little: bool) -> u64
@@ -81,7 +82,7 @@ pub fn double_bits(bytes: &[u8], little: bool) -> u64
     }
 }
 
-/// The custom that the first three bytes name.
+/// Returns the custom kind that the first three bytes identify.
 pub fn custom_at(rest: &[u8]) -> Option<CustomKind>
     requires { 3 ≤ length rest.now }
     ensures { result ≡ custom_of (take 3 rest.now) }
@@ -89,7 +90,8 @@ pub fn custom_at(rest: &[u8]) -> Option<CustomKind>
     ident([rest[0], rest[1], rest[2]])
 }
 
-/// How many bytes the number of a `Nativeint` takes after this kind byte, or 0 at another kind.
+/// Returns the number of bytes that the number of a `Nativeint` has after this kind byte, or 0 for
+/// another byte.
 pub fn native_len(kind: u8) -> u64
     ensures { result ≡ native_bytes kind }
 {
@@ -100,7 +102,7 @@ pub fn native_len(kind: u8) -> u64
     }
 }
 
-/// How many bytes a custom has after its identifier, by the byte there.
+/// Returns the number of bytes that a custom has after its identifier, given the byte there.
 pub fn custom_len(custom: Option<CustomKind>, kind: u8) -> u64
     ensures { result ≡ custom_bytes custom kind }
 {
@@ -112,7 +114,7 @@ pub fn custom_len(custom: Option<CustomKind>, kind: u8) -> u64
     }
 }
 
-/// How many bytes the token has after those that each of its kind has.
+/// Returns the number of bytes that the token has after the fixed bytes of its kind.
 pub fn variable_len(kind: Known, rest: &[u8]) -> u128
     requires whole { field_bytes kind.kind ≤ length rest.now }
     ensures { result ≡ variable_bytes kind.kind rest.now }
@@ -129,7 +131,7 @@ pub fn variable_len(kind: Known, rest: &[u8]) -> u128
     }
 }
 
-/// The measure of a block of so many fields: none of an atom.
+/// Returns the measure of a block with `size` fields, or `None` for an atom.
 pub fn block_measure_of(size: u64) -> Option<Measure>
     ensures { result ≡ block_measure size }
 {
@@ -140,7 +142,7 @@ pub fn block_measure_of(size: u64) -> Option<Measure>
     }
 }
 
-/// The measure of a custom.
+/// Returns the measure of a custom.
 pub fn custom_measure_of(custom: Option<CustomKind>) -> Option<Measure>
     ensures { result ≡ custom_measure custom }
 {
@@ -152,7 +154,7 @@ pub fn custom_measure_of(custom: Option<CustomKind>) -> Option<Measure>
     }
 }
 
-/// The measure of the object that the token makes, if it makes one.
+/// Returns the measure of the object that the token makes, if it makes one.
 pub fn measure_at(kind: Known, rest: &[u8]) -> Option<Measure>
     requires whole { field_bytes kind.kind ≤ length rest.now }
     ensures measure { result ≡ measure_after kind.kind rest.now }

@@ -1,4 +1,4 @@
-//! Where a token stands, and the steps that compare it with what came before.
+//! The totals before a token, and the checks that compare the token with them.
 
 ghost use Rattle.std.specs.Prelude.{◌≡◌, ◌≤◌, ◌<◌, ◌+◌, ◌-◌, ◌*◌, ◌^◌, [], length, take};
 ghost use Rattle.std.specs.Prelude.{slice_index, None, OnOk, IfOk, false, nat_lt, Option, ℕ, ◌==◌};
@@ -16,8 +16,7 @@ use om_model::code::{CodeFault, CodeKind, CustomKind, Measure};
 use om_model::header::Head;
 use om_model::refusal::{ReadRefusal, WordSum};
 
-/// The header, and sums over the tokens before the place: bytes, objects, values still to come, and
-/// words.
+/// The header, and sums over the tokens so far: bytes, objects, pending values and words.
 #[derive(Clone, Copy)]
 pub struct Totals {
     pub head: Head,
@@ -53,14 +52,15 @@ impl Totals {
     ghost use Rattle.om_headers.specs.Counting.{IsCountable};
     ghost use Rattle.om_read.specs.Progress.{answered, and_then, progress, of_refusal};
 
-    /// The place of the token's code, from the header's first byte.
+    /// Returns the offset in bytes of the token's code, from the header's first byte.
     fn at(&self) -> u64
         ensures { result ≡ self.now.start + self.now.taken }
     {
         self.start + self.taken
     }
 
-    /// More is needed than there are data bytes after the first `n` of the token.
+    /// Returns the refusal if the token needs more data bytes than there are after its first `n`
+    /// bytes.
     fn overlong(&self, need: u128, n: u64) -> Option<ReadRefusal>
         requires { self.now.taken + n ≤ self.now.head.length }
         ensures refusal { result ≡ overlong_refusal (context_of self.now) need n }
@@ -74,7 +74,7 @@ impl Totals {
         }
     }
 
-    /// What is wrong with a reference.
+    /// Returns the refusal of a reference, if it has a fault.
     fn shared_refusal(&self, offset: u64) -> Option<ReadRefusal>
         ensures { result ≡ refusal_of_shared (context_of self.now) offset }
     {
@@ -87,7 +87,7 @@ impl Totals {
         }
     }
 
-    /// What is wrong with an integer of eight bytes.
+    /// Returns the refusal of an eight-byte integer, if it is out of range.
     fn integer_refusal(&self, value: i64) -> Option<ReadRefusal>
         ensures { result ≡ refusal_of_integer (context_of self.now) value }
     {
@@ -98,7 +98,8 @@ impl Totals {
         }
     }
 
-    /// What is wrong with the token's fields: tag, offset, identifier, integer or length.
+    /// Returns the refusal of the token's fields (tag, offset, identifier, integer or length), if
+    /// one of them has a fault.
     fn field_refusal(&self, code: u8, kind: Known, rest: &[u8]) -> Option<ReadRefusal>
         requires whole { field_bytes kind.kind ≤ length rest.now }
         ensures { result ≡ refusal_of_fields (context_of self.now) code kind.kind rest.now }
@@ -132,7 +133,7 @@ impl Totals {
         }
     }
 
-    /// The steps of a `Nativeint` after its identifier.
+    /// Performs the steps of a `Nativeint` after its identifier.
     fn native(&self, rest: &[u8]) -> Result<u64, Unread>
         requires room { self.now.taken + 4 ≤ self.now.head.length }
         requires known { 3 ≤ length rest.now }
@@ -157,7 +158,7 @@ impl Totals {
         Ok(1 + len)
     }
 
-    /// What the kind's fixed bytes and its fields decide.
+    /// Performs the steps that the fixed bytes of the kind and the token's fields decide.
     fn fields(&self, code: u8, kind: Known, rest: &[u8]) -> Result<(), Unread>
         requires open { 0 < self.now.pending }
         ensures steps { answered result ≡ progress (length rest.now + 1)
@@ -173,7 +174,7 @@ impl Totals {
         pass(self.field_refusal(code, kind, rest))
     }
 
-    /// What the bytes of a content decide, and how many there are.
+    /// Performs the steps that the bytes of the contents decide. Returns the number of these bytes.
     fn variable(&self, kind: Known, rest: &[u8]) -> Result<u64, Unread>
         requires whole { field_bytes kind.kind ≤ length rest.now }
         requires room { self.now.taken + (1 + fixed_bytes kind.kind) ≤ self.now.head.length }
@@ -193,7 +194,7 @@ impl Totals {
         Ok(len as u64)
     }
 
-    /// How many values are to come after a token.
+    /// Returns the number of pending values after a token.
     fn pending_after(&self, measure: Option<Measure>) -> u64
         requires open { 0 < self.now.pending }
         requires small { of_object fields_of measure < 2 ^ 60 }
@@ -205,7 +206,7 @@ impl Totals {
         }
     }
 
-    /// The objects with one more, if the token makes one.
+    /// Returns the number of objects, plus one if the token makes an object.
     fn objects_after(&self, measure: Option<Measure>) -> u64
         ensures { result ≡ self.now.objects + of_object (λ _. 1) measure }
     {
@@ -215,7 +216,7 @@ impl Totals {
         }
     }
 
-    /// The words with those of one object more.
+    /// Returns the words on 32 and on 64 bits, with those of one more object.
     fn words_after(&self, measure: Option<Measure>) -> (u64, u64)
         requires { ForSome measure IsCountable }
         ensures sum32 { result.0 ≡ self.now.w32 + of_object words32 measure }
@@ -230,7 +231,7 @@ impl Totals {
         }
     }
 
-    /// A sum of words exceeds what the header states.
+    /// Returns the refusal if a sum of words exceeds the number that the header states.
     fn exceeded(&self, w32: u64, w64: u64) -> Option<ReadRefusal>
         ensures within32 { result ≡ None → self.now.head.big ≡ false → w32 ≤ self.now.head.w32 }
         ensures within64 { result ≡ None → w64 ≤ self.now.head.w64 }
@@ -248,7 +249,7 @@ impl Totals {
         None
     }
 
-    /// The whole value differs from what the header states.
+    /// Returns the refusal if the whole value differs from what the header states.
     fn differs(&self, n: u64, objects: u64, w32: u64, w64: u64) -> Option<ReadRefusal>
         requires { self.now.taken + n ≤ self.now.head.length }
         ensures { (m : ℕ) → n ≤ m
@@ -272,7 +273,7 @@ impl Totals {
         None
     }
 
-    /// After the last token the steps of the whole value, once its `n` bytes are there.
+    /// After the last token, once its `n` bytes are there, performs the steps of the whole value.
     fn end(
         &self,
         rest: &[u8],
@@ -298,8 +299,8 @@ impl Totals {
         pass(self.differs(n, objects, w32, w64))
     }
 
-    /// The steps that need the token's size, and after the last token those of the whole value. The
-    /// place after it.
+    /// Performs the steps that need the token's size and, after the last token, those of the whole
+    /// value. Returns the totals after the token.
     #[tactic(auto, using(crate::proofs::SizeLemmas::measure_small, crate::proofs::SizeLemmas::few_words32, crate::proofs::SizeLemmas::few_words64))]
     fn close(&self, kind: Known, rest: &[u8], len: u64) -> Result<Totals, Unread>
         requires open { 0 < self.now.pending }
@@ -334,7 +335,7 @@ impl Totals {
         })
     }
 
-    /// The steps of a token of this kind, and the place after it.
+    /// Performs the steps of a token of this kind. Returns the totals after the token.
     fn steps(&self, code: u8, kind: Known, rest: &[u8]) -> Result<Totals, Unread>
         requires open { 0 < self.now.pending }
         ensures steps { answered result
@@ -358,7 +359,7 @@ impl Totals {
         self.close(kind, rest, len)
     }
 
-    /// The refusal of a code that begins no token.
+    /// Returns the refusal of a code that begins no token.
     fn code_refusal(&self, fault: CodeFault, code: u8) -> ReadRefusal
         ensures { result ≡ refusal_of_code fault (place (context_of self.now)) code }
     {
@@ -369,8 +370,9 @@ impl Totals {
         }
     }
 
-    /// Judges the next token, by all the bytes that are there: the place after it, once it is whole
-    /// and passes.
+    /// Checks the next token on all bytes that are there. Returns the totals after the token if it
+    /// is complete and passes. Fails with `NeedMore` if it is incomplete, and with `Refused` if a
+    /// step fails.
     pub fn judge(&self, bytes: &[u8]) -> Result<Totals, Unread>
         requires open { 0 < self.now.pending }
         requires some { 0 < length bytes.now }

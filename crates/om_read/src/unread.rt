@@ -6,7 +6,7 @@ ghost use Rattle.om_read.specs.Progress.{answered, of_refusal};
 use om_model::Memory;
 use om_model::refusal::ReadRefusal;
 
-/// More bytes have to come, or a step fails.
+/// The error of a step: more bytes are needed, or the step fails.
 pub enum Unread {
     NeedMore,
     Refused(ReadRefusal),
@@ -23,7 +23,7 @@ impl From<Memory> for Unread {
     }
 }
 
-/// Goes on where a step does not fail.
+/// Returns `Ok` if there is no refusal, and `Refused` otherwise.
 pub fn pass(refusal: Option<ReadRefusal>) -> Result<(), Unread>
     ensures steps { answered result ≡ of_refusal refusal }
     ensures goes { OnOk result (refusal ≡ None) }

@@ -1,16 +1,16 @@
-//! What is read.
+//! The results of the reader.
 
 use om_heap::Heap;
 use om_model::value::Val;
 
-/// A value: its root, and the graph that it refers to.
+/// A value: its root and the graph to which the root refers.
 #[derive(Drop)]
 pub struct Value {
     pub heap: Heap,
     pub root: Val,
 }
 
-/// The same, lent.
+/// A borrowed value: its root and the graph to which the root refers.
 #[derive(Clone, Copy)]
 pub struct Lent<'a> {
     pub heap: &'a Heap,

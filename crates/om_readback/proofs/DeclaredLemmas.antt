@@ -1,4 +1,4 @@
--- A value at a declared type, and its parts, can be shown.
+-- A value at a declared type can be printed, and so can its parts.
 use Rattle.std.proofs.Common.{ℕ, ◌≡◌, List, Some}
 use Rattle.std.specs.Prelude.{Contains}
 use Rattle.om_model.specs.declared.value.Val.{Val}
@@ -35,11 +35,11 @@ module _ (decls : List Decl) (t : Ty) (types : List Ty) (well : AreWellFormed de
   lawful = reached_lawful decls well.sound t types reached (known_by_hash decls well t sound types reached)
 
   module _ (pairs : List (ℕ × Ty)) (typing : IsTyping (declared_shapes decls) graph pairs) where
-    -- the value is held at one of the types
+    -- The value occurs at one of the types.
     abbrev Holds : Val → Ty → Type 0
     Holds v u = Contains types u × IsHeld (declared_shapes decls) graph pairs v u
 
-    -- no part is hidden, since each is read back
+    -- No part has the wildcard type, because the names of each type can be read back.
     part_holds : (v : Val) (u : Ty) (i : ℕ) (a : Ty) (w : Val) → Holds v u → type_of_field (or_none (fields_of graph v (shape decls u))) i ≡ Some a → field_of graph v i ≡ Some w → Holds w a
     part_holds (vals.Int z) u i a w holds named field = absurd cc
     part_holds (vals.Atom tag) u i a w holds named field = absurd cc

@@ -1,4 +1,4 @@
--- Labels that go up with the objects' numbers: the number of a label is how many are before it.
+-- Labels that increase with the objects. The number of a label is the number of labels before it.
 use Rattle.std.proofs.Common.{◌≡◌, ℕ, zero, suc, ◌+◌, ◌<◌, ◌≤◌, Bool, true, false, eqb, ltb, List, [], ◌∷◌, ◌++◌, length, Some, refl, sym, ap, subst, ◌∙◌, arith, inl, inr}
 use Rattle.std.specs.Prelude.{slice_get, filter}
 use Rattle.std.proofs.lemmas.Bool.{false≢true, true≢false, ne_eqb, eqb-true, lt-ltb, le-ltb, cases_lt, cases_Bool}
@@ -9,7 +9,7 @@ use Rattle.om_literal_texts.specs.Numbered.{count_from, down, AreIncreasing, bef
 eqb_same : (n : ℕ) → eqb n n ≡ true
 eqb_same n = grind (arith, nat_tests)
 
--- ---- what was met
+-- ---- visited objects
 
 pub has_down : (c o : ℕ) → has (down c) o ≡ ltb o c
 has_down zero o = sym (le-ltb o zero (omega arith))
@@ -29,7 +29,7 @@ count_both (suc m) n c =
     let f : c + suc m ≡ suc c + m = omega arith in
     rw (e, f) (ap (λ t. c ∷ t) (count_both m n (suc c)))
 
--- ---- numbers that go up
+-- ---- increasing numbers
 
 pub increasing_count : (n c low : ℕ) → low ≤ c → AreIncreasing low (count_from c n)
 increasing_count zero c low le = tt
@@ -114,7 +114,7 @@ label_of (x ∷ xs) low c o up e lt =
       ]
     ]
 
--- the number of a label is less than how many there are
+-- The number of a label is at most the number of labels.
 pub number_small : (labels : List ℕ) (o : ℕ) → number_in labels o ≤ length labels
 number_small [] o = omega arith
 number_small (x ∷ xs) o = elim (cases_Bool (eqb x o)) [ inl e ↦ rw e (omega arith) | inr e ↦ rw e (omega (arith, number_small xs o)) ]

@@ -1,4 +1,5 @@
--- What stands before the text of an object that is met for the first time, and the text of one that is met again.
+-- The prefix of an object that is visited for the first time, and the text of an object that is
+-- visited again.
 use Rattle.std.proofs.Common.{◌≡◌, ℕ, suc, ◌<◌, ◌^◌, Bool, true, false, List, [], ◌∷◌, ◌++◌, length, Option, Some, None, refl, sym, ap, arith}
 use Rattle.std.specs.Prelude.{codes, decimal}
 use Rattle.std.specs.List.{flat_map}
@@ -22,7 +23,7 @@ reference_lexed labels o few =
     let small : number_in labels o < 2 ^ 63 = omega (arith, number_small labels o) in
     lexed_then (lexed_hash (λ after. Unit {0})) (lexed_natural (number_in labels o) small) (λ after may. tt)
 
--- the front of the text of an object that is met for the first time
+-- The prefix in the text of an object that is visited for the first time.
 pub record IsFront (labels : List ℕ) (c : ℕ) : Type 0 where
   pub label : Option ℕ
   pub lexed : IsLexed (λ after. Unit {0}) (piece_text labels (First c)) (label_kinds label)
@@ -51,7 +52,7 @@ front_of labels c up few = by_label (has labels c) refl
           labels_are = sym n.one_more;
         }
 
--- an object that is met again
+-- An object that is visited again.
 pub again_back : {T : Type 0} (shape : T → ShapeOf T) (names : T → Names) (labels : List ℕ) (c o : ℕ) (t : T) → AreIncreasing 0 labels → length labels < 2 ^ 63 → has labels o ≡ true → o < c
     → IsBack shape names labels (flat_map (piece_text labels) (Again o ∷ [])) (vals.Ref o) [] c c t
 again_back shape names labels c o t up few there lt = record {

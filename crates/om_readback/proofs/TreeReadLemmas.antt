@@ -1,4 +1,4 @@
--- The text of a tree is read back: its value, its objects by their numbers, and its labels.
+-- The text of a tree is read back: its value, its objects by index, and its labels.
 use Rattle.std.proofs.Common.{◌≡◌, ℕ, zero, suc, ◌+◌, ◌<◌, ◌≤◌, true, ◌||◌, cond, List, [], ◌∷◌, ◌++◌, length, Some, None, Ok, Err, refl, sym, ap, subst, ◌∙◌, arith, ⊎_elim, append_assoc, length-append}
 use Rattle.std.specs.Prelude.{slice_get}
 use Rattle.std.proofs.lemmas.Bool.{eq-eqb, ne_eqb, false≢true, or_cases, or_left, or_right}
@@ -33,7 +33,7 @@ use Rattle.om_readback.specs.Back.{text_by, AreLabels, IsPlaced, IsBack, IsMetBa
 use Rattle.om_readback.proofs.LabelLemmas.{count_both}
 use Rattle.om_readback.proofs.LabelReadLemmas.{IsFront, front_of}
 
--- ---- pieces one after another
+-- ---- chunks in order
 
 has_both : (xs ys : List ℕ) (o : ℕ) → has (xs ++ ys) o ≡ (has xs o || has ys o)
 has_both [] ys o = refl
@@ -46,7 +46,7 @@ module _ (ps qs : List Piece) (labels : List ℕ) (are : AreLabels labels (ps ++
   labels_right : AreLabels labels qs
   labels_right = record { up = are.up; few = are.few; all = λ o e. are.all o (ap (λ l. has l o) (agains-append ps qs) ∙ has_both (agains ps) (agains qs) o ∙ or_right _ _ e) }
 
--- ---- where objects stand
+-- ---- the indices of objects
 
 pub placed_left : (graph xs ys : List Obj) (c : ℕ) → IsPlaced graph (xs ++ ys) c → IsPlaced graph xs c
 placed_left graph xs ys c p = record { front = p.front; rest = ys ++ p.rest; is = p.is ∙ ap (λ t. p.front ++ t) (append_assoc xs ys p.rest); at = p.at }
@@ -69,7 +69,7 @@ placed_here graph x xs c p = ap (λ g. slice_get g c) p.is ∙ ap (slice_get (p.
 pub placed_within : (graph xs : List Obj) (c : ℕ) → IsPlaced graph xs c → c + length xs ≤ length graph
 placed_within graph xs c p = omega (arith, ap length p.is, length-append p.front (xs ++ p.rest), length-append xs p.rest, p.at)
 
--- ---- needs
+-- ---- required fields
 
 pub named_numbered : {T : Type 0} (ts : List T) (f j : ℕ) (u : T) → slice_get ts j ≡ Some u → type_of_field (numbered_from f ts) (f + j) ≡ Some u
 named_numbered [] f j u e = absurd cc
@@ -81,9 +81,9 @@ named_numbered (t ∷ ts) f (suc j) u e =
     let on : suc f + j ≡ f + suc j = omega arith in
     rw (ne_eqb f (f + suc j) (λ e. absurd (omega arith))) (subst (λ n. type_of_field (numbered_from (suc f) ts) n ≡ Some u) on (named_numbered ts (suc f) j u e))
 
--- ---- met and read back
+-- ---- visited and read back
 
--- nothing of no objects
+-- The empty list of objects has no element.
 pub no_objects : {A : Type 0} → (o : ℕ) → has [] o ≡ true → A
 no_objects o e = absurd (false≢true e)
 
@@ -102,7 +102,7 @@ module _ {T : Type 0} (shape : T → ShapeOf T) (names : T → Names) where
         });
       }
 
-  -- a labelled one, where it is known how it begins
+  -- A labelled literal whose start is known.
   labelled_reads : (labels : List ℕ) (t : T) (c : ℕ) (front : IsFront labels c) (text : List ℕ) (start : Start T) (p : IsPlain t (shape t) (names t) text start) (k : ℕ)
       → literal_read shape names k (labelled front.label p.plain) c (before c labels) t
       ≡ begun k (k + length (label_kinds front.label)) c (before c labels) front.label t (inside shape names (k + length (label_kinds front.label)) p.plain (suc c)) start
@@ -133,7 +133,7 @@ module _ {T : Type 0} (shape : T → ShapeOf T) (names : T → Names) where
             });
       }
 
-  -- a block, whose parts are met after it
+  -- A block whose parts are visited after it.
   pub block_back : (t : T) (c tag : ℕ) (skip : List Val) (ts : List T) (frame : Frame) (fs : Forest) (m : Met) → AreTrees fs → length ts ≡ trees_in fs
       → ReadsRow shape names t (shape t) (names t) tag skip ts frame → AreMetBack shape names fs (suc c) frame 0 ts m
       → IsMetBack shape names c (1 + all_made fs) (vals.Ref c) (objects.Block tag (skip ++ roots fs (suc c)) ∷ all_objects fs (suc c)) t (led_by (First c ∷ Text frame.opening ∷ []) m)

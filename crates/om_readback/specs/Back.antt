@@ -1,4 +1,4 @@
--- A text of pieces that is read back: as a literal that is the value again, with its objects and
+-- A text, as a list of chunks, that is read back as a literal with the same value, objects and
 -- labels.
 use Rattle.std.specs.Prelude.{ℕ, ◌+◌, ◌^◌, ◌<◌, ◌≡◌, true, List, ◌++◌, length, IsSome, Some}
 use Rattle.std.specs.List.{flat_map}
@@ -19,8 +19,8 @@ use Rattle.om_literal_texts.specs.Listing.{IsText, AreTexts}
 use Rattle.om_literal_texts.specs.Numbered.{count_from, down, AreIncreasing}
 use Rattle.om_literal_texts.specs.Readable.{IsReadable}
 
--- What is known of values at types, from a value to its parts: each fits, and its type has names
--- that are read back.
+-- The values at their types, closed under parts. Each value fits its type, and the names of the
+-- type can be read back.
 pub record AreShowable {T : Type 0} (shape : T → ShapeOf T) (names : T → Names) (graph : List Obj)
     (Holds : Val → T → Type 0) : Type 0 where
   pub fits : (v : Val) (t : T) → Holds v t → IsSome (fields_of graph v (shape t))
@@ -33,13 +33,14 @@ pub record AreShowable {T : Type 0} (shape : T → ShapeOf T) (names : T → Nam
 abbrev pub text_by : List ℕ → List Piece → List ℕ
 text_by labels pieces = flat_map (piece_text labels) pieces
 
--- labels that go up by objects, few enough for an integer, with all objects that are met again
+-- Labels that increase with the objects. They are few enough to be integers, and contain all
+-- objects that are visited again.
 pub record AreLabels (labels : List ℕ) (pieces : List Piece) : Type 0 where
   pub up : AreIncreasing 0 labels
   pub few : length labels < 2 ^ 63
   pub all : (o : ℕ) → has (agains pieces) o ≡ true → has labels o ≡ true
 
--- these objects stand in the graph from number c on
+-- These objects are in the graph, beginning at index c.
 pub record IsPlaced (graph objects : List Obj) (c : ℕ) : Type 0 where
   pub front : List Obj
   pub rest : List Obj
@@ -47,15 +48,15 @@ pub record IsPlaced (graph objects : List Obj) (c : ℕ) : Type 0 where
   pub at : length front ≡ c
 
 module _ {T : Type 0} (shape : T → ShapeOf T) (names : T → Names) where
-  -- the text is a literal that is this value, after c objects, and d are there then
+  -- The text is a literal with this value. Before it there are c objects, after it d.
   pub record IsBack (labels text : List ℕ) (value : Val) (objects : List Obj) (c d : ℕ) (t : T) :
       Type 0 where
     pub literal : Literal
     pub is_text : IsText text literal
     pub reads : Reads shape names labels literal value objects c d t
 
-  -- n objects are met from number c on, in the order of their numbers; and the text is read back,
-  -- by any labels
+  -- The text visits n new objects, from index c on, in the order of their indices. It is read back
+  -- with any labels.
   pub record IsMetBack (c n : ℕ) (value : Val) (objects : List Obj) (t : T) (m : Met) :
       Type 0 where
     pub seen : m.seen ≡ down (c + n)
@@ -64,7 +65,7 @@ module _ {T : Type 0} (shape : T → ShapeOf T) (names : T → Names) where
     pub back : (labels : List ℕ) → AreLabels labels m.pieces
         → IsBack labels (text_by labels m.pieces) value objects c (c + n) t
 
-  -- a row of texts, each read back at its type
+  -- A list of texts, each read back at its type.
   pub record AreBack (labels text : List ℕ) (frame : Frame) (i : ℕ) (fs : Forest) (c : ℕ)
       (ts : List T) : Type 0 where
     pub texts : List (List ℕ)

@@ -1,4 +1,5 @@
--- The text of a value at a type is read back: as the value itself, with its objects in their order.
+-- The text of a value at a type is read back as the value itself, with the objects in the same
+-- order.
 use Rattle.std.specs.Prelude.{◌^◌, ◌<◌, List}
 use Rattle.om_types.specs.declared.decl.Decl.{Decl}
 use Rattle.om_types.specs.Accepted.{AreWellFormed, IsSoundType}
@@ -13,8 +14,8 @@ use Rattle.om_show.specs.Shown.{shown_text}
 use Rattle.om_literal_texts.specs.Readable.{AreReadable}
 use Rattle.om_readback.specs.ReadBack.{IsReadBack}
 
--- Where a tree's value has a type, its text is read back. Its objects are few enough for labels
--- that are integers of the lexer.
+-- If the value of a tree has a type, then its text is read back. The law requires that the number
+-- of objects is below 2^63, so that labels are integers of the lexer.
 abbrev pub TextsAreReadBack : Type 0
 TextsAreReadBack =
     (decls : List Decl) (t : Ty) (types : List Ty)

@@ -1,4 +1,4 @@
--- A text of a tree that is read back: its lexemes are a literal, which is the tree's value.
+-- A text of a tree that is read back: its lexemes are a literal with the value of the tree.
 use Rattle.std.specs.Prelude.{ℕ, ◌<◌, ◌≡◌, ◌≢◌, length, List, [], ◌∷◌, Ok, map}
 use Rattle.std.specs.List.{AllByRecursion}
 use Rattle.om_lex.specs.declared.lexeme.Lexeme.{Lexeme}
@@ -9,11 +9,11 @@ use Rattle.om_format.specs.Tree.{Tree, root, objects_of}
 use Rattle.om_literal_grammar.specs.Literal.{Literal, literal_kinds}
 use Rattle.om_literal.specs.Reading.{reading, literal_read}
 
--- its lexemes are a literal, which is the tree's value at the type, with the tree's objects in
--- order
+-- The lexemes are a literal with the value of the tree at the type, and with the objects of the
+-- tree in order.
 pub record IsReadBack {T : Type 0} (shape : T → ShapeOf T) (names : T → Names) (tree : Tree)
     (t : T) (text : List ℕ) : Type 0 where
-  -- the text is one line, and not an empty one
+  -- The text is one non-empty line.
   pub one_line : AllByRecursion (λ b. b ≢ 10) text
   pub some : 0 < length text
   pub lexemes : List Lexeme

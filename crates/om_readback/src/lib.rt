@@ -1,6 +1,7 @@
-//! What is read from the text of a value at a type is the value again. Both a text and a tree meet
-//! objects in one order, so the objects that are read are the tree's own, with their numbers. The
-//! function does nothing: what it ensures is the law.
+//! Proves that the text of a value at a type is read back as the same value. Texts and trees visit
+//! objects in the same order. Therefore the objects that are read are those of the tree, with the
+//! same numbers. The lemma function `texts_are_read_back` states the law in its contract and does
+//! nothing.
 #![tactic(auto)]
 
 mod laws;

@@ -1,4 +1,4 @@
--- So the names of types that stand in texts are read back, and so are the texts of their values.
+-- The names of types of accepted texts can be read back, and so can the texts of their values.
 use Rattle.om_type_table.specs.Made.{types_of}
 use Rattle.om_readback.proofs.DeclaredLemmas.{texts_are_read_back}
 use Rattle.om_text.proofs.TableLemmas.{texts_are_read_again}

@@ -1,4 +1,5 @@
--- What is read from the text of a value is the value of its tree: so it is the same value, with its type, text and bytes.
+-- The text of a value is read as the value of its tree, which is the same value with the same type,
+-- text and bytes.
 use Rattle.std.proofs.Common.{sym, subst}
 use Rattle.om_format.specs.Tree.{root, objects_of}
 use Rattle.om_types.specs.Equal.{Equal}

@@ -1,4 +1,4 @@
--- Where names are lexemes, what a type's text names is read back.
+-- If names are lexemes, then the names in the text of a type can be read back.
 use Rattle.std.proofs.Common.{◌≡◌, ◌≢◌, ℕ, ℤ, zero, suc, ◌+◌, ◌<◌, ◌≤◌, inl, inr, Bool, true, false, cond, List, [], ◌∷◌, length, Option, Some, None, refl, sym, ap, subst, ◌∙◌, arith}
 use Rattle.std.specs.Prelude.{slice_get, find, map, codes, option_and_then, Contains}
 use Rattle.om_model.proofs.Options.{Contains-first}
@@ -74,7 +74,7 @@ constructor_found names once tag c at head fields = record {
       (λ other e. (bytes_eq-Decides other.name c.name).0 (and_parts (bytes_eq other.name c.name) (same_names other.fields c.fields) e).0) names.constructors tag once at;
 }
 
--- a name that an option holds
+-- The name in an option.
 some_if : (b : Bool) (name other : List ℕ) → (cond b (Some name) None) ≡ Some other → name ≡ other
 some_if true name other e = cc
 some_if false name other e = absurd cc
@@ -129,7 +129,7 @@ ref_word = ((refl, refl), free)
     free keywords.Of e = true≢false (ap (λ n. bytes_eq n (codes "ref")) e)
     free keywords.Mutable e = true≢false (ap (λ n. bytes_eq n (codes "ref")) e)
 
--- names of one constant at most, and of one constructor
+-- Names with at most one constant and one constructor.
 single_names : (names : Names) → AllByRecursion IsHead names.constants → AllByRecursion (λ (c : ConstrNames). IsHead c.name × AreFieldNames c.fields) names.constructors
     → AreOnce (λ (name : List ℕ). name) names.constants → AreOnce (λ (c : ConstrNames). c.name) names.constructors → AreSumNames names
 single_names names constants constructors once other_once = record {
@@ -159,7 +159,7 @@ array_readable (heads.Predeclared b ts) t other = by_base b other where
   by_base base other = tt
 array_readable h t other = tt
 
--- it is not `_`, nor is one of its parts
+-- The type is not `_`, and neither is any of its parts.
 predeclared_readable : (decls : List Decl) (base : Predeclared) (ts : List Ty) → is_any_head (heads.Predeclared base ts) ≡ false
     → ((a : Ty) → Contains ts a → is_any_head (head decls a) ≡ false) → IsReadable (predeclared_shape decls base ts) (predeclared_type_names base)
 predeclared_readable decls bases.List (t ∷ []) other parts = list_names
@@ -177,7 +177,7 @@ predeclared_readable decls base (t ∷ []) other parts = tt
 predeclared_readable decls bases.Int (t ∷ u ∷ ts) other parts = tt
 predeclared_readable decls base (t ∷ u ∷ ts) other parts = tt
 
--- ---- declared ones
+-- ---- declared types
 
 record_readable : (value : Ty → Ty) (fields : List Field) (flat : Bool) → 0 < length fields → AllByRecursion IsSpokenField fields → IsReadable (record_shape value fields flat) (body_names (bodies.Record fields))
 record_readable value fields true some all = are_field_names fields all
@@ -202,7 +202,7 @@ tag_at [] i name e = absurd cc
 tag_at (t ∷ ts) zero name e = (t, refl, same_Some (tag_name t) name e)
 tag_at (t ∷ ts) (suc i) name e = tag_at ts i name e
 
--- a tag, and its argument
+-- A tag, and its argument.
 abbrev pub IsSpokenTag : TagOf Ty → Type 0
 IsSpokenTag tag = IsForm (Tag tag.name) × AllByRecursion (IsSpoken 0) (listed_if tag.argument)
 
@@ -227,7 +227,7 @@ tags_readable tags forms z name e =
 
 -- ---- heads of types
 
--- what is spoken of a head, where k more parts follow
+-- The condition for a head if k more parts follow.
 abbrev pub IsSpokenHead : ℕ → HeadOf Ty → Type 0
 IsSpokenHead k (heads.Variable x) = Unit {0}
 IsSpokenHead k (heads.Predeclared base ts) = AllByRecursion (IsSpoken 0) ts
@@ -236,7 +236,7 @@ IsSpokenHead k (heads.Tuple ts) = (2 ≤ length ts + k) × AllByRecursion (IsSpo
 IsSpokenHead k (heads.Variants tags) = AllByRecursion IsSpokenTag tags
 IsSpokenHead k heads.Absent = Unit {0}
 
--- where it is not `_`, nor one of its parts is
+-- The head is not `_`, and neither is any of its parts.
 pub head_readable : (decls : List Decl) → AreSpoken decls → (h : HeadOf Ty) → IsSpokenHead 0 h → is_any_head h ≡ false
     → ((a : Ty) → Contains (parts_of h) a → is_any_head (head decls a) ≡ false) → IsReadable (head_shape decls h) (head_names decls h)
 head_readable decls spoken (heads.Variable x) is other parts = tt

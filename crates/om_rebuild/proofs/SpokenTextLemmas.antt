@@ -1,4 +1,4 @@
--- What is read from a text has names that are lexemes.
+-- Declarations and types that are read from a text have names that are lexemes.
 use Rattle.std.proofs.Common.{◌≡◌, ◌≢◌, ℕ, suc, ◌+◌, ◌≤◌, inl, inr, false, List, [], ◌∷◌, ◌++◌, length, Some, refl, sym, ap, subst, ◌∙◌, arith}
 use Rattle.std.specs.Prelude.{slice_get, map}
 use Rattle.std.specs.List.{AllByRecursion}
@@ -34,7 +34,7 @@ use Rattle.om_lexed.specs.Lexed.{kinds_in}
 use Rattle.om_lexed.proofs.LexedLemmas.{kinds_lexemes}
 use Rattle.om_rebuild.specs.Spoken.{IsSpoken, IsSpokenField, AreSpokenArguments, IsSpokenConstructor, AreOnce, IsSpokenBody, AreSpoken}
 
--- ---- lexemes of texts are forms
+-- ---- the lexemes of a text are well-formed
 
 abbrev IsFormKind : LexemeKind → Type 0
 IsFormKind (kinds.Lower x) = IsForm (Lower x)
@@ -114,7 +114,7 @@ mutual
   item_spoken whole (trees.tag_of name t) is forms = (is, forms.0, texpr_spoken t forms.1.1)
   item_spoken whole (included a) is forms = (is, app_spoken a forms)
 
--- ---- rows
+-- ---- lists
 
 each_spoken : {X Y : Type 0} (before : Kinds) (spelled : X → Kinds) (of : X → Y) (P : Y → Type 0) → ((x : X) → AreForms (spelled x) → P (of x)) → (xs : List X) → AreForms (each_after before spelled xs) → AllByRecursion P (map of xs)
 each_spoken before spelled of P each [] all = tt
@@ -146,7 +146,7 @@ arguments_spoken (listed a others) all =
 constr_spoken : (c : ConstrTree) → AreForms (constr_kinds c) → IsSpokenConstructor (constructor_of_tree c)
 constr_spoken c all = (all.0, arguments_spoken c.arguments all.1)
 
--- ---- no constructor twice
+-- ---- no constructor occurs twice
 
 get_one : {X : Type 0} (P : X → Type 0) (xs : List X) → ((i : ℕ) (x : X) → slice_get xs i ≡ Some x → P x) → AllByRecursion P xs
 get_one P [] each = tt
@@ -216,7 +216,7 @@ body_spoken k (variant_body bar c cs) all free =
 
 -- ---- files
 
--- no constructor of the declaration is written twice
+-- No constructor of the declaration is written twice.
 abbrev IsFree : DeclPlaces → Type 0
 IsFree d = (j : ℕ) → ¬ IsSecond d.constructors j
 
@@ -268,7 +268,7 @@ file_spoken tree all keeps =
     after_spoken tree [] 0 tt all
     (get_one IsFree (file_places tree) (λ i d at j second. keeps twice j (inr (d, slice_get-Contains (file_places tree) i d at, inr (inl second)))))
 
--- ---- texts that are accepted
+-- ---- accepted texts
 
 pub declared_spoken : (text : List ℕ) (decls : List Decl) → IsDeclared text decls → AreSpoken decls
 declared_spoken text decls is = subst AreSpoken (sym is.stand) (by_outcome is.answer.0 is.answer.1 is.answer.2)

@@ -1,4 +1,4 @@
--- What a type reaches whose names are lexemes has such names too.
+-- If the names of a type are lexemes, then so are the names of the types that it reaches.
 use Rattle.std.proofs.Common.{◌≡◌, ℕ, zero, suc, ◌<◌, ⊎_elim, Bool, true, false, cond, not, List, [], ◌∷◌, Option, Some, None, refl, sym, ap, subst, ◌∙◌, arith, length-append}
 use Rattle.std.specs.Prelude.{slice_get, filter, map, option_map, Contains}
 use Rattle.std.specs.List.{AllByRecursion, flat_map, cons_option}
@@ -148,7 +148,7 @@ module _ (decls : List Decl) (spoken : AreSpoken decls) where
       → IsReadable (shape decls t) (names_of decls t)
   type_readable t is other parts = head_readable decls spoken (head decls t) (head_spoken t is) other parts
 
-  -- ---- what is reached
+  -- ---- reached types
 
   array_reached : (h : HeadOf Ty) (t : Ty) → IsSpoken 0 t → AllSpoken (named_in (array_of h t))
   array_reached (heads.Variable x) t is = tt

@@ -1,4 +1,4 @@
--- What is read from the text of a value is the value, at types that stand in texts.
+-- The text of a value is read as the value, at types that come from accepted texts.
 use Rattle.std.specs.Prelude.{ℕ, ◌^◌, ◌<◌, List}
 use Rattle.om_types.specs.declared.decl.Decl.{Decl}
 use Rattle.om_types.specs.Accepted.{AreWellFormed, IsSoundType}
@@ -17,15 +17,15 @@ use Rattle.om_literal_texts.specs.Readable.{AreReadable}
 use Rattle.om_readback.specs.ReadBack.{IsReadBack}
 use Rattle.om_text.specs.Laws.{ReadsAgain}
 
--- The names are read back of each type that is reached from one that stands in a text, over
--- declarations that stand in one, where no type that is reached is `_`.
+-- The names can be read back for each type that is reached from a type of an accepted text, over
+-- declarations of an accepted text. No reached type is `_`.
 abbrev pub NamesAreReadBack : Type 0
 NamesAreReadBack =
     (file_text type_text : List ℕ) (decls : List Decl) (t : Ty) (types : List Ty)
     → IsDeclared file_text decls → IsTypeOf decls type_text t → IsReached decls t types
     → NoneIsHidden decls types → AreReadable decls types
 
--- So what is read from the text of a value of such a type is the value.
+-- The text of a value of such a type is read as the value.
 abbrev pub DeclaredTextsAreReadBack : Type 0
 DeclaredTextsAreReadBack =
     (file_text type_text : List ℕ) (decls : List Decl) (t : Ty) (types : List Ty)
@@ -37,7 +37,7 @@ DeclaredTextsAreReadBack =
     → IsReadBack (shape decls) (names_of decls) tree t
     (shown_text (shape decls) (names_of decls) (objects_of tree 0) (root tree 0) t)
 
--- so it is at the number 0 of its table
+-- The text is read as the value at type 0 of the table too.
 abbrev pub LiteralsAreReadBack : Type 0
 LiteralsAreReadBack =
     (file_text type_text : List ℕ) (decls : List Decl) (t : Ty) (table : Tabled)

@@ -1,4 +1,4 @@
--- What is read from the text of a value is the same value, with the same type, text and bytes.
+-- The text of a value is read as the same value, with the same type, text and bytes.
 use Rattle.std.specs.Prelude.{ℕ, ◌^◌, ◌<◌, ◌≡◌, List}
 use Rattle.om_model.specs.declared.value.Val.{Val}
 use Rattle.om_model.specs.declared.value.Obj.{Obj}
@@ -18,8 +18,8 @@ use Rattle.om_type_table.specs.Made.{types_of, IsTypeTable}
 use Rattle.om_decl.specs.Read.{IsDeclared, IsTypeOf}
 use Rattle.om_text.specs.Laws.{ReadsAgain}
 
--- the text is read as the value of the tree: it is the same value, has the type, has that text, and
--- its tree, which says its canonical bytes, is the tree
+-- The text is read as the value of the tree. This value is isomorphic to the given one, has the
+-- type, and has the same text. Its tree, which determines its canonical bytes, is the same tree.
 pub record IsRebuilt (decls : List Decl) (t : Ty) (table : Tabled) (g : List Obj) (v : Val)
     (tree : Tree) :
     Type 0 where
@@ -30,8 +30,8 @@ pub record IsRebuilt (decls : List Decl) (t : Ty) (table : Tabled) (g : List Obj
       ≡ shown_text (shape decls) (names_of decls) g v t
   pub bytes : IsTreeOf (objects_of tree 0) (root tree 0) tree
 
--- each value of a type that stands in a text, over declarations that stand in one, where no type
--- that is reached is `_`
+-- Each value of a type of an accepted text is rebuilt, over declarations of an accepted text. No
+-- reached type is `_`.
 abbrev pub ValuesAreRebuilt : Type 0
 ValuesAreRebuilt =
     (file_text type_text : List ℕ) (decls : List Decl) (t : Ty) (table : Tabled)

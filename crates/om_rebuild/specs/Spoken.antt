@@ -1,4 +1,4 @@
--- Declarations and types whose names are lexemes, as those that stand in a text.
+-- Declarations and types whose names are lexemes, as in types and declarations of accepted texts.
 use Rattle.std.specs.Prelude.{ℕ, suc, ◌<◌, ◌≤◌, ◌≡◌, ◌≢◌, List, [], ◌∷◌, length}
 use Rattle.std.specs.List.{AllByRecursion}
 use Rattle.om_lex.specs.Lexeme.{Lower, Upper, Tag, IsForm}
@@ -11,7 +11,7 @@ use Rattle.om_types.specs.declared.decl.Body.TheVariants as bodies
 use Rattle.om_types.specs.declared.decl.Decl.{Decl}
 use Rattle.om_types.specs.Ty.{Ty, variable, named, tuple, bracket, part, tag, tag_of, including}
 
--- each tag is a lexeme, and no tuple has fewer than two components; k more parts follow
+-- Each tag is a lexeme, and each tuple has at least two components. k more parts follow.
 abbrev pub IsSpoken : ℕ → Ty → Type 0
 IsSpoken k (variable x) = k ≡ 0
 IsSpoken k (named n) = Unit {0}
@@ -34,7 +34,7 @@ abbrev pub IsSpokenConstructor : Constructor → Type 0
 IsSpokenConstructor constructor =
     IsForm (Upper constructor.name) × AreSpokenArguments constructor.arguments
 
--- no key comes again
+-- All keys are distinct.
 module _ {X : Type 0} (key : X → List ℕ) where
   abbrev pub AreOnce : List X → Type 0
   AreOnce [] = Unit {0}

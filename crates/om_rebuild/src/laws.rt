@@ -1,27 +1,29 @@
-//! The laws, as contracts.
+//! The laws, stated as contracts.
 
 ghost use Rattle.om_rebuild.specs.Laws.{DeclaredTextsAreReadBack, LiteralsAreReadBack};
 ghost use Rattle.om_rebuild.specs.Laws.{NamesAreReadBack};
 ghost use Rattle.om_rebuild.specs.Rebuilt.{ValuesAreRebuilt};
 
-/// Each type that is reached from a type that stands in a text, over declarations that stand in
-/// one, has names that are read back.
+/// If a type and its declarations come from accepted texts, then the names of each type that it
+/// reaches can be read back. No reached type may be `_`.
 pub fn names_are_read_back()
     ensures { NamesAreReadBack }
 {}
 
-/// What is read from the text of a value is the value, at each type that stands in a text.
+/// If a type and its declarations come from accepted texts, then the text of a value of the type is
+/// read as the value.
 pub fn declared_texts_are_read_back()
     ensures { DeclaredTextsAreReadBack }
 {}
 
-/// So it is at the number 0 of the table of such a type, as a program reads it.
+/// The same law holds for reading at type 0 of the table of such a type, which is how a program
+/// reads it.
 pub fn literals_are_read_back()
     ensures { LiteralsAreReadBack }
 {}
 
-/// So what is read from the text of any value of the type is the same value up to the numbers of
-/// its objects, has the type and the text, and its canonical bytes are those of the value.
+/// The text of any value of such a type is read as an isomorphic value, which differs at most in
+/// object numbers. The new value has the type, the same text, and the same canonical bytes.
 pub fn values_are_rebuilt()
     ensures { ValuesAreRebuilt }
 {}

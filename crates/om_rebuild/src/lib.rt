@@ -1,6 +1,8 @@
-//! What is read from the text of a value is the value again, at each type that stands in a text,
-//! over declarations that stand in one: the names of such types are lexemes, and each stands for
-//! one thing. The functions do nothing: what each ensures is the law.
+//! Proves that the text of a value is read back as the value. This holds for each type that comes
+//! from an accepted text, over declarations of an accepted text. The names of such types are
+//! lexemes, and each has one meaning. The main law is `values_are_rebuilt`: the value that is read
+//! is isomorphic, with the same type, text and canonical bytes. Each function is a lemma function:
+//! it does nothing, and its contract is the law.
 #![tactic(auto)]
 
 mod laws;

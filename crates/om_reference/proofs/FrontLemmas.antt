@@ -1,4 +1,4 @@
--- The fewest bytes that are refused (`IsDecided`), tokens one after another, and how many bytes they have.
+-- The shortest refused prefix (`IsDecided`), tokens in order, and their lengths.
 use Rattle.std.proofs.Common.{◌≡◌, ℕ, ◌+◌, ◌-◌, ◌<◌, ◌≤◌, List, [], ◌∷◌, ◌++◌, length, get_or, take, drop, map, Some, None, inl, inr, sym, ◌∙◌, ap, subst, arith, length-append, length-take-le, length-drop}
 use Rattle.std.proofs.lemmas.List.{take_more, take-append-drop}
 use Rattle.std.proofs.lemmas.Bool.{cases_lt}
@@ -18,9 +18,9 @@ use Rattle.om_reference.specs.declared.front.Decided.{Decided}
 use Rattle.om_reference.specs.Refusal.{refusal_of}
 use Rattle.om_reference.specs.Front.{IsDecided}
 
--- ---- the fewest bytes
+-- ---- the shortest prefix
 
--- steps that n bytes refuse and no fewer, and m bytes refuse and one fewer not
+-- If n and m are both lengths of a shortest refused prefix, then they are equal.
 same_count : (steps : List Step) (n m : ℕ) (r : ReadRefusal) → first_refusal n steps ≡ Some r → ((k : ℕ) → k < n → first_refusal k steps ≡ None)
     → first_refusal m steps ≡ Some r → first_refusal (m - 1) steps ≡ None → n ≡ m
 same_count steps n m r at_n below_n at_m below_m =
@@ -32,7 +32,7 @@ same_count steps n m r at_n below_n at_m below_m =
       ]
     ]
 
--- of a header
+-- The shortest refused prefix of a header.
 pub header_decided : (limit : ℕ) (bytes : List ℕ) (d : Decided) → IsDecided (header_refusal limit) bytes d → Judges limit bytes (refused d.count (refusal_of d.refusal))
 header_decided limit bytes d h =
     let r = refusal_of d.refusal in
@@ -53,7 +53,7 @@ module _ (limit : ℕ) (bytes header : List ℕ) (tokens : List (List ℕ)) (res
   pub length_is : length bytes ≡ length header + (length (concat tokens) + length rest)
   length_is = omega (arith, ap length here.bytes_are, length-append header (concat tokens ++ rest), length-append (concat tokens) rest)
 
-  -- of a token
+  -- The shortest refused prefix of a token.
   pub token_decided : (d : Decided) → IsDecided (token_refusal header tokens) rest d
       → Judges limit bytes (refused (length bytes - length rest + d.count) (refusal_of d.refusal))
   token_decided d h =
@@ -70,7 +70,7 @@ module _ (limit : ℕ) (bytes header : List ℕ) (tokens : List (List ℕ)) (res
       let n_is : length header + (length (concat tokens) + x.count) ≡ length bytes - length rest + d.count = omega (arith, length_is) in
       subst (λ n. Judges limit bytes (refused n r)) n_is (Stands-refused limit bytes header tokens rest r here x)
 
-  -- the next token passes and is whole
+  -- The next token is not refused and is complete.
   module _ (none : token_refusal header tokens rest ≡ None) (whole : raw_length rest ≤ length rest) where
     pub next_length : length header + length (concat (with_next tokens rest)) ≡ length bytes - length (after_next rest)
     next_length =
@@ -90,16 +90,16 @@ module _ (limit : ℕ) (bytes header : List ℕ) (tokens : List (List ℕ)) (res
         subst (λ n. BeginsValue limit bytes n (with_next tokens rest)) next_length
         (Stands-value limit bytes header tokens rest a here (next_passes header tokens rest none whole) zero)
 
--- ---- how many bytes the first pieces have
+-- ---- the total length of the first tokens
 
--- with one piece more
+-- The total length with one more token.
 pub length_more : (pieces : List (List ℕ)) (i : ℕ) (piece : List ℕ) → i < length pieces → piece ≡ get_or pieces i piece
     → length (concat (take (i + 1) pieces)) ≡ length (concat (take i pieces)) + length piece
 length_more pieces i piece l e =
     let one : take (i + 1) pieces ≡ take i pieces ++ piece ∷ [] = take_more pieces i piece l ∙ ap (λ p. take i pieces ++ p ∷ []) (sym e) in
     ap (λ ps. length (concat ps)) one ∙ ap length (concat-push (take i pieces) piece) ∙ length-append (concat (take i pieces)) piece
 
--- no more than all of them
+-- The total length of the first tokens is at most that of all.
 pub length_within : (pieces : List (List ℕ)) (i : ℕ) → length (concat (take i pieces)) ≤ length (concat pieces)
 length_within pieces i =
     let e : length (concat pieces) ≡ length (concat (take i pieces)) + length (concat (drop i pieces)) =

@@ -1,4 +1,4 @@
--- What tokens build, from the last to the first.
+-- The graph that tokens build, from the last token to the first.
 use Rattle.std.proofs.Common.{ℕ, ◌≡◌, ◌+◌, List, [], ◌∷◌, ◌++◌, length, take, drop, map, sym, ◌∙◌, ap, ap₂, arith, append_assoc, append-nil, take_at}
 use Rattle.std.proofs.lemmas.List.{drop_at}
 use Rattle.om_model.specs.declared.value.Val.{Val}
@@ -10,12 +10,12 @@ use Rattle.om_reference.specs.declared.token.Token.{Token}
 use Rattle.om_reference.specs.Token.{token_of}
 use Rattle.om_reference.specs.Graph.{size_of, all_made}
 
--- the values of the trees that the tokens are, after c objects
+-- The values of the trees with these tokens, after c objects.
 abbrev pub values_from : List Spelled → ℕ → List Val
 values_from [] c = []
 values_from (t ∷ ts) c = value_of t c ∷ drop (size_of t) (values_from ts (c + made_by t))
 
--- and their objects
+-- The objects of the trees with these tokens.
 abbrev pub objects_from : List Spelled → ℕ → List Obj
 objects_from [] c = []
 objects_from (t ∷ ts) c = object_of t (take (size_of t) (values_from ts (c + made_by t))) ++ objects_from ts (c + made_by t)
@@ -65,7 +65,7 @@ mutual
       (objects-forest forest rest (c + made tree) h.1 ∙ ap (λ n. all_objects forest (c + made tree) ++ objects_from rest n) e)
       ∙ sym (append_assoc (objects_of tree c) (all_objects forest (c + made tree)) (objects_from rest (c + (made tree + forest_made forest))))))
 
--- of one tree
+-- The values of one tree.
 pub values-all : (tree : Tree) → IsTree tree → values_from (tokens tree) 0 ≡ root tree 0 ∷ []
 values-all tree h = ap (λ ts. values_from ts 0) (sym (append-nil (tokens tree))) ∙ values-tree tree [] 0 h
 
@@ -74,14 +74,14 @@ objects-all tree h = ap (λ ts. objects_from ts 0) (sym (append-nil (tokens tree
 
 -- ---- token by token
 
--- after the tokens that are left these values and objects are built
+-- The values and objects that are built when the tokens `left` remain.
 pub record After (all left : List Token) (values : List Val) (objects : List Obj) : Type 0 where
   pub rest : List Token
   pub tokens_are : all ≡ left ++ rest
   pub values_are : values ≡ values_from (map token_of rest) (all_made (map token_of left))
   pub objects_are : objects ≡ objects_from (map token_of rest) (all_made (map token_of left))
 
--- where all tokens are built, and they are those of a tree
+-- If all tokens are processed, and they are those of a tree, then the values are its root.
 pub After-values : (all : List Token) (values : List Val) (objects : List Obj) (tree : Tree) → After all [] values objects → IsTree tree
     → map token_of all ≡ tokens tree → values ≡ root tree 0 ∷ []
 After-values all values objects tree h is e =

@@ -1,9 +1,9 @@
--- Tokens that pieces of bytes spell, one by one (`AllZip Spells`).
+-- Tokens that byte strings encode, one by one (`AllZip Spells`).
 use Rattle.std.proofs.Common.{ℕ, zero, suc, get_or, ◌<◌, List, [], ◌∷◌, length, arith}
 use Rattle.std.specs.List.{AllZip}
 use Rattle.om_format.specs.Token.{Token, Spells}
 
--- each piece spells a token
+-- Each byte string encodes a token.
 pub spelled_at : (ts : List Token) (pieces : List (List ℕ)) (i : ℕ) (d : List ℕ) → AllZip Spells ts pieces → i < length pieces
     → (t : Token) × Spells t (get_or pieces i d)
 spelled_at [] [] i d z l = absurd (omega arith)

@@ -1,22 +1,22 @@
--- Which bytes are refused, and how many of them decide it.
+-- The prefixes of bytes that are refused.
 use Rattle.std.specs.Prelude.{ℕ, ◌≡◌, ◌<◌, ◌≤◌, List, length, take, Option, Some, None}
 use Rattle.om_model.specs.declared.refusal.ReadRefusal.{ReadRefusal}
 use Rattle.om_format.specs.Step.{Context, first_refusal, token_steps}
 use Rattle.om_reference.specs.declared.front.Decided.{Decided}
 use Rattle.om_reference.specs.Refusal.{refusal_of}
 
--- the refusal of the first step that these bytes of a token decide and fail
+-- The refusal of the first step that these bytes of a token decide and fail.
 abbrev pub refusal_at : Context → List ℕ → Option ReadRefusal
 refusal_at c token = first_refusal (length token) (token_steps c token)
 
--- so many of the bytes are refused, and fewer are not
+-- The first `count` bytes are refused, and no shorter prefix is.
 pub record IsDecided (refuse : List ℕ → Option ReadRefusal) (bytes : List ℕ) (d : Decided)
     : Type 0 where
   pub within : d.count ≤ length bytes
   pub refused : refuse (take d.count bytes) ≡ Some (refusal_of d.refusal)
   pub fewer : (k : ℕ) → k < d.count → refuse (take k bytes) ≡ None
 
--- the fewest bytes that are refused, or else none are
+-- The shortest refused prefix. `None` means that no prefix is refused.
 abbrev pub FirstRefused : (List ℕ → Option ReadRefusal) → List ℕ → Option Decided → Type 0
 FirstRefused refuse bytes None = refuse bytes ≡ None
 FirstRefused refuse bytes (Some d) = IsDecided refuse bytes d

@@ -1,23 +1,23 @@
--- The graph of the tree that has some tokens.
+-- The graph of the tree with some tokens.
 use Rattle.std.specs.Prelude.{ℕ, ◌≡◌, List, sum_by}
 use Rattle.om_format.specs.Words.{of_object, fields}
 use Rattle.om_format.specs.Token.{Token, measure_of}
 use Rattle.om_format.specs.Tree.{Tree, IsTree, tokens, made_by, root, objects_of}
 use Rattle.om_reference.specs.declared.build.Graph.{Graph}
 
--- how many fields come after a token
+-- The number of fields that follow a token.
 abbrev pub size_of : Token → ℕ
 size_of token = of_object fields (measure_of token)
 
--- how many objects the tokens make
+-- The number of objects that the tokens make.
 abbrev pub all_made : List Token → ℕ
 all_made ts = sum_by made_by ts
 
--- they are the tokens of a tree
+-- These are the tokens of a tree.
 abbrev pub AreTokens : List Token → Type 0
 AreTokens ts = (tree : Tree) × IsTree tree × (ts ≡ tokens tree)
 
--- the graph of each such tree
+-- The graph of each tree with these tokens.
 abbrev pub IsGraph : List Token → Graph → Type 0
 IsGraph ts graph =
     (tree : Tree) → IsTree tree → ts ≡ tokens tree

@@ -1,5 +1,5 @@
--- What an answer says of bytes. It has the tokens of a tree in place of the tree, so a relation
--- ties it to a judgement.
+-- The meaning of a result of the code. The result has the tokens of a tree instead of the tree, so
+-- a relation connects it with the definitions.
 use Rattle.std.specs.Prelude.{ℕ, ◌≡◌, List, map}
 use Rattle.om_format.specs.Tree.{Tree, tokens}
 use Rattle.om_format.specs.Judgement.{front, value, refused, Judges}
@@ -8,7 +8,7 @@ use Rattle.om_reference.specs.declared.value.Judgement.TheVariants.{Front, Value
 use Rattle.om_reference.specs.Token.{token_of}
 use Rattle.om_reference.specs.Refusal.{refusal_of}
 
--- the answer is what becomes of the bytes
+-- The result is the judgement on the bytes.
 abbrev pub JudgesTo : ℕ → List ℕ → Judgement → Type 0
 JudgesTo limit bytes Front = Judges limit bytes front
 JudgesTo limit bytes (Value n all) =

@@ -11,7 +11,7 @@ use Rattle.om_reference.specs.declared.refusal.Refusal.TheVariants.{ZeroArray, O
 use Rattle.om_reference.specs.declared.refusal.Refusal.TheVariants.{SizeMismatch, CountMismatch}
 use Rattle.om_reference.specs.declared.refusal.Refusal.TheVariants.{LengthMismatch}
 
--- the same with the same numbers
+-- The refusal of the definitions with the same numbers.
 abbrev pub refusal_of : Refusal → ReadRefusal
 refusal_of (BadMagic m) = refusals.BadMagic m
 refusal_of Compressed = refusals.Compressed
@@ -30,12 +30,13 @@ refusal_of (SizeMismatch p sum stated found) = refusals.SizeMismatch p sum state
 refusal_of (CountMismatch p stated found) = refusals.CountMismatch p stated found
 refusal_of (LengthMismatch p left) = refusals.LengthMismatch p left
 
--- where there is one
+-- The refusal, if there is one.
 abbrev pub refusal_in : Option Refusal → Option ReadRefusal
 refusal_in None = None
 refusal_in (Some refusal) = Some (refusal_of refusal)
 
--- each number that may be large has 64 bits, but for the need of `Overlong`, and a magic has 32
+-- A magic number has 32 bits. Each other number that may be large has 64 bits, except for the bytes
+-- needed in `Overlong`.
 abbrev pub IsNarrow : Refusal → Type 0
 IsNarrow (BadMagic m) = m < 2 ^ 32
 IsNarrow Compressed = Unit {0}

@@ -1,4 +1,4 @@
--- The steps of the definitions, and where a token stands.
+-- The steps of the definitions, and the location of a token.
 use Rattle.std.specs.Prelude.{ℕ, Bool, nat_lt, List, map}
 use Rattle.om_format.specs.Step.{Step as Defined, step, Context as Standing, nat_ne}
 use Rattle.om_reference.specs.declared.step.Step.{Step}
@@ -8,18 +8,18 @@ use Rattle.om_reference.specs.declared.step.Comparison.TheVariants.{Above, Other
 use Rattle.om_reference.specs.Refusal.{refusal_in}
 use Rattle.om_reference.specs.Sums.{sums_in}
 
--- a step, with its refusal
+-- A step, with its refusal.
 abbrev pub step_of : Step → Defined
 step_of s = step s.ends (refusal_in s.refusal)
 
 abbrev pub steps_of : List Step → List Defined
 steps_of steps = map step_of steps
 
--- where a token stands
+-- The location of a token.
 abbrev pub context_of : Context → Standing
 context_of c = record { head = c.head; start = c.start; taken = c.taken; sums = sums_in c.sums }
 
--- how what is found is compared with what is stated
+-- How a number that was found is compared with the number that the header states.
 abbrev pub differ : Comparison → ℕ → ℕ → Bool
 differ Above stated found = nat_lt stated found
 differ Other stated found = nat_ne stated found

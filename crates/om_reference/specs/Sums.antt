@@ -4,14 +4,14 @@ use Rattle.om_model.specs.declared.code.Measure.{Measure}
 use Rattle.om_format.specs.Words.{of_object, fields, Sums as Defined}
 use Rattle.om_reference.specs.declared.words.Sums.{Sums}
 
--- the fields of all blocks
+-- The fields of all blocks.
 abbrev pub all_fields : List (Option Measure) → ℕ
 all_fields tokens = sum_by (of_object fields) tokens
 
--- the four sums
+-- The four sums.
 abbrev pub sums_in : Sums → Defined
 sums_in s = record { objects = s.objects; pending = s.pending; w32 = s.w32; w64 = s.w64 }
 
--- so small that those of one token more fit
+-- The sums are so small that one more token causes no overflow.
 abbrev pub AreFew : Sums → Type 0
 AreFew s = (s.objects ≤ 2 ^ 127) × (s.pending ≤ 2 ^ 127) × (s.w32 ≤ 2 ^ 127) × (s.w64 ≤ 2 ^ 127)

@@ -3,7 +3,7 @@ use Rattle.om_format.specs.Token.{Token as Spelled, integer, atom, shared, block
 use Rattle.om_reference.specs.declared.token.Token.{Token}
 use Rattle.om_reference.specs.declared.token.Token.TheVariants.{Integer, Atom, Shared, Block, Leaf}
 
--- the same token
+-- The same token.
 abbrev pub token_of : Token → Spelled
 token_of (Integer z) = integer z
 token_of (Atom tag) = atom tag

@@ -1,4 +1,4 @@
-//! The graph of a value, from its tokens: from the last token to the first.
+//! Builds the graph of a value from its tokens, from the last token to the first.
 
 ghost use Rattle.std.specs.Prelude.{◌≡◌, ◌++◌, ◌∷◌, ◌≤◌, take, drop, map, IfOk, OnOk};
 ghost use Rattle.om_format.specs.Tree.{value_of, made_by, object_of};
@@ -11,14 +11,14 @@ use om_model::list::List;
 use om_model::value::{Obj, Val};
 use std::alloc::{AllocError, Global};
 
-/// A value: its root, and the objects in the order of their tokens.
+/// A value: its root, and its objects in the order of their tokens.
 #[derive(Drop)]
 pub struct Graph {
     pub root: Val,
     pub objects: Vec<Obj>,
 }
 
-/// How many fields come after a token.
+/// Returns the number of fields that follow a token.
 fn size_of(token: &Token) -> u64
     ensures { result ≡ size_of (token_of token.now) }
 {
@@ -28,7 +28,7 @@ fn size_of(token: &Token) -> u64
     }
 }
 
-/// How many objects a token makes.
+/// Returns the number of objects that a token makes.
 fn made_by(token: &Token) -> u64
     ensures made { result ≡ made_by (token_of token.now) }
     ensures few { result ≤ 1 }
@@ -41,7 +41,7 @@ fn made_by(token: &Token) -> u64
     }
 }
 
-/// How many objects the tokens make.
+/// Returns the number of objects that the tokens make.
 fn all_made(tokens: &[Token]) -> u64
     ensures { result ≡ all_made (map token_of tokens.now) }
 {
@@ -52,7 +52,7 @@ fn all_made(tokens: &[Token]) -> u64
     made
 }
 
-/// The value of a token after `c` objects.
+/// Returns the value of a token after `c` objects.
 fn value_of(token: &Token, c: u64) -> Val
     ensures { result ≡ value_of (token_of token.now) c }
 {
@@ -65,7 +65,7 @@ fn value_of(token: &Token, c: u64) -> Val
     }
 }
 
-/// The first values, as many as a token has fields.
+/// Returns the first `size` values, which are the fields of a token.
 fn first_values(values: &[Val], size: u64) -> &[Val]
     ensures { result.now ≡ take size values.now }
 {
@@ -76,7 +76,7 @@ fn first_values(values: &[Val], size: u64) -> &[Val]
     }
 }
 
-/// The values after those.
+/// Returns the values after the first `size` values.
 fn values_after(values: &[Val], size: u64) -> &[Val]
     ensures { result.now ≡ drop size values.now }
 {
@@ -87,7 +87,7 @@ fn values_after(values: &[Val], size: u64) -> &[Val]
     }
 }
 
-/// The object of a token that has these fields comes before the others.
+/// Inserts the object of a token with these fields before the other objects.
 fn put_object(
     alloc: Global,
     token: Token,
@@ -108,7 +108,7 @@ fn put_object(
     Ok(())
 }
 
-/// A value before the others.
+/// Returns the values with one more at the beginning.
 fn with_value(alloc: Global, value: Val, rest: &[Val]) -> Result<Vec<Val>, AllocError>
     ensures { IfOk result (λ values. values.items ≡ value ∷ rest.now) }
 {
@@ -118,7 +118,7 @@ fn with_value(alloc: Global, value: Val, rest: &[Val]) -> Result<Vec<Val>, Alloc
     Ok(values)
 }
 
-/// The graph, token by token.
+/// Builds the graph, token by token.
 fn build(alloc: Global, mut tokens: Vec<Token>) -> Result<Graph, AllocError>
     requires { AreTokens (map token_of tokens.items) }
     ensures { IfOk result (IsGraph (map token_of tokens.items)) }
@@ -138,7 +138,7 @@ fn build(alloc: Global, mut tokens: Vec<Token>) -> Result<Graph, AllocError>
     })
 }
 
-/// The graph of the tree that has these tokens.
+/// Returns the graph of the tree with these tokens.
 pub fn graph_of(alloc: Global, tokens: Vec<Token>) -> Result<Graph, Memory>
     requires { AreTokens (map token_of tokens.items) }
     ensures { IfOk result (IsGraph (map token_of tokens.items)) }

@@ -6,7 +6,7 @@ ghost use Rattle.om_format.specs.Code.{kind_of, IsKind, custom_of, native_bytes}
 use crate::cut::byte_at;
 use om_model::code::{CodeFault, CodeKind, CustomKind};
 
-/// What a code begins.
+/// Returns the kind of token that a code begins.
 #[tactic(auto, unfolding(om_format::specs::Code::kind_of))]
 pub fn kind_of(code: u8) -> Result<CodeKind, CodeFault>
     ensures kind { result ≡ kind_of code }
@@ -24,7 +24,7 @@ pub fn kind_of(code: u8) -> Result<CodeKind, CodeFault>
     large_kind(code)
 }
 
-/// A code below 32.
+/// Returns the kind of token that a code below 32 begins.
 #[tactic(auto, unfolding(om_format::specs::Code::kind_of))]
 fn large_kind(code: u8) -> Result<CodeKind, CodeFault>
     requires { code < 32 }
@@ -60,7 +60,7 @@ fn large_kind(code: u8) -> Result<CodeKind, CodeFault>
     }
 }
 
-/// The custom that an identifier names.
+/// Returns the custom type that an identifier names.
 #[tactic(auto, unfolding(om_format::specs::Code::custom_of))]
 pub fn custom_of(bytes: &[u8]) -> Option<CustomKind>
     ensures { result ≡ custom_of bytes.now }
@@ -76,7 +76,8 @@ pub fn custom_of(bytes: &[u8]) -> Option<CustomKind>
     }
 }
 
-/// How many bytes a `Nativeint` has after its kind byte: none after another byte.
+/// Returns the number of bytes of a `Nativeint` after its kind byte. Returns 0 for an unknown kind
+/// byte.
 pub fn native_bytes(kind: u8) -> u64
     ensures { result ≡ native_bytes kind }
 {

@@ -1,12 +1,12 @@
-//! Where a token stands.
+//! The location of a token.
 
 ghost use Rattle.om_reference.specs.Sums.{AreFew};
 
 use crate::words::Sums;
 use om_model::header::Head;
 
-/// What stands before a token: what the header states, how many bytes the header has, how many
-/// bytes of data were taken, and the sums over the tokens before.
+/// What precedes a token: the contents of the header, the length of the header in bytes, the number
+/// of data bytes before the token, and the sums over the tokens before.
 #[derive(Clone, Copy)]
 pub struct Context {
     pub head: Head,

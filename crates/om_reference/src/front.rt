@@ -1,4 +1,4 @@
-//! Which bytes may still become a value, and which are refused.
+//! Decides if bytes can still become a value, or are refused.
 
 ghost use Rattle.std.specs.Prelude.{◌≡◌, ◌<◌, ◌^◌, length, map, IfOk};
 ghost use Rattle.std.specs.List.{concat};
@@ -19,14 +19,14 @@ use om_model::code::Measure;
 use om_model::list::List;
 use std::alloc::{AllocError, Global};
 
-/// A refusal, and how many bytes decide it.
+/// A refusal, and the number of bytes that decide it.
 #[derive(Clone, Copy)]
 pub struct Decided {
     pub count: usize,
     pub refusal: Refusal,
 }
 
-/// How many bytes the tokens have.
+/// Returns the total length of the tokens in bytes.
 fn taken(tokens: &[List<u8>]) -> u64
     requires { length (concat tokens.now) < 2 ^ 64 }
     ensures { result ≡ length (concat tokens.now) }
@@ -38,7 +38,7 @@ fn taken(tokens: &[List<u8>]) -> u64
     taken
 }
 
-/// The objects that the tokens make.
+/// Returns the objects that the tokens make.
 fn measures(alloc: Global, tokens: &[List<u8>]) -> Result<Vec<Option<Measure>>, AllocError>
     ensures { IfOk result (λ all. all.items ≡ map raw_measure tokens.now) }
 {
@@ -49,7 +49,7 @@ fn measures(alloc: Global, tokens: &[List<u8>]) -> Result<Vec<Option<Measure>>, 
     Ok(all)
 }
 
-/// Where a token comes after these bytes of a header and these tokens.
+/// Returns the context of a token after these bytes of a header and these tokens.
 pub fn context(alloc: Global, header: &[u8], before: &[List<u8>]) -> Result<Context, AllocError>
     requires { length (concat before.now) < 2 ^ 64 }
     ensures { IfOk result (λ c. context_of c ≡ context header.now before.now) }
@@ -62,7 +62,7 @@ pub fn context(alloc: Global, header: &[u8], before: &[List<u8>]) -> Result<Cont
     })
 }
 
-/// The fewest bytes that refuse a header.
+/// Returns the refusal of a header by its shortest refused prefix.
 pub fn header_refused(limit: u64, bytes: &[u8]) -> Option<Decided>
     ensures { FirstRefused (header_refusal limit) bytes.now result }
 {
@@ -76,7 +76,7 @@ pub fn header_refused(limit: u64, bytes: &[u8]) -> Option<Decided>
     None
 }
 
-/// The fewest bytes that refuse a token.
+/// Returns the refusal of a token by its shortest refused prefix.
 pub fn token_refused(
     alloc: Global,
     c: &Context,

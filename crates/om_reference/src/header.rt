@@ -1,4 +1,4 @@
-//! The header of a value (`intext.h`, `intern.c`), all of it big endian.
+//! The header of a value (`intext.h`, `intern.c`). All numbers in it are big-endian.
 
 ghost use Rattle.std.specs.Prelude.{◌≡◌, ◌≤◌};
 ghost use Rattle.om_format.specs.Header.{magic, header_length, small_head, big_head, head_of};
@@ -7,23 +7,23 @@ use crate::cut::{between, number_of};
 use om_model::bytes::big_endian;
 use om_model::header::Head;
 
-/// That of a small header.
+/// Magic number of a small header.
 pub const SMALL_MAGIC: u64 = 0x8495_a6be;
 
-/// That of a big header.
+/// Magic number of a big header.
 pub const BIG_MAGIC: u64 = 0x8495_a6bf;
 
-/// That of compressed data, which is not read.
+/// Magic number of compressed data, which is not supported.
 pub const COMPRESSED_MAGIC: u64 = 0x8495_a6bd;
 
-/// The number of the first four bytes.
+/// Returns the number of the first four bytes.
 pub fn magic(bytes: &[u8]) -> u64
     ensures { result ≡ magic bytes.now }
 {
     number_of(bytes, 4)
 }
 
-/// The bytes of a header that begins so.
+/// Returns the length in bytes of a header with this prefix.
 pub fn header_length(bytes: &[u8]) -> usize
     ensures length { result ≡ header_length bytes.now }
     ensures few { result ≤ 32 }
@@ -31,7 +31,7 @@ pub fn header_length(bytes: &[u8]) -> usize
     if magic(bytes) == BIG_MAGIC { 32 } else { 20 }
 }
 
-/// What a small header states.
+/// Returns the contents of a small header.
 fn small_head(bytes: &[u8]) -> Head
     ensures { result ≡ small_head bytes.now }
 {
@@ -44,7 +44,7 @@ fn small_head(bytes: &[u8]) -> Head
     }
 }
 
-/// What a big header states.
+/// Returns the contents of a big header.
 fn big_head(bytes: &[u8]) -> Head
     ensures { result ≡ big_head bytes.now }
 {
@@ -57,7 +57,7 @@ fn big_head(bytes: &[u8]) -> Head
     }
 }
 
-/// What a header states.
+/// Returns the contents of a header.
 #[tactic(auto, unfolding(om_format::specs::Header::head_of))]
 pub fn head_of(bytes: &[u8]) -> Head
     ensures { result ≡ head_of bytes.now }

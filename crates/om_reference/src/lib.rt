@@ -1,5 +1,6 @@
-//! What becomes of bytes that should be a value, computed from the definitions step by step. Slow
-//! and plain.
+//! A reference reader: computes from the definitions, step by step, what bytes encode. It is slow
+//! and simple. The function `judge` returns a value with its tokens, a refusal, or that the bytes
+//! are a prefix; `graph_of` builds the graph of the tokens.
 #![tactic(auto)]
 
 mod build;

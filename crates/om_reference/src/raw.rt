@@ -1,4 +1,4 @@
-//! A raw token: the fields of one, in their lengths, with any contents (`intern.c`).
+//! Raw tokens: the fields of a token by their lengths, with any contents (`intern.c`).
 
 ghost use Rattle.std.specs.Prelude.{◌≡◌, ◌<◌, ◌^◌, Option};
 ghost use Rattle.om_format.specs.Raw.{fixed_bytes, field_bytes, custom_bytes, kind_bytes};
@@ -11,7 +11,7 @@ use om_codes::Known;
 use om_model::bytes::skip;
 use om_model::code::{CodeKind, CustomKind, Measure};
 
-/// The bytes that each token of the kind has after its code.
+/// Returns the number of bytes that each token of the kind has after its code.
 pub fn fixed_bytes(kind: CodeKind) -> u128
     ensures bytes { result ≡ fixed_bytes kind }
     ensures few { result < 2 ^ 8 }
@@ -30,7 +30,8 @@ pub fn fixed_bytes(kind: CodeKind) -> u128
     }
 }
 
-/// Those of them that say more than a content.
+/// Returns how many of the fixed bytes form a field that is checked: a header word, an offset, a
+/// length, an identifier, or an integer of eight bytes.
 pub fn field_bytes(kind: CodeKind) -> u128
     ensures bytes { result ≡ field_bytes kind }
     ensures few { result < 2 ^ 8 }
@@ -50,7 +51,8 @@ pub fn field_bytes(kind: CodeKind) -> u128
     }
 }
 
-/// The data of a custom, by the kind byte of a `Nativeint`.
+/// Returns the length in bytes of the data of a custom value. For a `Nativeint` it depends on the
+/// kind byte.
 fn custom_bytes(custom: Option<CustomKind>, kind: u8) -> u128
     ensures bytes { result ≡ custom_bytes custom kind }
     ensures few { result < 2 ^ 8 }
@@ -63,7 +65,7 @@ fn custom_bytes(custom: Option<CustomKind>, kind: u8) -> u128
     }
 }
 
-/// The kind byte, where there is one.
+/// Returns the length in bytes of the kind byte, or 0 if the custom value has none.
 fn kind_bytes(custom: Option<CustomKind>) -> u128
     ensures bytes { result ≡ kind_bytes custom }
     ensures few { result < 2 ^ 8 }
@@ -74,7 +76,7 @@ fn kind_bytes(custom: Option<CustomKind>) -> u128
     }
 }
 
-/// The object that a custom is.
+/// Returns the object that a custom value makes.
 fn custom_measure(custom: Option<CustomKind>) -> Option<Measure>
     ensures { result ≡ custom_measure custom }
 {
@@ -86,7 +88,8 @@ fn custom_measure(custom: Option<CustomKind>) -> Option<Measure>
     }
 }
 
-/// The bytes after the fixed ones, of a string, an array or a custom. After the code stands `rest`.
+/// Returns the number of bytes after the fixed ones, for a string, an array or a custom value.
+/// `rest` are the bytes after the code.
 pub fn variable_bytes(kind: Known, rest: &[u8]) -> u128
     ensures bytes { result ≡ variable_bytes kind.kind rest.now }
     ensures few { result < 2 ^ 68 }
@@ -100,7 +103,7 @@ pub fn variable_bytes(kind: Known, rest: &[u8]) -> u128
     }
 }
 
-/// The object that a block of so many fields is.
+/// Returns the object that a block with `size` fields makes.
 fn block_measure(size: u64) -> Option<Measure>
     ensures { result ≡ block_measure size }
 {
@@ -111,7 +114,7 @@ fn block_measure(size: u64) -> Option<Measure>
     }
 }
 
-/// The object that a token makes.
+/// Returns the object that a token makes. `rest` are the bytes after the code.
 pub fn measure_after(kind: Known, rest: &[u8]) -> Option<Measure>
     ensures { result ≡ measure_after kind.kind rest.now }
 {
@@ -129,7 +132,7 @@ pub fn measure_after(kind: Known, rest: &[u8]) -> Option<Measure>
     }
 }
 
-/// The bytes after the code after which the token's size is known.
+/// Returns the number of bytes after the code that determine the length of the token.
 pub fn sizing_bytes(kind: CodeKind, rest: &[u8]) -> u128
     ensures bytes { result ≡ sizing_bytes kind rest.now }
     ensures few { result < 2 ^ 9 }
@@ -140,7 +143,7 @@ pub fn sizing_bytes(kind: CodeKind, rest: &[u8]) -> u128
     }
 }
 
-/// How many bytes a raw token has that begins so.
+/// Returns the length in bytes of the raw token with this prefix.
 pub fn raw_length(bytes: &[u8]) -> u128
     ensures bytes { result ≡ raw_length bytes.now }
     ensures few { result < 2 ^ 69 }
@@ -157,7 +160,7 @@ pub fn raw_length(bytes: &[u8]) -> u128
     }
 }
 
-/// The object that a raw token makes.
+/// Returns the object that a raw token makes.
 pub fn raw_measure(bytes: &[u8]) -> Option<Measure>
     ensures { result ≡ raw_measure bytes.now }
 {

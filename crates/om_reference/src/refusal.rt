@@ -1,4 +1,4 @@
-//! Why bytes are no value, with numbers as large as the definitions have them.
+//! Reasons why bytes are not a value, with numbers as large as in the definitions.
 
 ghost use Rattle.std.specs.Prelude.{◌≡◌, ◌<◌, ◌^◌, ◌↔◌, IfSome, IsSome, IsTrue};
 ghost use Rattle.om_reference.specs.Refusal.{refusal_of, IsNarrow};
@@ -6,40 +6,41 @@ ghost use Rattle.om_reference.specs.Refusal.{refusal_of, IsNarrow};
 use om_model::refusal::{ReadRefusal, Stated, WordSum};
 use std::fmt;
 
-/// A refusal. The first number is the place, where there is one.
+/// A refusal. For most variants the first number is the offset in bytes.
 #[derive(Clone, Copy)]
 pub enum Refusal {
-    /// The first four bytes.
+    /// The first four bytes are not a known magic number.
     BadMagic(u64),
-    /// The magic of compressed data.
+    /// The magic number is that of compressed data.
     Compressed,
-    /// What is stated, and the limit.
+    /// The header states a number above the limit: what it states, the number, and the limit.
     TooLarge(Stated, u64, u64),
-    /// A code that begins no token.
+    /// The code begins no token.
     BadCode(u128, u8),
-    /// A code or infix pointer.
+    /// The code is that of a code pointer or an infix pointer.
     PointerCode(u128, u8),
-    /// A custom that is not read.
+    /// The custom value is of an unsupported type.
     OtherCustom(u128, u8),
-    /// A block's tag above 243.
+    /// The tag of a block is above 243.
     BadTag(u128, u8),
-    /// The offset, and how many objects there are.
+    /// The offset of a reference is invalid: the offset, and the number of objects so far.
     BadShared(u128, u64, u128),
-    /// A reference in a value whose header counts no objects.
+    /// There is a reference, but the header states that there are no objects.
     NoTable(u128),
-    /// The kind byte of a `Nativeint`.
+    /// The kind byte of a `Nativeint` is unknown.
     BadNative(u128, u8),
-    /// An integer of more than 63 bits.
+    /// The integer has more than 63 bits.
     IntRange(u128, i64),
-    /// A double array of no elements.
+    /// A double array has no elements.
     ZeroArray(u128),
-    /// What is needed, and how many data bytes are left.
+    /// The data is too short: the number of bytes needed, and the number of data bytes left.
     Overlong(u128, u128, u128),
-    /// Which sum of words, what the header states, and the sum.
+    /// A sum of words differs from the header: which sum, the number in the header, and the sum.
     SizeMismatch(u128, WordSum, u64, u128),
-    /// The objects that the header states, and those that there are.
+    /// The number of objects differs from the header: the number in the header, and the number of
+    /// objects.
     CountMismatch(u128, u64, u128),
-    /// How many data bytes are left after the value.
+    /// Data bytes are left after the value: their number.
     LengthMismatch(u128, u128),
 }
 
@@ -53,7 +54,7 @@ impl fmt::Debug for Refusal {
 }
 
 impl Refusal {
-    /// The same refusal as a reader has it, where its numbers are as small as a reader's.
+    /// Returns the refusal with the number types of a reader, if its numbers fit them.
     pub fn narrow(self) -> Option<ReadRefusal>
         ensures same { IfSome result (λ refusal. refusal ≡ refusal_of self) }
         ensures fits { IsSome result ↔ IsNarrow self }
@@ -92,7 +93,7 @@ impl Refusal {
     }
 }
 
-/// Whether its numbers are as small as a reader's.
+/// Returns true if the numbers of the refusal fit the number types of a reader.
 fn is_narrow(refusal: Refusal) -> bool
     ensures { IsTrue result ↔ IsNarrow refusal }
 {
@@ -116,7 +117,7 @@ fn is_narrow(refusal: Refusal) -> bool
     }
 }
 
-/// Whether the number has 64 bits.
+/// Returns true if the number fits into 64 bits.
 fn is_small(number: u128) -> bool
     ensures { IsTrue result ↔ (number < 2 ^ 64) }
 {

@@ -1,4 +1,4 @@
-//! Steps, and those of a header (`intern.c`).
+//! Checks, called steps, and the steps of a header (`intern.c`).
 
 ghost use Rattle.std.specs.Prelude.{◌≡◌, Option};
 ghost use Rattle.om_format.specs.Step.{fails_if, or_else, first_refusal, magic_refusal};
@@ -10,24 +10,24 @@ use crate::header::{BIG_MAGIC, COMPRESSED_MAGIC, SMALL_MAGIC, head_of, header_le
 use crate::refusal::Refusal;
 use om_model::refusal::Stated;
 
-/// How many bytes of the header or the token hold the fields that a step reads, and the refusal
-/// where it fails.
+/// A step: the number of bytes of the header or token that contain the fields it reads, and the
+/// refusal if it fails.
 #[derive(Clone, Copy)]
 pub struct Step {
     pub ends: u128,
     pub refusal: Option<Refusal>,
 }
 
-/// How what is found is compared with what is stated.
+/// How a number that was found is compared with the number that the header states.
 #[derive(Clone, Copy)]
 pub enum Comparison {
-    /// Wrong where more is found than is stated.
+    /// The comparison fails if the found number is greater.
     Above,
-    /// Wrong where another number is found.
+    /// The comparison fails if the numbers differ.
     Other,
 }
 
-/// What is found is wrong.
+/// Returns true if the comparison fails.
 pub fn differs(how: Comparison, stated: u64, found: u128) -> bool
     ensures { result ≡ differ how stated found }
 {
@@ -37,14 +37,14 @@ pub fn differs(how: Comparison, stated: u64, found: u128) -> bool
     }
 }
 
-/// The refusal, where the step fails.
+/// Returns the refusal if the step fails.
 pub fn fails_if(fails: bool, refusal: Refusal) -> Option<Refusal>
     ensures { refusal_in result ≡ fails_if fails (refusal_of refusal) }
 {
     if fails { Some(refusal) } else { None }
 }
 
-/// The first refusal, or else the next.
+/// Returns the first refusal if there is one, and `next` otherwise.
 pub fn or_else(first: Option<Refusal>, next: Option<Refusal>) -> Option<Refusal>
     ensures { refusal_in result ≡ or_else (refusal_in first) (refusal_in next) }
 {
@@ -54,7 +54,7 @@ pub fn or_else(first: Option<Refusal>, next: Option<Refusal>) -> Option<Refusal>
     }
 }
 
-/// The refusal of the first step that `n` bytes decide and that fails.
+/// Returns the refusal of the first step that fails, among the leading steps that `n` bytes decide.
 pub fn first_refusal(n: u128, steps: &[Step]) -> Option<Refusal>
     ensures { refusal_in result ≡ first_refusal n (steps_of steps.now) }
 {
@@ -69,7 +69,7 @@ pub fn first_refusal(n: u128, steps: &[Step]) -> Option<Refusal>
     None
 }
 
-/// What is wrong with a magic.
+/// Returns the refusal of a magic number.
 fn magic_refusal(magic: u64) -> Option<Refusal>
     ensures { refusal_in result ≡ magic_refusal magic }
 {
@@ -83,10 +83,11 @@ fn magic_refusal(magic: u64) -> Option<Refusal>
     }
 }
 
-/// More data bytes than this no value may have.
+/// The greatest number of data bytes that a value may have.
 const LENGTH_LIMIT: u64 = (1 << 48) - 1;
 
-/// The steps of a header, of a value of at most so many words on 64 bits.
+/// Returns the steps of a header. `limit` is the greatest number of 64-bit words that a value may
+/// have.
 #[tactic(auto, unfolding(om_format::specs::Step::header_steps))]
 pub fn header_steps(limit: u64, header: &[u8]) -> [Step; 4]
     ensures { steps_of result ≡ header_steps limit header.now }

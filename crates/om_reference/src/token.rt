@@ -1,4 +1,4 @@
-//! The tokens that bytes spell: `intern.c` reads each width and byte order.
+//! The tokens that bytes encode. As in `intern.c`, each width and byte order is read.
 
 ghost use Rattle.std.specs.Prelude.{◌≡◌, ◌*◌, ℕ, List as Seq, length, map, IfOk};
 ghost use Rattle.std.specs.List.{AllZip};
@@ -17,9 +17,8 @@ use om_model::list::List;
 use om_model::value::Obj;
 use std::alloc::{AllocError, Global};
 
-/// An integer; an atom, by its tag; a reference to the object so many places back from the next
-/// one; a block, by tag and size, whose fields are the values after it; and an object without
-/// fields.
+/// A token. A reference has the offset back from the next object. A block has its tag and size, and
+/// its fields are the values after it. A leaf is an object without fields.
 #[derive(Drop)]
 pub enum Token {
     Integer(i64),
@@ -29,7 +28,7 @@ pub enum Token {
     Leaf(Obj),
 }
 
-/// A block of no fields is an atom.
+/// Returns a block, or an atom if there are no fields.
 fn block_or_atom(tag: u8, size: u64) -> Token
     ensures { token_of result ≡ block_or_atom tag size }
 {
@@ -40,14 +39,14 @@ fn block_or_atom(tag: u8, size: u64) -> Token
     }
 }
 
-/// What a header word says.
+/// Returns the token of a header word.
 fn word_token(word: u64) -> Token
     ensures { token_of result ≡ word_token word }
 {
     block_or_atom((word % 256) as u8, word / 1024)
 }
 
-/// The doubles that so many times eight bytes spell.
+/// Returns the `count` doubles that the bytes encode, each in eight bytes.
 fn doubles_of(
     alloc: Global,
     little: bool,
@@ -64,7 +63,7 @@ fn doubles_of(
     Ok(all)
 }
 
-/// The custom after whose code stands `rest`.
+/// Returns the token of a custom value. `rest` are the bytes after the code.
 fn custom_token(rest: &[u8]) -> Token
     requires { (t : Spelled) × SpellsCustom rest.now t }
     ensures { (t : Spelled) → SpellsCustom rest.now t → token_of result ≡ t }
@@ -76,14 +75,14 @@ fn custom_token(rest: &[u8]) -> Token
     }
 }
 
-/// A string of these bytes.
+/// Returns the token of a string with these bytes.
 fn string_token(alloc: Global, bytes: &[u8]) -> Result<Token, AllocError>
     ensures { IfOk result (λ t. token_of t ≡ leaf (objects.Bytes bytes.now)) }
 {
     Ok(Token::Leaf(Obj::Bytes(List::of(Vec::from_slice(alloc, bytes)?))))
 }
 
-/// The array of so many doubles.
+/// Returns the token of an array of `count` doubles.
 fn doubles_token(
     alloc: Global,
     little: bool,
@@ -99,7 +98,7 @@ fn doubles_token(
     Ok(Token::Leaf(Obj::Doubles(List::of(all))))
 }
 
-/// The token of this kind, after whose code stands `rest`.
+/// Returns the token of this kind. `rest` are the bytes after the code.
 fn token_after(alloc: Global, kind: Known, rest: &[u8]) -> Result<Token, AllocError>
     requires spelled { (t : Spelled) × SpellsAfter kind.kind rest.now t }
     ensures { IfOk result (λ t. (u : Spelled) → SpellsAfter kind.kind rest.now u → token_of t ≡ u) }
@@ -122,7 +121,7 @@ fn token_after(alloc: Global, kind: Known, rest: &[u8]) -> Result<Token, AllocEr
     }
 }
 
-/// The token that bytes spell.
+/// Returns the token that the bytes encode.
 fn token_spelled(alloc: Global, bytes: &[u8]) -> Result<Token, AllocError>
     requires { (t : Spelled) × Spells t bytes.now }
     ensures { IfOk result (λ t. Spells (token_of t) bytes.now) }
@@ -133,7 +132,7 @@ fn token_spelled(alloc: Global, bytes: &[u8]) -> Result<Token, AllocError>
     }
 }
 
-/// The tokens that the pieces spell, one by one.
+/// Returns the tokens that the byte strings encode, one for each.
 pub fn tokens_spelled(alloc: Global, pieces: &[List<u8>]) -> Result<Vec<Token>, AllocError>
     requires { (all : Seq Spelled) × AllZip Spells all pieces.now }
     ensures { IfOk result (λ tokens. AllZip Spells (map token_of tokens.items) pieces.now) }

@@ -25,7 +25,7 @@ use om_model::header::Head;
 use om_model::refusal::WordSum;
 use std::alloc::{AllocError, Global};
 
-/// The place of the token, from the header's first byte.
+/// Returns the offset of the token from the first byte of the header.
 fn place(c: &Context) -> u128
     ensures place { result ≡ place (context_of c.now) }
     ensures few { result < 2 ^ 65 }
@@ -33,7 +33,7 @@ fn place(c: &Context) -> u128
     u128::from(c.start) + u128::from(c.taken)
 }
 
-/// The data bytes after the first `n` of the token.
+/// Returns the number of data bytes after the first `n` bytes of the token.
 fn left_after(c: &Context, n: u128) -> u128
     requires { n < 2 ^ 70 }
     ensures { result ≡ left_after (context_of c.now) n }
@@ -41,7 +41,7 @@ fn left_after(c: &Context, n: u128) -> u128
     u128::from(c.head.length).saturating_sub(u128::from(c.taken) + n)
 }
 
-/// More is needed than there is after the first `n` bytes of the token.
+/// Returns a refusal if fewer than `need` data bytes follow the first `n` bytes of the token.
 fn overlong(c: &Context, need: u128, n: u128) -> Option<Refusal>
     requires { n < 2 ^ 70 }
     ensures { refusal_in result ≡ overlong (context_of c.now) need n }
@@ -50,7 +50,7 @@ fn overlong(c: &Context, need: u128, n: u128) -> Option<Refusal>
     fails_if(left < need, Refusal::Overlong(place(c), need, left))
 }
 
-/// The refusal of a code that begins no token.
+/// Returns the refusal of a code that begins no token.
 fn code_refusal(fault: CodeFault, place: u128, code: u8) -> Refusal
     ensures { refusal_of result ≡ code_refusal fault place code }
 {
@@ -61,7 +61,7 @@ fn code_refusal(fault: CodeFault, place: u128, code: u8) -> Refusal
     }
 }
 
-/// What is wrong with an integer of eight bytes.
+/// Returns the refusal of an integer of eight bytes.
 fn integer_refusal(c: &Context, value: i64) -> Option<Refusal>
     ensures { refusal_in result ≡ integer_refusal (context_of c.now) value }
 {
@@ -71,7 +71,7 @@ fn integer_refusal(c: &Context, value: i64) -> Option<Refusal>
     )
 }
 
-/// What is wrong with an offset.
+/// Returns the refusal of the offset of a reference.
 fn shared_refusal(c: &Context, offset: u64) -> Option<Refusal>
     ensures { refusal_in result ≡ shared_refusal (context_of c.now) offset }
 {
@@ -85,7 +85,7 @@ fn shared_refusal(c: &Context, offset: u64) -> Option<Refusal>
     )
 }
 
-/// What is wrong with the token's fields.
+/// Returns the refusal of the fields of the token.
 fn field_refusal(c: &Context, code: u8, kind: Known, rest: &[u8]) -> Option<Refusal>
     ensures { refusal_in result ≡ field_refusal (context_of c.now) code kind.kind rest.now }
 {
@@ -108,7 +108,7 @@ fn field_refusal(c: &Context, code: u8, kind: Known, rest: &[u8]) -> Option<Refu
     }
 }
 
-/// The steps of a `Nativeint` after its identifier.
+/// Returns the steps of a `Nativeint` after its identifier.
 fn native_steps(c: &Context, kind: u8) -> [Step; 3]
     ensures { steps_of result ≡ native_steps (context_of c.now) kind }
 {
@@ -129,7 +129,7 @@ fn native_steps(c: &Context, kind: u8) -> [Step; 3]
     ]
 }
 
-/// Adds the steps of the bytes after the fixed ones.
+/// Appends the steps of the bytes after the fixed ones.
 fn add_variable(
     c: &Context,
     kind: Known,
@@ -152,7 +152,7 @@ fn add_variable(
     }
 }
 
-/// The words on 32 bits against the header's, which in a big one states none.
+/// Compares the number of 32-bit words with the header. A big header does not state this number.
 fn words32_refusal(how: Comparison, place: u128, head: Head, found: u128) -> Option<Refusal>
     ensures { refusal_in result ≡ words32_refusal (differ how) place head found }
 {
@@ -162,7 +162,7 @@ fn words32_refusal(how: Comparison, place: u128, head: Head, found: u128) -> Opt
     )
 }
 
-/// The words on 64 bits against the header's.
+/// Compares the number of 64-bit words with the header.
 fn words64_refusal(how: Comparison, place: u128, head: Head, found: u128) -> Option<Refusal>
     ensures { refusal_in result ≡ words64_refusal (differ how) place head found }
 {
@@ -172,7 +172,7 @@ fn words64_refusal(how: Comparison, place: u128, head: Head, found: u128) -> Opt
     )
 }
 
-/// The steps after the last token, which has `n` bytes.
+/// Returns the steps after the last token, which has `n` bytes.
 fn end_steps(c: &Context, n: u128, all: Sums) -> [Step; 4]
     requires { n < 2 ^ 70 }
     ensures { steps_of result ≡ end_steps (context_of c.now) n (sums_in all) }
@@ -202,7 +202,7 @@ fn end_steps(c: &Context, n: u128, all: Sums) -> [Step; 4]
     ]
 }
 
-/// The steps of the fixed bytes, and of the fields.
+/// Returns the steps of the fixed bytes and of the fields.
 fn entry_steps(c: &Context, code: u8, kind: Known, rest: &[u8]) -> [Step; 2]
     ensures { steps_of result ≡ entry_steps (context_of c.now) code kind.kind rest.now }
 {
@@ -218,8 +218,8 @@ fn entry_steps(c: &Context, code: u8, kind: Known, rest: &[u8]) -> [Step; 2]
     ]
 }
 
-/// Adds the steps of the values that are to come and of the words, and after the last token those
-/// of the tree's end.
+/// Appends the steps of the pending values and of the words. After the last token, also appends the
+/// steps of the end of the value.
 fn add_closing(
     c: &Context,
     kind: Known,
@@ -253,7 +253,7 @@ fn add_closing(
     Ok(())
 }
 
-/// The steps of a token of this kind.
+/// Returns the steps of a token of this kind.
 fn steps_after(
     alloc: Global,
     c: &Context,
@@ -270,7 +270,7 @@ fn steps_after(
     Ok(steps)
 }
 
-/// The steps of a token.
+/// Returns the steps of a token.
 #[tactic(auto, unfolding(om_format::specs::Step::token_steps))]
 pub fn token_steps(alloc: Global, c: &Context, token: &[u8]) -> Result<Vec<Step>, AllocError>
     ensures { IfOk result

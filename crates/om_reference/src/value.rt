@@ -1,4 +1,4 @@
-//! What becomes of bytes that should be a value.
+//! Decides what bytes encode.
 
 ghost use Rattle.std.specs.Prelude.{◌≡◌, ◌≤◌, ◌<◌, ◌^◌, ◌++◌, ◌∷◌, [], ◌↔◌, take, length, IsTrue};
 ghost use Rattle.std.specs.Prelude.{IfOk, OnOk};
@@ -18,8 +18,8 @@ use om_model::bytes::skip;
 use om_model::list::List;
 use std::alloc::{AllocError, Global};
 
-/// A front, a value that the first `taken` bytes spell, with its tokens in preorder, or a refusal
-/// of the first `taken` bytes.
+/// The result for bytes: a prefix of a value, a value in the first `taken` bytes with its tokens in
+/// preorder, or a refusal of the first `taken` bytes.
 #[derive(Drop)]
 pub enum Judgement {
     Front,
@@ -27,7 +27,7 @@ pub enum Judgement {
     Refused { taken: usize, refusal: Refusal },
 }
 
-/// The tokens, and the first of the bytes left as one more.
+/// Appends the first `len` of the remaining bytes as one more token.
 fn push(
     alloc: Global,
     tokens: &mut Vec<List<u8>>,
@@ -41,7 +41,7 @@ fn push(
     Ok(())
 }
 
-/// Whether some value is still to come after these tokens.
+/// Returns true if a value is still pending after these tokens.
 fn is_open(alloc: Global, header: &[u8], tokens: &[List<u8>]) -> Result<bool, AllocError>
     requires { length (concat tokens.now) < 2 ^ 64 }
     ensures { IfOk result (λ open_after. IsTrue open_after ↔ IsOpen tokens.now) }
@@ -50,7 +50,7 @@ fn is_open(alloc: Global, header: &[u8], tokens: &[List<u8>]) -> Result<bool, Al
     Ok(0 < c.sums.pending)
 }
 
-/// Judges one token after another, after the header.
+/// Reads one token after another, after the header.
 fn judge_tokens(alloc: Global, limit: u64, bytes: &[u8]) -> Result<Judgement, AllocError>
     requires passes { header_refusal limit bytes.now ≡ None }
     requires whole { header_length bytes.now ≤ length bytes.now }
@@ -83,7 +83,7 @@ fn judge_tokens(alloc: Global, limit: u64, bytes: &[u8]) -> Result<Judgement, Al
     }
 }
 
-/// Judges the header, and then the tokens.
+/// Reads the header, and then the tokens.
 fn judge_bytes(alloc: Global, limit: u64, bytes: &[u8]) -> Result<Judgement, AllocError>
     ensures { IfOk result (JudgesTo limit bytes.now) }
 {
@@ -99,8 +99,8 @@ fn judge_bytes(alloc: Global, limit: u64, bytes: &[u8]) -> Result<Judgement, All
     judge_tokens(alloc, limit, bytes)
 }
 
-/// What becomes of bytes, computed from the definitions step by step. Slow: it cuts and sums anew
-/// at each token.
+/// Returns what the bytes encode, computed from the definitions step by step. It is slow, because
+/// it computes all tokens and sums anew at each token.
 pub fn judge(alloc: Global, limit: u64, bytes: &[u8]) -> Result<Judgement, Memory>
     ensures { IfOk result (JudgesTo limit bytes.now) }
 {

@@ -1,4 +1,4 @@
-//! The words that objects take, and sums over tokens (`extern.c`).
+//! The words of objects, and sums over tokens (`extern.c`).
 
 ghost use Rattle.std.specs.Prelude.{◌≡◌, ◌≤◌, ◌<◌, ◌^◌, length, Option};
 ghost use Rattle.om_format.specs.Words.{words32, words64, fields, objects, all_words32};
@@ -7,7 +7,8 @@ ghost use Rattle.om_reference.specs.Sums.{all_fields, sums_in, AreFew};
 
 use om_model::code::Measure;
 
-/// Sums over tokens: the objects, the values still to come, and the words on 32 and on 64 bits.
+/// Sums over tokens: the objects, the pending values, and the words on 32-bit and on 64-bit
+/// machines.
 #[derive(Clone, Copy)]
 pub struct Sums {
     pub objects: u128,
@@ -16,7 +17,7 @@ pub struct Sums {
     pub w64: u128,
 }
 
-/// With the header word, on 32 bits.
+/// Returns the words of an object on a 32-bit machine, with the header word.
 fn words32(measure: Measure) -> u128
     ensures words { result ≡ words32 measure }
     ensures few { result ≤ 2 ^ 65 }
@@ -30,7 +31,7 @@ fn words32(measure: Measure) -> u128
     }
 }
 
-/// On 64 bits.
+/// Returns the words of an object on a 64-bit machine, with the header word.
 fn words64(measure: Measure) -> u128
     ensures words { result ≡ words64 measure }
     ensures few { result ≤ 2 ^ 65 }
@@ -44,7 +45,7 @@ fn words64(measure: Measure) -> u128
     }
 }
 
-/// The values that come after the token of a block as its fields.
+/// Returns the number of values that follow the token of a block as its fields.
 fn fields(measure: Measure) -> u128
     ensures fields { result ≡ fields measure }
     ensures few { result ≤ 2 ^ 65 }
@@ -55,7 +56,8 @@ fn fields(measure: Measure) -> u128
     }
 }
 
-/// Sums over tokens: the objects, the fields of all blocks, and the words on 32 and on 64 bits.
+/// Sums over tokens: the objects, the fields of all blocks, and the words on 32-bit and on 64-bit
+/// machines.
 #[derive(Clone, Copy)]
 struct Totals {
     objects: u128,
@@ -64,7 +66,7 @@ struct Totals {
     w64: u128,
 }
 
-/// The sums over all objects.
+/// Returns the sums over all objects.
 fn sum_up(tokens: &[Option<Measure>]) -> Totals
     requires { length tokens.now ≤ 2 ^ 62 }
     ensures objects { (result.objects ≡ objects tokens.now) × (result.objects ≤ 2 ^ 127) }
@@ -92,8 +94,8 @@ fn sum_up(tokens: &[Option<Measure>]) -> Totals
     }
 }
 
-/// The sums over these tokens. Of the values that are still to come there is one at first, each
-/// token is one of them, and its fields come on top.
+/// Returns the sums over these tokens. One value is pending at first. Each token is one of the
+/// pending values and adds its fields to them.
 pub fn sums_of(tokens: &[Option<Measure>]) -> Sums
     requires { length tokens.now ≤ 2 ^ 62 }
     ensures sums { sums_in result ≡ sums_of tokens.now }
@@ -108,7 +110,7 @@ pub fn sums_of(tokens: &[Option<Measure>]) -> Sums
     }
 }
 
-/// With one token more, which is one of the values to come.
+/// Returns the sums with one more token, which is one of the pending values.
 pub fn one_more(sums: Sums, measure: Option<Measure>) -> Sums
     requires { AreFew sums }
     ensures { sums_in result ≡ one_more (sums_in sums) measure }

@@ -1,5 +1,5 @@
--- Which of finitely many types are equal can be decided, where their parts are among them: of all pairs one is left out whose heads
--- do not agree by the others, until there is none.
+-- Equality of finitely many types is decidable if their parts are among them. Start with all pairs,
+-- and remove a pair whose heads do not agree by the remaining pairs, until no such pair is left.
 use Rattle.std.proofs.Common.{ℕ, zero, suc, ◌<◌, ◌≡◌, ◌∙◌, ◌⊎◌, ⊎_elim, inl, inr, List, [], ◌∷◌, length, Option, Some, None, refl, ap, subst, sym, arith}
 use Rattle.std.specs.Prelude.{Contains, map, slice_get}
 use Rattle.std.specs.List.{flat_map}
@@ -21,7 +21,7 @@ use Rattle.om_typing.proofs.Choices.{search_all, without}
 use Rattle.om_equal.proofs.AgreeLemmas.{HeadsAgree-more}
 use Rattle.om_equal.proofs.TyEquality.{types_same_or_not}
 
--- ---- what can be decided
+-- ---- decidable properties
 
 abbrev pub OrNot : Type 0 → Type 0
 OrNot A = A ⊎ (A → ⊥)
@@ -45,7 +45,7 @@ module _ {X : Type 0} (Q : X → Type 0) (test : (x : X) → OrNot (Q x)) (xs : 
   abbrev Some_one : Type 0
   Some_one = (x : X) × Contains xs x × Q x
 
-  -- one has not the property, or all have it
+  -- Either one element does not have the property, or all elements have it.
   pub fails_or_all : Fails ⊎ All
   fails_or_all = search_all Q xs (λ x among. by x among (test x)) where
     by : (x : X) → Contains xs x → OrNot (Q x) → Fails ⊎ Q x
@@ -173,7 +173,7 @@ pairs_same_or_not p q = if_or_not ((p.0 ≡ q.0) × (p.1 ≡ q.1)) (p ≡ q)
     (λ same. (ap (λ (r : Pair). r.0) same, ap (λ (r : Pair). r.1) same))
     (both_or_not (p.0 ≡ q.0) (p.1 ≡ q.1) (types_same_or_not p.0 q.0) (types_same_or_not p.1 q.1))
 
--- whether a list of pairs has these two
+-- Whether a list of pairs contains this pair is decidable.
 pub holds_or_not : (pairs : List Pair) (t u : Ty) → OrNot (Holds pairs t u)
 holds_or_not pairs t u = if_or_not ((p : Pair) × Contains pairs p × (p ≡ (t, u))) (Holds pairs t u)
     (λ found. subst (Contains pairs) found.2 found.1)
@@ -182,11 +182,11 @@ holds_or_not pairs t u = if_or_not ((p : Pair) × Contains pairs p × (p ≡ (t,
 
 module _ (decls : List Decl) (types : List Ty)
     (parts : (u a : Ty) → Contains types u → Contains (parts_of (head decls u)) a → Contains types a) where
-  -- equal types of the list are a pair
+  -- Each two equal types of the list are a pair.
   abbrev Keeps : List Pair → Type 0
   Keeps pairs = (t u : Ty) → Contains types t → Contains types u → Equal decls t u → Holds pairs t u
 
-  -- the equal types among these, as pairs
+  -- The equal types among these, as pairs.
   pub record AreEqualPairs : Type 0 where
     pub pairs : List Pair
     pub closed : IsClosed (head decls) pairs

@@ -1,4 +1,5 @@
--- A value has a type exactly where it has each closed instance of it, and a fault at the type is one at some instance.
+-- A value has a type if and only if it has every closed instance of the type. A fault at the type
+-- is a fault at some instance.
 use Rattle.std.proofs.Common.{List}
 use Rattle.om_types.specs.declared.decl.Decl.{Decl}
 use Rattle.om_types.specs.Ty.{Ty}
@@ -12,7 +13,7 @@ use Rattle.om_rigid.proofs.BackLemmas.{has_type, none}
 use Rattle.om_rigid.proofs.ForthLemmas.{has_instance}
 use Rattle.om_rigid.proofs.TableExists.{table_there}
 
--- of the types that a type reaches there is a table
+-- There is a table of the types that a type reaches.
 some_table : (decls : List Decl) (t : Ty) (types : List Ty) → AreWellFormed decls → IsSoundType decls t → IsReached decls t types
     → (table : Table) × IsMadeFor decls t types table
 some_table decls t types well sound reached =

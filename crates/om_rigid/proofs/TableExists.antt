@@ -1,4 +1,4 @@
--- Of finitely many types that reach themselves alone there is a table.
+-- There is a table of finitely many types that reach only each other.
 use Rattle.std.proofs.Common.{ℕ, suc, ◌≡◌, ◌∙◌, ⊎_elim, inl, inr, List, [], ◌∷◌, Option, Some, None, refl, ap, subst, sym}
 use Rattle.std.specs.Prelude.{Contains, map, option_map, slice_get}
 use Rattle.std.specs.List.{flat_map}
@@ -23,7 +23,7 @@ use Rattle.om_equal.proofs.TableLemmas.{slice_get-mapped}
 use Rattle.om_equal.proofs.TyEquality.{types_same_or_not}
 use Rattle.om_rigid.proofs.EqualDecided.{OrNot, holds_or_not, AreEqualPairs, equal_pairs}
 
--- ---- mapped twice, where the items say what comes of it
+-- ---- a list mapped twice, given the result for each item
 
 module _ {T U V : Type 0} (f : U → V) (g : T → U) (h : T → V) where
   abbrev Come : List T → Type 0
@@ -78,13 +78,13 @@ module _ {T U V : Type 0} (f : U → V) (g : T → U) (h : T → V) where
   parts_twice shapes.Anything come = refl
   parts_twice (shapes.ArrayOfAnything t) come = ap (λ v. shapes.ArrayOfAnything v) (come t (Contains-first t []))
 
--- ---- the first place of something
+-- ---- the first index of an element with a property
 
 next_if : {A : Type 0} → OrNot A → ℕ → ℕ
 next_if (inl here) n = 0
 next_if (inr later) n = suc n
 
--- two such steps agree, where the tests do
+-- If the tests agree, then the two steps agree.
 same_next : {A B : Type 0} (one : OrNot A) (two : OrNot B) (m n : ℕ) → (A → B) → (B → A) → m ≡ n → next_if one m ≡ next_if two n
 unfolding next_if
 same_next (inl here) (inl there) m n forth back same = refl
@@ -97,7 +97,7 @@ module _ {X : Type 0} where
   first_place Q test [] = 0
   first_place Q test (x ∷ xs) = next_if (test x) (first_place Q test xs)
 
-  -- there it is
+  -- The element at this index has the property.
   abbrev IsAt : (X → Type 0) → List X → ℕ → Type 0
   IsAt Q xs n = (x : X) × (slice_get xs n ≡ Some x) × Q x
 
@@ -116,7 +116,7 @@ module _ {X : Type 0} where
       (λ later. placed Q test xs x later holds)
       (Contains-cases y xs x among))
 
-  -- it depends on nothing but what has the property
+  -- The index depends only on which elements have the property.
   same_place : (Q R : X → Type 0) (test : (x : X) → OrNot (Q x)) (other : (x : X) → OrNot (R x)) (xs : List X)
       → ((x : X) → Contains xs x → Q x → R x) → ((x : X) → Contains xs x → R x → Q x)
       → first_place Q test xs ≡ first_place R other xs
@@ -132,7 +132,7 @@ module _ {X : Type 0} where
 
 module _ (decls : List Decl) (types : List Ty)
     (listed : (u a : Ty) → Contains types u → Contains (reached_from decls u) a → Contains types a) where
-  -- numbers of types
+  -- Numbers of types.
 
   place : Ty → ℕ
   place t = first_place (λ u. u ≡ t) (λ u. types_same_or_not u t) types
@@ -151,7 +151,7 @@ module _ (decls : List Decl) (types : List Ty)
   node_is t among = parts_twice (slice_get types) place Some (shape decls t)
       (λ a has. place_is a (named_here decls types listed t a among has))
 
-  -- classes of types
+  -- Classes of types.
 
   equals : AreEqualPairs decls types (parts_here decls types listed)
   equals = equal_pairs decls types (parts_here decls types listed)

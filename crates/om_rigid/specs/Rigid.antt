@@ -1,5 +1,6 @@
--- What a type with variables says (after Henry, Mauny, Chailloux and Manoury 2012, whose types are
--- closed): what each closed type says that stands for them.
+-- The meaning of a type with variables, in terms of the closed types that can replace the
+-- variables. The definition follows Henry, Mauny, Chailloux and Manoury 2012, whose types are
+-- closed.
 use Rattle.std.specs.Prelude.{ℕ, ◌↔◌, List, [], Contains}
 use Rattle.om_model.specs.declared.value.Val.{Val}
 use Rattle.om_model.specs.declared.value.Obj.{Obj}
@@ -14,7 +15,8 @@ use Rattle.om_types.specs.Table.{Table, table_shapes}
 use Rattle.om_types.specs.Typing.{HasType}
 use Rattle.om_table.specs.TableDecides.{IsMadeFor}
 
--- A sound type without variables. It and all that it reaches are among finitely many sound types.
+-- A sound type without variables. The type and all types that it reaches are among finitely many
+-- sound types.
 pub record IsClosedType (decls : List Decl) (t : Ty) : Type 0 where
   pub no_variables : VariablesAmong [] t
   pub types : List Ty
@@ -23,17 +25,17 @@ pub record IsClosedType (decls : List Decl) (t : Ty) : Type 0 where
   pub reached :
       (u a : Ty) → Contains types u → Contains (reached_from decls u) a → Contains types a
 
--- a closed type stands for each variable
+-- Each variable is replaced by a closed type.
 abbrev pub AreClosed : List Decl → (List ℕ → Ty) → Type 0
 AreClosed decls value = (x : List ℕ) → IsClosedType decls (value x)
 
--- the value has each closed instance of the type
+-- The value has every closed instance of the type.
 abbrev pub HasEachInstance : List Decl → List Obj → Val → Ty → Type 0
 HasEachInstance decls graph v t =
     (value : List ℕ → Ty) → AreClosed decls value
     → HasType (declared_shapes decls) graph v (instance value t)
 
--- a value has a type exactly where it has each closed instance of it
+-- A value has a type if and only if it has every closed instance of the type.
 abbrev pub VariablesStandForAll : Type 0
 VariablesStandForAll =
     (decls : List Decl) (t : Ty) (types : List Ty)
@@ -41,7 +43,7 @@ VariablesStandForAll =
     → (graph : List Obj) (v : Val)
     → HasType (declared_shapes decls) graph v t ↔ HasEachInstance decls graph v t
 
--- and where it has a fault at the type, it has not each
+-- If a value has a fault at the type, then it does not have every closed instance.
 abbrev pub FaultsAreOfInstances : Type 0
 FaultsAreOfInstances =
     (decls : List Decl) (t : Ty) (types : List Ty)
@@ -49,14 +51,14 @@ FaultsAreOfInstances =
     → (graph : List Obj) (v : Val) (fault : Fault)
     → IsFault (declared_shapes decls) graph v t fault → ¬ HasEachInstance decls graph v t
 
--- the first of the type's number in a table
+-- The first theorem for the type's number in a table.
 abbrev pub NumbersStandForAll : Type 0
 NumbersStandForAll =
     (decls : List Decl) (t : Ty) (types : List Ty) (table : Table) → IsMadeFor decls t types table
     → (graph : List Obj) (v : Val)
     → HasType (table_shapes table) graph v 0 ↔ HasEachInstance decls graph v t
 
--- each sound type without variables is closed that reaches finitely many types
+-- If a sound type has no variables and reaches finitely many types, then it is closed.
 abbrev pub ReachedAreClosed : Type 0
 ReachedAreClosed =
     (decls : List Decl) (t : Ty) (types : List Ty)

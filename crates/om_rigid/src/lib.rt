@@ -1,5 +1,6 @@
-//! What a type with variables says: what each closed instance of it says. The function does
-//! nothing: what it ensures is the law.
+//! Explains types with variables: a value has such a type if and only if it has every closed
+//! instance of the type (`variables_stand_for_all`). The function is a lemma function: it does
+//! nothing, and its contract states the theorem.
 #![tactic(auto)]
 
 mod laws;

@@ -1,4 +1,5 @@
--- A typing of a graph, and the faults of a value, carried along the pairs of objects that make two values the same.
+-- Transports a typing of a graph, and the faults of a value, along the pairs of objects of an
+-- isomorphism.
 use Rattle.std.proofs.Common.{ℕ, ◌≡◌, ◌==◌, ◌∙◌, ⊎_elim, inl, inr, List, [], ◌∷◌, length, cond, Option, Some, None, refl, sym, ap, subst, eqb-true, eq-eqb}
 use Rattle.std.specs.Prelude.{slice_get, flat_map, Contains, IsSomeAnd, IsSome, option_and_then, option_map, ◌&&◌, if◌then◌else◌, replicate}
 use Rattle.std.specs.List.{AllZip}
@@ -24,7 +25,7 @@ use Rattle.om_types.specs.Fault.{type_of_field, step, value_at, IsMisfit, IsClas
 use Rattle.om_types.specs.Typing.{values_of, field_at, IsListed, IsHeld, IsTyping, IsTyped, HasType}
 use Rattle.om_types.proofs.FaultLemmas.{paired}
 
--- ---- what a shape says of values that are alike
+-- ---- representations and paired values
 
 values_alike : (pairs : List (ℕ × ℕ)) (a b : Obj) → AreAlikeObjects pairs a b → AllZip (AreAlike pairs) (values_of a) (values_of b)
 values_alike pairs (objects.Block tag values) (objects.Block tag' values') alike = alike.1
@@ -100,13 +101,13 @@ module _ {T : Type 0} (pairs : List (ℕ × ℕ)) where
   alike_object_fields shape (objects.I64 z) b alike = ap (object_fields shape) alike
   alike_object_fields shape (objects.Native z) b alike = ap (object_fields shape) alike
 
--- ---- objects at types, carried along the pairs
+-- ---- objects at types, transported along the pairs
 
 module _ {T : Type 0} where
   abbrev carried_entry : ℕ × T → ℕ × ℕ → List (ℕ × T)
   carried_entry entry pair = cond (pair.0 == entry.0) ((pair.1, entry.1) ∷ []) []
 
-  -- each object at a type, as the objects that are paired with it at that type
+  -- Each object at a type becomes the objects paired with it, at that type.
   abbrev carried : List (ℕ × ℕ) → List (ℕ × T) → List (ℕ × T)
   carried pairs entries = flat_map (λ entry. flat_map (carried_entry entry) pairs) entries
 
@@ -117,7 +118,7 @@ module _ {T : Type 0} where
       Contains-flat_map (λ entry. flat_map (carried_entry entry) pairs) entries (k, t) (l, t) entered
       (Contains-flat_map (carried_entry (k, t)) pairs (k, l) (l, t) paired (cond-Contains (k == k) (l, t) (eq-eqb k k refl)))
 
-  -- what an object at a type was carried from
+  -- The object and type from which an entry was transported.
   record Source (pairs : List (ℕ × ℕ)) (entries : List (ℕ × T)) (l : ℕ) (t : T) : Type 0 where
     object : ℕ
     entered : Contains entries (object, t)
@@ -158,7 +159,7 @@ module _ {T : Type 0} (shape : T → ShapeOf T) (Equal : T → T → Type 0) (g 
   fits_kept : (v w : Val) (t : T) → AreAlike pairs v w → IsSome (fields_of g v (shape t)) → IsSome (fields_of h w (shape t))
   fits_kept v w t alike fits = subst IsSome (alike_fields v w (shape t) alike) fits
 
-  -- an object that is mutable at a type is so where it is carried from
+  -- If an object is mutable at a type, then so is the object from which it was transported.
   mutable_back :
       (k l : ℕ) (t : T) → Contains pairs (k, l) → (shaped shape Equal).mutable h l t → (shaped shape Equal).mutable g k t
   mutable_back k l t paired mutable =
@@ -184,7 +185,7 @@ module _ {T : Type 0} (shape : T → ShapeOf T) (Equal : T → T → Type 0) (g 
     held_kept : (v w : Val) (t : T) → AreAlike pairs v w → IsHeld (shaped shape Equal) g entries v t → IsHeld (shaped shape Equal) h (carried pairs entries) w t
     held_kept v w t alike held = record { fits = fits_kept v w t alike held.fits; listed = listed_kept v w t alike held.listed }
 
-    -- the fields of objects that are paired are held alike
+    -- If two objects are paired, then a typing holds for their fields on both sides.
     field_kept :
         (k l i : ℕ) (u : T) → Contains pairs (k, l) → IsSomeAnd (field_at g k i) (λ v. IsHeld (shaped shape Equal) g entries v u)
         → IsSomeAnd (field_at h l i) (λ w. IsHeld (shaped shape Equal) h (carried pairs entries) w u)
@@ -227,7 +228,8 @@ module _ {T : Type 0} (shape : T → ShapeOf T) (Equal : T → T → Type 0) (g 
   typed_kept (vals.Ref k) (vals.Int y) t alike typed = tt
   typed_kept (vals.Ref k) (vals.Atom y) t alike typed = tt
 
--- at any types whose shapes look at tags, sizes, integers and contents alone
+-- The law holds for all types whose representations depend only on tags, sizes, integers and
+-- contents.
 pub type_is_kept :
     {T : Type 0} (shape : T → ShapeOf T) (Equal : T → T → Type 0) (g h : List Obj) (v w : Val) (t : T) → Iso g v h w
     → HasType (shaped shape Equal) g v t → HasType (shaped shape Equal) h w t
@@ -239,7 +241,7 @@ type_is_kept shape Equal g h v w t (pairs, pairing, alike) has =
 
 -- ---- faults
 
--- what stands at the end of a path, and what is alike to it stands there in the other graph
+-- The end of a path in one graph, and its counterpart in the other graph.
 pub record OtherPlace {T : Type 0} (shapes : Shapes T) (h : List Obj) (pairs : List (ℕ × ℕ)) (place : Option (Val × T)) (v : Val) (t : T) : Type 0 where
   pub value : Val
   pub is : place ≡ Some (value, t)

@@ -1,4 +1,4 @@
--- The line of the least fault, carried along the pairs of objects that make two values the same.
+-- Transports the line of the first fault along the pairs of objects of an isomorphism.
 use Rattle.std.proofs.Common.{ℕ, ◌≡◌, ◌∙◌, List, ◌++◌, Some, refl, sym, ap}
 use Rattle.std.specs.Prelude.{codes, decimal}
 use Rattle.om_model.specs.declared.value.Val.{Val}
@@ -48,7 +48,7 @@ module _ (g h : List Obj) (pairs : List (ℕ × ℕ)) (pairing : IsPairing g h p
   kind_kept (vals.Ref k) (vals.Int y) alike = absurd alike
   kind_kept (vals.Ref k) (vals.Atom y) alike = absurd alike
 
-  -- what is alike to a value is one
+  -- A value has at most one counterpart.
   alike_once : (v w x : Val) → AreAlike pairs v w → AreAlike pairs v x → w ≡ x
   alike_once (vals.Int a) (vals.Int b) (vals.Int c) one other =
       ap (λ z. vals.Int z) (sym one ∙ other)

@@ -1,4 +1,4 @@
--- What is the same up to the numbers of objects has one text.
+-- Isomorphic values have the same text.
 use Rattle.std.proofs.Common.{ℕ, zero, suc, ◌+◌, ◌≡◌, ◌∙◌, Bool, true, false, cond, eqb, List, [], ◌∷◌, ◌++◌, length, Some, refl, sym, ap, subst, arith}
 use Rattle.std.specs.Prelude.{if◌then◌else◌, slice_get, Contains, option_and_then, ◌||◌, ◌↔◌, unwrap_or, filter, codes, decimal}
 use Rattle.std.specs.List.{AllZip, flat_map}
@@ -21,7 +21,7 @@ use Rattle.om_show.specs.Shown.{Met, met, met_within, object_met, parts_from, sh
 use Rattle.om_show.proofs.FuelLemmas.{more_same}
 use Rattle.om_same_type.proofs.KeptLemmas.{alike_object_fields}
 
--- ---- numbers that are paired
+-- ---- paired numbers
 
 module _ (pairs : List (ℕ × ℕ)) (one_to_one : (k l m n : ℕ) → Contains pairs (k, l) → Contains pairs (m, n) → (k ≡ m) ↔ (l ≡ n)) where
   abbrev Paired : ℕ → ℕ → Type 0
@@ -56,7 +56,7 @@ module _ (pairs : List (ℕ × ℕ)) (one_to_one : (k l m n : ℕ) → Contains 
       by_test true e rest = let f : has ws y ≡ true = sym (has_alike us ws x y all other.0) ∙ e in rw (e, f) (other.0, rest)
       by_test false e rest = let f : has ws y ≡ false = sym (has_alike us ws x y all other.0) ∙ e in rw (e, f) rest
 
-  -- ---- pieces
+  -- ---- chunks
 
   abbrev PiecesAlike : Piece → Piece → Type 0
   PiecesAlike (Text b) (Text c) = b ≡ c
@@ -181,7 +181,7 @@ module _ (pairs : List (ℕ × ℕ)) (one_to_one : (k l m n : ℕ) → Contains 
     object_alike n meet seen seen' k l t both kl (objects.I64 x) b at_g at_h alike = subst (λ b. AreMetAlike (met (First k ∷ Text (object_text (shape t) (names t) (objects.I64 x)) ∷ []) seen) (object_met shape names h (met_within shape names h n) seen' l t (Some b))) alike (record { pieces = (kl, (refl, tt)); seen = both })
     object_alike n meet seen seen' k l t both kl (objects.Native x) b at_g at_h alike = subst (λ b. AreMetAlike (met (First k ∷ Text (object_text (shape t) (names t) (objects.Native x)) ∷ []) seen) (object_met shape names h (met_within shape names h n) seen' l t (Some b))) alike (record { pieces = (kl, (refl, tt)); seen = both })
 
-    -- ---- by fuel
+    -- ---- by the bound on nested values
 
     abbrev asked_left : ℕ → List ℕ → Val → T → Met
     asked_left n = asked_met shape names g (met_within shape names g n)
@@ -220,7 +220,7 @@ module _ (pairs : List (ℕ × ℕ)) (one_to_one : (k l m n : ℕ) → Contains 
         by_test true own = own
         by_test false own = record { pieces = (refl, tt); seen = both }
 
-    -- the texts of two values that are the same are one text
+    -- The texts of two isomorphic values are equal.
     shown_alike : (v w : Val) (t : T) → AreAlike pairs v w → shown_text shape names g v t ≡ shown_text shape names h w t
     unfolding shown_text
     shown_alike v w t alike =
@@ -230,7 +230,7 @@ module _ (pairs : List (ℕ × ℕ)) (one_to_one : (k l m n : ℕ) → Contains 
         let m = meet_alike (length g + 1 + (length h + 1)) [] [] v w t tt alike in
         ap (λ (m : Met). text_of m.pieces) (sym left) ∙ text_alike _ _ m.pieces ∙ ap (λ n. text_of (met_within shape names h n [] w t).pieces) more ∙ ap (λ (m : Met). text_of m.pieces) right
 
--- at any types, whatever their shapes and names are
+-- The law holds for all types, representations and names.
 pub text_is_kept :
     {T : Type 0} (shape : T → ShapeOf T) (names : T → Names) (g h : List Obj) (v w : Val) (t : T) → Iso g v h w
     → shown_text shape names g v t ≡ shown_text shape names h w t

@@ -1,4 +1,4 @@
--- What is the same up to the numbers of objects has the same text.
+-- Isomorphic values have the same text.
 use Rattle.std.specs.Prelude.{ℕ, ◌≡◌, List}
 use Rattle.om_model.specs.declared.value.Val.{Val}
 use Rattle.om_model.specs.declared.value.Obj.{Obj}
@@ -11,14 +11,14 @@ use Rattle.om_types.specs.Shape.{shape}
 use Rattle.om_types.specs.Ty.{Ty}
 use Rattle.om_show.specs.Shown.{shown_text}
 
--- at types over declarations
+-- At types over declarations.
 abbrev pub DeclaredTextsAreKept : Type 0
 DeclaredTextsAreKept =
     (decls : List Decl) (g h : List Obj) (v w : Val) (t : Ty) → Iso g v h w
     → shown_text (shape decls) (names_of decls) g v t
     ≡ shown_text (shape decls) (names_of decls) h w t
 
--- at numbers, as those of a table, whatever their shapes and names are
+-- At type numbers, for arbitrary representations and names.
 abbrev pub TableTextsAreKept : Type 0
 TableTextsAreKept =
     (shapes : ℕ → ShapeOf ℕ) (names : ℕ → Names) (g h : List Obj) (v w : Val) (i : ℕ) → Iso g v h w

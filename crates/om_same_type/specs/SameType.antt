@@ -1,4 +1,4 @@
--- What is the same up to the numbers of objects has the same types and the same faults.
+-- Isomorphic values have the same types and the same faults.
 use Rattle.std.specs.Prelude.{ℕ, List}
 use Rattle.om_model.specs.declared.value.Val.{Val}
 use Rattle.om_model.specs.declared.value.Obj.{Obj}
@@ -12,19 +12,19 @@ use Rattle.om_types.specs.declared.fault.Fault.{Fault}
 use Rattle.om_types.specs.LeastFault.{IsLeastFault}
 use Rattle.om_types.specs.VerdictText.{IsNoLine}
 
--- at types over declarations
+-- At types over declarations.
 abbrev pub DeclaredTypesAreKept : Type 0
 DeclaredTypesAreKept =
     (decls : List Decl) (g h : List Obj) (v w : Val) (t : Ty) → Iso g v h w
     → HasType (declared_shapes decls) g v t → HasType (declared_shapes decls) h w t
 
--- at the types of a table, by their numbers
+-- At the types of a table, by their numbers.
 abbrev pub TableTypesAreKept : Type 0
 TableTypesAreKept =
     (table : Table) (g h : List Obj) (v w : Val) (i : ℕ) → Iso g v h w
     → HasType (table_shapes table) g v i → HasType (table_shapes table) h w i
 
--- the least fault, which a verdict tells, is the same one
+-- The first fault is the same.
 abbrev pub DeclaredFaultsAreKept : Type 0
 DeclaredFaultsAreKept =
     (decls : List Decl) (g h : List Obj) (v w : Val) (t : Ty) (fault : Fault) → Iso g v h w
@@ -36,7 +36,7 @@ TableFaultsAreKept =
     (table : Table) (g h : List Obj) (v w : Val) (i : ℕ) (fault : Fault) → Iso g v h w
     → IsLeastFault (table_shapes table) g v i fault → IsLeastFault (table_shapes table) h w i fault
 
--- the line that tells it is the same one, whatever the texts of types are
+-- The line that reports the first fault is the same, whatever the texts of the types are.
 abbrev pub DeclaredLinesAreKept : Type 0
 DeclaredLinesAreKept =
     (decls : List Decl) (text_of : Ty → List ℕ) (g h : List Obj) (v w : Val) (t : Ty)

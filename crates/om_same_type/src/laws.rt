@@ -1,28 +1,28 @@
-//! The laws, as contracts.
+//! The laws. The functions do nothing and exist only for their contracts.
 
 ghost use Rattle.om_same_type.specs.SameText.{DeclaredTextsAreKept, TableTextsAreKept};
 ghost use Rattle.om_same_type.specs.SameType.{DeclaredTypesAreKept, TableTypesAreKept};
 ghost use Rattle.om_same_type.specs.SameType.{DeclaredFaultsAreKept, TableFaultsAreKept};
 ghost use Rattle.om_same_type.specs.SameType.{DeclaredLinesAreKept};
 
-/// A value that is the same as one that has a type has it too.
+/// Proves that if a value has a type, then every isomorphic value has it too.
 pub fn the_same_has_the_same_types()
     ensures declared { DeclaredTypesAreKept }
     ensures table { TableTypesAreKept }
 {}
 
-/// The least fault of a value is that of each value that is the same.
+/// Proves that isomorphic values have the same first fault.
 pub fn the_same_has_the_same_fault()
     ensures declared { DeclaredFaultsAreKept }
     ensures table { TableFaultsAreKept }
 {}
 
-/// So is the line that tells it.
+/// Proves that isomorphic values have the same `no` line.
 pub fn the_same_has_the_same_line()
     ensures { DeclaredLinesAreKept }
 {}
 
-/// Values that are the same have one text at a type.
+/// Proves that isomorphic values have the same text at a type.
 pub fn the_same_has_the_same_text()
     ensures declared { DeclaredTextsAreKept }
     ensures table { TableTextsAreKept }

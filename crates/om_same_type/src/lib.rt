@@ -1,6 +1,6 @@
-//! What is the same up to the numbers of objects has the same types, the same least faults and the
-//! same text: so what is said of a value holds of what is written of it. The functions do nothing:
-//! what each ensures is the law.
+//! Laws: values that are isomorphic (`Iso`, equal up to the numbering of objects) have the same
+//! types, the same first fault and the same text. So a report about a value that was read also
+//! holds for the value that is written. The crate contains no code besides lemma functions.
 #![tactic(auto)]
 
 mod laws;

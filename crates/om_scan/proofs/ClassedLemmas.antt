@@ -1,4 +1,4 @@
--- Objects with classes, of which more come.
+-- Growing sets of pairs of an object and a class.
 use Rattle.std.proofs.Common.{ℕ, suc, ◌≡◌, ◌∙◌, ◌⊎◌, inl, inr, ⊎_elim, Bool, true, false, not, List, Some, refl, sym, ap, subst, arith}
 use Rattle.std.specs.Prelude.{◌↔◌, slice_get, slice_set, IsTrue, MatchBool}
 use Rattle.std.specs.List.{list_any}
@@ -20,11 +20,11 @@ untouched_none classed untouched o c has = ⊎_elim
 
 -- ---- cells
 
--- a free one has no class
+-- A free cell contains no class.
 pub free_has_none : (cells : List ℕ) (o c : ℕ) → slice_get cells o ≡ Some 0 → ¬ IsInCell cells o c
 free_has_none cells o c free cell = let is = same_Some 0 (suc c) (sym free ∙ cell) in omega (arith, is)
 
--- one that was free gets a class
+-- A free cell receives a class.
 module _ (cells : List ℕ) (o c : ℕ) where
   cell_before : (p d : ℕ) → IsInCell (slice_set cells o (suc c)) p d → IsInCell cells p d ⊎ ((o ≡ p) × (c ≡ d))
   cell_before p d one = ⊎_elim
@@ -40,7 +40,7 @@ module _ (cells : List ℕ) (o c : ℕ) where
       (λ other. slice_set_other cells o p (suc c) other ∙ one)
       (same_or_not p o)
 
--- ---- one that is in no cell comes into its cell
+-- ---- a pair moves into its cell
 
 module _ (old new : Classed) (o c : ℕ) (free : slice_get old.cells.items o ≡ Some 0) (put : new.cells.items ≡ slice_set old.cells.items o (suc c))
     (there : IsTrue (contains pair_cmp old.more (o, c))) (gone : Updates pair_cmp old.more new.more (o, c) false) where
@@ -78,7 +78,7 @@ module _ (old mid : Classed) (o c : ℕ) (alike : (p d : ℕ) → Has old p d �
   added_after true none = λ has. none ((alike o c).0 has)
   added_after false has = (alike o c).1 has
 
--- ---- one more
+-- ---- one more pair
 
 module _ (old : Classed) (cells : List ℕ) (o c : ℕ) (alike : AreAlike old.cells.items cells) where
   pub has_none : ¬ IsInCell cells o c → ¬ IsTrue (contains pair_cmp old.more (o, c)) → ¬ Has old o c
@@ -92,7 +92,7 @@ module _ (old : Classed) (cells : List ℕ) (o c : ℕ) (alike : AreAlike old.ce
     by_test false never = subst (λ b. MatchBool b (¬ Has old o c) (Has old o c)) (sym (is ∙ ap not never)) (has_none cell (λ there. false≢true (sym never ∙ there)))
 
   module _ (new : Classed) where
-    -- its cell has the class
+    -- The object's cell already contains the class.
     pub inserts_nothing : IsInCell cells o c → new.cells.items ≡ cells → new.more ≡ old.more → Inserts old new o c
     inserts_nothing cell same more = record {
       here = inl (subst (λ all. IsInCell all o c) (sym same) cell);
@@ -106,7 +106,7 @@ module _ (old : Classed) (cells : List ℕ) (o c : ℕ) (alike : AreAlike old.ce
           has;
     }
 
-    -- its cell was free
+    -- The object's cell was free.
     module _ (free : slice_get cells o ≡ Some 0) (put : new.cells.items ≡ slice_set cells o (suc c)) (more : new.more ≡ old.more) where
       pub inserts_in_cell : Inserts old new o c
       inserts_in_cell = record {
@@ -124,7 +124,7 @@ module _ (old : Classed) (cells : List ℕ) (o c : ℕ) (alike : AreAlike old.ce
             has;
       }
 
-    -- no cell has it
+    -- The class is in no cell.
     pub inserts_more : new.cells.items ≡ cells → Updates pair_cmp old.more new.more (o, c) true → Inserts old new o c
     inserts_more same updates = record {
       here = inr updates.1;

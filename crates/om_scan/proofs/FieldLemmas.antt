@@ -15,7 +15,7 @@ use Rattle.om_heap.specs.Heap.{object_at, fields_of, field_at, word_of}
 use Rattle.om_heap.proofs.ReadLemmas.{field_word-at}
 use Rattle.om_heap.proofs.FieldLemmas.{values_there}
 
--- the fields of an object, in the words of the heap
+-- The two definitions of an object's fields agree.
 pub fields_are_values : (object : Obj) → values_of object ≡ fields_of object
 fields_are_values (objects.Block tag values) = refl
 fields_are_values (objects.Bytes bytes) = refl

@@ -1,4 +1,4 @@
--- The numbers of an object's needs: they increase.
+-- The indices of an object's typed fields increase.
 use Rattle.std.proofs.Common.{ℕ, zero, suc, ◌+◌, ◌<◌, ◌≤◌, ◌≡◌, ◌∙◌, ◌⊎◌, ⊎_elim, List, [], ◌∷◌, length, Bool, true, false, Option, Some, None, sym, ap, arith}
 use Rattle.std.specs.Prelude.{slice_get, option_and_then, if◌then◌else◌, ◌&&◌, ◌==◌, replicate}
 use Rattle.std.proofs.lemmas.Option.{same_Some, none-some, slice_get_within}
@@ -15,7 +15,7 @@ use Rattle.om_types.specs.declared.shape.ShapeOf.TheVariants as shapes
 use Rattle.om_types.specs.Fitting.{tag_with, numbered_from, fields_if, none_if, constr_fields, or_none, argument_field, tag_fields, block_fields, object_fields, fields_of, fits_int, fits_atom, is_double, is_bytes, has_doubles, is_int32, is_int64, is_native}
 
 module _ {T : Type 0} where
-  -- they increase
+  -- The field indices increase.
   abbrev pub Increase : List (ℕ × T) → Type 0
   Increase needs =
       (j k i l : ℕ) (a b : T) → j < k → slice_get needs j ≡ Some (i, a) → slice_get needs k ≡ Some (l, b) → i < l
@@ -90,7 +90,7 @@ module _ {T : Type 0} where
   needs_increase s graph (vals.Atom tag) = increase_none_if (fits_atom s tag)
   needs_increase s graph (vals.Ref o) = increase_at s (slice_get graph o)
 
-  -- each is at least its place
+  -- Each field index is at least its position.
   pub place_within : (needs : List (ℕ × T)) → Increase needs → (k i : ℕ) (a : T) → slice_get needs k ≡ Some (i, a) → k ≤ i
   place_within needs increase zero i a at_k = omega arith
   place_within needs increase (suc k) i a at_k =
@@ -100,7 +100,7 @@ module _ {T : Type 0} where
       let less = increase k (suc k) before.0.0 i before.0.1 a (omega arith) before.1 at_k in
       omega (arith, rest, less)
 
-  -- a lesser number stands at a lesser place
+  -- If a field index is smaller, then its position is smaller.
   pub place_before :
       (needs : List (ℕ × T)) → Increase needs → (j k i l : ℕ) (a b : T) → slice_get needs j ≡ Some (i, a) → slice_get needs k ≡ Some (l, b)
       → i < l → j < k
@@ -112,7 +112,7 @@ module _ {T : Type 0} where
       others)
       (less_same_more j k)
 
-  -- a number stands at one place
+  -- A field index occurs at one position only.
   pub place_same :
       (needs : List (ℕ × T)) → Increase needs → (j k i l : ℕ) (a b : T) → slice_get needs j ≡ Some (i, a) → slice_get needs k ≡ Some (l, b)
       → i ≡ l → a ≡ b

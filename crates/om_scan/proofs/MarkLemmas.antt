@@ -1,4 +1,4 @@
--- Marks that grow, and what they tell.
+-- Growing marks, and their consequences.
 use Rattle.std.proofs.Common.{ℕ, zero, suc, ◌+◌, ◌^◌, ◌%◌, ◌<◌, ◌≡◌, ◌≢◌, ◌∙◌, ◌⊎◌, inl, inr, ⊎_elim, Bool, true, false, List, [], ◌∷◌, length, Option, Some, None, refl, sym, ap, subst, arith}
 use Rattle.std.specs.Bool.{OnTrue}
 use Rattle.std.specs.Prelude.{slice_get, slice_index, slice_set, replicate, Contains, IsTrue, IsSome, ℤ, MatchOption}
@@ -45,7 +45,7 @@ atom_asked shapes.Anything tag unfit = absurd (unfit refl)
 atom_asked s tag unfit = refl
 
 module _ (table : Table) (graph : List Obj) where
-  -- ---- a mark more
+  -- ---- one more mark
 
   pub marks_none : (n : ℕ) → ((o : ℕ) → o < length graph → key_of graph o < n) → AreMarks table graph (replicate n 0)
   marks_none n keys = record {
@@ -79,7 +79,7 @@ module _ (table : Table) (graph : List Obj) where
       (λ apart. get_or-set_other marks key other (suc t) 0 apart)
       (same_or_not other key)
 
-  -- ---- what is kept
+  -- ---- preservation
 
   pub met_kept : (old new : List ℕ) (v : Val) (t : ℕ) → AreKept old new → IsMet table graph old v t → IsMet table graph new v t
   met_kept old new (vals.Int z) t kept met = met
@@ -91,13 +91,13 @@ module _ (table : Table) (graph : List Obj) where
   kept_twice old middle new first second key some =
       let is = first key some in second key (omega (arith, is, some)) ∙ is
 
-  -- where nothing is noted
+  -- If nothing is noted, then no value is noted.
   pub never_noted : (v : Val) (t : ℕ) → IsNoted table [] v t → ⊥
   never_noted (vals.Int z) t noted = noted
   never_noted (vals.Atom tag) t noted = noted
   never_noted (vals.Ref o) t noted = Contains-none (o, noted.0) noted.1
 
-  -- an object that is noted still is
+  -- If an object is noted, then it stays noted.
   noted_still : (old new : List (ℕ × ℕ)) (v : Val) (t : ℕ) → AreStillNoted old new → IsNoted table old v t → IsNoted table new v t
   noted_still old new (vals.Int z) t still noted = noted
   noted_still old new (vals.Atom tag) t still noted = noted
@@ -131,7 +131,7 @@ module _ (table : Table) (graph : List Obj) where
     met = all_kept old new before noted o t (length (object_typed table graph o t)) kept still taken.met;
   }
 
-  -- ---- what is noted
+  -- ---- noted objects
 
   second_kept : (old new : List ℕ) (o t : ℕ) → AreKept old new → IsSecond table graph old o t → IsSecond table graph new o t
   second_kept old new o t kept second = record {
@@ -149,7 +149,7 @@ module _ (table : Table) (graph : List Obj) where
     all = λ o t among. second_kept old new o t kept (noted.all o t among);
   }
 
-  -- one more may be noted
+  -- One more pair may be noted.
   noted_more :
       (marks : List ℕ) (old new : Seconds) (o t : ℕ) → AreNoted table graph marks old → AreSeconds table new
       → IsNoting table (noted_in old) (noted_in new) o t → IsSecond table graph marks o t → AreNoted table graph marks new
@@ -179,7 +179,7 @@ module _ (table : Table) (graph : List Obj) where
       (λ pushed. (t, subst (λ xs. Contains xs (o, t)) (sym pushed.1) (contains_last old (o, t)), refl))
       noting
 
-  -- ---- where the first object was noted
+  -- ---- the first noted object
 
   first_kept : (old new : List ℕ) (o t steps : ℕ) (first : First) → AreKept old new → IsFirstOf table graph old o t steps first → IsFirstOf table graph new o t steps first
   first_kept old new o t steps first kept is = record {
@@ -214,7 +214,7 @@ module _ (table : Table) (graph : List Obj) where
     by_first None is none = subst (λ found. MatchOption found (noted_in notes.seconds ≡ []) (IsFirstOf table graph marks o t steps)) (sym is) none
     by_first (Some first) is some = is
 
-  -- an object is noted at a need of this one
+  -- An object is noted at a required field of this object.
   told_more :
       (marks : List ℕ) (o t steps : ℕ) (before now new : Notes) (first : First) → IsToldIn table graph marks o t steps before now
       → new.first ≡ first_or now.first first → first.object ≡ o → first.ty ≡ t → first.steps ≡ steps
@@ -236,9 +236,9 @@ module _ (table : Table) (graph : List Obj) where
         subst (λ found. MatchOption found (noted_in new.seconds ≡ []) (IsFirstOf table graph marks o t steps)) (sym last.1) last.2
     by_before (Some known) some = is ∙ ap (λ f. first_or f first) some
 
-  -- ---- needs
+  -- ---- required fields
 
-  -- something is asked of what does not fit
+  -- If a value does not match a type, then the type constrains its values.
   pub unfit_is_asked : (v : Val) (a : ℕ) → IsUnfit table graph v a → IsTrue (is_asked_in table a)
   unfit_is_asked (vals.Int z) a unfit = int_asked (node_or_none (slice_get table.nodes a)) z unfit
   unfit_is_asked (vals.Atom tag) a unfit = atom_asked (node_or_none (slice_get table.nodes a)) tag unfit
@@ -283,7 +283,7 @@ module _ (table : Table) (graph : List Obj) where
     met = one_more now new (noted_in notes.seconds) (noted_in notes.seconds) o t r i a kept (λ p among. among) meeting.met at_r (λ asked. inl (met asked));
   }
 
-  -- the same where the marks alone changed
+  -- The invariant is preserved if only the marks change.
   pub meeting_kept :
       (old now new : List ℕ) (before notes : Notes) (o t r steps : ℕ) → IsMeeting table graph old now before notes o t r steps → AreMarks table graph new → AreKept now new
       → IsMeeting table graph old new before notes o t r steps
@@ -296,7 +296,8 @@ module _ (table : Table) (graph : List Obj) where
     met = all_kept now new (noted_in notes.seconds) (noted_in notes.seconds) o t r kept (λ p among. among) meeting.met;
   }
 
-  -- the value of a need is an object that is marked with another type, and noted at the need's
+  -- The value of a required field is an object that is marked with another type and noted at the
+  -- field's type.
   pub meeting_noted :
       (old now new : List ℕ) (before notes more : Notes) (o t r i a steps p : ℕ) (first : First) → IsMeeting table graph old now before notes o t r steps
       → AreMarks table graph new → AreKept now new → slice_get (object_typed table graph o t) r ≡ Some (i, a) → IsTrue (is_asked_in table a)
@@ -327,14 +328,14 @@ module _ (table : Table) (graph : List Obj) where
             (λ also. inr (subst (λ v. IsNoted table (noted_in more.seconds) v a) (sym is) (noting_listed (noted_in notes.seconds) (noted_in more.seconds) p a noting)));
       }
 
--- what is true holds also where it is asked for in one case
+-- If a statement holds, then it holds under any condition.
 pub told : (test : Bool) (X : Type 0) → X → OnTrue test X
 told true X x = x
 told false X x = tt
 
--- ---- words
+-- ---- 64-bit words
 
--- the word names an object, which is marked with an equal type
+-- The word refers to an object that is marked with an equal type.
 pub marked_met :
     (table : Table) (graph : List Obj) (marks : List ℕ) (word key t u : ℕ) → IsGraph graph → IsFieldWord graph word → word % 8 ≡ 0
     → ((o : ℕ) → o < length graph → word ≡ word_of graph (vals.Ref o) → key ≡ key_of graph o)
@@ -346,7 +347,7 @@ marked_met table graph marks word key t u graph' field even keys marked same v v
     subst (λ w. IsMet table graph marks w t) (sym named)
     (u, ap (slice_index marks) (sym (keys r.0 r.1 r.2)) ∙ marked, same)
 
--- a word that names no object, of a value that does not fit
+-- If a word refers to no object and its value does not match, then the value is a mismatch.
 pub word_unfit :
     (table : Table) (graph : List Obj) (v : Val) (t word : ℕ) → word ≡ word_of graph v → word % 8 ≢ 0
     → ¬ (table_shapes table).fits graph v t → IsUnfit table graph v t

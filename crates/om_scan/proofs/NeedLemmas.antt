@@ -1,4 +1,4 @@
--- What is known of the fields of an object that have types at a type.
+-- Facts about the typed fields of an object.
 use Rattle.std.proofs.Common.{ℕ, zero, suc, ◌<◌, ◌≤◌, ◌≡◌, ◌∙◌, refl, List, length, Option, Some, None, true, false, sym, ap, subst, arith}
 use Rattle.std.specs.Prelude.{slice_get, option_map, IsSome, All, Contains, pos}
 use Rattle.std.proofs.lemmas.Bool.{false≢true}
@@ -26,7 +26,7 @@ use Rattle.om_scan.proofs.IncreaseLemmas.{Increase, place_within, needs_increase
 use Rattle.om_scan.proofs.FieldLemmas.{fields_are_values}
 
 module _ (table : Table) (graph : List Obj) where
-  -- what is needed is a field
+  -- Every typed field is a field.
   pub need_field : (o t k i a : ℕ) → o < length graph → slice_get (object_typed table graph o t) k ≡ Some (i, a) → i < length (fields_of (object_at graph o))
   need_field o t k i a inside at_k =
       let needs = object_typed table graph o t in
@@ -36,17 +36,17 @@ module _ (table : Table) (graph : List Obj) where
       let short = slice_get_within (values_of object) i there.0 at_i in
       subst (λ x. i < length (fields_of x)) (sym is) (subst (λ vs. i < length vs) (fields_are_values object) short))
 
-  -- what needs something has fields
+  -- If an object has typed fields, then it has fields.
   pub some_fields : (o t : ℕ) → o < length graph → 0 < length (object_typed table graph o t) → 0 < length (fields_of (object_at graph o))
   some_fields o t inside some =
       let first = slice_get_there (object_typed table graph o t) 0 some in
       let field = need_field o t 0 first.0.0 first.0.1 inside first.1 in omega (arith, field)
 
-  -- the numbers of what is needed increase
+  -- The indices of the typed fields increase.
   pub increase : (o t : ℕ) → Increase (object_typed table graph o t)
   increase o t = needs_increase (node_or_none (slice_get table.nodes t)) graph (vals.Ref o)
 
-  -- no more is needed than there are fields
+  -- There are at most as many typed fields as fields.
   pub needs_few : (o t : ℕ) → o < length graph → length (object_typed table graph o t) ≤ size_of graph o
   needs_few o t inside = by_length (length (object_typed table graph o t)) refl where
     by_length : (n : ℕ) → length (object_typed table graph o t) ≡ n → n ≤ size_of graph o
@@ -57,7 +57,7 @@ module _ (table : Table) (graph : List Obj) where
         let field = need_field o t n last.0.0 last.0.1 inside last.1 in
         omega (arith, place, field)
 
-  -- what is needed is a type of the table
+  -- The type of each typed field is in the table.
   pub need_node : IsLawful table → (o t k i a : ℕ) → t < length table.nodes → slice_get (object_typed table graph o t) k ≡ Some (i, a) → a < length table.nodes
   need_node lawful o t k i a inside at_k =
       let node = slice_get_there table.nodes t inside in
@@ -67,7 +67,7 @@ module _ (table : Table) (graph : List Obj) where
       All-contains (λ j. j < length table.nodes) (named_in node.0) a
       (All-contains (λ s. All (λ j. j < length table.nodes) (named_in s)) table.nodes node.0 lawful.closed (slice_get-Contains table.nodes t node.0 node.1)) named'
 
-  -- ---- the answer of a shape
+  -- ---- the result for a shape
 
   fields_are :
       (o t : ℕ) (shape : ShapeOf ℕ) (answer : Option Needs) → slice_get table.nodes t ≡ Some shape
@@ -82,7 +82,7 @@ module _ (table : Table) (graph : List Obj) where
   needs_are o t shape answer needs at_type is some =
       ap or_none (fields_are o t shape answer at_type is) ∙ ap (λ a. or_none (option_map needs_in a)) some
 
-  -- an object that fits has an answer
+  -- If an object matches, then the result is not `None`.
   pub never_unfit :
       (o t : ℕ) (shape : ShapeOf ℕ) (answer : Option Needs) → slice_get table.nodes t ≡ Some shape
       → option_map needs_in answer ≡ fitting.fields_of graph (vals.Ref o) shape → answer ≡ None
@@ -92,7 +92,7 @@ module _ (table : Table) (graph : List Obj) where
         no_some : IsSome {T = List (ℕ × ℕ)} None → ⊥
         no_some some = false≢true some
 
--- ---- by the shape of a type
+-- ---- the shape of a type
 
 pub shape_asked :
     (nodes : List (ShapeOf ℕ)) (t : ℕ) (shape : ShapeOf ℕ) → slice_get nodes t ≡ Some shape → is_asked shape ≡ true

@@ -1,4 +1,4 @@
--- What is noted on the way of a scan, object by object.
+-- The notes of a scan, object by object.
 use Rattle.std.proofs.Common.{ℕ, suc, ◌+◌, ◌<◌, ◌≤◌, ◌≡◌, ◌∙◌, ◌++◌, List, [], ◌∷◌, length, take, Option, Some, None, refl, sym, ap, subst, arith}
 use Rattle.std.specs.Prelude.{slice_get, slice_set, Contains, MatchOption}
 use Rattle.std.proofs.lemmas.Bool.{false≢true}
@@ -23,7 +23,7 @@ use Rattle.om_scan.proofs.PathLemmas.{hidden_typed, hidden_fits}
 use Rattle.om_scan.proofs.SecondLemmas.{seconds_none, nothing_in}
 
 module _ (table : Table) (graph : List Obj) where
-  -- at the start
+  -- The initial notes.
   pub notes_none :
       (marks types : List ℕ) (n : ℕ) (notes : Notes) → length (noted_in notes.seconds) ≡ 0 → IsUntouched notes.seconds.known → notes.first ≡ None
       → AreNotes table graph marks types n notes
@@ -53,7 +53,7 @@ module _ (table : Table) (graph : List Obj) where
     by_first None none = none
     by_first (Some first) is = stopped_within marks types n m first more is
 
-  -- one object more is taken, or ends the scan
+  -- One more object is checked, or the scan ends at it.
   module _ (old new types : List ℕ) (o t steps : ℕ) (kept : AreKept old new) (valid : AreMarks table graph new) (inside : o < length types)
       (marked : mark_of graph new o ≡ suc t) (fits : (table_shapes table).fits graph (vals.Ref o) t) where
     still_stopped : (first : First) → IsStoppedAt table graph old types o first → IsStoppedAt table graph new (slice_set types o t) (o + 1) first
@@ -107,7 +107,7 @@ module _ (table : Table) (graph : List Obj) where
       by_before (Some first) stopped is =
           subst (λ found. MatchOption found (noted_in notes.seconds ≡ []) (IsStoppedAt table graph new (slice_set types o t) (o + 1))) (sym is) (still_stopped first stopped)
 
-  -- nothing was noted where no first object was
+  -- If no first noted object is known, then nothing was noted.
   pub none_noted : (marks types : List ℕ) (n : ℕ) (notes : Notes) → AreNotes table graph marks types n notes → notes.first ≡ None → noted_in notes.seconds ≡ []
   none_noted marks types n notes are is =
       subst (λ found. MatchOption found (noted_in notes.seconds ≡ []) (IsStoppedAt table graph marks types n)) is are.first
@@ -126,7 +126,7 @@ module _ (table : Table) (graph : List Obj) where
     by_first None none = none
     by_first (Some first) is = tt
 
-  -- ---- an object that is passed
+  -- ---- a skipped object
 
   module _ (marks types : List ℕ) (notes : Notes) (o t steps : ℕ) (inside : o < length graph) (many : length types ≡ length graph)
       (hidden : IsHidden table t) (unmarked : mark_of graph marks o ≡ 0) (going : IsGoing table graph marks types notes o steps) where

@@ -26,7 +26,7 @@ use Rattle.om_scan.specs.Scanned.{object_needs, object_typed}
 use Rattle.om_scan.proofs.FieldLemmas.{field_there}
 use Rattle.om_scan.proofs.NeedLemmas.{need_field}
 
--- no two objects have one key
+-- Distinct objects have distinct keys.
 pub same_from_key :
     (graph : List Obj) (o p : ℕ) → IsGraph graph → o < length graph → p < length graph → key_of graph o ≡ key_of graph p → o ≡ p
 same_from_key graph o p valid here there same = ⊎_elim
@@ -47,7 +47,8 @@ any_object (objects.I64 z) = refl
 any_object (objects.Native z) = refl
 
 module _ (table : Table) (graph : List Obj) where
-  -- the number of a field of which something is asked names its type
+  -- If the type of a typed field constrains its values, then the lookup of the field's type
+  -- succeeds.
   pub need_is_named : (o t k i a : ℕ) → slice_get (object_typed table graph o t) k ≡ Some (i, a) → IsTrue (is_asked_in table a)
       → type_of_field (object_needs table graph o t) i ≡ Some a
   need_is_named o t k i a at asked =
@@ -60,7 +61,7 @@ module _ (table : Table) (graph : List Obj) where
   pub root_path : (root : ℕ) → HasPath table graph (vals.Ref root) root 0
   root_path root = ([], refl)
 
-  -- a path to what an object needs
+  -- A path to the value of a required field.
   pub need_path :
       (root : Val) (o t k i a p : ℕ) → o < length graph → HasPath table graph root o t
       → slice_get (object_typed table graph o t) k ≡ Some (i, a) → IsTrue (is_asked_in table a) → field_at graph o i ≡ vals.Ref p
@@ -73,7 +74,7 @@ module _ (table : Table) (graph : List Obj) where
       ∙ ap (λ u. option_map (λ b. (vals.Ref p, b)) u) named in
       (led.0 ++ i ∷ [], value_at-push (table_shapes table) graph led.0 root 0 i (vals.Ref o, t) (vals.Ref p, a) led.1 stepped)
 
-  -- an object has no fields that have types where nothing is asked, and fits
+  -- If a type does not constrain its values, then every object matches it and has no typed fields.
   pub hidden_fields : (o t : ℕ) → o < length graph → is_asked_in table t ≡ false
       → fields_of graph (vals.Ref o) (node_or_none (slice_get table.nodes t)) ≡ Some []
   hidden_fields o t inside hidden =
@@ -87,7 +88,7 @@ module _ (table : Table) (graph : List Obj) where
   pub hidden_fits : (o t : ℕ) → o < length graph → is_asked_in table t ≡ false → (table_shapes table).fits graph (vals.Ref o) t
   hidden_fits o t inside hidden = subst IsSome (sym (hidden_fields o t inside hidden)) refl
 
-  -- what has fields that have types is asked about
+  -- If an object has typed fields at a type, then the type constrains its values.
   pub typed_asked : (o t k : ℕ) (need : ℕ × ℕ) → o < length graph → slice_get (object_typed table graph o t) k ≡ Some need → IsTrue (is_asked_in table t)
   typed_asked o t k need inside at_k = by (is_asked_in table t) refl where
     by : (asked : Bool) → is_asked_in table t ≡ asked → IsTrue (is_asked_in table t)

@@ -1,4 +1,4 @@
--- Places in lists that grow at the end.
+-- Indices in lists that grow at the end.
 use Rattle.std.proofs.Common.{ℕ, zero, suc, ◌+◌, ◌<◌, ◌≡◌, ◌⊎◌, inl, inr, ⊎_elim, ◌++◌, List, [], ◌∷◌, length, Some, refl, sym, ap, subst, arith}
 use Rattle.std.specs.Prelude.{slice_get, slice_index, slice_set, Contains}
 use Rattle.std.proofs.lemmas.Option.{same_Some, none-some}
@@ -16,7 +16,7 @@ read_at [] k x less is = absurd (omega arith)
 read_at (y ∷ xs) zero x less is = ap Some (sym is)
 read_at (y ∷ xs) (suc k) x less is = read_at xs k x (omega arith) is
 
--- what is among the items of a list that grew by one
+-- The elements of a list with one more element.
 pub contains_push : {X : Type 0} (xs : List X) (y x : X) → Contains (xs ++ y ∷ []) x → Contains xs x ⊎ (y ≡ x)
 contains_push xs y x among =
     let k = Contains-place (xs ++ y ∷ []) x among in
@@ -41,7 +41,7 @@ contains_cases (z ∷ xs) ys x among = ⊎_elim
     (λ later. ⊎_elim (λ one. inl (Contains-later z xs x one)) (λ other. inr other) (contains_cases xs ys x later))
     (Contains-cases z (xs ++ ys) x among)
 
--- an item of two lists in a row stands in one of them
+-- An element of a concatenation is in one of the two lists.
 pub slice_get-append_cases :
     {X : Type 0} (xs ys : List X) (k : ℕ) (x : X) → slice_get (xs ++ ys) k ≡ Some x
     → (slice_get xs k ≡ Some x) ⊎ ((m : ℕ) × (k ≡ length xs + m) × (slice_get ys m ≡ Some x))
@@ -52,7 +52,7 @@ slice_get-append_cases (z ∷ xs) ys (suc k) x at_k = ⊎_elim
     (λ there. inr (there.0, omega (arith, there.1), there.2))
     (slice_get-append_cases xs ys k x at_k)
 
--- ---- an item that is set
+-- ---- replacing an element
 
 pub slice_set_here : (xs : List ℕ) (k x y : ℕ) → slice_get (slice_set xs k y) k ≡ Some x → x ≡ y
 slice_set_here [] k x y at_k = absurd (none-some x at_k)

@@ -1,4 +1,4 @@
--- The rows of types one after another.
+-- The rows of types, one after another.
 use Rattle.std.proofs.Common.{ℕ, ◌≡◌, ◌∙◌, ⊎_elim, Bool, List, [], ◌∷◌, ◌++◌, length, Option, Some, None, sym, ap, subst}
 use Rattle.std.specs.Prelude.{slice_get, option_map, is_some, IsTrue, IsSome, ◌↔◌}
 use Rattle.om_types.specs.declared.shape.ShapeOf.{ShapeOf}

@@ -1,4 +1,4 @@
--- Objects that are taken one after another, and what they make when all are taken.
+-- Objects that are checked one after another, and the result when all are checked.
 use Rattle.std.proofs.Common.{ℕ, zero, suc, ◌+◌, ◌<◌, ◌≤◌, ◌≡◌, ◌∙◌, ◌⊎◌, inl, ⊎_elim, ◌++◌, List, [], ◌∷◌, length, Option, Some, refl, sym, ap, subst, arith}
 use Rattle.std.specs.Prelude.{slice_get, slice_index, slice_set, replicate, map, sum_by, Contains, IsSomeAnd}
 use Rattle.std.proofs.lemmas.List.{length-append, get_or-set_same}
@@ -95,7 +95,7 @@ module _ (table : Table) (graph : List Obj) where
         few = omega (arith, none);
       }
 
-  -- ---- one object more
+  -- ---- one more object
 
   pub scanning_more :
       (old new : List ℕ) (before noted : List (ℕ × ℕ)) (types : List ℕ) (o t steps more : ℕ) → o < length graph → IsScanning table graph old before types o steps
@@ -121,7 +121,7 @@ module _ (table : Table) (graph : List Obj) where
             omega (arith, few, cost, own_cost, own_needs, spent);
       }
 
-  -- the same with more marks, and fewer steps
+  -- The invariant with more marks and fewer steps.
   pub scanning_kept :
       (old new : List ℕ) (before noted : List (ℕ × ℕ)) (types : List ℕ) (n steps fewer : ℕ) → fewer ≤ steps → IsScanning table graph old before types n steps
       → AreMarks table graph new → AreKept old new → AreStillNoted before noted
@@ -182,7 +182,7 @@ module _ (table : Table) (graph : List Obj) where
         let is : first.0 ≡ 0 = let marked = (scanning.taken 0 first.0 first.1).marked in let root = scanning.root in omega (arith, marked, root) in
         first.1 ∙ ap (λ t. Some t) is
 
-    -- what a value that is met is marked with is the type of its object
+    -- If an object is marked with a type, then it is the object's type in the result.
     met_type : (p u : ℕ) → p < length graph → mark_of graph marks p ≡ suc u → slice_get types p ≡ Some u
     met_type p u inside marked =
         let there = all_there p inside in
@@ -199,7 +199,7 @@ module _ (table : Table) (graph : List Obj) where
           listed = (met.0, pair_there types p met.0 at_p, met.2);
         }
 
-    -- nothing was noted
+    -- If nothing was noted, then each value is satisfied.
     only_met : noted ≡ [] → (v : Val) (t : ℕ) → IsMet table graph marks v t ⊎ IsNoted table noted v t → IsMet table graph marks v t
     only_met none v t = ⊎_elim (λ met. met) (λ other. absurd (never_noted table graph v t (subst (λ xs. IsNoted table xs v t) none other)))
 
@@ -224,7 +224,7 @@ module _ (table : Table) (graph : List Obj) where
     pub all_scanned : 0 < length graph → noted ≡ [] → IsScanned table graph types
     all_scanned some none = record { many = scanning.many; within = within_of; root = root_typed some; typing = all_typed none }
 
-    -- ---- where objects were noted
+    -- ---- scans with notes
 
     found_of : (v : Val) (t : ℕ) → IsValue (length graph) v → IsMet table graph marks v t ⊎ IsNoted table noted v t → IsFoundIn table graph (numbered_from 0 types ++ noted) v t
     found_of (vals.Int z) t valid met = ⊎_elim (λ fits. fits) (λ never. absurd never) met

@@ -1,4 +1,4 @@
--- Sets of objects with classes that grow, or lose one.
+-- Sets of pairs of an object and a class that grow or lose a pair.
 use Rattle.std.proofs.Common.{ℕ, ◌≡◌, ◌∙◌, ◌⊎◌, inl, inr, ⊎_elim, Bool, true, false, cond, refl, sym, ap}
 use Rattle.std.specs.Prelude.{IsTrue}
 use Rattle.std.specs.declared.cmp.Ordering.{Ordering}
@@ -38,7 +38,7 @@ pub later_kept :
     → IsTrue (contains pair_cmp new q)
 later_kept old new k q updates is = updates.0 q ∙ cond_kept (is_at (pair_cmp k) q) (contains pair_cmp old q) is
 
--- ---- one less
+-- ---- one pair less
 
 pub cond_false : (test other : Bool) → cond test false other ≡ true → other ≡ true
 cond_false true other is = absurd (false≢true is)

@@ -1,4 +1,4 @@
--- What was taken where a scan stops, and what it saw.
+-- The objects checked and the fields tested before a scan ends.
 use Rattle.std.proofs.Common.{ℕ, suc, ◌+◌, ◌-◌, ◌<◌, ◌≤◌, ◌≡◌, ◌∙◌, ◌⊎◌, inl, inr, ⊎_elim, ◌++◌, Bool, true, false, List, [], ◌∷◌, length, Some, refl, sym, ap, ap₂, subst, arith, eqb-true}
 use Rattle.std.specs.Prelude.{slice_get, Contains, IsTrue, nat_lt, ◌==◌, ◌&&◌, if◌then◌else◌, MatchBool}
 use Rattle.std.proofs.lemmas.Bool.{ltb-true, eq-eqb, false≢true}
@@ -39,7 +39,7 @@ unfit_other o f k i other = by_test (o == k) (f == i) refl refl where
 pub unfit_this : (o f i : ℕ) → f ≡ i → is_unfit_field (unfits.Field o f) o i ≡ true
 unfit_this o f i same = ap₂ (λ b c. b && c) (eq-eqb o o refl) (eq-eqb f i same)
 
--- of the last object so much was seen
+-- The tested fields of the last object.
 last_seen : (taken : Taken) (o : ℕ) → taken.objects ≡ o + 1 → seen_of taken o ≡ taken.seen
 last_seen taken o objects = by_test (nat_lt (suc o) taken.objects) refl where
   by_test : (b : Bool) → nat_lt (suc o) taken.objects ≡ b → (if b then all_fields else taken.seen) ≡ taken.seen
@@ -52,9 +52,10 @@ rest_within size seen = by_test (seen == all_fields) where
   by_test true = omega arith
   by_test false = omega arith
 
--- ---- a need that is not met
+-- ---- a required field that is not satisfied
 
--- the fields of the last object that were seen: all before the need that is not met, and that of the need too where it is unfit
+-- The tested fields of the last object: all before the unsatisfied field, and that field too if it
+-- is a mismatch.
 pub record SeesUntil (taken : Taken) (o : ℕ) (unmet : Unmet) : Type 0 where
   pub objects : taken.objects ≡ o + 1
   pub none : (p : ℕ) → IsTrue (is_unfit_object taken.unfit p) → ⊥
@@ -87,7 +88,7 @@ nothing_sees types o unmet = record {
   seen = λ i less. inl (less, refl);
 }
 
--- the needs of the last object that were tested are among its fields
+-- The tested required fields of the last object are among its fields.
 pub until_few :
     (graph : List Obj) (taken : Taken) (types : List ℕ) (o t before steps tested : ℕ) → taken.objects ≡ o + 1 → types_in taken ≡ types ++ t ∷ [] → length types ≡ o
     → before ≤ cost_of graph types → steps ≤ before + (1 + tested) → tested ≤ taken.seen → tested ≤ size_of graph o
@@ -101,7 +102,8 @@ until_few graph taken types o t before steps tested objects are many few more se
     omega (arith, cost, own, left, rest, few, more, seen, inside)
 
 module _ (table : Table) (graph : List Obj) (lawful : IsLawful table) (marks : List ℕ) (taken : Taken) where
-  -- the objects that are taken are marked with their types, and what was found unfit is marked with a type that it does not fit
+  -- The checked objects are marked with their types. An object that was found to be a mismatch is
+  -- marked with a type that it does not match.
   record AreMarked : Type 0 where
     types : (p t : ℕ) → slice_get (types_in taken) p ≡ Some t → mark_of graph marks p ≡ suc t
     unfit : (p : ℕ) → IsTrue (is_unfit_object taken.unfit p) → (t : ℕ) × (mark_of graph marks p ≡ suc t) × ¬ (table_shapes table).fits graph (vals.Ref p) t
@@ -126,7 +128,7 @@ module _ (table : Table) (graph : List Obj) (lawful : IsLawful table) (marks : L
         w.2 (lawful.lawful.fits graph (vals.Ref p) a w.0 (inl tt) (sym met.2 ∙ ap (slice_get table.classes) same) fits);
   }
 
-  -- nothing is noted
+  -- The claim if nothing is noted.
   need_seen :
       (o i : ℕ) (v : Val) (a : ℕ) → AreMarked → is_unfit_field taken.unfit o i ≡ false → IsMet table graph marks v a ⊎ IsNoted table [] v a
       → IsSeen table graph taken o i v a
@@ -139,7 +141,7 @@ module _ (table : Table) (graph : List Obj) (lawful : IsLawful table) (marks : L
       subst (λ b. MatchBool b (¬ (table_shapes table).fits graph (vals.Atom tag) a) ((table_shapes table).fits graph (vals.Atom tag) a)) (sym is) unfit
   unfit_seen o i (vals.Ref p) a is unfit = absurd unfit
 
-  -- an object whose needs are all met
+  -- An object whose required fields are all satisfied.
   wholly_seen :
       (types : List ℕ) (n steps o t i a : ℕ) → AreMarked → IsScanning table graph marks [] types n steps → slice_get types o ≡ Some t
       → is_unfit_field taken.unfit o i ≡ false → Contains (object_needs table graph o t) (i, a) → IsSeen table graph taken o i (field_at graph o i) a
@@ -149,7 +151,7 @@ module _ (table : Table) (graph : List Obj) (lawful : IsLawful table) (marks : L
       let j = Contains-place needs (i, a) is.0 in
       need_seen o i (field_at graph o i) a marked none ((scanning.taken o t at_o).met j.0 i a (slice_get_within needs j.0 (i, a) j.1) j.1 is.1)
 
-  -- ---- the scan stopped before an object
+  -- ---- the scan ended before an object
 
   pub before_taken :
       (n steps : ℕ) → n ≤ length graph → IsScanning table graph marks [] (types_in taken) n steps
@@ -164,7 +166,7 @@ module _ (table : Table) (graph : List Obj) (lawful : IsLawful table) (marks : L
         seen = λ o t i a at_o less needed. wholly_seen (types_in taken) n steps o t i a marked scanning at_o (none o i) needed;
       }
 
-  -- ---- the scan stopped at a need of an object
+  -- ---- the scan ended at a required field of an object
 
   pub until_taken :
       (types : List ℕ) (o t steps : ℕ) (unmet : Unmet) → o < length graph → types_in taken ≡ types ++ t ∷ [] → IsScanning table graph marks [] types o steps

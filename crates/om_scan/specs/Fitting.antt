@@ -1,4 +1,4 @@
--- The table of types in which it is looked up what fits.
+-- The table of types that decides matches.
 use Rattle.om_types.specs.Table.{Table}
 use Rattle.om_type_table.specs.Made.{table_of}
 use Rattle.om_scan.specs.declared.rows.Fitting.{Fitting}

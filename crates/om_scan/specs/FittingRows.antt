@@ -1,11 +1,11 @@
--- For each type what surely fits it.
+-- The rows of types.
 use Rattle.std.specs.Prelude.{ℕ, ◌≡◌, List, Some, slice_get}
 use Rattle.om_types.specs.declared.shape.ShapeOf.{ShapeOf}
 use Rattle.om_types.specs.Table.{node_or_none}
 use Rattle.om_fits.specs.declared.row.Row.{Row}
 use Rattle.om_fits.specs.Row.{IsRowOf}
 
--- each row is that of the type of its number
+-- Each row is the row of the type with its number.
 abbrev pub AreRows : List (ShapeOf ℕ) → List Row → Type 0
 AreRows nodes rows =
     (i : ℕ) (row : Row) → slice_get rows i ≡ Some row

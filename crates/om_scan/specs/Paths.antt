@@ -1,4 +1,4 @@
--- Which objects of a value are met at which types.
+-- The types at which objects of a value are reachable.
 use Rattle.std.specs.Prelude.{ℕ, ◌≡◌, ◌<◌, List, length, Some, slice_get, Contains, false, IsTrue}
 use Rattle.om_model.specs.declared.value.Val.{Val}
 use Rattle.om_model.specs.declared.value.Val.TheVariants as vals
@@ -9,23 +9,24 @@ use Rattle.om_scan.specs.declared.straight.Scanned.{Scanned}
 use Rattle.om_scan.specs.declared.straight.Scanned.TheVariants as answers
 use Rattle.om_scan.specs.Seconds.{noted_in}
 
--- some path from the value, which is at type 0, leads to the object at the type
+-- Some path from the value at type 0 leads to the object at the type.
 abbrev pub HasPath : Table → List Obj → Val → ℕ → ℕ → Type 0
 HasPath table graph root o t =
     (path : List ℕ)
     × (value_at (table_shapes table) graph root 0 path ≡ Some (vals.Ref o, t))
 
--- the type is in the table, and nothing is asked of its values
+-- The type is in the table and does not constrain its values.
 abbrev pub IsHidden : Table → ℕ → Type 0
 IsHidden table t = (t < length table.nodes) × (is_asked_in table t ≡ false)
 
--- some path from the first object leads to the object at the type, where something is asked of its
--- values
+-- If the type constrains its values, then some path from the first object leads to the object at
+-- the type.
 abbrev pub IsLed : Table → List Obj → ℕ → ℕ → Type 0
 IsLed table graph o t = IsTrue (is_asked_in table t) → HasPath table graph (vals.Ref 0) o t
 
--- some path from the first object leads to each object at the type that is told, but for a type of
--- whose values nothing is asked, and to each at those at which it is noted
+-- For each object, some path from the first object leads to it at its type in the result, unless
+-- the type does not constrain its values. For each noted pair, some path leads to the object at the
+-- type.
 abbrev pub HavePaths : Table → List Obj → Scanned → Type 0
 HavePaths table graph (answers.Told types) =
     (o t : ℕ) → slice_get types o ≡ Some t → IsLed table graph o t

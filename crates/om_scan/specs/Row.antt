@@ -1,4 +1,4 @@
--- The numbers of a row.
+-- The numbers in a compact vector.
 use Rattle.std.specs.Prelude.{ℕ, List}
 use Rattle.om_scan.specs.declared.cells.Row.{Row}
 use Rattle.om_scan.specs.declared.cells.Row.TheVariants as rows

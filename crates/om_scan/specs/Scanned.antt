@@ -1,4 +1,4 @@
--- What a scan answers.
+-- The result of a scan.
 use Rattle.std.specs.Prelude.{ℕ, ◌≡◌, ◌<◌, ◌≤◌, ◌+◌, ◌-◌, ◌++◌, List, length, Some, Result, Ok, Err}
 use Rattle.std.specs.Prelude.{slice_get, sum_by, Contains, IsTrue, MatchBool}
 use Rattle.om_model.specs.declared.out_of_memory.Memory.{Memory}
@@ -18,36 +18,37 @@ use Rattle.om_scan.specs.Seconds.{noted_in, AreSeconds}
 use Rattle.om_scan.specs.Taken.{types_in, seen_of, is_unfit_field, is_unfit_object, size_of}
 use Rattle.om_scan.specs.Taken.{rest_of}
 
--- what an object needs at a type
+-- The required fields of an object at a type.
 abbrev pub object_needs : Table → List Obj → ℕ → ℕ → List (ℕ × ℕ)
 object_needs table graph o t = (table_shapes table).needs graph (vals.Ref o) t
 
--- the fields of an object that have types at a type, by their places; those are needed of whose
--- values something is asked
+-- The typed fields of an object at a type, by index. A field is required if its type constrains its
+-- values.
 abbrev pub object_typed : Table → List Obj → ℕ → ℕ → List (ℕ × ℕ)
 object_typed table graph o t = typed_fields table graph (vals.Ref o) t
 
--- The type of each object, by its number: the first is at type 0, and objects and types justify one
--- another.
+-- The type of each object, by object number. The first object has type 0, and the pairs of objects
+-- and types justify one another.
 pub record IsScanned (table : Table) (graph : List Obj) (types : List ℕ) : Type 0 where
   pub many : length types ≡ length graph
   pub within : (o t : ℕ) → slice_get types o ≡ Some t → t < length table.nodes
   pub root : slice_get types 0 ≡ Some 0
   pub typing : IsTyping (table_shapes table) graph (numbered_from 0 types)
 
--- ---- objects that were met at a second class
+-- ---- objects referenced at a second class
 
--- a value that is no object fits; an object is listed at an equal type
+-- The value is found at the type: a value that is no object matches; an object is listed at an
+-- equal type.
 abbrev pub IsFoundIn : Table → List Obj → List (ℕ × ℕ) → Val → ℕ → Type 0
 IsFoundIn table graph pairs (vals.Int z) t = (table_shapes table).fits graph (vals.Int z) t
 IsFoundIn table graph pairs (vals.Atom tag) t = (table_shapes table).fits graph (vals.Atom tag) t
 IsFoundIn table graph pairs (vals.Ref o) t = IsListed (table_shapes table) pairs (vals.Ref o) t
 
--- objects at their types, and then those that were noted
+-- The objects with their types, followed by the noted pairs.
 abbrev pub pairs_with : List ℕ → Seconds → List (ℕ × ℕ)
 pairs_with types seconds = numbered_from 0 types ++ noted_in seconds
 
--- an object that is noted at a class other than that of its type
+-- An object that is noted at a class other than the class of its type.
 pub record IsNotedOver (table : Table) (graph : List Obj) (types : List ℕ) (o t : ℕ)
     : Type 0 where
   pub inside : o < length graph
@@ -56,8 +57,8 @@ pub record IsNotedOver (table : Table) (graph : List Obj) (types : List ℕ) (o 
   pub typed : slice_get types o ≡ Some first
   pub other : ¬ (table_shapes table).equal first t
 
--- The type of each object, by its number, is one that it fits; the first is at type 0. Each value
--- that an object needs is found at the need's type, among the types or what was noted.
+-- Each object, by object number, matches its type. The first object has type 0. The value of each
+-- required field is found at the field's type, among the types or the noted pairs.
 pub record IsScannedBut (table : Table) (graph : List Obj) (types : List ℕ) (seconds : Seconds)
     : Type 0 where
   pub many : length types ≡ length graph
@@ -72,16 +73,17 @@ pub record IsScannedBut (table : Table) (graph : List Obj) (types : List ℕ) (s
   pub noted :
       (o t : ℕ) → Contains (noted_in seconds) (o, t) → IsNotedOver table graph types o t
 
--- ---- where the scan stopped
+-- ---- inconclusive scans
 
--- An object that was seen at a type: where it was taken it was at an equal one, and where it was
--- found unfit it does not fit.
+-- An object was tested at a type. If it was checked, then it was checked at an equal type. If it
+-- was found to be a mismatch, then it does not match the type.
 pub record IsSeenObject (table : Table) (graph : List Obj) (taken : Taken) (o t : ℕ) : Type 0 where
   pub taken_at : (u : ℕ) → slice_get (types_in taken) o ≡ Some u → (table_shapes table).equal u t
   pub unfit : IsTrue (is_unfit_object taken.unfit o)
       → ¬ (table_shapes table).fits graph (vals.Ref o) t
 
--- Field i of object o was seen at a type: where it is no object it fits, unless it was found unfit.
+-- Field `i` of object `o` was tested at a type. If its value is no object, then it matches, unless
+-- it was found to be a mismatch.
 abbrev pub IsSeen : Table → List Obj → Taken → ℕ → ℕ → Val → ℕ → Type 0
 IsSeen table graph taken o i (vals.Int z) t =
     MatchBool (is_unfit_field taken.unfit o i) (¬ (table_shapes table).fits graph (vals.Int z) t)
@@ -91,8 +93,8 @@ IsSeen table graph taken o i (vals.Atom tag) t =
     ((table_shapes table).fits graph (vals.Atom tag) t)
 IsSeen table graph taken o i (vals.Ref p) t = IsSeenObject table graph taken p t
 
--- The first objects, each at a type that it fits; what it needs there was seen, of the last one at
--- the first fields.
+-- The first objects, each at a type that it matches. Their required fields were tested; for the
+-- last object, only the first fields were tested.
 pub record AreTaken (table : Table) (graph : List Obj) (taken : Taken) : Type 0 where
   pub many : length (types_in taken) ≤ length graph
   pub within : (o t : ℕ) → slice_get (types_in taken) o ≡ Some t → t < length table.nodes
@@ -103,25 +105,29 @@ pub record AreTaken (table : Table) (graph : List Obj) (taken : Taken) : Type 0 
       → Contains (object_needs table graph o t) (i, a)
       → IsSeen table graph taken o i (field_at graph o i) a
 
--- the type of each object, also but for those that were noted, or of the first ones
+-- The meaning of a result: the type of each object, possibly with noted pairs, or the types of the
+-- first objects.
 abbrev pub Tells : Table → List Obj → Scanned → Type 0
 Tells table graph (answers.Told types) = IsScanned table graph types
 Tells table graph (answers.Noted noted) =
     IsScannedBut table graph noted.taken.types noted.seconds × AreTaken table graph noted.taken
 Tells table graph (answers.Stopped taken) = AreTaken table graph taken
 
--- one for each object, and one for each of its fields
+-- One step for each object and one for each of its fields.
 abbrev pub cost_of : List Obj → List ℕ → ℕ
 cost_of graph types = sum_by (λ (entry : ℕ × ℕ). 1 + size_of graph entry.0) (numbered_from 0 types)
 
--- the fields of the last object that were not seen
+-- The number of fields of the last object that were not tested.
 abbrev pub left_of : List Obj → Taken → ℕ
 left_of graph taken = rest_of (size_of graph (taken.objects - 1)) taken.seen
 
--- Where the scan has told the types, its steps and one more are no more than the most; where it
--- stopped, they and what is left of the last object are no more than the objects taken and their
--- fields. Where it noted objects, none is counted, and both are told: the steps of all objects, and
--- those of the objects that were taken before.
+-- Bounds on the steps.
+--
+-- - If the scan determined all types, then the steps plus one are within the bound.
+-- - If the scan is inconclusive, then the steps plus the untested fields of the last object are
+--   bounded by the number of checked objects and their fields.
+-- - If the scan noted objects, then no step is added to the counter. The result states the steps
+--   for all objects and the steps before the first note.
 abbrev pub AreCounted : Table → List Obj → ℕ → ℕ → Result Scanned Memory → Type 0
 AreCounted table graph old new (Ok (answers.Told types)) = new + 1 ≤ old + most_steps table graph
 AreCounted table graph old new (Ok (answers.Noted noted)) =

@@ -1,4 +1,4 @@
--- Objects at types at which they were met after the first one.
+-- Objects at the types at which they were referenced after the first one.
 use Rattle.std.specs.Prelude.{ℕ, ◌≡◌, ◌⊎◌, List, [], ◌∷◌, ◌++◌, map, Some, slice_get, Contains}
 use Rattle.om_model.specs.declared.value.Val.TheVariants as vals
 use Rattle.om_types.specs.Table.{Table, table_shapes}
@@ -7,11 +7,11 @@ use Rattle.om_typing.specs.StepLaws.{AreApart, key_of}
 use Rattle.om_scan.specs.declared.seconds.Seconds.{Seconds}
 use Rattle.om_scan.specs.Classed.{Has}
 
--- objects at types, in the order in which they were noted
+-- The pairs in the order in which they were added.
 abbrev pub noted_in : Seconds → List (ℕ × ℕ)
 noted_in seconds = seconds.listed
 
--- It is known at which classes each object is there, and none is there twice at one class.
+-- `known` contains exactly the classes of the pairs. No object occurs twice at the same class.
 pub record AreSeconds (table : Table) (seconds : Seconds) : Type 0 where
   pub known : (o t c : ℕ) → Contains (noted_in seconds) (o, t) → slice_get table.classes t ≡ Some c
       → Has seconds.known o c
@@ -20,7 +20,8 @@ pub record AreSeconds (table : Table) (seconds : Seconds) : Type 0 where
       → (t : ℕ) × Contains (noted_in seconds) (o, t) × (slice_get table.classes t ≡ Some c)
   pub apart : AreApart (map (key_of table) (noted_in seconds))
 
--- The object is there at an equal type, and nothing changed; or it is not, and is put at the end.
+-- Either the object was present at an equal type and nothing changed, or it was not and the pair
+-- was appended.
 abbrev pub IsNoting : Table → List (ℕ × ℕ) → List (ℕ × ℕ) → ℕ → ℕ → Type 0
 IsNoting table old new o t =
     (IsListed (table_shapes table) old (vals.Ref o) t × (new ≡ old))

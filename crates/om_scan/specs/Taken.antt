@@ -1,4 +1,4 @@
--- What a scan took before it stopped, and what it saw of the needs.
+-- The objects that a scan checked before it ended, and the fields that it tested.
 use Rattle.std.specs.Prelude.{ℕ, suc, ◌-◌, ◌==◌, nat_lt, if◌then◌else◌, ◌&&◌, Bool, false, List}
 use Rattle.std.specs.Prelude.{length, take}
 use Rattle.om_model.specs.declared.value.Obj.{Obj}
@@ -10,11 +10,11 @@ use Rattle.om_scan.specs.declared.taken.Unfit.TheVariants as unfits
 abbrev pub types_in : Taken → List ℕ
 types_in taken = take taken.objects taken.types
 
--- more than the number of each field
+-- A number above every field index.
 abbrev pub all_fields : ℕ
 all_fields = 18446744073709551615
 
--- the needs of a taken object were tested at the fields below this number
+-- The field index below which the required fields of a checked object were tested.
 abbrev pub seen_of : Taken → ℕ → ℕ
 seen_of taken o = if nat_lt (suc o) taken.objects then all_fields else taken.seen
 
@@ -26,10 +26,10 @@ abbrev pub is_unfit_object : Unfit → ℕ → Bool
 is_unfit_object (unfits.Object o) object = o == object
 is_unfit_object unfit object = false
 
--- how many fields an object has
+-- The number of fields of an object.
 abbrev pub size_of : List Obj → ℕ → ℕ
 size_of graph o = length (fields_of (object_at graph o))
 
--- of so many fields those that were not seen
+-- The number of untested fields among `size` fields.
 abbrev pub rest_of : ℕ → ℕ → ℕ
 rest_of size seen = if seen == all_fields then 0 else size - seen

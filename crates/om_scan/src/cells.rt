@@ -1,4 +1,4 @@
-//! A number for each place.
+//! Compact vectors of numbers.
 
 ghost use Rattle.std.specs.Prelude.{◌≡◌, ◌<◌, length, replicate, slice_index, slice_set, IfOk};
 ghost use Rattle.std.specs.Prelude.{OnOk};
@@ -8,7 +8,7 @@ use om_model::Memory;
 use std::alloc::Global;
 use std::marker::Model;
 
-/// A number for each place, in so many bytes that the largest to come has room.
+/// A vector of numbers. The element size is chosen by the largest number that will be stored.
 #[derive(Drop)]
 pub enum Row {
     Bytes(Vec<u8>),
@@ -16,7 +16,8 @@ pub enum Row {
     Longs(Vec<u64>),
 }
 
-/// A number for each place. Contracts see the list of the numbers.
+/// A vector of numbers with a compact representation. Contracts treat it as the list of its
+/// numbers.
 #[derive(Drop)]
 pub struct Cells {
     row: Row,
@@ -33,7 +34,7 @@ impl Model for Cells {
 }
 
 impl Cells {
-    /// A zero for each place, where numbers up to `most` are to come.
+    /// Creates `places` zeros in a vector for numbers up to `most`.
     pub fn new(alloc: Global, places: usize, most: usize) -> Result<Cells, Memory>
         ensures { IfOk result (λ cells. cells ≡ replicate places 0) }
     {
@@ -41,7 +42,7 @@ impl Cells {
         Ok(Cells { row })
     }
 
-    /// How many places there are.
+    /// Returns the number of elements.
     pub fn len(&self) -> usize
         ensures { result ≡ length self.now }
     {
@@ -52,20 +53,20 @@ impl Cells {
         }
     }
 
-    /// The number at a place.
+    /// Returns the number at an index.
     #[inline(always)]
     pub fn get(&self, place: usize) -> u64
         requires { place < length self.now }
         ensures { result ≡ slice_index self.now place }
     {
-        // One test tells the common row.
+        // One test recognizes the common representation.
         match &self.row {
             Row::Bytes(row) => u64::from(row[place]),
             row => number_at(row, place),
         }
     }
 
-    /// Puts a number at a place.
+    /// Stores a number at an index.
     #[inline(always)]
     pub fn set(&mut self, place: usize, number: u64) -> Result<(), Memory>
         requires { place < length self.old }
@@ -75,7 +76,7 @@ impl Cells {
     }
 }
 
-/// A zero for each place.
+/// Creates `places` zeros.
 fn zeros(alloc: Global, places: usize, most: usize) -> Result<Row, Memory>
     ensures { IfOk result (λ row. numbers_in row ≡ replicate places 0) }
 {
@@ -94,7 +95,7 @@ fn zeros(alloc: Global, places: usize, most: usize) -> Result<Row, Memory>
     Ok(Row::Longs(row))
 }
 
-/// The number at a place of any row.
+/// Returns the number at an index, for any representation.
 #[cold]
 #[inline(never)]
 fn number_at(row: &Row, place: usize) -> u64
@@ -108,7 +109,7 @@ fn number_at(row: &Row, place: usize) -> u64
     }
 }
 
-/// Puts a number at a place.
+/// Stores a number at an index.
 #[inline(always)]
 fn put(row: &mut Row, place: usize, number: u64) -> Result<(), Memory>
     requires { place < length (numbers_in row.old) }
@@ -121,7 +122,8 @@ fn put(row: &mut Row, place: usize, number: u64) -> Result<(), Memory>
     Ok(())
 }
 
-/// Puts a number at a place of any row. One that is larger than any that was to come finds no room.
+/// Stores a number at an index, for any representation. Returns an error if the number is too large
+/// for the element size.
 #[cold]
 #[inline(never)]
 fn put_in_any(row: &mut Row, place: usize, number: u64) -> Result<(), Memory>

@@ -1,4 +1,4 @@
-//! Objects with classes.
+//! Sets of pairs of an object and a class.
 
 ghost use Rattle.std.specs.Prelude.{ℕ, ◌≡◌, ◌<◌, ◌↔◌, Some, slice_get, IsTrue, OnOk, IfOk};
 ghost use Rattle.std.specs.Prelude.{MatchBool};
@@ -8,18 +8,19 @@ use om_model::Memory;
 use std::alloc::Global;
 use std::collections::BTreeSet;
 
-/// Objects with classes. Of each object one class has a cell of its own.
+/// A set of pairs of an object and a class. One class of each object can be stored in a cell of the
+/// object.
 #[derive(Drop)]
 pub struct Classed {
-    /// For each object one more than its class, or 0. There are no cells before one pair came for
-    /// each 64 objects.
+    /// For each object, its class plus 1, or 0. The cells are created once there is one pair for
+    /// every 64 objects.
     pub cells: Vec<u16>,
-    /// What is in no cell.
+    /// The pairs that are not in cells.
     pub more: BTreeSet<(u64, usize)>,
 }
 
 impl Classed {
-    /// None.
+    /// Creates an empty set.
     pub fn none(alloc: Global) -> Classed
         ensures { IsUntouched result }
     {
@@ -29,14 +30,15 @@ impl Classed {
         }
     }
 
-    /// Whether none was ever put in.
+    /// Returns true if the set is empty and has no cells.
     pub fn is_untouched(&self) -> bool
         ensures { IsTrue result ↔ IsUntouched self.now }
     {
         self.cells.is_empty() && self.more.is_empty()
     }
 
-    /// Puts in one of so many objects with a class: whether it was not there.
+    /// Inserts a pair of an object and a class. Returns true if the pair is new. `objects` is the
+    /// number of all objects.
     pub fn insert(&mut self, objects: usize, object: u64, class: usize) -> Result<bool, Memory>
         ensures inserts { OnOk result (Inserts self.old self.new object class) }
         ensures added { IfOk result
@@ -47,9 +49,9 @@ impl Classed {
         Ok(added)
     }
 
-    /// Puts the first pair that is in no cell into its object's cell, if that is free and has room
-    /// for the class. So pairs that came before there were cells go into them one by one, up to the
-    /// first that cannot.
+    /// Moves the first pair that is in no cell into its object's cell, if that cell is free and can
+    /// hold the class. So pairs that were inserted before the cells existed move into cells one by
+    /// one, up to the first that cannot.
     fn shift(&mut self)
         ensures { (o c : ℕ) → Has self.old o c ↔ Has self.new o c }
     {
@@ -65,7 +67,7 @@ impl Classed {
         }
     }
 
-    /// Puts in one of so many objects with a class, as the cells stand: whether it was not there.
+    /// Inserts a pair without moving other pairs. Returns true if the pair is new.
     fn put(&mut self, objects: usize, object: u64, class: usize) -> Result<bool, Memory>
         ensures inserts { OnOk result (Inserts self.old self.new object class) }
         ensures added { IfOk result
@@ -83,7 +85,8 @@ impl Classed {
     }
 }
 
-/// Makes a cell for each object, if there is none and one pair is there for each 64 objects.
+/// Creates a cell for each object, if there are no cells and there is one pair for every 64
+/// objects.
 fn make_cells(cells: &mut Vec<u16>, pairs: usize, objects: usize) -> Result<(), Memory>
     ensures { OnOk result (AreAlike cells.old.items cells.new.items) }
 {
@@ -93,7 +96,7 @@ fn make_cells(cells: &mut Vec<u16>, pairs: usize, objects: usize) -> Result<(), 
     Ok(())
 }
 
-/// Whether an object's cell has the class.
+/// Returns true if the object's cell contains the class.
 #[inline(always)]
 fn is_in_cell(cells: &Vec<u16>, object: u64, class: usize) -> bool
     ensures { IsTrue result ↔ IsInCell cells.now.items object class }
@@ -106,7 +109,7 @@ fn is_in_cell(cells: &Vec<u16>, object: u64, class: usize) -> bool
     cell > 0 && cell - 1 == class
 }
 
-/// Whether an object's cell has no class, and room for this one.
+/// Returns true if the object's cell is free and can hold the class.
 #[inline(always)]
 fn has_free_cell(cells: &Vec<u16>, object: u64, class: usize) -> bool
     ensures { IsTrue result ↔ (slice_get cells.now.items object ≡ Some 0) × (class < 65535) }

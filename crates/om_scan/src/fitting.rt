@@ -1,4 +1,4 @@
-//! Whether the value of a word fits a type.
+//! Decides whether the value of a 64-bit word matches a type.
 
 ghost use Rattle.std.specs.Prelude.{◌≡◌, ◌<◌, ◌↔◌, length, IsTrue};
 ghost use Rattle.om_model.specs.Graph.{IsValue};
@@ -14,7 +14,7 @@ use om_heap::Heap;
 use om_model::value::Val;
 use om_type_table::TypeTable;
 
-/// Whether the value of a word fits a type: mostly the row tells it.
+/// Returns true if the value of a word matches a type. In most cases the row of the type decides.
 #[inline(always)]
 pub fn fits_type(heap: &Heap, fitting: Fitting<'_>, ty: usize, word: u64) -> bool
     requires word { IsFieldWord heap.now word }
@@ -28,7 +28,7 @@ pub fn fits_type(heap: &Heap, fitting: Fitting<'_>, ty: usize, word: u64) -> boo
     fits_by_kind(heap, fitting.table, ty, word)
 }
 
-/// The same by the kind of the value.
+/// The same decision by the kind of the value.
 #[cold]
 #[inline(never)]
 fn fits_by_kind(heap: &Heap, table: &TypeTable, ty: usize, word: u64) -> bool

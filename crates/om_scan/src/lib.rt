@@ -1,4 +1,8 @@
-//! Objects in the order of their numbers, each at one type, and those that are met at another.
+//! Linear scan of the heap: checks every object once, in address order, at the first type at which
+//! it is referenced. Objects that are referenced at a second type are collected for the caller.
+//! `scan` returns the type of each object (`IsScanned`, `IsScannedBut`). If the scan cannot decide,
+//! it returns what it has checked so far (`AreTaken`). The search that continues from there is not
+//! part of this crate.
 #![tactic(auto)]
 
 mod cells;

@@ -1,4 +1,4 @@
-//! The needs of the objects of most types.
+//! Fast path for the typed fields of objects of the most common shapes.
 
 ghost use Rattle.std.specs.Prelude.{◌≡◌, ◌<◌, List, length, slice_get, option_map, Some, []};
 ghost use Rattle.std.specs.Prelude.{IsSome, IsTrue, IfSome};
@@ -12,8 +12,8 @@ ghost use Rattle.om_fits.specs.Needs.{first_fields, constr_needed};
 use om_heap::Heap;
 use om_types::shape::{Constr, ShapeOf};
 
-/// The types of the fields of an object, which has this word and fits a shape, where the shape is
-/// one of constructors or of a product.
+/// Returns the field types of an object that matches the shape, if the shape is a product or a sum
+/// of constructors. `word` is the word of the object.
 #[inline(always)]
 pub fn listed_types<'a>(
     heap: &Heap,
@@ -41,7 +41,7 @@ pub fn listed_types<'a>(
     None
 }
 
-/// The types of the fields of the first constructor.
+/// Returns the field types of the first constructor.
 #[inline(always)]
 fn first_types(blocks: &[Constr<usize>]) -> &[usize]
     requires { 0 < length blocks.now }
@@ -50,7 +50,7 @@ fn first_types(blocks: &[Constr<usize>]) -> &[usize]
     blocks[0].fields.as_slice()
 }
 
-/// The types of the fields of the constructor of a tag.
+/// Returns the field types of the constructor with this tag.
 #[inline(always)]
 fn tagged_types(blocks: &[Constr<usize>], tag: u64) -> Option<&[usize]>
     ensures { option_map (λ types. numbered_from 0 types.now) result
@@ -63,13 +63,13 @@ fn tagged_types(blocks: &[Constr<usize>], tag: u64) -> Option<&[usize]>
     }
 }
 
-/// The shape alone says that no field of an object that fits it has a type.
+/// Returns true if the shape alone shows that no field of a matching object has a type.
 #[inline(always)]
 pub fn needs_nothing(shape: &ShapeOf<usize>) -> bool
     ensures { (heap : List Obj) (v : Val) → IsTrue result → IsSome (fields_of heap v shape.now)
         → fields_of heap v shape.now ≡ Some [] }
 {
-    // These stand together, so that one comparison tells them.
+    // These variants are adjacent, so one comparison suffices.
     matches!(
         shape,
         ShapeOf::Bytes(_) | ShapeOf::Double | ShapeOf::Int32 | ShapeOf::Int64 | ShapeOf::Native

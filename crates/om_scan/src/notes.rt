@@ -1,4 +1,4 @@
-//! What a scan notes on its way: objects that it meets at a second class.
+//! The objects that a scan finds referenced at a second class.
 
 ghost use Rattle.std.specs.Prelude.{◌≡◌, None, length};
 ghost use Rattle.om_scan.specs.Classed.{IsUntouched};
@@ -7,29 +7,29 @@ ghost use Rattle.om_scan.specs.Seconds.{noted_in};
 use crate::seconds::Seconds;
 use std::alloc::Global;
 
-/// The first need of an object that is not met.
+/// The first required field of an object that is not satisfied.
 #[derive(Clone, Copy)]
 pub struct Unmet {
-    /// How many needs come before it.
+    /// The number of typed fields before it.
     pub place: u64,
     pub field: u64,
-    /// Whether the field is no object, and does not fit; else it is an object that was met at
-    /// another type.
+    /// True if the value of the field is no object and does not match; false if it is an object
+    /// that was referenced at another type before.
     pub unfit: bool,
 }
 
-/// Where an object was met at a second class first.
+/// Where an object was referenced at a second class for the first time.
 #[derive(Clone, Copy)]
 pub struct First {
-    /// The object that needs it ..
+    /// The object with the required field ..
     pub object: u64,
     pub ty: usize,
     pub unmet: Unmet,
-    /// .. and the steps that were taken before that object.
+    /// .. and the number of steps before that object.
     pub steps: u64,
 }
 
-/// The objects that were met at a second class, and where the first one was.
+/// The objects that were referenced at a second class, and where the first of them was found.
 #[derive(Drop)]
 pub struct Notes {
     pub seconds: Seconds,
@@ -37,7 +37,7 @@ pub struct Notes {
 }
 
 impl Notes {
-    /// Nothing.
+    /// Creates empty notes.
     pub fn none(alloc: Global) -> Notes
         ensures none { length (noted_in result.seconds) ≡ 0 }
         ensures known { IsUntouched result.seconds.known }

@@ -1,4 +1,4 @@
-//! Objects at types, one after another.
+//! Lists of pairs of an object and a type.
 
 ghost use Rattle.std.specs.Prelude.{◌≡◌, ◌<◌, ◌++◌, ◌∷◌, [], length, slice_get, Some, OnOk};
 
@@ -6,8 +6,8 @@ use om_model::Memory;
 use std::alloc::Global;
 use std::marker::Model;
 
-/// Objects at types, which contracts see as their list. Those before the first number that is not
-/// below 2^32 take half the room of the others.
+/// A list of pairs of an object and a type. The pairs before the first number of 2^32 or more take
+/// half the memory of the others. Contracts treat it as a list.
 #[derive(Drop)]
 pub struct Pairs {
     small: Vec<(u32, u32)>,
@@ -23,7 +23,7 @@ impl Model for Pairs {
 }
 
 impl Pairs {
-    /// No pair.
+    /// Creates an empty list.
     pub fn new(alloc: Global) -> Pairs
         ensures { result ≡ [] }
     {
@@ -33,7 +33,7 @@ impl Pairs {
         }
     }
 
-    /// How many there are.
+    /// Returns the number of pairs.
     #[inline(always)]
     pub fn len(&self) -> usize
         ensures { result ≡ length self.now }
@@ -41,7 +41,7 @@ impl Pairs {
         self.small.len() + self.large.len()
     }
 
-    /// Pair number k.
+    /// Returns the pair at index `k`.
     #[inline(always)]
     pub fn get(&self, k: usize) -> (u64, usize)
         requires { k < length self.now }
@@ -55,7 +55,7 @@ impl Pairs {
         self.large[k - many]
     }
 
-    /// Puts a pair at the end.
+    /// Appends a pair.
     #[inline(always)]
     pub fn push(&mut self, object: u64, ty: usize) -> Result<(), Memory>
         ensures { OnOk result (self.new ≡ self.old ++ (object, ty) ∷ []) }
@@ -64,8 +64,7 @@ impl Pairs {
     }
 }
 
-/// Puts a pair behind small ones, where it is small and there are no others; else behind the
-/// others.
+/// Appends a pair to `small` if its numbers are small and `large` is empty; otherwise to `large`.
 #[inline(always)]
 fn append(
     small: &mut Vec<(u32, u32)>,

@@ -1,4 +1,4 @@
-//! The type at which a scan passes objects.
+//! The type for objects that the scan skips.
 
 ghost use Rattle.std.specs.Prelude.{IfSome};
 ghost use Rattle.om_type_table.specs.Made.{table_of};
@@ -8,8 +8,8 @@ use om_fits::is_asked;
 use om_heap::Heap;
 use om_type_table::TypeTable;
 
-/// A type of whose values nothing is asked; none where the types are more than the objects, since
-/// to look for it would cost more than it saves.
+/// Returns a type that does not constrain its values (a wildcard), if the table has one. If there
+/// are more types than objects, returns `None`, because the search would cost more than it saves.
 pub fn hidden_type(heap: &Heap, table: &TypeTable) -> Option<usize>
     ensures { IfSome result (IsHidden (table_of table.now)) }
 {

@@ -1,4 +1,4 @@
-//! For each type what surely fits it.
+//! The row of each type: a fast path that decides most matches.
 
 ghost use Rattle.std.specs.Prelude.{IfOk};
 ghost use Rattle.om_scan.specs.FittingRows.{AreRows};
@@ -9,7 +9,7 @@ use om_model::Memory;
 use om_type_table::TypeTable;
 use std::alloc::Global;
 
-/// A table of types, and the rows of its first so many types: what surely fits each of them.
+/// A table of types, and the rows of its first types.
 #[derive(Clone, Copy)]
 pub struct Fitting<'a> {
     pub table: &'a TypeTable,
@@ -17,8 +17,8 @@ pub struct Fitting<'a> {
     pub ghost are: { AreRows table.now.nodes rows.now },
 }
 
-/// The rows of all types; none where the types are more than the objects, since to make them would
-/// cost more than it saves.
+/// Returns the rows of all types. If there are more types than objects, returns no rows, because
+/// computing them would cost more than it saves.
 pub fn rows_of(alloc: Global, heap: &Heap, table: &TypeTable) -> Result<Vec<Row>, Memory>
     ensures { IfOk result (λ rows. AreRows table.now.nodes rows.items) }
 {

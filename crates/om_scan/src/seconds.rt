@@ -1,4 +1,4 @@
-//! Objects that were met at a second class or a later one.
+//! Objects that were referenced at a second or later class.
 
 ghost use Rattle.std.specs.Prelude.{◌≡◌, ◌<◌, length, slice_get, Some, OnOk};
 ghost use Rattle.om_type_table.specs.Made.{table_of};
@@ -11,17 +11,17 @@ use om_model::Memory;
 use om_type_table::TypeTable;
 use std::alloc::Global;
 
-/// Objects at types, no object twice at one class.
+/// Pairs of an object and a type. No object occurs twice at the same class.
 #[derive(Drop)]
 pub struct Seconds {
-    /// In the order in which they were noted.
+    /// The pairs in the order in which they were added.
     pub listed: Pairs,
     /// The same objects, each with the class of its type.
     pub known: Classed,
 }
 
 impl Seconds {
-    /// None.
+    /// Creates an empty collection.
     pub fn none(alloc: Global) -> Seconds
         ensures none { length (noted_in result) ≡ 0 }
         ensures known { IsUntouched result.known }
@@ -32,14 +32,14 @@ impl Seconds {
         }
     }
 
-    /// How many there are.
+    /// Returns the number of pairs.
     pub fn len(&self) -> usize
         ensures { result ≡ length (noted_in self.now) }
     {
         self.listed.len()
     }
 
-    /// Object and type number k.
+    /// Returns the object and the type at index `k`.
     pub fn get(&self, k: usize) -> (u64, usize)
         requires { k < length (noted_in self.now) }
         ensures { slice_get (noted_in self.now) k ≡ Some (result.0, result.1) }
@@ -47,7 +47,8 @@ impl Seconds {
         self.listed.get(k)
     }
 
-    /// Notes one of so many objects at a type, unless it is there at an equal one.
+    /// Adds an object at a type, unless it is present at an equal type. `objects` is the number of
+    /// all objects.
     #[inline(never)]
     pub fn note(
         &mut self,

@@ -1,10 +1,10 @@
-//! How many steps were taken.
+//! A counter of steps.
 
 ghost use Rattle.std.specs.Prelude.{◌≡◌, ◌+◌, ◌^◌, ◌<◌, ◌≤◌};
 
 use std::marker::Model;
 
-/// How many steps were taken, at most `u64::MAX`.
+/// The number of steps so far, at most `u64::MAX`.
 #[derive(Drop)]
 pub struct Steps {
     taken: u64,
@@ -19,21 +19,21 @@ impl Model for Steps {
 }
 
 impl Steps {
-    /// No step.
+    /// Creates a counter at 0.
     pub fn new() -> Steps
         ensures { result ≡ 0 }
     {
         Steps { taken: 0 }
     }
 
-    /// How many steps were taken.
+    /// Returns the number of steps so far.
     pub fn taken(&self) -> u64
         ensures { result ≡ self.now }
     {
         self.taken
     }
 
-    /// One more step, while the number has room.
+    /// Adds one step. The counter stays at its maximum.
     pub fn raise(&mut self)
         ensures counted { self.old + 1 < 2 ^ 64 → self.new ≡ self.old + 1 }
         ensures more { self.new ≤ self.old + 1 }
@@ -41,7 +41,7 @@ impl Steps {
     {
         self.taken = self.taken.saturating_add(1);
     }
-    /// So many steps more, while the number has room.
+    /// Adds `more` steps. The counter stays at its maximum.
     pub fn raise_by(&mut self, more: u64)
         ensures counted { self.old + more < 2 ^ 64 → self.new ≡ self.old + more }
         ensures more { self.new ≤ self.old + more }

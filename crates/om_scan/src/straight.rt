@@ -1,4 +1,4 @@
-//! The types of the objects in the order of their numbers.
+//! The scan over the objects in the order of their numbers.
 
 ghost use Rattle.std.specs.Prelude.{ℕ, ◌≡◌, ◌≢◌, ◌<◌, ◌≤◌, ◌+◌, ◌%◌, ◌^◌, ◌↔◌, [], length, take};
 ghost use Rattle.std.specs.Prelude.{slice_get, IsTrue, Some, Ok, IfOk, IfSome, OnOk, MatchOption};
@@ -38,48 +38,49 @@ use om_model::value::Val;
 use om_type_table::TypeTable;
 use std::alloc::Global;
 
-/// What a scan answers.
+/// The result of a scan.
 #[derive(Drop)]
 pub enum Scanned {
     /// The type of each object.
     Told(Cells),
-    /// The same, but some objects were met at other types too.
+    /// The type of each object, but some objects were referenced at other types too.
     Noted(Noted),
-    /// The scan cannot tell: it stopped at the object after these.
+    /// The scan is inconclusive: it ended at the object after these.
     Stopped(Taken),
 }
 
-/// What a scan tells that met objects at a second class.
+/// The result of a scan that found objects referenced at a second class.
 #[derive(Drop)]
 pub struct Noted {
-    /// The type of each object, and which objects the scan had taken when it met the first one at a
-    /// second class.
+    /// The type of each object, and the objects that the scan had checked when it first found an
+    /// object referenced at a second class.
     pub taken: Taken,
     /// The objects at the other types.
     pub seconds: Seconds,
-    /// The steps that were taken until then ..
+    /// The number of steps until then ..
     pub before: u64,
-    /// .. and all.
+    /// .. and the number of all steps.
     pub all: u64,
 }
 
-/// Why the turn of an object ends a scan.
+/// The reason why the scan ends at an object.
 #[derive(Clone, Copy)]
 enum Stop {
-    /// It is not marked.
+    /// The object is not marked.
     Unmarked,
-    /// It does not fit the type that it is marked with.
+    /// The object does not match the type that it is marked with.
     Misfits,
-    /// It fits this type, and this need is not met.
+    /// The object matches this type, but this required field is not satisfied.
     Needs(usize, Unmet),
 }
 
-/// Tries the objects in the order of their numbers, the first at type 0, and each other at the
-/// type at which it was met first. One that is not met before its turn is passed: it is told at a
-/// type of whose values nothing is asked, if the table has one. Where all is met or passed and
-/// fits, the answer is the type of each, with what was met at unequal types too; where not, what
-/// was taken until then, or until the first that was met at an unequal type. A step is counted for
-/// each object taken that is not passed, and for each need tested.
+/// Checks the objects in the order of their numbers: the first at type 0, and each other object at
+/// the type at which it was first referenced. If an object is not referenced before its turn, the
+/// scan skips it: it gives the object a wildcard type, if the table has one. If every object
+/// matches or is skipped, returns the type of each, together with the objects referenced at unequal
+/// types. Otherwise returns the objects checked so far, or those before the first object referenced
+/// at an unequal type. Counts one step for each object that is checked and not skipped, and one for
+/// each required field that is tested.
 pub fn scan(
     alloc: Global,
     heap: &Heap,
@@ -121,7 +122,7 @@ pub fn scan(
     Ok(told(heap, fitting.table, &marks, notes, types, taken, steps))
 }
 
-/// What is told where all objects were taken.
+/// Returns the result after all objects were checked.
 #[inline(never)]
 fn told(
     heap: &Heap,
@@ -155,8 +156,8 @@ fn told(
     })
 }
 
-/// What is taken where the turn of object o ends the scan, and in how many steps: where objects
-/// were noted, what was taken before the first of them was.
+/// Returns the objects checked before the scan ended at object `o`, and the number of steps. If
+/// objects were noted, returns the state before the first of them.
 #[inline(never)]
 fn stopped(
     heap: &Heap,
@@ -181,7 +182,7 @@ fn stopped(
     }
 }
 
-/// What was taken before the first object was noted, and in how many steps.
+/// Returns the objects checked before the first object was noted, and the number of steps.
 #[inline(never)]
 fn until_first(
     heap: &Heap,
@@ -203,8 +204,8 @@ fn until_first(
     stop_at(heap, table, marks, types, first.object, stop, before)
 }
 
-/// What is taken where the turn of object o ends a scan that noted nothing, and in how many steps:
-/// the object too where it fits.
+/// Returns the objects checked if the scan ends at object `o` and nothing was noted, and the number
+/// of steps. Includes object `o` if it matches its type.
 #[inline(never)]
 fn stop_at(
     _heap: &Heap,
@@ -270,9 +271,9 @@ fn stop_at(
     }
 }
 
-/// Takes object o at the type that it is marked with; one that is not marked is passed. Where it is
-/// not marked and cannot be passed, does not fit or a need is not met, it is not taken: the answer
-/// is no, and `stop` says why.
+/// Checks object `o` at the type that it is marked with, or skips it if it is not marked. Returns
+/// false if it is not marked and cannot be skipped, does not match, or has a required field that is
+/// not satisfied. In this case `stop` is the reason.
 #[inline(always)]
 fn take_object(
     heap: &Heap,
@@ -317,9 +318,8 @@ fn take_object(
     Ok(met)
 }
 
-/// Passes object o, which is not marked, where it can be: it is told at a type of whose values
-/// nothing is asked, and no step is counted. A later need at another type finds it marked with that
-/// type, and is noted.
+/// Skips object `o`, which is not marked: marks it with a wildcard type and counts no step. Returns
+/// false if there is no such type. If the object is later required at another type, it is noted.
 #[cold]
 #[inline(never)]
 fn pass_object(
@@ -359,8 +359,9 @@ fn pass_object(
     Ok(true)
 }
 
-/// Tests the needs of an object, which has this word and fits, at a type, and counts the steps. The
-/// answer is whether all are met; where not, `stop` says the first that is not.
+/// Tests the required fields of an object that matches its type, and counts the steps. `word` is
+/// the word of the object. Returns true if all are satisfied; otherwise `stop` holds the first that
+/// is not.
 #[inline(always)]
 fn meet_all(
     heap: &Heap,
@@ -408,7 +409,7 @@ fn meet_all(
     Ok(met)
 }
 
-/// The same at any type.
+/// The same for a type of any shape.
 #[cold]
 #[inline(never)]
 fn meet_others(
@@ -446,7 +447,7 @@ fn meet_others(
     meet_counted(heap, fitting, marks, notes, o, word, ty, needs, taken, stop)
 }
 
-/// The same where these are the needs.
+/// The same for these typed fields.
 #[inline(always)]
 fn meet_counted(
     heap: &Heap,
@@ -490,8 +491,8 @@ fn meet_counted(
     Ok(true)
 }
 
-/// Tests the needs of an object, which has this word, at a type. The answer is the first that is
-/// not met.
+/// Tests the required fields of an object and returns the first that is not satisfied. `word` is
+/// the word of the object.
 #[inline(always)]
 fn meet_each(
     heap: &Heap,
@@ -546,8 +547,8 @@ fn meet_each(
     Ok(None)
 }
 
-/// Tests field `place` of those of an object that have types at a type; it has this word. An object
-/// that was met before at another class is noted, where something is asked of it.
+/// Tests the typed field at index `place` of an object. If its value is an object that was
+/// referenced at another class and its type constrains values, notes that object.
 #[inline(always)]
 fn meet_need(
     heap: &Heap,
@@ -607,8 +608,8 @@ fn meet_need(
     Ok(true)
 }
 
-/// Notes the object of a word, which was met before at another class, at a type. It is the value of
-/// a need of object o.
+/// Notes an object at a type. It was referenced at another class before, and is the value of a
+/// required field of object `o`.
 #[cold]
 #[inline(never)]
 fn note(
@@ -652,7 +653,7 @@ fn note(
     Ok(())
 }
 
-/// The first that is told, or this one.
+/// Returns `told` if it is present, and `own` otherwise.
 fn first_or(told: Option<First>, own: First) -> Option<First>
     ensures { result ≡ first_or told own }
 {
@@ -662,8 +663,9 @@ fn first_or(told: Option<First>, own: First) -> Option<First>
     }
 }
 
-/// Tests the value of a word at a type: an object that is not marked is marked with the type, and
-/// tested at its turn, where something is asked of it.
+/// Tests the value of a word at a type, and returns true if it is satisfied. If the value is an
+/// object without a mark and the type constrains its values, marks the object with the type. Marked
+/// objects are checked at their turn.
 #[inline(always)]
 fn meet(
     heap: &Heap,
@@ -715,7 +717,7 @@ fn meet(
     Ok(marked == ty || is_same(fitting.table, marked, ty))
 }
 
-/// Whether two types are equal.
+/// Returns true if two types are equal.
 #[cold]
 #[inline(never)]
 fn is_same(table: &TypeTable, t: usize, u: usize) -> bool

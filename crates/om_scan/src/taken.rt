@@ -1,4 +1,4 @@
-//! What a scan took before it stopped.
+//! The objects that a scan checked before it ended.
 
 ghost use Rattle.std.specs.Prelude.{ℕ, ◌≡◌, [], slice_get, IfOk};
 ghost use Rattle.om_scan.specs.Taken.{types_in, seen_of, rest_of, is_unfit_field, is_unfit_object};
@@ -7,32 +7,32 @@ use crate::cells::Cells;
 use om_model::Memory;
 use std::alloc::Global;
 
-/// The first objects, each at the type at which a scan took it.
+/// The first objects, each with the type at which the scan checked it.
 #[derive(Drop)]
 pub struct Taken {
-    /// The types, by the numbers of the objects.
+    /// The types, indexed by object number.
     pub types: Cells,
-    /// How many there are: those behind them are not taken.
+    /// The number of checked objects. The objects after them were not checked.
     pub objects: usize,
-    /// The needs of the last one were tested at the fields below this number; those of each before
-    /// it at all fields.
+    /// The required fields of the last object were tested below this field index; those of the
+    /// earlier objects were all tested.
     pub seen: u64,
-    /// What was tested and does not fit.
+    /// A mismatch that was found.
     pub unfit: Unfit,
 }
 
-/// What the last test of a scan found.
+/// The mismatch that the last test of a scan found.
 #[derive(Clone, Copy)]
 pub enum Unfit {
     Nothing,
-    /// This field of this object does not fit, and is no object.
+    /// This field of this object does not match. Its value is no object.
     Field(u64, u64),
-    /// This object, which was met but not taken, does not fit.
+    /// This object does not match its type. It was referenced but not checked further.
     Object(u64),
 }
 
 impl Taken {
-    /// No object.
+    /// Creates a value with no objects.
     pub fn none(alloc: Global) -> Result<Taken, Memory>
         ensures none { IfOk result (λ taken. types_in taken ≡ []) }
         ensures rest { IfOk result (λ taken. (size : ℕ) → rest_of size taken.seen ≡ 0) }
@@ -45,7 +45,7 @@ impl Taken {
         })
     }
 
-    /// The type at which an object was taken.
+    /// Returns the type at which an object was checked.
     #[inline(always)]
     pub fn type_of(&self, object: usize) -> Option<usize>
         ensures { result ≡ slice_get (types_in self.now) object }
@@ -56,7 +56,7 @@ impl Taken {
         None
     }
 
-    /// Below which number the needs of an object's fields were tested, where the object was taken.
+    /// Returns the field index below which the required fields of a checked object were tested.
     pub fn seen_of(&self, object: u64) -> u64
         ensures { result ≡ seen_of self.now object }
     {
@@ -67,7 +67,7 @@ impl Taken {
         }
     }
 
-    /// Whether this field was found not to fit.
+    /// Returns true if this field was found to be a mismatch.
     pub fn is_unfit_field(&self, object: u64, field: u64) -> bool
         ensures { result ≡ is_unfit_field self.now.unfit object field }
     {
@@ -77,7 +77,7 @@ impl Taken {
         }
     }
 
-    /// Whether this object was found not to fit.
+    /// Returns true if this object was found to be a mismatch.
     pub fn is_unfit_object(&self, object: u64) -> bool
         ensures { result ≡ is_unfit_object self.now.unfit object }
     {

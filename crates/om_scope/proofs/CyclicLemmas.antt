@@ -1,4 +1,5 @@
--- A declaration breaks the rule against cycles where its node lies on a cycle of the graph of steps.
+-- A declaration breaks the rule against cycles if and only if its node lies on a cycle of the graph
+-- of steps.
 use Rattle.std.proofs.Common.{ℕ, ◌<◌, ◌+◌, ◌≡◌, ⊎_elim, inl, inr, Option, Some, None, List, [], ◌∷◌}
 use Rattle.std.proofs.Common.{Bool, false, length, sym, ap, subst, arith, ◌∙◌}
 use Rattle.std.proofs.lemmas.List.{length-map}
@@ -166,7 +167,7 @@ module _ (graph : Graph) (names : List Placed) (i : ℕ) (p : Placed) (best : Op
       (least_same (λ k. (p.0 ≡ k) × IsOnCycle graph i) (CyclicAt graph names i) (place_if back p.0)
       (least_if (IsOnCycle graph i) back p.0 is.0 is.1) (λ k here. (p, p_is, here)) same_place)
 
-  -- a place that is no lesser one
+  -- If a name does not come before the best one, then the best one stays least.
   pub late_cyclic :
       ¬ ComesBefore p.0 best → IsLeast (Before (CyclicAt graph names) (i + 1)) best
   late_cyclic late = by_best best so_far late where

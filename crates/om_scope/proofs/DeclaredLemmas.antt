@@ -1,4 +1,4 @@
--- The declaration of a name is the first that has it.
+-- The declaration of a name is the first one with this name.
 use Rattle.std.proofs.Common.{ℕ, zero, suc, ◌<◌, ◌≡◌, ◌≢◌, Option, Some, None, List, [], ◌∷◌, Bool}
 use Rattle.std.proofs.Common.{true, false, cond, length, get_or, refl, sym, ap, subst, arith, ◌∙◌}
 use Rattle.std.specs.Prelude.{slice_get, option_map, is_some, IsSome, IsTrue, ◌↔◌}
@@ -46,7 +46,7 @@ find_none (e ∷ es) name none =
     (other_bytes e.name name (λ is. none 0 (omega arith) (ap Some is)))
     ∙ find_none es name (λ i below. none (suc i) (omega arith))
 
--- the number of a name leads to its declaration
+-- The number of a name is the index of its declaration.
 pub found_at :
     (decls : List Decl) (name : List ℕ) (j : ℕ)
     → IsFirstPlace (names_of_decls decls) (length decls) name j
@@ -71,14 +71,14 @@ pub nowhere :
 nowhere names n name None is at = at
 nowhere names n name (Some i) is at = absurd (none-some i (sym is))
 
--- the name of an item
+-- The name of an item.
 pub decl_named :
     (decls : List Decl) (j : ℕ) (d : Decl) → j < length decls → d ≡ get_or decls j d
     → slice_get (names_of_decls decls) j ≡ Some d.name
 decl_named decls j d below read = slice_get-map (λ (x : Decl). x.name) decls j
     ∙ ap (option_map (λ (x : Decl). x.name)) (slice_get_read decls (length decls) j d refl below read)
 
--- a name is predeclared where it takes arguments as such
+-- A name is predeclared if and only if it has a predeclared arity.
 pub known :
     (base : Option Predeclared) (test : Bool)
     → test ≡ is_some (option_map predeclared_arity base) → IsTrue test ↔ IsSome base

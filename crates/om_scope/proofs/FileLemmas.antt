@@ -1,4 +1,4 @@
--- What breaks a rule in what the code knows of a file breaks it in the file, and the other way.
+-- The collected data of a file breaks a rule if and only if the file breaks it.
 use Rattle.std.proofs.Common.{ℕ, ◌<◌, ◌≤◌, ◌≡◌, ◌≢◌, ◌⊎◌, ⊎_elim, inl, inr, List, [], ◌∷◌}
 use Rattle.std.proofs.Common.{Option, Some, None, Bool, true, false, cond, length, refl, sym, ap, subst, arith, ◌∙◌}
 use Rattle.std.specs.Prelude.{slice_get, Contains, ◌↔◌, map, option_map}
@@ -85,7 +85,7 @@ uses_break decls uses occurrences are rule Breaks group same k = (
 
 -- ---- the declaration of a name
 
--- a name that is found is that of a declaration of the file
+-- If a name is found, then it is the name of a declaration of the file.
 found_in :
     (all : List DeclPlaces) (name : List ℕ) (x : Decl)
     → declaration_of (decls_of all) name ≡ Some x
@@ -134,7 +134,7 @@ pub name_placed :
 name_placed all j d at = slice_get-map (λ (x : DeclPlaces). (x.place, x.decl.name)) all j
     ∙ ap (option_map (λ (x : DeclPlaces). (x.place, x.decl.name))) at
 
--- where names are distinct, no earlier declaration has the name of one
+-- If names are distinct, then no earlier declaration has the name of a declaration.
 pub not_earlier :
     (all : List DeclPlaces) → ((k : ℕ) → ¬ NamesBreak all twice k) → (name : List ℕ) (j : ℕ)
     (e : DeclPlaces) → slice_get all j ≡ Some e → e.decl.name ≡ name → (i : ℕ) → i < j
@@ -153,7 +153,7 @@ not_earlier all distinct name j e at named i before same =
       second = name_placed all j e at ∙ ap (λ x. Some (e.place, x)) named;
     }))
 
--- where names are distinct, a declaration is what its name means
+-- If names are distinct, then the name of a declaration refers to it.
 first_named :
     (all : List DeclPlaces) → ((k : ℕ) → ¬ NamesBreak all twice k) → (name : List ℕ)
     (e : DeclPlaces) → Contains all e → e.decl.name ≡ name
@@ -164,7 +164,7 @@ first_named all distinct name e among named =
     find_first (decls_of all) name j e.decl (decl_at all j e at) named
     (not_earlier all distinct name j e at named)
 
--- ---- one declaration, of those of the file
+-- ---- one declaration of the file
 
 module _ (all : List DeclPlaces) (d : DeclPlaces) (site : Site) (is : IsSite site d) where
   rows_break :

@@ -1,4 +1,4 @@
--- Rules are judged one after another.
+-- Rules are checked in the order of their turns.
 use Rattle.std.proofs.Common.{ℕ, zero, suc, List, inl, ◌+◌, ◌≡◌, ⊎_elim, Some, refl, sym, ap, subst, arith, ◌∙◌}
 use Rattle.std.proofs.lemmas.Bool.{cases_lt}
 use Rattle.om_types.specs.Occurrence.{DeclPlaces}
@@ -10,7 +10,7 @@ use Rattle.om_scope.specs.Breaks.{WantsDistinctNames, rule_of}
 use Rattle.om_scope.specs.First.{KeepsBefore}
 use Rattle.om_scope.specs.Least.{IsLeast}
 
--- the rule of a turn
+-- The rule with this turn.
 rule_of_turn : ℕ → Rule
 rule_of_turn zero = scope.twice
 rule_of_turn (suc zero) = scope.unknown_name
@@ -59,7 +59,7 @@ first_at Breaks n keeps rule is k least = record {
   earlier = λ other j before. keeps other j (omega (arith, is, before));
 }
 
--- at its turn no name is declared twice
+-- At the turn of the rule, no name is declared twice.
 pub distinct_by_then :
     (all : List DeclPlaces) (n : ℕ) → KeepsBefore (BreaksInFile all) n → (rule : NameRule)
     → turn (rule_of rule) ≡ n → WantsDistinctNames rule → (k : ℕ) → ¬ NamesBreak all scope.twice k

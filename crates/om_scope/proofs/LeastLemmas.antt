@@ -1,4 +1,4 @@
--- The least place of several, and of the items of a list, one after another.
+-- The least position of several, and of the items of a list in order.
 use Rattle.std.proofs.Common.{ℕ, ◌<◌, ◌≤◌, ◌+◌, ◌≡◌, ◌⊎◌, ⊎_elim, inl, inr, min, Option, Some, None}
 use Rattle.std.proofs.Common.{List, Bool, true, false, length, get_or, refl, sym, ap, subst, arith, ◌∙◌}
 use Rattle.std.specs.Prelude.{slice_get, Contains, IsTrue, ◌↔◌}
@@ -13,7 +13,7 @@ pub least_same :
 least_same P Q None least to from = λ k holds. least k (from k holds)
 least_same P Q (Some k) least to from = (to k least.0, λ j before holds. least.1 j before (from j holds))
 
--- where there is no least place, there is none
+-- If there is no least position, then there is no position.
 pub least_none :
     (P : ℕ → Type 0) (o : Option ℕ) → o ≡ None → IsLeast P o → (k : ℕ) → ¬ P k
 least_none P o is least = subst (IsLeast P) is least
@@ -35,7 +35,7 @@ least_of_either P Q (Some j) (Some k) first second = ⊎_elim
     (inr second.0, λ i before. ⊎_elim (first.1 i (omega arith)) (second.1 i before)))
     (cases_lt j k)
 
--- one place, where a test says so
+-- One position with a test.
 pub least_if :
     (Q : Type 0) (test : Bool) (place : ℕ) → (IsTrue test → Q) → (Q → IsTrue test)
     → IsLeast (λ k. (place ≡ k) × Q) (place_if test place)
@@ -43,9 +43,9 @@ least_if Q true place to from =
     ((refl, to refl), λ j before here. let same : place ≡ j = here.0 in absurd (omega arith))
 least_if Q false place to from = λ k here. absurd (false≢true (from here.1))
 
--- ---- one after another
+-- ---- items in order
 
--- at a number below this one
+-- At an index below this one.
 abbrev pub Before : (ℕ → ℕ → Type 0) → ℕ → ℕ → Type 0
 Before At i k = (j : ℕ) × (j < i) × At j k
 
@@ -69,7 +69,7 @@ least_more At i best found so_far here =
     (λ k. (before_more At i k).0) (λ k. (before_more At i k).1)
 
 module _ {X : Type 0} (xs : List X) (Holds : X → ℕ → Type 0) where
-  -- the item of this number
+  -- The item at this index.
   abbrev pub AtItem : ℕ → ℕ → Type 0
   AtItem j k = (x : X) × (slice_get xs j ≡ Some x) × Holds x k
 
@@ -93,7 +93,7 @@ module _ {X : Type 0} (xs : List X) (Holds : X → ℕ → Type 0) where
       least_same (Before AtItem (length xs)) (λ k. (x : X) × Contains xs x × Holds x k) best least
       (λ k. (before_end k).0) (λ k. (before_end k).1)
 
-  -- the next turn of a loop over the items
+  -- The next iteration of a loop over the items.
   pub more_items :
       (i : ℕ) (x : X) (best found next : Option ℕ) → i < length xs → x ≡ get_or xs i x
       → IsLeast (Before AtItem i) best → IsLeast (Holds x) found → next ≡ sooner best found
@@ -102,14 +102,14 @@ module _ {X : Type 0} (xs : List X) (Holds : X → ℕ → Type 0) where
       subst (IsLeast (Before AtItem (i + 1))) (sym is) (least_more AtItem i best found so_far
       (least_at i x found (slice_get_read xs (length xs) i x refl below read) here))
 
-  -- the end of such a loop
+  -- The end of a loop over the items.
   pub all_items :
       (i : ℕ) (best : Option ℕ) → i ≤ length xs → length xs ≤ i → IsLeast (Before AtItem i) best
       → IsLeast (λ k. (x : X) × Contains xs x × Holds x k) best
   all_items i best le ge least = let e : i ≡ length xs = omega arith in
       least_of_items best (subst (λ n. IsLeast (Before AtItem n) best) e least)
 
--- the next turn of a loop that tests each item
+-- The next iteration of a loop that tests each item.
 pub more_tested :
     {X : Type 0} (xs : List X) (place : X → ℕ) (Breaks : X → Type 0) (i : ℕ) (x : X)
     (best found next : Option ℕ) (test : Bool) → i < length xs → x ≡ get_or xs i x

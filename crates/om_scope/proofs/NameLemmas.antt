@@ -39,7 +39,7 @@ places_at names n name q numbers true to from here places =
 places_at names n name q numbers false to from here places =
     more_places names n q name (numbers q) here (λ same. absurd (false≢true (from same))) (places q)
 
--- the numbers with the next name added are its places too
+-- After the next name is added, the numbers are still first indices.
 pub places_more :
     (names : List (List ℕ)) (n : ℕ) (name : List ℕ) (numbers next : List ℕ → Option ℕ)
     → slice_get names n ≡ Some name → ArePlaces names n numbers
@@ -49,7 +49,7 @@ places_more names n name numbers next here places is = λ q.
     (places_at names n name q numbers (bytes_eq name q) (bytes_eq-Decides name q).0
     (bytes_eq-Decides name q).1 here places)
 
--- a name that the table of all names does not have is none of them
+-- If the table of all names does not have a name, then the name is none of them.
 pub absent :
     (names : List (List ℕ)) (name : List ℕ) (found : Option ℕ) (test : Bool)
     → IsPlace names (length names) name found → is_some found ≡ not test

@@ -1,4 +1,4 @@
--- A node that has a rank lies on no cycle.
+-- A node with a rank lies on no cycle.
 use Rattle.std.proofs.Common.{ℕ, ◌<◌, ◌+◌, ◌≡◌, ◌⊎◌, ⊎_elim, inl, inr, Option, Some, None, List, [], ◌∷◌, true, false}
 use Rattle.std.proofs.Common.{length, refl, sym, ap, subst, arith, ◌∙◌}
 use Rattle.std.specs.Prelude.{slice_get, slice_set, Contains}
@@ -15,9 +15,9 @@ use Rattle.om_scope.specs.Graph.{Graph, IsEdge, IsPath, IsOnCycle}
 use Rattle.om_scope.specs.Ranks.{HasRank, AreRanks, RanksBelow, is_rank, is_ranked}
 use Rattle.om_scope.proofs.GraphLemmas.{slice_get-set_same, slice_get-set_other}
 
--- ---- what ranks show
+-- ---- consequences of ranks
 
--- a rank falls along each path
+-- Ranks decrease along each path.
 falls :
     (graph : Graph) (all : List Mark) → AreRanks graph all → (i rank : ℕ) (between : List ℕ) (j : ℕ)
     → HasRank all i rank → IsPath graph i between j
@@ -57,7 +57,7 @@ rank_of all i has_rank = rank_in (slice_get all i) has_rank
 unranked : (all : List Mark) (i rank : ℕ) → is_ranked all i ≡ false → ¬ HasRank all i rank
 unranked all i rank has_none has = false≢true (sym has_none ∙ ap is_rank has)
 
--- the mark of a node without a rank changes
+-- The mark of a node without a rank changes.
 module _ (all : List Mark) (i : ℕ) (mark : Mark) (unranked_before : is_ranked all i ≡ false) where
   still_ranked : (j rank : ℕ) → HasRank all j rank → HasRank (slice_set all i mark) j rank
   still_ranked j rank has =
@@ -82,7 +82,7 @@ module _ (all : List Mark) (i : ℕ) (mark : Mark) (unranked_before : is_ranked 
           omega (arith, length-set all i mark)
     by_place (inr apart) = inl (sym (slice_get-set_other all i j mark apart) ∙ has)
 
-  -- a mark that is no rank
+  -- The new mark is not a rank.
   pub ranks_opened :
       (graph : Graph) → AreRanks graph all → (mark ≡ marks.Opened)
       → AreRanks graph (slice_set all i mark)
@@ -105,7 +105,7 @@ module _ (all : List Mark) (i : ℕ) (mark : Mark) (unranked_before : is_ranked 
       (λ here. let e : marks.Opened ≡ marks.Ranked rank = sym is ∙ here.1 in absurd (cc))
       (ranked_before j rank has)
 
-  -- a rank above those of the successors
+  -- The new mark is a rank above those of the successors.
   pub ranks_more :
       (graph : Graph) (rank : ℕ) → AreRanks graph all → RanksBelow all rank
       → mark ≡ marks.Ranked rank

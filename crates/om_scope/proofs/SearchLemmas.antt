@@ -1,4 +1,4 @@
--- A search ends with the nodes that can be reached.
+-- At the end of a search, exactly the reachable nodes are seen.
 use Rattle.std.proofs.Common.{ℕ, zero, suc, ◌<◌, ◌≤◌, ◌+◌, ◌≡◌, ◌⊎◌, ⊎_elim, inl, inr, Option, Some, None, List, [], ◌∷◌, ◌++◌, Bool, true, false, cond}
 use Rattle.std.proofs.Common.{length, get_or, refl, sym, ap, subst, arith, ◌∙◌}
 use Rattle.std.specs.Prelude.{slice_get, slice_set, Contains, IsTrue, ◌↔◌}
@@ -31,7 +31,7 @@ reaches_more graph start i j from edge = ⊎_elim
     (λ path. (path.0 ++ i ∷ [], path_more graph start path.0 i j path.1 edge))
     from
 
--- ---- a node is seen
+-- ---- a node becomes seen
 
 differ : Some false ≡ Some true → ⊥
 differ e = false≢true (same_Some false true e)
@@ -57,7 +57,7 @@ module _ (graph : Graph) (start node next : ℕ) (seen : List Bool) (stack : Lis
     by_place (inl same) = inl same
     by_place (inr apart) = inr (sym (slice_get-set_other seen next i true apart) ∙ now)
 
-  -- what waits then
+  -- The waiting nodes after the push.
   waits : (i : ℕ) → Contains (node ∷ stack) i → Contains (node ∷ (stack ++ next ∷ [])) i
   waits i among = ⊎_elim
       (λ here. subst (Contains (node ∷ (stack ++ next ∷ []))) here (Contains-first node (stack ++ next ∷ [])))
@@ -133,7 +133,7 @@ search_expanded graph start node seen stack search expanded = record {
 
 -- ---- the loop over the successors of a node
 
--- the first so many of the node's successors are seen
+-- The first successors of the node, up to the loop index, are seen.
 pub record IsExpanding (graph : Graph) (node : ℕ) (before : List Bool) (waiting : List ℕ)
     (seen : List Bool) (stack nodes : List ℕ) (count : ℕ) : Type 0 where
   pub search :
@@ -219,9 +219,9 @@ search_first graph start seen stack below are waits =
           false≢true (sym (get_or-replicate (length graph) i false true within)
           ∙ get_or_from_slice_get (replicate (length graph) false) i true true seen_i)
 
--- ---- what waits
+-- ---- waiting nodes
 
--- the last one of the stack is taken
+-- The last node of the stack is popped.
 pub search_pop :
     (graph : Graph) (start node : ℕ) (seen : List Bool) (stack : List ℕ)
     → IsSearch graph start seen (stack ++ node ∷ []) → IsSearch graph start seen (node ∷ stack)
@@ -254,7 +254,7 @@ seen_or_unseen seen i below = by_mark (slice_get seen i) refl where
   by_mark (Some true) is_seen = inl is_seen
   by_mark (Some false) unseen = inr unseen
 
--- a node that has an edge is one of the graph
+-- If a node has an edge, then it is a node of the graph.
 pub edge_within : (graph : Graph) (i j : ℕ) → IsEdge graph i j → i < length graph
 edge_within [] i j edge = absurd (Contains-none j edge)
 edge_within (nodes ∷ graph) zero j edge = omega arith
@@ -285,7 +285,7 @@ search_end graph start seen search below =
           (λ unseen. absurd (expanded i from next path.0 unseen))
           (seen_or_unseen seen next (search_within next (path_within graph next between start path.1)))
 
--- what is read of the first node at the end
+-- The mark of the start at the end of the search.
 pub search_answer :
     (graph : Graph) (start : ℕ) (seen : List Bool) (stack : List ℕ) (answer : Bool)
     → IsSearch graph start seen stack → stack ≡ [] → start < length graph

@@ -1,4 +1,4 @@
--- Names that stand twice in a row.
+-- Names that occur twice in a list.
 use Rattle.std.proofs.Common.{ℕ, ◌<◌, ◌+◌, ◌≡◌, ◌≢◌, Option, Some, None, List}
 use Rattle.std.proofs.Common.{◌≤◌, length, get_or, refl, sym, ap, subst, arith, ◌∙◌}
 use Rattle.std.specs.Prelude.{slice_get, MatchOption, IsTrue, map, is_some, option_map}
@@ -13,7 +13,7 @@ use Rattle.om_scope.proofs.LeastLemmas.{least_same, least_if, least_more, Before
 abbrev pub names_of : List Placed → List (List ℕ)
 names_of row = map (λ (p : Placed). p.1) row
 
--- the name with this number stands earlier too
+-- The name occurs before this index too.
 abbrev pub StandsBefore : List Placed → ℕ → List ℕ → Type 0
 StandsBefore row j name =
     (i : ℕ) × (i < j) × (place : ℕ) × (slice_get row i ≡ Some (place, name))
@@ -82,7 +82,7 @@ seconds_of_row row best least =
       (second.name, second.second, (second.earlier, second.before, second.place, second.first)),
     ))
 
--- the next turn of the loop over a row
+-- The next iteration of the loop over a list.
 pub more_seconds :
     (row : List Placed) (j : ℕ) (p : Placed) (numbers : List ℕ → Option ℕ)
     (best had found next : Option ℕ) → j < length row → p ≡ get_or row j p
@@ -101,7 +101,7 @@ pub all_seconds :
 all_seconds row j best le ge least = let e : j ≡ length row = omega arith in
     seconds_of_row row best (subst (λ n. IsLeast (Before (SecondAt row) n) best) e least)
 
--- the name of an item of a row
+-- The name of an item of a list.
 pub name_at :
     (row : List Placed) (j : ℕ) (p : Placed) → j < length row → p ≡ get_or row j p
     → slice_get (names_of row) j ≡ Some p.1

@@ -1,4 +1,4 @@
--- The graph of steps, one declaration after another.
+-- The graph of steps, declaration by declaration.
 use Rattle.std.proofs.Common.{ℕ, ◌<◌, ◌≤◌, ◌+◌, ◌≡◌, ⊎_elim, inl, inr, Some, List, [], ◌∷◌, ◌++◌}
 use Rattle.std.proofs.Common.{length, get_or, sym, ap, subst, arith, ◌∙◌}
 use Rattle.std.specs.Prelude.{slice_get, Contains, ◌↔◌}
@@ -18,7 +18,7 @@ use Rattle.om_scope.proofs.LeastLemmas.{Before, AtItem, before_more, before_end}
 -- ---- the steps of one declaration
 
 module _ {X : Type 0} (xs : List X) (LeadsTo : X → ℕ → Type 0) where
-  -- those to which the first so many items lead
+  -- The declarations to which the first uses lead, up to an index.
   abbrev pub AreLed : ℕ → List ℕ → Type 0
   AreLed i found = (j : ℕ) → Contains found j ↔ Before (AtItem xs LeadsTo) i j
 
@@ -64,7 +64,7 @@ module _ {X : Type 0} (xs : List X) (LeadsTo : X → ℕ → Type 0) where
 
 -- ---- the graph
 
--- the steps of the first so many declarations
+-- The steps of the first declarations, up to index i.
 pub record AreFirstSteps (decls : List Decl) (sites : List Site) (graph : Graph) (i : ℕ) : Type 0 where
   pub counted : length graph ≡ i
   pub edges :

@@ -1,4 +1,5 @@
--- The brackets among occurrences, and brackets by the nodes of their types.
+-- The brackets (polymorphic variant types) among occurrences, and brackets by the nodes of their
+-- types.
 use Rattle.std.specs.Prelude.{ℕ, ◌≡◌, Option, Some, None, List, length, slice_get, map, All}
 use Rattle.std.specs.List.{filter_map, flat_map}
 use Rattle.om_types.specs.Ty.{Ty, bracket, tag, tag_of, including}
@@ -15,13 +16,13 @@ as_bracket (use_of k name arguments in_tag) = None
 as_bracket (variable_at k name) = None
 as_bracket (bracket_of items) = Some items
 
--- the items of each
+-- The items of each bracket among the occurrences.
 abbrev pub brackets_among : List Occurrence → List (List PlacedItem)
 brackets_among all = filter_map as_bracket all
 
 -- ---- brackets by nodes
 
--- the bracket that has the last item alone
+-- The bracket that consists of the last item only.
 abbrev pub item_of : Ty → Ty
 item_of (tag whole x) = tag bracket x
 item_of (tag_of whole x argument) = tag_of bracket x argument
@@ -48,12 +49,12 @@ all_told found = flat_map type_told found
 abbrev pub IsOrdered : TypeBrackets → Type 0
 IsOrdered t = AreOrdered t.nodes.now
 
--- these are the brackets among the occurrences, in their order
+-- These are the brackets among the occurrences, in the same order.
 pub record AreBrackets (found : List TypeBrackets) (all : List Occurrence) : Type 0 where
   pub ordered : All IsOrdered found
   pub told : all_told found ≡ brackets_among all
 
--- those of each declaration
+-- The brackets of each declaration.
 pub record AreFileBrackets (found : List (List TypeBrackets)) (all : List DeclPlaces) : Type 0 where
   pub counted : length found ≡ length all
   pub stand :

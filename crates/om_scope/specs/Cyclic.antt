@@ -3,16 +3,16 @@ use Rattle.std.specs.Prelude.{ℕ, ◌<◌, ◌≡◌, List, length, Option, Non
 use Rattle.om_types.specs.Occurrence.{Placed}
 use Rattle.om_scope.specs.Graph.{Graph, IsOnCycle}
 
--- node i lies on a cycle, and its name stands at lexeme k
+-- Node i lies on a cycle, and its name is at lexeme k.
 abbrev pub CyclicAt : Graph → List Placed → ℕ → ℕ → Type 0
 CyclicAt graph names i k =
     (p : Placed) × (slice_get names i ≡ Some p) × ((p.0 ≡ k) × IsOnCycle graph i)
 
--- some node does
+-- Some node lies on a cycle, and its name is at lexeme k.
 abbrev pub IsCyclicName : Graph → List Placed → ℕ → Type 0
 IsCyclicName graph names k = (i : ℕ) × (i < length names) × CyclicAt graph names i k
 
--- the place comes before this one, where there is one
+-- There is no best position so far, or the position is less than it.
 abbrev pub ComesBefore : ℕ → Option ℕ → Type 0
 ComesBefore place None = Unit {0}
 ComesBefore place (Some best) = place < best

@@ -1,14 +1,15 @@
--- The first of the rules on names that is broken.
+-- The first rule on names that is broken.
 use Rattle.std.specs.Prelude.{ℕ, ◌<◌, Option, None, Some}
 use Rattle.om_types.specs.Scope.{IsFirst, Rule, turn}
 use Rattle.om_scope.specs.declared.first.Broken.{Broken}
 use Rattle.om_scope.specs.Breaks.{rule_of}
 
--- no rule whose turn comes before this one is broken
+-- No rule with a turn before n is broken.
 abbrev pub KeepsBefore : (Rule → ℕ → Type 0) → ℕ → Type 0
 KeepsBefore Breaks n = (rule : Rule) (k : ℕ) → turn rule < n → ¬ Breaks rule k
 
--- the first of these rules that is broken, with its least lexeme; or none of them is broken
+-- The first broken rule with a turn before n, with its least lexeme. `None` means that none of
+-- these rules is broken.
 abbrev pub IsFirstBefore : (Rule → ℕ → Type 0) → ℕ → Option Broken → Type 0
 IsFirstBefore Breaks n None = KeepsBefore Breaks n
 IsFirstBefore Breaks n (Some broken) =

@@ -1,22 +1,22 @@
--- Graphs by numbers: of each node its successors. Paths and cycles.
+-- Graphs as lists of successors, indexed by node. Paths and cycles.
 use Rattle.std.specs.Prelude.{ℕ, List, [], ◌∷◌, Contains, slice_index_or}
 
 abbrev pub Graph : Type 0
 Graph = List (List ℕ)
 
--- an edge leads from one node to the other
+-- An edge leads from node i to node j.
 abbrev pub IsEdge : Graph → ℕ → ℕ → Type 0
 IsEdge graph i j = Contains (slice_index_or graph i []) j
 
--- edges lead from one node over those between to the other
+-- Edges lead from node i through the nodes between to node j.
 abbrev pub IsPath : Graph → ℕ → List ℕ → ℕ → Type 0
 IsPath graph i [] j = IsEdge graph i j
 IsPath graph i (next ∷ between) j = IsEdge graph i next × IsPath graph next between j
 
--- some edges lead from one node to the other
+-- A path leads from node i to node j.
 abbrev pub Reaches : Graph → ℕ → ℕ → Type 0
 Reaches graph i j = (between : List ℕ) × IsPath graph i between j
 
--- edges lead from the node back to it
+-- A path leads from the node back to it.
 abbrev pub IsOnCycle : Graph → ℕ → Type 0
 IsOnCycle graph i = Reaches graph i i

@@ -1,17 +1,17 @@
--- The least of the places at which something holds.
+-- The least position at which a property holds.
 use Rattle.std.specs.Prelude.{ℕ, ◌<◌, min, Bool, Option, None, Some, if◌then◌else◌}
 
--- it holds nowhere, or here and at no lesser place
+-- The property holds nowhere, or at this position and at no lesser one.
 abbrev pub IsLeast : (ℕ → Type 0) → Option ℕ → Type 0
 IsLeast Holds None = (k : ℕ) → ¬ Holds k
 IsLeast Holds (Some k) = Holds k × ((j : ℕ) → j < k → ¬ Holds j)
 
--- the lesser of two places, where there are both
+-- The lesser of two positions. If only one exists, it is the result.
 abbrev pub sooner : Option ℕ → Option ℕ → Option ℕ
 sooner None second = second
 sooner (Some j) None = Some j
 sooner (Some j) (Some k) = Some (min j k)
 
--- a place where a test says so
+-- The position if the test is true.
 abbrev pub place_if : Bool → ℕ → Option ℕ
 place_if test place = if test then Some place else None

@@ -1,14 +1,14 @@
--- Ranks of nodes, which fall along each edge.
+-- Ranks of nodes, which decrease along each edge.
 use Rattle.std.specs.Prelude.{ℕ, ◌<◌, ◌≡◌, Bool, true, false, List, length, Option, Some, slice_get}
 use Rattle.om_scope.specs.declared.ranks.Mark.{Mark}
 use Rattle.om_scope.specs.declared.ranks.Mark.TheVariants as marks
 use Rattle.om_scope.specs.Graph.{Graph, IsEdge}
 
--- the node has this rank
+-- The node has this rank.
 abbrev pub HasRank : List Mark → ℕ → ℕ → Type 0
 HasRank all i rank = slice_get all i ≡ Some (marks.Ranked rank)
 
--- nothing is known of the node
+-- The node is new.
 abbrev pub IsNew : List Mark → ℕ → Type 0
 IsNew all i = slice_get all i ≡ Some marks.New
 
@@ -16,17 +16,17 @@ abbrev pub is_rank : Option Mark → Bool
 is_rank (Some (marks.Ranked rank)) = true
 is_rank other = false
 
--- the node has a rank
+-- The node has a rank.
 abbrev pub is_ranked : List Mark → ℕ → Bool
 is_ranked all i = is_rank (slice_get all i)
 
--- each edge of a node that has a rank leads to a node of a lower one
+-- Each edge of a node with a rank leads to a node with a lower rank.
 pub record AreRanks (graph : Graph) (all : List Mark) : Type 0 where
   pub counted : length all ≡ length graph
   pub fall :
       (i rank j : ℕ) → HasRank all i rank → IsEdge graph i j
       → (lower : ℕ) × HasRank all j lower × (lower < rank)
 
--- all ranks are below this number
+-- All ranks are less than this number.
 abbrev pub RanksBelow : List Mark → ℕ → Type 0
 RanksBelow all limit = (i rank : ℕ) → HasRank all i rank → rank < limit

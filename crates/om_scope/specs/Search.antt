@@ -9,15 +9,16 @@ IsSeen seen i = slice_get seen i ≡ Some true
 abbrev pub IsUnseen : List Bool → ℕ → Type 0
 IsUnseen seen i = slice_get seen i ≡ Some false
 
--- how many nodes are not seen
+-- The number of unseen nodes.
 abbrev pub unseen_count : List Bool → ℕ
 unseen_count seen = sum_by (λ s. if s then 0 else 1) seen
 
--- no successor of the node is unseen
+-- The node has no unseen successor.
 abbrev pub IsExpanded : Graph → List Bool → ℕ → Type 0
 IsExpanded graph seen i = (j : ℕ) → IsEdge graph i j → ¬ IsUnseen seen j
 
--- What is seen can be reached from the first node. That one and those seen wait, or are expanded.
+-- Each seen node can be reached from the start. The start and each seen node are waiting or
+-- expanded.
 pub record IsSearch (graph : Graph) (start : ℕ) (seen : List Bool) (waiting : List ℕ) : Type 0 where
   pub counted : length seen ≡ length graph
   pub reached : (i : ℕ) → IsSeen seen i → Reaches graph start i

@@ -1,4 +1,4 @@
--- What the code knows of a declaration's occurrences, and of which these are.
+-- What the code collects from a declaration, and how it corresponds to the occurrences.
 use Rattle.std.specs.Prelude.{ℕ, ◌≡◌, ◌⊎◌, ◌↔◌, Bool, IsTrue, List, length, Contains}
 use Rattle.std.specs.Prelude.{Some, slice_get}
 use Rattle.std.specs.List.{filter_map}
@@ -13,29 +13,29 @@ use Rattle.om_scope.specs.declared.site.Use.{Use}
 use Rattle.om_scope.specs.declared.site.Site.{Site}
 use Rattle.om_scope.specs.declared.site.TypeSite.{TypeSite}
 
--- some argument holds a variable and is none
+-- Some argument contains a variable but is not a variable itself.
 abbrev pub Grow : List Ty → Type 0
 Grow arguments = (t : Ty) × Contains arguments t × HoldsVariable t × (¬ IsVariable t)
 
--- a use with so many arguments
+-- A use with these arguments.
 pub record HasArguments (u : Use) (arguments : List Ty) : Type 0 where
   pub counted : u.arguments ≡ length arguments
   pub grow : IsTrue u.grows ↔ Grow arguments
 
--- the tags that some bracket writes
+-- The tags that some bracket writes.
 abbrev pub IsTagRow : List Occurrence → List Placed → Type 0
 IsTagRow occurrences row =
     (items : List PlacedItem) × Contains occurrences (bracket_of items)
     × (row ≡ filter_map written_tag items)
 
--- names that have to differ: parameters, constructors, the fields of a record, the tags that a
--- bracket writes
+-- Names that must be distinct: parameters, constructors, the fields of a record, or the tags that a
+-- bracket writes.
 abbrev pub IsRow : DeclPlaces → List Placed → Type 0
 IsRow d row =
     (row ≡ d.parameters) ⊎ (row ≡ d.constructors) ⊎ Contains d.records row
     ⊎ IsTagRow d.occurrences row
 
--- the uses of names among occurrences
+-- The uses of names among occurrences.
 pub record AreUses (uses : List Use) (occurrences : List Occurrence) : Type 0 where
   pub occur :
       (u : Use) → Contains uses u
@@ -47,7 +47,7 @@ pub record AreUses (uses : List Use) (occurrences : List Occurrence) : Type 0 wh
       → (u : Use) × Contains uses u × HasArguments u arguments
       × (u.place ≡ place) × (u.name ≡ name) × (u.in_tag ≡ in_tag)
 
--- what the code knows of a declaration
+-- What the code collects from a declaration.
 pub record IsSite (site : Site) (d : DeclPlaces) : Type 0 where
   pub rows : (row : List Placed) → Contains site.rows row → IsRow d row
   pub all_rows : (row : List Placed) → IsRow d row → Contains site.rows row
@@ -60,13 +60,13 @@ pub record IsSite (site : Site) (d : DeclPlaces) : Type 0 where
       (place : ℕ) (name : List ℕ) → Contains d.occurrences (variable_at place name)
       → Contains site.variables (place, name)
 
--- what the code knows of the text of a type
+-- What the code collects from the text of a type.
 pub record IsTypeSite (site : TypeSite) (occurrences : List Occurrence) : Type 0 where
   pub rows : (row : List Placed) → Contains site.rows row → IsTagRow occurrences row
   pub all_rows : (row : List Placed) → IsTagRow occurrences row → Contains site.rows row
   pub used : AreUses site.uses occurrences
 
--- what the code knows of a file
+-- What the code collects from a file.
 pub record AreSites (decls : List Decl) (names : List Placed) (sites : List Site)
     (all : List DeclPlaces) : Type 0 where
   pub declares : decls ≡ decls_of all

@@ -1,4 +1,4 @@
--- The steps from abbreviation to abbreviation, by the numbers of declarations.
+-- The steps from abbreviation to abbreviation, by the indices of declarations.
 use Rattle.std.specs.Prelude.{ℕ, ◌≡◌, ◌↔◌, false, List, length, Some, IsSome, Contains, slice_get}
 use Rattle.om_types.specs.declared.decl.Decl.{Decl}
 use Rattle.om_types.specs.Declarations.{abbreviated}
@@ -8,24 +8,24 @@ use Rattle.om_scope.specs.Breaks.{names_of_decls}
 use Rattle.om_scope.specs.Graph.{Graph, IsEdge}
 use Rattle.om_scope.specs.Names.{IsFirstPlace}
 
--- the use stands outside tag arguments, and the other declaration is an abbreviation of this group
+-- The use is outside tag arguments, and the other declaration is an abbreviation of this group.
 pub record IsStepTo (group : ℕ) (u : Use) (other : Decl) : Type 0 where
   pub outside : u.in_tag ≡ false
   pub one_group : other.group ≡ group
   pub abbreviates : IsSome (abbreviated other.body)
 
--- a use in a declaration of this group is a step to declaration j
+-- A use in a declaration of this group is a step to declaration j.
 abbrev pub LeadsTo : List Decl → ℕ → Use → ℕ → Type 0
 LeadsTo decls group u j =
     IsFirstPlace (names_of_decls decls) (length decls) u.name j
     × (other : Decl) × (slice_get decls j ≡ Some other) × IsStepTo group u other
 
--- one of the uses in a declaration is a step to declaration j
+-- The declaration is an abbreviation, and one of its uses is a step to declaration j.
 abbrev pub HasStep : List Decl → Decl → List Use → ℕ → Type 0
 HasStep decls d uses j =
     IsSome (abbreviated d.body) × (u : Use) × Contains uses u × LeadsTo decls d.group u j
 
--- the edges are the steps
+-- The edges of the graph are the steps.
 pub record IsStepGraph (decls : List Decl) (sites : List Site) (graph : Graph) : Type 0 where
   pub counted : length graph ≡ length decls
   pub edges :

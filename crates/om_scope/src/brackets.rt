@@ -1,12 +1,12 @@
-//! The brackets of types, by nodes.
+//! The brackets (polymorphic variant types) of a type, by node.
 
 use om_model::list::List;
 use om_types::ty::Node;
 
-/// An item of a bracket, by the node of the bracket that it is the last one of.
+/// An item of a bracket. Its node is the bracket that ends with this item.
 #[derive(Clone, Copy)]
 pub struct BracketItem {
-    /// The number of its first lexeme.
+    /// Index of the first lexeme of the item.
     pub place: usize,
     pub node: usize,
 }
@@ -14,8 +14,8 @@ pub struct BracketItem {
 /// The brackets of a type.
 #[derive(Drop)]
 pub struct TypeBrackets<'a> {
-    /// The nodes of the type.
+    /// Nodes of the type.
     pub nodes: &'a [Node],
-    /// The items of each bracket.
+    /// Items of each bracket.
     pub brackets: List<List<BracketItem>>,
 }

@@ -1,4 +1,4 @@
-//! Abbreviations that come back to themselves.
+//! Finds cyclic abbreviations, which expand to themselves.
 
 ghost use Rattle.std.specs.Prelude.{ℕ, ◌≡◌, ◌<◌, ◌↔◌, IfOk, IsTrue, List, length};
 ghost use Rattle.om_types.specs.Occurrence.{DeclPlaces};
@@ -19,7 +19,7 @@ use om_model::Memory;
 use om_model::list::List;
 use std::alloc::Global;
 
-/// Whether a place comes before this one, where there is one.
+/// Returns true if `best` is `None`, or if `place` is less than it.
 fn comes_before(place: usize, best: Option<usize>) -> bool
     ensures { IsTrue result ↔ ComesBefore place best }
 {
@@ -29,7 +29,7 @@ fn comes_before(place: usize, best: Option<usize>) -> bool
     }
 }
 
-/// Whether a node lies on a cycle. One that has a rank does not.
+/// Returns true if a node lies on a cycle. A node with a rank lies on no cycle.
 fn comes_back(
     alloc: Global,
     graph: &[List<usize>],
@@ -47,8 +47,8 @@ fn comes_back(
     }
 }
 
-/// The least place of a name whose node lies on a cycle. After the first one is found, only names
-/// before it are tried.
+/// Returns the least lexeme of a name whose node lies on a cycle. After a first name is found, only
+/// names before it are tried.
 fn least_cyclic_name(
     alloc: Global,
     graph: &[List<usize>],
@@ -69,7 +69,7 @@ fn least_cyclic_name(
     Ok(best)
 }
 
-/// The least lexeme of the name of an abbreviation that comes back to itself.
+/// Returns the least lexeme of the name of a cyclic abbreviation.
 pub fn least_cyclic(
     alloc: Global,
     decls: &Environment<'_>,

@@ -1,4 +1,4 @@
-//! Declarations with the places of their names.
+//! Declarations with an index of their names.
 
 ghost use Rattle.std.specs.Prelude.{◌≡◌, ◌<◌, IfOk, Some, length, option_copied, slice_get};
 ghost use Rattle.om_types.specs.Declarations.{declaration_of};
@@ -11,7 +11,8 @@ use om_types::decl::Decl;
 use std::alloc::Global;
 use std::marker::Model;
 
-/// Declarations, with the first place of each declared name. Contracts see the declarations.
+/// Declarations, with the first index of each declared name. In contracts, an environment is its
+/// list of declarations.
 #[derive(Drop)]
 pub struct Environment<'a> {
     decls: &'a [Decl],
@@ -37,7 +38,7 @@ impl<'a> Model for Environment<'a> {
         ArePlaces (names_of_decls e.decls.now) (length e.decls.now) (number_of e.places) };
 }
 
-/// The first place of each declared name.
+/// Builds the table of the first index of each declared name.
 fn places_of<'a>(alloc: Global, decls: &'a [Decl]) -> Result<Table<'a>, Memory>
     ensures { IfOk result
         (λ t. ArePlaces (names_of_decls decls.now) (length decls.now) (number_of t)) }
@@ -50,7 +51,7 @@ fn places_of<'a>(alloc: Global, decls: &'a [Decl]) -> Result<Table<'a>, Memory>
     Ok(table)
 }
 
-/// The declaration at a place.
+/// Returns the declaration at an index.
 #[inline(always)]
 fn nth(decls: &[Decl], place: usize) -> &Decl
     requires { place < length decls.now }
@@ -60,7 +61,7 @@ fn nth(decls: &[Decl], place: usize) -> &Decl
 }
 
 impl<'a> Environment<'a> {
-    /// These declarations, with the places of their names.
+    /// Builds the environment of these declarations.
     pub fn new(alloc: Global, decls: &'a [Decl]) -> Result<Environment<'a>, Memory>
         ensures { IfOk result (λ e. e ≡ decls.now) }
     {
@@ -68,7 +69,7 @@ impl<'a> Environment<'a> {
         Ok(Environment { decls, places })
     }
 
-    /// The declarations.
+    /// Returns all declarations.
     #[inline(always)]
     pub fn all(&self) -> &[Decl]
         ensures { result.now ≡ self.now }
@@ -76,7 +77,7 @@ impl<'a> Environment<'a> {
         self.decls
     }
 
-    /// How many there are.
+    /// Returns the number of declarations.
     #[inline(always)]
     pub fn len(&self) -> usize
         ensures { result ≡ length self.now }
@@ -84,7 +85,7 @@ impl<'a> Environment<'a> {
         self.decls.len()
     }
 
-    /// The declaration at a place.
+    /// Returns the declaration at an index.
     #[inline(always)]
     pub fn at(&self, place: usize) -> &Decl
         requires { place < length self.now }
@@ -93,7 +94,7 @@ impl<'a> Environment<'a> {
         nth(self.decls, place)
     }
 
-    /// The first place of a name, where it is declared.
+    /// Returns the index of the first declaration of a name, or `None` if the name is not declared.
     #[inline(always)]
     pub fn place(&self, name: &[u8]) -> Option<usize>
         ensures { IsPlace (names_of_decls self.now) (length self.now) name.now result }
@@ -101,7 +102,7 @@ impl<'a> Environment<'a> {
         find(&self.places, name)
     }
 
-    /// The declaration of a name.
+    /// Returns the first declaration of a name, or `None` if the name is not declared.
     pub fn get(&self, name: &[u8]) -> Option<&Decl>
         ensures { option_copied result ≡ declaration_of self.now name.now }
     {

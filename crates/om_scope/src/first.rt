@@ -1,4 +1,4 @@
-//! The first rule on names that a file, or a type, breaks.
+//! Finds the first rule on names that a file or a type breaks.
 
 ghost use Rattle.std.specs.Prelude.{◌≡◌, ◌<◌, IfOk, List};
 ghost use Rattle.om_types.specs.Occurrence.{DeclPlaces, Occurrence};
@@ -15,14 +15,14 @@ use om_model::Memory;
 use om_types::decl::Decl;
 use std::alloc::Global;
 
-/// A rule that is broken, and the lexeme.
+/// A broken rule, and the index of the lexeme that breaks it.
 #[derive(Clone, Copy)]
 pub struct Broken {
     pub rule: NameRule,
     pub place: usize,
 }
 
-/// The rule that is judged at this turn.
+/// Returns the rule that is checked at this turn.
 fn rule_at(i: usize) -> NameRule
     requires { i < 7 }
     ensures { turn (rule_of result) ≡ i }
@@ -38,7 +38,8 @@ fn rule_at(i: usize) -> NameRule
     }
 }
 
-/// The first rule on names that a file breaks, in the order of their turns, at the least lexeme.
+/// Returns the first rule on names that a file breaks, with the least lexeme that breaks it. The
+/// rules are checked in the order of their turns.
 pub fn first_break(
     alloc: Global,
     decls: &[Decl],
@@ -53,7 +54,7 @@ pub fn first_break(
     first_of_file(alloc, &environment, names, sites)
 }
 
-/// The same, with the places of declared names.
+/// Finds the first broken rule of a file, given the environment of its declarations.
 fn first_of_file(
     alloc: Global,
     decls: &Environment<'_>,
@@ -73,7 +74,8 @@ fn first_of_file(
     Ok(None)
 }
 
-/// The first rule on names that the text of a type breaks, at the least lexeme.
+/// Returns the first rule on names that the text of a type breaks, with the least lexeme that
+/// breaks it.
 pub fn first_break_in_type(
     alloc: Global,
     decls: &[Decl],
@@ -87,7 +89,7 @@ pub fn first_break_in_type(
     first_of_type(alloc, &environment, site)
 }
 
-/// The same, with the places of declared names.
+/// Finds the first broken rule of a type, given the environment of the declarations.
 fn first_of_type(
     alloc: Global,
     decls: &Environment<'_>,

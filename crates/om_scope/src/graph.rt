@@ -1,10 +1,10 @@
-//! Graphs by numbers: of each node its successors.
+//! Graphs as lists of successors, indexed by node.
 
 ghost use Rattle.std.specs.Prelude.{◌≡◌, ◌<◌, [], length, slice_index_or};
 
 use om_model::list::List;
 
-/// The successors of a node.
+/// Returns the successors of a node.
 pub fn successors(graph: &[List<usize>], node: usize) -> &[usize]
     requires { node < length graph.now }
     ensures { result.now ≡ slice_index_or graph.now node [] }

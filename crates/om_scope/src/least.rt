@@ -1,9 +1,9 @@
-//! The lesser of two places.
+//! The lesser of two optional positions.
 
 ghost use Rattle.std.specs.Prelude.{◌≡◌};
 ghost use Rattle.om_scope.specs.Least.{sooner, place_if};
 
-/// The lesser of two places, where there are both.
+/// Returns the lesser of two positions. If only one exists, returns that one.
 pub fn sooner(first: Option<usize>, second: Option<usize>) -> Option<usize>
     ensures { result ≡ sooner first second }
 {
@@ -14,7 +14,7 @@ pub fn sooner(first: Option<usize>, second: Option<usize>) -> Option<usize>
     }
 }
 
-/// A place where a test says so.
+/// Returns the position if the test is true, and `None` otherwise.
 pub fn place_if(test: bool, place: usize) -> Option<usize>
     ensures { result ≡ place_if test place }
 {

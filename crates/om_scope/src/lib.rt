@@ -1,4 +1,7 @@
-//! The rules of scope on names, over what stands where in a text of declarations.
+//! Checks the scope rules on names in a text of declarations, or in the text of a type. The
+//! functions `first_break` and `first_break_in_type` return the first broken rule with the least
+//! lexeme that breaks it. The crate also provides environments, which find the declaration of a
+//! name.
 #![tactic(auto)]
 
 mod brackets;

@@ -1,4 +1,4 @@
-//! Names of types.
+//! Checks the names of declared types.
 
 ghost use Rattle.std.specs.Prelude.{IfOk};
 ghost use Rattle.om_scope.specs.Breaks.{IsPredeclaredAt, NamesTwice};
@@ -11,7 +11,7 @@ use crate::site::Placed;
 use om_model::Memory;
 use std::alloc::Global;
 
-/// The least place of a name that is predeclared.
+/// Returns the least lexeme of a name that is predeclared.
 fn least_predeclared(names: &[Placed]) -> Option<usize>
     ensures { IsLeast (IsPredeclaredAt names.now) result }
 {
@@ -24,7 +24,7 @@ fn least_predeclared(names: &[Placed]) -> Option<usize>
     best
 }
 
-/// The least place of a name that is declared earlier too, or predeclared.
+/// Returns the least lexeme of a name that is declared earlier too, or that is predeclared.
 pub fn least_name_twice(alloc: Global, names: &[Placed]) -> Result<Option<usize>, Memory>
     ensures { IfOk result (IsLeast (NamesTwice names.now)) }
 {

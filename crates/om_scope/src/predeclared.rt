@@ -1,4 +1,4 @@
-//! What predeclared names mean.
+//! The meaning of predeclared names.
 
 ghost use Rattle.std.specs.Prelude.{◌≡◌, option_map};
 ghost use Rattle.std.specs.Str.{bytes_eq};
@@ -6,14 +6,14 @@ ghost use Rattle.om_types.specs.Declarations.{predeclared, predeclared_arity};
 
 use om_types::decl::Predeclared;
 
-/// Whether these are the same bytes.
+/// Returns true if both are the same bytes.
 fn is(word: &[u8], name: &[u8]) -> bool
     ensures { result ≡ bytes_eq word.now name.now }
 {
     word == name
 }
 
-/// How many arguments a predeclared name takes.
+/// Returns the number of arguments of a predeclared name, or `None` if the name is not predeclared.
 pub fn predeclared_arity(name: &[u8]) -> Option<usize>
     ensures { result ≡ option_map predeclared_arity (predeclared name.now) }
 {
@@ -23,7 +23,7 @@ pub fn predeclared_arity(name: &[u8]) -> Option<usize>
     }
 }
 
-/// How many arguments a predeclared type takes.
+/// Returns the number of arguments of a predeclared type.
 fn arity(base: Predeclared) -> usize
     ensures { result ≡ predeclared_arity base }
 {
@@ -33,7 +33,7 @@ fn arity(base: Predeclared) -> usize
     }
 }
 
-/// The predeclared type of a name.
+/// Returns the predeclared type with this name.
 #[tactic(auto, unfolding(om_types::specs::Declarations::predeclared))]
 pub fn predeclared(name: &[u8]) -> Option<Predeclared>
     ensures { result ≡ predeclared name.now }

@@ -1,4 +1,4 @@
-//! Nodes of a graph that lie on no cycle.
+//! Ranks nodes of a graph. A node with a rank lies on no cycle.
 
 ghost use Rattle.std.specs.Prelude.{◌≡◌, ◌+◌, ◌<◌, ◌↔◌, IfOk, IsTrue, length};
 ghost use Rattle.std.specs.List.{list_all};
@@ -9,17 +9,17 @@ use om_model::Memory;
 use om_model::list::List;
 use std::alloc::Global;
 
-/// What is known of a node.
+/// The state of a node.
 #[derive(Clone, Copy)]
 pub enum Mark {
     New,
-    /// Its successors were put on the stack.
+    /// Its successors were pushed onto the stack.
     Opened,
-    /// Its successors have lower ranks.
+    /// All its successors have lower ranks.
     Ranked(usize),
 }
 
-/// Whether a node has a rank.
+/// Returns true if a node has a rank.
 pub fn is_ranked(marks: &[Mark], node: usize) -> bool
     ensures { result ≡ is_ranked marks.now node }
 {
@@ -29,14 +29,14 @@ pub fn is_ranked(marks: &[Mark], node: usize) -> bool
     }
 }
 
-/// Whether each of these nodes has a rank.
+/// Returns true if each of these nodes has a rank.
 fn are_ranked(marks: &[Mark], nodes: &[usize]) -> bool
     ensures { result ≡ list_all (λ i. is_ranked marks.now i) nodes.now }
 {
     nodes.iter().all(|node| is_ranked(marks, *node))
 }
 
-/// Whether a node is new.
+/// Returns true if a node is new.
 fn is_new(marks: &[Mark], node: usize) -> bool
     ensures { IsTrue result ↔ IsNew marks.now node }
 {
@@ -46,7 +46,7 @@ fn is_new(marks: &[Mark], node: usize) -> bool
     }
 }
 
-/// Puts the new ones of these nodes on the stack.
+/// Pushes those of these nodes that are new onto the stack.
 fn push_new(marks: &[Mark], nodes: &[usize], stack: &mut Vec<usize>) -> Result<(), Memory> {
     for node in nodes {
         if is_new(marks, *node) {
@@ -56,8 +56,8 @@ fn push_new(marks: &[Mark], nodes: &[usize], stack: &mut Vec<usize>) -> Result<(
     Ok(())
 }
 
-/// Ranks a node whose successors have ranks, and opens another one that is new. Whether it was
-/// opened.
+/// Ranks the node if all its successors have ranks. Otherwise opens the node if it is new. Returns
+/// true if the node was opened.
 fn rank_or_open(graph: &[List<usize>], node: usize, turn: usize, marks: &mut [Mark]) -> bool
     requires node { node < length graph.now }
     requires ranks { AreRanks graph.now marks.old }
@@ -79,8 +79,8 @@ fn rank_or_open(graph: &[List<usize>], node: usize, turn: usize, marks: &mut [Ma
     false
 }
 
-/// Ranks a node once its successors have ranks. Before that, it puts those on the stack, and the
-/// node below them.
+/// Ranks a node if its successors have ranks. Otherwise, if the node is new, pushes it onto the
+/// stack, and then its new successors.
 fn visit(
     graph: &[List<usize>],
     node: usize,
@@ -100,7 +100,7 @@ fn visit(
     Ok(())
 }
 
-/// Ranks for all nodes from which no edges lead to a cycle, in one pass over the graph.
+/// Ranks all nodes from which no edges lead to a cycle, in one traversal of the graph.
 pub fn ranks(alloc: Global, graph: &[List<usize>]) -> Result<Vec<Mark>, Memory>
     ensures { IfOk result (λ marks. AreRanks graph.now marks.items) }
 {

@@ -1,21 +1,22 @@
-//! Rules of scope on names.
+//! The scope rules on names.
 
 /// A rule on names.
 #[derive(Clone, Copy)]
 pub enum NameRule {
-    /// No type name, parameter, field, constructor or tag is written twice.
+    /// No type name, parameter, field, constructor or tag may be written twice.
     Twice,
-    /// A type's name is predeclared, or declared in this group or an earlier one.
+    /// A type name must be predeclared, or declared in this group or an earlier one.
     UnknownName,
-    /// A name has as many arguments as it takes.
+    /// A type name must have the number of arguments that it takes.
     Arity,
-    /// Each variable is a parameter.
+    /// Each variable must be a parameter.
     UnboundVariable,
-    /// No abbreviation comes back to itself.
+    /// No abbreviation may expand to itself.
     Cyclic,
-    /// In its own group no argument of a name holds a variable unless it is one.
+    /// In its own group, an argument of a name may contain a variable only if the argument is a
+    /// variable.
     Irregular,
-    /// At most 244 constructors of a declaration have arguments.
+    /// At most 244 constructors of a declaration may have arguments.
     TooManyConstructors,
 }
 

@@ -1,4 +1,4 @@
-//! Whether a node of a graph lies on a cycle.
+//! Searches for a cycle through a node of a graph.
 
 ghost use Rattle.std.specs.Prelude.{ℕ, ◌≡◌, ◌+◌, ◌<◌, ◌↔◌, ◌∷◌, IfOk, OnOk, IsTrue, length};
 ghost use Rattle.std.specs.Prelude.{vec_len};
@@ -10,7 +10,7 @@ use om_model::Memory;
 use om_model::list::List;
 use std::alloc::Global;
 
-/// Whether a node is not seen.
+/// Returns true if a node is unseen.
 fn is_unseen(seen: &[bool], node: usize) -> bool
     ensures { IsTrue result ↔ IsUnseen seen.now node }
 {
@@ -20,7 +20,7 @@ fn is_unseen(seen: &[bool], node: usize) -> bool
     }
 }
 
-/// Sees the successors of a node, and puts those on the stack that are seen first.
+/// Marks the successors of a node as seen. Pushes those that were unseen onto the stack.
 fn expand(
     graph: &[List<usize>],
     node: usize,
@@ -45,7 +45,7 @@ fn expand(
     Ok(())
 }
 
-/// Whether edges lead from a node back to it.
+/// Returns true if edges lead from a node back to it.
 pub fn is_on_cycle(alloc: Global, graph: &[List<usize>], node: usize) -> Result<bool, Memory>
     requires { node < length graph.now }
     ensures { IfOk result (λ back. IsTrue back ↔ IsOnCycle graph.now node) }

@@ -1,4 +1,4 @@
-//! Names that stand twice.
+//! Finds names that occur twice.
 
 ghost use Rattle.std.specs.Prelude.{IfOk, Contains, List};
 ghost use Rattle.om_types.specs.Occurrence.{Placed as PlacedName};
@@ -12,7 +12,7 @@ use om_model::Memory;
 use om_model::list::List;
 use std::alloc::Global;
 
-/// The least place of a name that stands earlier in the row too.
+/// Returns the least lexeme of a name that also occurs earlier in the list.
 pub fn least_second(alloc: Global, row: &[Placed]) -> Result<Option<usize>, Memory>
     ensures { IfOk result (IsLeast (IsSecond row.now)) }
 {
@@ -26,7 +26,8 @@ pub fn least_second(alloc: Global, row: &[Placed]) -> Result<Option<usize>, Memo
     Ok(best)
 }
 
-/// The same of several rows.
+/// Returns the least lexeme of a name that also occurs earlier in the same list, over several
+/// lists.
 pub fn least_second_of_rows(alloc: Global, rows: &[List<Placed>]) -> Result<Option<usize>, Memory>
     ensures { IfOk result
         (IsLeast (λ k. (row : List PlacedName) × Contains rows.now row × IsSecond row k)) }

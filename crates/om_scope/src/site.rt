@@ -1,11 +1,11 @@
-//! What stands where in a text of declarations.
+//! The occurrences of names in a text of declarations.
 
 ghost use Rattle.std.specs.Prelude.{◌≡◌};
 
 use om_model::list::List;
 use std::marker::Model;
 
-/// A name in a text, with the number of its lexeme.
+/// A name in a text, with the index of its lexeme.
 #[derive(Drop)]
 pub struct Placed {
     place: usize,
@@ -21,21 +21,21 @@ impl Model for Placed {
 }
 
 impl Placed {
-    /// A name at a lexeme.
+    /// Makes a name at a lexeme.
     pub fn new(place: usize, name: List<u8>) -> Placed
         ensures { result ≡ (place, name) }
     {
         Placed { place, name }
     }
 
-    /// The number of the lexeme.
+    /// Returns the index of the lexeme.
     pub fn place(&self) -> usize
         ensures { result ≡ self.now.0 }
     {
         self.place
     }
 
-    /// The name, lent.
+    /// Returns the name.
     pub fn name(&self) -> &[u8]
         ensures { result.now ≡ self.now.1 }
     {
@@ -43,32 +43,32 @@ impl Placed {
     }
 }
 
-/// A type's name that is used, with what the rules ask of its arguments.
+/// A use of a type name, with what the rules require of its arguments.
 #[derive(Drop)]
 pub struct Use {
     pub place: usize,
     pub name: List<u8>,
-    /// How many arguments.
+    /// Number of arguments.
     pub arguments: usize,
-    /// Whether some argument holds a variable and is none.
+    /// True if some argument contains a variable but is not a variable itself.
     pub grows: bool,
-    /// Whether it stands in a tag's argument.
+    /// True if the use is inside the argument of a tag.
     pub in_tag: bool,
 }
 
-/// What stands where in a declaration.
+/// The occurrences of names in a declaration.
 #[derive(Drop)]
 pub struct Site {
-    /// The parameters, the constructors, the fields of each record, and the tags that each bracket
-    /// writes: rows of names that have to differ.
+    /// Lists of names that must be distinct: the parameters, the constructors, the fields of each
+    /// record, and the tags that each bracket writes.
     pub rows: List<List<Placed>>,
-    /// The lexemes of the constructors with arguments.
+    /// Lexemes of the constructors with arguments.
     pub carrying: List<usize>,
     pub uses: List<Use>,
     pub variables: List<Placed>,
 }
 
-/// What stands where in the text of a type.
+/// The occurrences of names in the text of a type.
 #[derive(Drop)]
 pub struct TypeSite {
     /// The tags that each bracket writes.

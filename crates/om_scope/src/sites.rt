@@ -1,4 +1,4 @@
-//! Rules on names, over all declarations of a text.
+//! Checks rules on names over all declarations of a text.
 
 ghost use Rattle.std.specs.Prelude.{◌≡◌, ℕ, List, IfOk, length, slice_get};
 ghost use Rattle.om_types.specs.Occurrence.{DeclPlaces, Occurrence};
@@ -21,14 +21,14 @@ use om_model::Memory;
 use om_types::decl::Decl;
 use std::alloc::Global;
 
-/// The place of this number.
+/// Returns the lexeme at index `n` of the list.
 fn nth(places: &[usize], n: usize) -> Option<usize>
     ensures { result ≡ slice_get places.now n }
 {
     places.get(n).copied()
 }
 
-/// The least place in a declaration at which the rule is broken.
+/// Returns the least lexeme at which a declaration breaks the rule.
 fn least_in_site(
     alloc: Global,
     rule: NameRule,
@@ -55,7 +55,7 @@ fn least_in_site(
     }
 }
 
-/// The least place in the text of a type at which the rule is broken.
+/// Returns the least lexeme at which the text of a type breaks the rule, by its occurrences.
 pub fn least_in_type(
     alloc: Global,
     rule: NameRule,
@@ -76,7 +76,7 @@ pub fn least_in_type(
     }
 }
 
-/// The least place in all declarations at which the rule is broken.
+/// Returns the least lexeme at which some declaration breaks the rule.
 pub fn least_in_sites(
     alloc: Global,
     rule: NameRule,
@@ -94,7 +94,7 @@ pub fn least_in_sites(
     Ok(best)
 }
 
-/// The least place of a declared name that breaks the rule.
+/// Returns the least lexeme of a declared name that breaks the rule.
 pub fn least_in_names(
     alloc: Global,
     rule: NameRule,
@@ -108,7 +108,7 @@ pub fn least_in_names(
     }
 }
 
-/// The least lexeme at which a file breaks the rule.
+/// Returns the least lexeme at which a file breaks the rule.
 pub fn least_break(
     alloc: Global,
     rule: NameRule,
@@ -131,7 +131,7 @@ pub fn least_break(
     }
 }
 
-/// The least lexeme at which the text of a type breaks the rule.
+/// Returns the least lexeme at which the text of a type breaks the rule.
 pub fn least_break_in_type(
     alloc: Global,
     rule: NameRule,

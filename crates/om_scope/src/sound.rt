@@ -1,4 +1,4 @@
-//! Declarations whose abbreviations come to an end, with the places of their names.
+//! Declarations whose abbreviations can be expanded completely, with an index of their names.
 
 ghost use Rattle.std.specs.Prelude.{◌≡◌, ◌<◌, IfOk, Some, length, option_copied, slice_get};
 ghost use Rattle.om_types.specs.Accepted.{AreSound};
@@ -12,8 +12,8 @@ use om_types::decl::Decl;
 use std::alloc::Global;
 use std::marker::Model;
 
-/// An environment of declarations that are sound: no abbreviation comes back to itself, and each
-/// type is as deep as the limit at most. Contracts see the declarations.
+/// An environment of sound declarations: no abbreviation expands to itself, and the depth of each
+/// type is within the limit. In contracts, an environment is its list of declarations.
 #[derive(Drop)]
 pub struct SoundEnvironment<'a> {
     of: Environment<'a>,
@@ -37,7 +37,7 @@ impl<'a> Model for SoundEnvironment<'a> {
 }
 
 impl<'a> SoundEnvironment<'a> {
-    /// These declarations, with the places of their names.
+    /// Builds the environment of these declarations.
     pub fn new(alloc: Global, decls: &'a [Decl]) -> Result<SoundEnvironment<'a>, Memory>
         requires { AreSound decls.now }
         ensures { IfOk result (λ e. e ≡ decls.now) }
@@ -46,7 +46,7 @@ impl<'a> SoundEnvironment<'a> {
         Ok(SoundEnvironment { of })
     }
 
-    /// What always holds of them. It does nothing.
+    /// Lemma function: the declarations of the environment are sound.
     #[inline(always)]
     pub fn holds(&self)
         ensures { AreSound self.now }
@@ -54,7 +54,7 @@ impl<'a> SoundEnvironment<'a> {
         let _ = &self.of;
     }
 
-    /// The declarations.
+    /// Returns all declarations.
     #[inline(always)]
     pub fn all(&self) -> &[Decl]
         ensures { result.now ≡ self.now }
@@ -62,7 +62,7 @@ impl<'a> SoundEnvironment<'a> {
         self.of.all()
     }
 
-    /// How many there are.
+    /// Returns the number of declarations.
     #[inline(always)]
     pub fn len(&self) -> usize
         ensures { result ≡ length self.now }
@@ -70,7 +70,7 @@ impl<'a> SoundEnvironment<'a> {
         self.of.len()
     }
 
-    /// The declaration at a place.
+    /// Returns the declaration at an index.
     #[inline(always)]
     pub fn at(&self, place: usize) -> &Decl
         requires { place < length self.now }
@@ -79,7 +79,7 @@ impl<'a> SoundEnvironment<'a> {
         self.of.at(place)
     }
 
-    /// The first place of a name, where it is declared.
+    /// Returns the index of the first declaration of a name, or `None` if the name is not declared.
     #[inline(always)]
     pub fn place(&self, name: &[u8]) -> Option<usize>
         ensures { IsPlace (names_of_decls self.now) (length self.now) name.now result }
@@ -87,7 +87,7 @@ impl<'a> SoundEnvironment<'a> {
         self.of.place(name)
     }
 
-    /// The declaration of a name.
+    /// Returns the first declaration of a name, or `None` if the name is not declared.
     #[inline(always)]
     pub fn get(&self, name: &[u8]) -> Option<&Decl>
         ensures { option_copied result ≡ declaration_of self.now name.now }

@@ -1,4 +1,4 @@
-//! The steps from abbreviation to abbreviation of one group.
+//! The steps from one abbreviation to another of the same group.
 
 ghost use Rattle.std.specs.Prelude.{ℕ, ◌≡◌, ◌↔◌, Contains, IfOk, IsSome, IsTrue, length, Some};
 ghost use Rattle.om_types.specs.Declarations.{abbreviated};
@@ -11,7 +11,7 @@ use om_model::list::List;
 use om_types::decl::{Body, Decl};
 use std::alloc::Global;
 
-/// Whether a declaration is an abbreviation.
+/// Returns true if a declaration is an abbreviation.
 fn is_abbreviation(decl: &Decl) -> bool
     ensures { IsTrue result ↔ IsSome (abbreviated decl.now.body) }
 {
@@ -21,14 +21,14 @@ fn is_abbreviation(decl: &Decl) -> bool
     }
 }
 
-/// Whether a use of a declaration's name is a step from a declaration of this group.
+/// Returns true if a use of the name of `other` is a step from a declaration of this group.
 fn is_step(group: usize, usage: &Use, other: &Decl) -> bool
     ensures { IsTrue result ↔ IsStepTo group usage.now other.now }
 {
     !usage.in_tag && other.group == group && is_abbreviation(other)
 }
 
-/// The number of the declaration to which a use is a step.
+/// Returns the index of the declaration to which a use is a step.
 fn step(decls: &Environment<'_>, group: usize, usage: &Use) -> Option<usize>
     ensures { (j : ℕ) → (result ≡ Some j) ↔ LeadsTo decls.now group usage.now j }
 {
@@ -44,7 +44,7 @@ fn step(decls: &Environment<'_>, group: usize, usage: &Use) -> Option<usize>
     }
 }
 
-/// The numbers of the declarations to which a declaration has steps.
+/// Returns the indices of the declarations to which a declaration has steps.
 fn steps_of(
     alloc: Global,
     decls: &Environment<'_>,
@@ -67,7 +67,7 @@ fn steps_of(
     Ok(steps)
 }
 
-/// The graph of steps.
+/// Builds the graph of steps.
 pub fn step_graph(
     alloc: Global,
     decls: &Environment<'_>,

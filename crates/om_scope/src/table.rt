@@ -1,4 +1,4 @@
-//! Names and their numbers.
+//! A table of names with numbers.
 
 ghost use Rattle.std.specs.Prelude.{◌≡◌, ℕ, List, OnOk, IfOk, None};
 ghost use Rattle.om_scope.specs.Names.{number_of, added};
@@ -13,7 +13,7 @@ pub struct Table<'a> {
     entries: IndexMap<&'a [u8], usize>,
 }
 
-/// A table without names.
+/// Makes a table without names.
 pub fn empty<'a>(alloc: Global) -> Table<'a>
     ensures { (q : List ℕ) → number_of result q ≡ None }
 {
@@ -22,14 +22,15 @@ pub fn empty<'a>(alloc: Global) -> Table<'a>
     }
 }
 
-/// The number of a name, where the table has it.
+/// Returns the number of a name, or `None` if the table does not have it.
 pub fn find(table: &Table<'_>, name: &[u8]) -> Option<usize>
     ensures { result ≡ number_of table.now name.now }
 {
     table.entries.get(name).copied()
 }
 
-/// Gives a name this number unless it has one, and answers the one that it had.
+/// Adds a name with this number, unless the table has the name. Returns the number that the name
+/// had before.
 pub fn add<'a>(
     table: &mut Table<'a>,
     name: &'a [u8],

@@ -1,4 +1,4 @@
-//! Rules on the uses of names.
+//! Checks rules on the uses of names.
 
 ghost use Rattle.std.specs.Prelude.{◌≡◌, ◌↔◌, IsTrue, option_copied};
 ghost use Rattle.om_types.specs.Declarations.{arity_of};
@@ -12,7 +12,7 @@ use crate::rule::UseRule;
 use crate::site::Use;
 use om_types::decl::Decl;
 
-/// How many arguments a name takes.
+/// Returns the number of arguments of a name.
 fn arity(decls: &Environment<'_>, name: &[u8]) -> Option<usize>
     ensures { result ≡ arity_of decls.now name.now }
 {
@@ -25,7 +25,7 @@ fn arity(decls: &Environment<'_>, name: &[u8]) -> Option<usize>
     }
 }
 
-/// Whether there is no declaration, or one of a later group than this.
+/// Returns true if there is no declaration, or if it belongs to a later group than `group`.
 fn is_later(decl: Option<&Decl>, group: Option<usize>) -> bool
     ensures { IsTrue result ↔ Later (option_copied decl.entry) group }
 {
@@ -36,7 +36,7 @@ fn is_later(decl: Option<&Decl>, group: Option<usize>) -> bool
     }
 }
 
-/// Whether a declaration is there, of this group.
+/// Returns true if there is a declaration and it belongs to `group`.
 fn is_of_group(decl: Option<&Decl>, group: Option<usize>) -> bool
     ensures { IsTrue result ↔ OfGroup (option_copied decl.entry) group }
 {
@@ -46,7 +46,7 @@ fn is_of_group(decl: Option<&Decl>, group: Option<usize>) -> bool
     }
 }
 
-/// Whether another number of arguments is asked for.
+/// Returns true if the arity is known and differs from the number of arguments.
 fn is_other(arity: Option<usize>, arguments: usize) -> bool
     ensures { IsTrue result ↔ IsOther arity arguments }
 {
@@ -56,7 +56,8 @@ fn is_other(arity: Option<usize>, arguments: usize) -> bool
     }
 }
 
-/// Whether a use breaks the rule, in a declaration of this group or in the text of a type.
+/// Returns true if a use breaks the rule. The use is in a declaration of `group`, or in the text of
+/// a type if `group` is `None`.
 fn breaks(rule: UseRule, decls: &Environment<'_>, group: Option<usize>, usage: &Use) -> bool
     ensures { IsTrue result ↔ BreaksUse rule decls.now group usage.now }
 {
@@ -69,7 +70,7 @@ fn breaks(rule: UseRule, decls: &Environment<'_>, group: Option<usize>, usage: &
     }
 }
 
-/// The least place of a use that breaks the rule.
+/// Returns the least lexeme of a use that breaks the rule.
 pub fn least_use(
     rule: UseRule,
     decls: &Environment<'_>,

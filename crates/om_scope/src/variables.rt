@@ -1,4 +1,4 @@
-//! Variables that are no parameters.
+//! Finds variables that are not parameters.
 
 ghost use Rattle.std.specs.Prelude.{IfOk, length};
 ghost use Rattle.om_scope.specs.Breaks.{VariablesBreak};
@@ -12,7 +12,7 @@ use om_model::Memory;
 use om_model::list::List;
 use std::alloc::Global;
 
-/// The first place of each parameter.
+/// Builds the table of the first index of each parameter.
 fn table_of<'a>(alloc: Global, parameters: &'a [List<u8>]) -> Result<Table<'a>, Memory>
     ensures { IfOk result (λ t. ArePlaces parameters.now (length parameters.now) (number_of t)) }
 {
@@ -23,7 +23,7 @@ fn table_of<'a>(alloc: Global, parameters: &'a [List<u8>]) -> Result<Table<'a>, 
     Ok(table)
 }
 
-/// The least place of a variable that is no parameter.
+/// Returns the least lexeme of a variable that is not a parameter.
 pub fn least_unbound(
     alloc: Global,
     parameters: &[List<u8>],

@@ -1,4 +1,4 @@
--- The account of a call: no file is wanted.
+-- Proves `Account` for a run of the search, which needs no file.
 use Rattle.std.proofs.Common.{◌≡◌, ℕ, List, Option, Some, Ok, refl, arith}
 use Rattle.om_outcome.specs.declared.status.Status.{Status}
 use Rattle.om_outcome.specs.Outcome.{unfetched, Request, Asks}
@@ -13,7 +13,7 @@ abbrev unfetched_files : Fetches
 unfetched_files turn name = unfetched
 
 module _ (limit_by : Request → Option ℕ) (words : List (List ℕ)) (files : FilesState) where
-  -- nothing was fetched
+  -- No file was fetched.
   none_fetched : FetchesFor (searching limit_by) words (change files files) unfetched_files
   none_fetched = record {
     turns = 0;

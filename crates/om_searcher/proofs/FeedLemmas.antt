@@ -1,4 +1,5 @@
--- What a call with bytes in hand does: a front is held behind it, or the lines of a stretch are put.
+-- The effect of a call with buffered bytes: a prefix of a value is held afterwards, or the lines of
+-- a stretch are written.
 use Rattle.std.proofs.Common.{◌≡◌, ℕ, true, false, List, [], ◌∷◌, ◌++◌, take, Option, Ok, sym, subst, append-nil, arith}
 use Rattle.std.specs.Prelude.{not, Err}
 use Rattle.om_read.specs.declared.reader.Reader.{Reader}
@@ -22,7 +23,7 @@ module _ (limit_by : Request → Option ℕ) (limit : ℕ) (held : List ℕ) (re
   abbrev HasSome : Type 0
   HasSome = (bytes : List ℕ) × (said : List Said) × Before bytes said
 
-  -- what was taken then
+  -- The bytes taken by the call.
   abbrev Took : List ℕ → Reader → ℕ → Type 0
   Took held' reader' at' = (bytes : List ℕ) (said : List Said) → Before bytes said
       → HasTaken limit_by limit held' reader' at' in_hand bytes said t
@@ -48,7 +49,7 @@ module _ (limit_by : Request → Option ℕ) (limit : ℕ) (held : List ℕ) (re
         ),
       )
 
-  -- the limit of a stretch is the same
+  -- The limit of a stretch does not change.
   pub stretch_limit :
       (limit' : ℕ) (held' : List ℕ) (at' : ℕ) (bytes : List ℕ) (said : List Said)
       → limit' ≡ limit → HasStretch limit_by limit held' at' bytes said
@@ -56,7 +57,7 @@ module _ (limit_by : Request → Option ℕ) (limit : ℕ) (held : List ℕ) (re
   stretch_limit limit' held' at' bytes said e h =
       subst (λ l. HasStretch limit_by l held' at' bytes said) (sym e) h
 
-  -- and where it could not be put
+  -- The limit does not change if writing fails.
   pub err_limit :
       (limit' : ℕ) (held' : List ℕ) (reader' : Reader) (at' : ℕ) (bytes : List ℕ)
       (said : List Said) (out : Change ByteState) (halt : Halt)

@@ -1,4 +1,4 @@
--- What a reader tells of bytes behind a front.
+-- The result of a reader on bytes after a prefix of a value.
 use Rattle.std.proofs.Common.{◌≡◌, ◌≢◌, ℕ, zero, suc, ◌+◌, ◌<◌, ◌≤◌, Bool, true, false, List, [], ◌∷◌, ◌++◌, length, take, drop, inl, inr, refl, sym, ap, ◌∙◌, subst, append_assoc, append-nil, take_all, take-append-drop, arith}
 use Rattle.std.specs.Prelude.{not, Result, Ok, Err, IfOk}
 use Rattle.std.proofs.Math.Seq.{take-add}
@@ -20,12 +20,12 @@ use Rattle.om_searcher.specs.declared.last.Taken.{Taken}
 use Rattle.om_searcher.specs.Last.{IsDecided, IsRefusal, TakesByte, TakesBytes}
 
 module _ (limit : ℕ) where
-  -- no value is a front
+  -- A complete value is not a proper prefix of a value.
   no_front_value : (bytes : List ℕ) (tree : Tree) → SpelledUnder limit bytes tree → IsFront limit bytes → ⊥
   no_front_value bytes tree spelled front =
       front_no_value limit bytes front bytes [] tree (sym (append-nil bytes)) spelled
 
-  -- a value is decided by its last byte
+  -- The last byte of a value decides it.
   pub value_decided :
       (bytes : List ℕ) (tree : Tree) → AreBytes bytes → SpelledUnder limit bytes tree
       → IsDecided limit bytes
@@ -38,7 +38,7 @@ module _ (limit : ℕ) where
         before = v.3;
       }
 
-  -- behind a front, where one byte comes that they are no front with
+  -- If one byte after a prefix makes it no prefix, then this byte decides.
   one_decides :
       (taken byte : List ℕ) → length byte ≡ 1 → IsFront limit taken
       → (IsFront limit (taken ++ byte) → ⊥) → IsDecided limit (taken ++ byte)
@@ -52,7 +52,7 @@ module _ (limit : ℕ) where
   }
   one_decides taken (b ∷ c ∷ more) one front none = absurd (omega (arith, one))
 
-  -- ---- a front is taken again
+  -- ---- a prefix is read again
 
   pub front_taken :
       (bytes : List ℕ) (new : Reader) (fed : Fed) → Feeds limit [] bytes new fed
@@ -91,7 +91,7 @@ module _ (limit : ℕ) where
             )
         by true e = one_decides taken byte one front (none e)
 
-    -- or what is refused
+    -- The reader refuses the byte.
     refused_here : (refusal : ReadRefusal) → RefusedIn limit (taken ++ byte) refusal
         → refusal ≢ refusals.Memory → AreRefused limit (taken ++ byte)
     refused_here refusal refused is =
@@ -110,9 +110,9 @@ module _ (limit : ℕ) where
         (refused_no_front limit (taken ++ byte) (refused_here refusal refused h.1))
     byte_refused refusal new (Err e) refused is = tt
 
-  -- ---- a piece
+  -- ---- a chunk
 
-  -- one byte more of it
+  -- One more byte of the chunk.
   pub next_byte :
       (held piece : List ℕ) (n : ℕ)
       → (held ++ take n piece) ++ take 1 (drop n piece) ≡ held ++ take (n + 1) piece
@@ -120,14 +120,14 @@ module _ (limit : ℕ) where
       append_assoc held (take n piece) (take 1 (drop n piece))
       ∙ ap (λ b. held ++ b) (sym (take-add n 1 piece))
 
-  -- the same where the byte is cut out of it
+  -- The same, if the byte is a slice of the chunk.
   pub slice_next :
       (held piece : List ℕ) (n k : ℕ) → k ≡ 1
       → (held ++ take n piece) ++ take k (drop n piece) ≡ held ++ take (n + 1) piece
   slice_next held piece n k one =
       ap (λ k. (held ++ take n piece) ++ take k (drop n piece)) one ∙ next_byte held piece n
 
-  -- what the reader tells of it
+  -- The result of the reader on the chunk.
   pub piece_taken :
       (held piece : List ℕ) (new : Reader) (fed : Fed) (t : Taken) → 0 < length piece
       → IsFront limit held → Feeds limit held piece new fed → t.bytes ≡ fed.taken
@@ -157,7 +157,7 @@ module _ (limit : ℕ) where
           absurd (no_front_value held v.0 (subst (λ b. SpelledUnder limit b v.0) same v.1) front)
       by (suc n) is = omega (arith, is)
 
-  -- what was found again of it
+  -- The result of reading the chunk again.
   pub piece_found :
       (held piece : List ℕ) (new : Reader) (t : Taken) → (0 < t.bytes) × (t.bytes ≤ length piece)
       × IsDecided limit (held ++ take t.bytes piece) → t.decided ≡ true

@@ -1,4 +1,4 @@
--- What has been found so far, as bytes are taken and stretches are put.
+-- The state of the search, as bytes are taken and stretches are written.
 use Rattle.std.proofs.Common.{◌≡◌, ℕ, ◌+◌, ◌≤◌, Bool, true, List, [], ◌∷◌, ◌++◌, length, take, drop, Option, Result, Ok, Err, inr, refl, sym, ap, ◌∙◌, subst, append_assoc, append-nil, length-append, take-append-drop, take-take, arith}
 use Rattle.std.proofs.lemmas.List.{length-take-le}
 use Rattle.std.specs.Prelude.{◌&&◌, IsErrAnd}
@@ -45,7 +45,7 @@ module _ (limit_by : Request → Option ℕ) (limit : ℕ) where
     at_is = refl;
   })
 
-  -- what was taken holds no stop
+  -- The bytes taken so far give no exit reason.
   abbrev pub holds :
       (held : List ℕ) (reader : Reader) (at : ℕ) (bytes : List ℕ) (said : List Said)
       → HasSearched limit_by limit held reader at bytes said
@@ -57,7 +57,7 @@ module _ (limit_by : Request → Option ℕ) (limit : ℕ) where
     goes_on = goes_on limit limit_by h.items held h.is_front;
   }
 
-  -- the bytes of the items and the rest are all
+  -- The bytes of the items and the rest are all bytes.
   cut_length :
       (before : List Item) (bytes : List ℕ) (items : List Item) (rest : List ℕ)
       → Cut (searching limit_by) limit before bytes items rest
@@ -101,7 +101,7 @@ module _ (limit_by : Request → Option ℕ) (limit : ℕ) where
       at_is = h.at_is;
     }
 
-  -- some of the bytes in hand
+  -- Some of the buffered bytes.
   pub some_taken :
       (held : List ℕ) (reader : Reader) (at : ℕ) (bytes : List ℕ) (said : List Said)
       → HasSearched limit_by limit held reader at bytes said
@@ -130,9 +130,9 @@ module _ (limit_by : Request → Option ℕ) (limit : ℕ) where
             (subst (IsDecided limit) held_is (takes.last e))),
       )
 
-  -- ---- a stretch is put
+  -- ---- a stretch is written
 
-  -- what was taken of a slice, behind no text
+  -- The result for a slice, starting with an empty text.
   pub taken_of :
       (None : List ℕ → Type 0) (held slice old put rest : List ℕ) (at n : ℕ) → slice ≡ held
       → old ≡ [] → Takes limit at slice old put None n rest → Takes limit at held [] put None n rest
@@ -174,7 +174,7 @@ module _ (limit_by : Request → Option ℕ) (limit : ℕ) where
           (h.decided.front, h.decided.last, h.decided.bytes_are, h.decided.before) settled;
     }
 
-    -- this is said of it
+    -- This is the output for the stretch.
     abbrev pub next_said : Said
     next_said = record {
       text = lines_of (places_of (bytes_in h.items) t.0.parts);
@@ -212,7 +212,7 @@ module _ (limit_by : Request → Option ℕ) (limit : ℕ) where
               omega (arith, place_is, h.at_is, t.1, bytes_in-snoc h.items (bytes_of t.0.parts));
         })
 
-  -- ---- halts
+  -- ---- errors
 
   pub memory_next :
       {U : Type 0} (held : List ℕ) (reader : Reader) (at : ℕ) (bytes : List ℕ) (said : List Said)
@@ -243,7 +243,7 @@ module _ (limit_by : Request → Option ℕ) (limit : ℕ) where
     pub memory_halts : (o : ByteState) → Halts (change o o) (halts.Stop out_of_memory)
     memory_halts o = (holds held reader at bytes said h, inr refl, puts_nothing o)
 
-    -- at the stretch that ends there
+    -- The error is at the stretch that ends there.
     pub next_halts :
         (n : ℕ) (out : Change ByteState) (held' : List ℕ) (reader' : Reader) (at' : ℕ)
         (halt : Halt)
@@ -304,7 +304,7 @@ module _ (limit_by : Request → Option ℕ) (limit : ℕ) where
         (Err (halts.Stop out_of_memory))
     ends_memory o = (inr refl, puts_nothing o)
 
-  -- ---- limits that are the same
+  -- ---- equal limits
 
   pub same_limit :
       (other : ℕ) (held : List ℕ) (reader : Reader) (at : ℕ) (bytes : List ℕ) (said : List Said)

@@ -1,4 +1,4 @@
--- With which byte it is decided what some bytes begin with.
+-- The byte that decides what some bytes begin with.
 use Rattle.std.specs.Prelude.{ℕ, ◌<◌, ◌≤◌, ◌≡◌, ◌≢◌, Bool, true, false, List, [], ◌∷◌, ◌++◌, length}
 use Rattle.std.specs.Prelude.{take, Result, Ok, Err}
 use Rattle.om_model.specs.declared.refusal.ReadRefusal.{ReadRefusal}
@@ -8,7 +8,7 @@ use Rattle.om_read.specs.declared.reader.Reader.{Reader}
 use Rattle.om_read.specs.Reader.{IsReader, Leads}
 use Rattle.om_searcher.specs.declared.last.Taken.{Taken}
 
--- the last of the bytes decides what they begin with
+-- The last of the bytes decides what they begin with.
 pub record IsDecided (limit : ℕ) (bytes : List ℕ) : Type 0 where
   pub none : IsFront limit bytes → ⊥
   pub front : List ℕ
@@ -16,25 +16,26 @@ pub record IsDecided (limit : ℕ) (bytes : List ℕ) : Type 0 where
   pub bytes_are : bytes ≡ front ++ last ∷ []
   pub before : IsFront limit front
 
--- a refusal that is not for out of memory decides
+-- A refusal other than out of memory decides.
 abbrev pub IsRefusal : ReadRefusal → Bool → Type 0
 IsRefusal refusal goes_on = (goes_on ≡ false) × (refusal ≢ refusals.Memory)
 
--- the bytes are a front still, and with the reader; or the byte decides; or memory ran out
+-- The bytes are still a prefix of a value, and the reader has taken them. Or the byte decides. Or
+-- memory ran out.
 abbrev pub TakesByte : {E : Type 0} → ℕ → List ℕ → List ℕ → Reader → Result Bool E → Type 0
 TakesByte limit taken byte new (Ok true) =
     IsReader new × Leads limit (taken ++ byte) new × IsFront limit (taken ++ byte)
 TakesByte limit taken byte new (Ok false) = IsDecided limit (taken ++ byte)
 TakesByte limit taken byte new (Err e) = Unit {0}
 
--- so many bytes of the piece decide
+-- This many bytes of the chunk decide.
 abbrev pub FindsLast : {E : Type 0} → ℕ → List ℕ → List ℕ → Result ℕ E → Type 0
 FindsLast limit held piece (Ok n) =
     (0 < n) × (n ≤ length piece) × IsDecided limit (held ++ take n piece)
 FindsLast limit held piece (Err e) = Unit {0}
 
--- Some bytes are taken behind those that are held. The last of them decides what all begin with; or
--- they are a front still, and with the reader.
+-- Some bytes are taken after the held ones. Either the last of them decides what all begin with, or
+-- they are still a prefix of a value and the reader has taken them.
 pub record TakesBytes (limit : ℕ) (held piece : List ℕ) (new : Reader) (t : Taken) : Type 0 where
   pub some : 0 < t.bytes
   pub within : t.bytes ≤ length piece
@@ -42,7 +43,7 @@ pub record TakesBytes (limit : ℕ) (held piece : List ℕ) (new : Reader) (t : 
       × Leads limit (held ++ take t.bytes piece) new
   pub last : t.decided ≡ true → IsDecided limit (held ++ take t.bytes piece)
 
--- or memory ran out
+-- The bytes are taken, or memory ran out.
 abbrev pub ReadsSome : {E : Type 0} → ℕ → List ℕ → List ℕ → Reader → Result Taken E → Type 0
 ReadsSome limit held piece new (Ok t) = TakesBytes limit held piece new t
 ReadsSome limit held piece new (Err e) = Unit {0}

@@ -1,4 +1,4 @@
--- What has been found in the input so far, as its bytes come.
+-- The state of the search while the bytes of the input arrive.
 use Rattle.std.specs.Prelude.{ℕ, ◌<◌, ◌≤◌, ◌≡◌, true, false, List, [], ◌∷◌, ◌++◌, length, take}
 use Rattle.std.specs.Prelude.{Option, Result, Ok, Err}
 use Rattle.om_format.specs.Front.{IsFront}
@@ -17,8 +17,8 @@ use Rattle.om_searcher.specs.declared.last.Taken.{Taken}
 use Rattle.om_searcher.specs.Last.{IsDecided}
 
 module _ (limit_by : Request → Option ℕ) (limit : ℕ) (held : List ℕ) where
-  -- Of these bytes the stretches were taken, of which this is said. A front is held, which the
-  -- reader has, and before it so many bytes stand.
+  -- The stretches in these bytes were taken, and this is their output. The held bytes are a prefix
+  -- of a value, which the reader has taken, and `at` bytes come before them.
   pub record HasSearched (reader : Reader) (at : ℕ) (bytes : List ℕ) (said : List Said) : Type 0
     where
       pub items : List Item
@@ -27,14 +27,14 @@ module _ (limit_by : Request → Option ℕ) (limit : ℕ) (held : List ℕ) whe
       pub leads : Leads limit held reader
       pub at_is : at ≡ bytes_in items
 
-  -- the same where the last of the bytes that are held decides
+  -- The same, if the last of the held bytes decides.
   pub record HasStretch (at : ℕ) (bytes : List ℕ) (said : List Said) : Type 0 where
     pub items : List Item
     pub first : SaysFirst (searching limit_by) limit bytes items said held
     pub decided : IsDecided limit held
     pub at_is : at ≡ bytes_in items
 
--- some of the bytes in hand are taken: a stretch is held then, or a front
+-- Some of the buffered bytes are taken. Afterwards a stretch is held, or a prefix of a value.
 abbrev pub HasTaken : (Request → Option ℕ) → ℕ → List ℕ → Reader → ℕ → List ℕ → List ℕ → List Said
     → Taken → Type 0
 HasTaken limit_by limit held reader at in_hand bytes said t =
@@ -43,15 +43,15 @@ HasTaken limit_by limit held reader at in_hand bytes said t =
     → HasSearched limit_by limit held reader at (bytes ++ take t.bytes in_hand) said)
     × (t.decided ≡ true → HasStretch limit_by limit held at (bytes ++ take t.bytes in_hand) said)
 
--- or memory ran out
+-- The bytes are taken, or memory ran out.
 abbrev pub TakesSome : {E : Type 0} → (Request → Option ℕ) → ℕ → List ℕ → Reader → ℕ → List ℕ
     → List ℕ → List Said → Result Taken E → Type 0
 TakesSome limit_by limit held reader at in_hand bytes said (Ok t) =
     HasTaken limit_by limit held reader at in_hand bytes said t
 TakesSome limit_by limit held reader at in_hand bytes said (Err e) = Unit {0}
 
--- What is said of the stretch is put, and a front is held behind it; or memory ran out, and nothing
--- is put; or out failed.
+-- The output for the stretch is written, and a prefix of a value is held after it. Or memory ran
+-- out and nothing is written. Or writing the output fails.
 abbrev pub PutsNext : {U : Type 0} → (Request → Option ℕ) → ℕ → List ℕ → Reader → ℕ → List ℕ
     → List Said → Change ByteState → Result U Halt → Type 0
 PutsNext limit_by limit held reader at bytes said out (Ok unit) =

@@ -1,4 +1,4 @@
-//! With which byte it is decided what some bytes begin with.
+//! Finds the byte that decides what some bytes begin with.
 
 ghost use Rattle.std.specs.Prelude.{◌≡◌, ◌<◌, ℕ, List, [], length, IfOk};
 ghost use Rattle.om_format.specs.Front.{IsFront};
@@ -10,7 +10,7 @@ use om_model::refusal::ReadRefusal;
 use om_read::Reader;
 use std::alloc::Global;
 
-// Takes a front again.
+// Feeds a prefix of a value to a new reader again.
 fn take_front(reader: &mut Reader, bytes: &[u8]) -> Result<(), Memory>
     requires { IsReader reader.old }
     ensures { (limit : ℕ) → Leads limit [] reader.old → IsFront limit bytes.now
@@ -22,7 +22,7 @@ fn take_front(reader: &mut Reader, bytes: &[u8]) -> Result<(), Memory>
     }
 }
 
-// A refusal decides, where it is not for out of memory.
+// Returns false for a refusal, which decides. Fails if the refusal is out of memory.
 fn is_decided(refusal: ReadRefusal) -> Result<bool, Memory>
     ensures { IfOk result (λ goes_on. IsRefusal refusal goes_on) }
 {
@@ -32,7 +32,7 @@ fn is_decided(refusal: ReadRefusal) -> Result<bool, Memory>
     }
 }
 
-// Takes one byte, and answers whether the bytes are a front still.
+// Feeds one byte. Returns true if the bytes are still a prefix of a value.
 fn take_byte(reader: &mut Reader, byte: &[u8]) -> Result<bool, Memory>
     requires one { length byte.now ≡ 1 }
     requires reader { IsReader reader.old }
@@ -45,7 +45,7 @@ fn take_byte(reader: &mut Reader, byte: &[u8]) -> Result<bool, Memory>
     }
 }
 
-// How many bytes of the piece, behind a front, decide what all begin with.
+// Returns how many bytes of the chunk, after a prefix of a value, decide what all bytes begin with.
 fn find_last(alloc: Global, limit: u64, held: &[u8], piece: &[u8]) -> Result<usize, Memory>
     requires front { IsFront limit held.now }
     ensures { FindsLast limit held.now piece.now result }
@@ -61,19 +61,20 @@ fn find_last(alloc: Global, limit: u64, held: &[u8], piece: &[u8]) -> Result<usi
             return Ok(taken + 1);
         }
     }
-    // What the piece decided at first can only have been that memory ran out.
+    // If the repeated reading decides nothing, then the first refusal was out of memory.
     Err(Memory)
 }
 
-/// How many bytes of a piece were taken, and whether the last of them decides what all begin with.
+/// The number of bytes taken from a chunk, and whether the last of them decides what all bytes
+/// begin with.
 #[derive(Clone, Copy)]
 pub struct Taken {
     pub bytes: usize,
     pub decided: bool,
 }
 
-/// Takes the piece behind a front that the reader has, or the first bytes of it that decide what
-/// all begin with.
+/// Takes bytes of the chunk, after a prefix that the reader has taken: all bytes, or the first ones
+/// that decide what all bytes begin with.
 pub fn read_some(
     alloc: Global,
     limit: u64,

@@ -1,5 +1,7 @@
-//! The search of the input for values, in code: bytes are held from the first place on at which a
-//! value may still begin, and what they are is told as soon as it is decided.
+//! Implements the search of the input for values. The search holds bytes from the first offset at
+//! which a value may still begin. As soon as a byte decides what the held bytes begin with, they
+//! are a stretch, and the lines for it are written. The contract of `search_input` states that the
+//! run satisfies `Account`.
 #![tactic(auto)]
 
 mod last;

@@ -1,4 +1,4 @@
-//! A whole call of the command.
+//! A whole run of the command.
 
 ghost use Rattle.std.specs.Prelude.{◌≡◌, ℕ, List, Some};
 ghost use Rattle.om_outcome.specs.Outcome.{Request, Asks};
@@ -14,7 +14,8 @@ use om_searching::laws::Searches;
 use om_work::run_reported;
 use std::alloc::Global;
 
-/// Searches the input, under the limit: it leaves the files alone.
+/// Searches the input for values of at most `limit` 64-bit words, and returns the exit status. Does
+/// not use any file.
 pub fn search_input<S: Searches, I: Source, K: Sink, E: Sink>(
     alloc: Global,
     limit: u64,

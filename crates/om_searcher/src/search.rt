@@ -1,4 +1,4 @@
-//! The input, searched as its bytes come.
+//! The search, while the bytes of the input arrive.
 
 ghost use Rattle.std.specs.Prelude.{◌≡◌, ◌++◌, ◌<◌, ◌≤◌, ◌^◌, ◌+◌, ℕ, List, [], length, take, drop};
 ghost use Rattle.std.specs.Prelude.{IfOk, OnOk};
@@ -18,18 +18,18 @@ use om_work::Work;
 use std::alloc::Global;
 use std::marker::PhantomData;
 
-/// While fewer bytes are held, one more is taken at a time: most places begin no value, and so many
-/// bytes tell it of nearly all of them.
+/// While fewer bytes than this are held, bytes are taken one by one. At most offsets no value
+/// begins, and this many bytes nearly always decide it.
 const FEW: usize = 32;
 
-// Puts bytes at the end.
+// Appends bytes.
 fn keep(held: &mut Vec<u8>, bytes: &[u8]) -> Result<(), Memory>
     ensures { OnOk result (held.new.items ≡ held.old.items ++ bytes.now) }
 {
     Ok(held.extend_from_slice(bytes)?)
 }
 
-// The bytes behind the first ones.
+// Returns the bytes after the first `n` ones.
 fn left_of(alloc: Global, bytes: &[u8], n: usize) -> Result<Vec<u8>, Memory>
     ensures { IfOk result (λ left. left.items ≡ drop n bytes.now) }
 {
@@ -38,7 +38,7 @@ fn left_of(alloc: Global, bytes: &[u8], n: usize) -> Result<Vec<u8>, Memory>
     Ok(left)
 }
 
-// The bytes that are taken next: all in hand, or one.
+// Returns the bytes to take next: all buffered bytes, or one.
 fn next_piece(in_hand: &[u8], held: usize) -> &[u8]
     requires { 0 < length in_hand.now }
     ensures { (n : ℕ) × (0 < n) × (n ≤ length in_hand.now) × (result.now ≡ take n in_hand.now) }
@@ -46,8 +46,8 @@ fn next_piece(in_hand: &[u8], held: usize) -> &[u8]
     if held < FEW { &in_hand[..1] } else { in_hand }
 }
 
-/// The search so far: the bytes that are held, from the first place on at which a value may still
-/// begin, the reader that has taken them, and how many bytes stand before them.
+/// The state of the search: the held bytes, from the first offset at which a value may still begin,
+/// the reader that has taken them, and the number of bytes before them.
 #[derive(Drop)]
 pub struct Searching<S> {
     pub limit: u64,
@@ -58,7 +58,8 @@ pub struct Searching<S> {
 }
 
 impl<S: Searches> Searching<S> {
-    /// No byte was taken. The number is the limit of words on 64 bits in a value.
+    /// Creates the state before any byte is taken. `limit` is the greatest number of 64-bit words
+    /// in a value.
     pub fn new(alloc: Global, limit: u64) -> Searching<S>
         ensures limit { result.limit ≡ limit }
         ensures has { HasSearched S.limit_by result.limit result.held.items result.reader result.at
@@ -73,7 +74,7 @@ impl<S: Searches> Searching<S> {
         }
     }
 
-    // Takes some of the bytes in hand: a front is held still, or a stretch.
+    // Takes some of the buffered bytes. Afterwards a prefix of a value is held, or a stretch.
     fn take_some(&mut self, alloc: Global, in_hand: &[u8]) -> Result<Taken, Memory>
         requires some { 0 < length in_hand.now }
         requires has { (bytes : List ℕ) × (said : List Said)
@@ -93,7 +94,7 @@ impl<S: Searches> Searching<S> {
         Ok(taken)
     }
 
-    // Puts what is said of the stretch that is decided, and holds what is left of it.
+    // Writes the output for the decided stretch, and holds the bytes that remain of it.
     fn put_stretch<K: Sink>(&mut self, alloc: Global, out: &mut K) -> Result<(), Halt>
         requires { (bytes : List ℕ) × (said : List Said)
             × HasStretch S.limit_by self.old.limit self.old.held.items self.old.at bytes said

@@ -1,4 +1,4 @@
--- Each input is cut into stretches and a front.
+-- Each input consists of stretches and a prefix of a value.
 use Rattle.std.proofs.Common.{◌≡◌, ◌⊎◌, ℕ, zero, suc, ◌<◌, ◌≤◌, List, [], ◌∷◌, ◌++◌, length, Option, inl, inr, refl, sym, ap, ◌∙◌, subst, append_assoc, append-nil, length-append, arith}
 use Rattle.om_model.specs.Bytes.{AreBytes}
 use Rattle.om_format.specs.Front.{IsFront}
@@ -13,7 +13,7 @@ use Rattle.om_searching.proofs.LawfulLemmas.{stretch_some}
 use Rattle.om_searching.proofs.SaidLemmas.{places_said, said_of_stretch}
 
 module _ (limit : ℕ) where
-  -- the first bytes that are no front, and what follows them
+  -- The first bytes that are no prefix of a value, and the bytes after them.
   record IsDecided (bytes : List ℕ) : Type 0 where
     whole : List ℕ
     later : List ℕ
@@ -76,7 +76,8 @@ module _ (limit : ℕ) where
         )
 
   module _ (limit_by : Request → Option ℕ) where
-    -- after the first items these bytes are items, of which this is said, and a front
+    -- After the items `before` these bytes are items with this output, followed by a prefix of a
+    -- value.
     pub record IsHeld (before : List Item) (bytes : List ℕ) : Type 0 where
       pub items : List Item
       pub said : List Said

@@ -1,4 +1,5 @@
--- The command is lawful: the input has its stretches, and each its lines, in one way.
+-- The command is lawful: the input divides into stretches in one way, and each stretch has its
+-- lines in one way.
 use Rattle.std.proofs.Common.{◌≡◌, ◌⊎◌, inl, inr, ◌<◌, ℕ, List, [], ◌∷◌, ◌++◌, length, Option, Some, None, Ok, Err, refl, sym, ap, ◌∙◌, subst, append_assoc, length-append, arith}
 use Rattle.om_format.specs.Front.{IsFront}
 use Rattle.om_outcome.specs.Outcome.{Request, says, stops}
@@ -14,7 +15,7 @@ use Rattle.om_searching.specs.Searching.{IsFirstStretch, EndsWithPlaces, Finds, 
 use Rattle.om_searching.proofs.SaidLemmas.{places_once, stretch_once}
 
 module _ (limit : ℕ) where
-  -- the stretch, and what follows its front
+  -- The stretch, and the bytes after its prefix of a value.
   whole_is :
       (bytes : List ℕ) (item : Item) (more : List ℕ) → (h : IsFirstStretch limit bytes item more)
       → bytes ≡ (bytes_of h.parts ++ h.pending) ++ h.later
@@ -34,7 +35,7 @@ module _ (limit : ℕ) where
         h.more_is ∙ ((λ i. once.1 i ++ once.2 i) ∙ sym k.more_is),
       )
 
-  -- a stretch has a part, and so a byte
+  -- A stretch has at least one part, and so at least one byte.
   pub stretch_some :
       (parts : List Part) (pending : List ℕ) → IsStretch limit parts pending
       → 0 < length (bytes_of parts)
@@ -43,7 +44,7 @@ module _ (limit : ℕ) where
       let some = part_some limit (AreRefused limit) part parts pending s.are in
       omega (arith, some, length-append (part_bytes part) (bytes_of parts))
 
-  -- a stretch stays one when bytes follow
+  -- If more bytes follow, then a stretch remains one.
   stretch_stays :
       (bytes : List ℕ) (item : Item) (more later : List ℕ) → IsFirstStretch limit bytes item more
       → IsFirstStretch limit (bytes ++ later) item (more ++ later)
@@ -64,7 +65,7 @@ module _ (limit : ℕ) where
   ends_once items bytes (stops stop) other h k = absurd h
 
   module _ (limit_by : Request → Option ℕ) where
-    -- after a front more has to come
+    -- After a prefix of a value the run continues.
     pub goes_on :
         (items : List Item) (rest : List ℕ) → IsFront limit rest
         → GoesOn (searching limit_by) limit items rest
@@ -97,7 +98,7 @@ module _ (limit_by : Request → Option ℕ) where
       let same : limit ≡ limit' = cc both in
       h ∙ (ap (λ l. Ok l) same ∙ sym k)
 
-  -- it never stops before its input
+  -- The run never ends before its input.
   pub none_found :
       (request : Request) (files : Fetches) (stop : Stop) → Finds limit_by request files (Err stop)
       → ⊥
@@ -113,7 +114,7 @@ module _ (limit_by : Request → Option ℕ) where
     at = λ limit found. lawful_at limit limit_by;
   }
 
-  -- it wants no file
+  -- The command requests no file.
   pub searching_turns : AreInTurns (searching limit_by)
   searching_turns = record {
     by_earlier = λ request files others turn name same h. h;

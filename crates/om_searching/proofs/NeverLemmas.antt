@@ -1,4 +1,4 @@
--- The command ends with 0 or 2, or with what comes of the outside.
+-- The command ends with status 0 or 2, or with a status that the environment causes.
 use Rattle.std.proofs.Common.{ℕ, List, Option, inl, inr}
 use Rattle.std.specs.Prelude.{◌≢◌}
 use Rattle.om_outcome.specs.declared.status.Status.{Status}

@@ -1,4 +1,4 @@
--- What is said of items: the lines of their places.
+-- The output for items: the lines of their locations.
 use Rattle.std.proofs.Common.{◌≡◌, ℕ, ◌+◌, Bool, true, List, [], ◌∷◌, ◌++◌, length, Option, refl, sym, ap, ◌∙◌, subst, arith}
 use Rattle.std.specs.Prelude.{◌&&◌}
 use Rattle.om_outcome.specs.Outcome.{Request, Said, all_well}
@@ -29,12 +29,12 @@ pub same_said :
 same_said said other put well =
     ap (λ t. said_of t said.well) put ∙ ap (λ w. said_of other.text w) well
 
--- the lines of the places of these parts, which come after the items
+-- The lines of the locations of these parts, which follow the items.
 abbrev pub places_said : List Item → List Part → Said
 places_said items parts = said_of (lines_of (places_of (bytes_in items) parts)) true
 
 module _ (limit : ℕ) where
-  -- bytes have their places, and so their lines, in one way
+  -- Bytes have one list of locations, and so one output.
   pub places_once :
       (items : List Item) (bytes : List ℕ) (said other : Said)
       → SaysPlaces limit items bytes said → SaysPlaces limit items bytes other → said ≡ other
@@ -44,7 +44,7 @@ module _ (limit : ℕ) where
       (h.text_is ∙ (ap (λ p. lines_of (places_of (bytes_in items) p)) same ∙ sym k.text_is))
       (h.well ∙ sym k.well)
 
-  -- this is said of a stretch
+  -- The output for a stretch.
   pub said_of_stretch :
       (items : List Item) (bytes : List ℕ) (item : Item) (more : List ℕ)
       → (h : IsFirstStretch limit bytes item more)
@@ -68,7 +68,7 @@ module _ (limit : ℕ) where
       let same = same_bytes bytes bytes' item is is' in
       places_once items bytes' said other (subst (λ b. SaysPlaces limit items b said) same h) k
 
-  -- nothing is wrong with any
+  -- No output has an error.
   pub all_fine :
       (limit_by : Request → Option ℕ) (before items : List Item) (said : List Said)
       → AllSay (searching limit_by) limit before items said → all_well said ≡ true

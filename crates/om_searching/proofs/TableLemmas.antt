@@ -1,4 +1,4 @@
--- The tables are exact: each input ends well.
+-- The tables are exact: each input ends without errors.
 use Rattle.std.proofs.Common.{◌≡◌, ℕ, true, List, [], length, Option, refl, sym, ap, ◌∙◌, arith}
 use Rattle.std.specs.Prelude.{◌&&◌, if◌then◌else◌}
 use Rattle.om_model.specs.Bytes.{AreBytes}
@@ -14,7 +14,7 @@ use Rattle.om_searching.proofs.EndLemmas.{all_held}
 use Rattle.om_searching.proofs.LawfulLemmas.{goes_on, none_found}
 use Rattle.om_searching.proofs.SaidLemmas.{places_said, all_fine}
 
--- where nothing is wrong the run ends well
+-- If no output has an error, then the run ends without errors.
 fine_ends :
     (said : List Said) (final : Said) → all_well said ≡ true → final.well ≡ true
     → (ending_of (replies said (says final))).status ≡ Well

@@ -1,4 +1,4 @@
--- What is said of a whole input are the lines of its places.
+-- The output for a whole input is the lines of its locations.
 use Rattle.std.proofs.Common.{◌≡◌, ℕ, ◌+◌, List, [], ◌∷◌, ◌++◌, length, Option, inl, inr, refl, sym, ap, ◌∙◌, subst, append_assoc, append-nil}
 use Rattle.om_outcome.specs.Outcome.{at_end, Request, ending_of, Said, Reply, says, stops, Replies, replies, texts_of}
 use Rattle.om_sighting.specs.Parts.{Part, bytes_of, BeginNoValue, AreParts}
@@ -13,7 +13,7 @@ use Rattle.om_searching.specs.Searching.{bytes_in, IsFirstStretch, SaysPlaces, S
 use Rattle.om_searching.proofs.SaidLemmas.{bytes_in-snoc, same_bytes}
 
 module _ (limit : ℕ) where
-  -- no value begins at a byte that a stretch passes, whatever follows
+  -- No value begins at a byte that a stretch skips, whatever follows.
   stretch_parts :
       (bytes : List ℕ) (item : Item) (more : List ℕ) → (h : IsFirstStretch limit bytes item more)
       → AreParts limit (BeginNoValue limit) h.parts more
@@ -22,7 +22,7 @@ module _ (limit : ℕ) where
       (undecided limit h.parts (h.pending ++ h.later)
       (parts-after limit h.parts h.pending h.later h.stretch.are))
 
-  -- what is said of an item are the lines of its stretch
+  -- The output for an item is the lines of its stretch.
   stretch_text :
       (items : List Item) (bytes : List ℕ) (item : Item) (more : List ℕ) (said : Said)
       → (h : IsFirstStretch limit bytes item more) → SaysStretch limit items item said
@@ -35,14 +35,14 @@ module _ (limit : ℕ) where
 
   module _ (limit_by : Request → Option ℕ) (last : List Part)
       (last_are : AreParts limit (BeginNoValue limit) last []) where
-    -- the parts of all, and their lines
+    -- The parts of all items, and their lines.
     pub record HasAll (before : List Item) (bytes put : List ℕ) : Type 0 where
       pub parts : List Part
       pub bytes_are : bytes ≡ bytes_of parts
       pub are : AreParts limit (BeginNoValue limit) parts []
       pub put_is : put ≡ lines_of (places_of (bytes_in before) parts)
 
-    -- a stretch before others
+    -- A stretch before the others.
     one_more :
         (before : List Item) (bytes : List ℕ) (item : Item) (more : List ℕ) (said : Said)
         (put : List ℕ)

@@ -1,4 +1,4 @@
--- The laws on the command that tells where values stand.
+-- The laws of the command `scan`.
 use Rattle.std.specs.Prelude.{ℕ, ◌≡◌, List, Option, Some, None}
 use Rattle.om_model.specs.Bytes.{AreBytes}
 use Rattle.om_outcome.specs.Outcome.{whole, Request, Replies, ending_of}
@@ -8,19 +8,19 @@ use Rattle.om_promises.specs.Commands.{Commands, Answers}
 use Rattle.om_searching.specs.Searching.{searching}
 
 module _ (limit_by : Request → Option ℕ) where
-  -- it is idle at each request that asks for no search
+  -- The command does nothing for a request that is no search.
   abbrev pub IsIdleElsewhere : Type 0
   IsIdleElsewhere =
       (request : Request) → limit_by request ≡ None → IsIdleAt (searching limit_by) request
 
-  -- what is said of a whole input are the lines of its places
+  -- The output for a whole input is the lines of the locations of its values.
   abbrev pub TellsPlaces : Type 0
   TellsPlaces = (limit : ℕ) (input : List ℕ) (all : Replies) → AreBytes input
       → Answers (searching limit_by) limit (whole input) all
       → (places : List Place) × ArePlaces limit input places
       × ((ending_of all).out ≡ lines_of places)
 
-  -- no request is for it and for commands that are idle at each request that asks for a search
+  -- The command is disjoint from all commands that do nothing for searches.
   abbrev pub StandsApartFrom : {A : Type 0} → Commands A → Type 0
   StandsApartFrom c =
       ((request : Request) (limit : ℕ) → limit_by request ≡ Some limit → IsIdleAt c request)

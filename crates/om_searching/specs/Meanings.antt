@@ -1,17 +1,17 @@
--- What each status means at the command that tells where values stand:
+-- Exit status specification of the command `scan`:
 --
---   0   the input was told of to its end, also where no value stands in it
---   2   the words ask for nothing
+-- - 0: The locations up to the end of the input are reported, also if it contains no value.
+-- - 2: The arguments are invalid.
 --
--- Neither the input nor a file causes another. What 6, 7, 9 and 10 mean of the input, of out and of
--- memory is the same for all commands: it stands in om_promises.
+-- Neither the input nor a file causes any other status. The meanings of 6, 7, 9 and 10 for the
+-- input, for out and for memory are the same for all commands; om_promises defines them.
 use Rattle.std.specs.Prelude.{ℕ, ◌≡◌, ◌≢◌}
 use Rattle.om_outcome.specs.declared.status.Status.TheVariants.{Well, No, Types, Value, Script}
 use Rattle.om_outcome.specs.declared.status.Status.TheVariants.{OpenFault, Compat, Certificate}
 use Rattle.om_promises.specs.Call.{Call}
 use Rattle.om_causes.specs.Causes.{Tables}
 
--- no words and no files stop it, and no input: each ends well
+-- Neither arguments nor files nor the input end the run early: each input ends without errors.
 abbrev pub searching_tables : Tables ℕ
 searching_tables = record {
   BadWords = λ request. ⊥;
@@ -20,7 +20,7 @@ searching_tables = record {
   EndWith = λ limit bytes status. status ≡ Well;
 }
 
--- 1, 3, 4, 5, 8, 11 and 12 never come
+-- Statuses 1, 3, 4, 5, 8, 11 and 12 never occur.
 pub record IsNeverStopped (call : Call) : Type 0 where
   pub no : call.status ≢ No
   pub types : call.status ≢ Types

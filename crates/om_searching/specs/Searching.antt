@@ -1,7 +1,7 @@
--- The command that tells where values stand in the input, in the general form: an item is the bytes
--- of parts, which are told as soon as the bytes that come tell them. Of an item the lines of its
--- places are said, and at the end those of the bytes that are left, where a value that is cut is
--- none.
+-- The command `scan` in the general form. An item is the bytes of several parts, and it ends as
+-- soon as the following bytes determine these parts. The output for an item is the lines of the
+-- locations in it. The final output is the lines for the remaining bytes, where a truncated value
+-- is no value.
 use Rattle.std.specs.Prelude.{ℕ, ◌+◌, ◌≡◌, true, List, [], ◌∷◌, ◌++◌, length, Option, Some, Result}
 use Rattle.std.specs.Prelude.{Ok}
 use Rattle.om_outcome.specs.Outcome.{Request, Said, Reply, says, stops}
@@ -10,15 +10,15 @@ use Rattle.om_sighting.specs.Parts.{Part, bytes_of, BeginNoValue, AreParts, IsSt
 use Rattle.om_sighting.specs.Places.{places_of, lines_of}
 use Rattle.om_promises.specs.Commands.{Item, value, text, Fetches, Commands}
 
--- how many bytes the items have
+-- The number of bytes in the items.
 abbrev pub bytes_in : List Item → ℕ
 bytes_in [] = 0
 bytes_in (value tree ∷ items) = bytes_in items
 bytes_in (text bytes ∷ items) = length bytes + bytes_in items
 
 module _ (limit : ℕ) where
-  -- the item has the parts of the first stretch, and the front behind them is left with what
-  -- follows
+  -- The item consists of the parts of the first stretch. The prefix of a value after these parts
+  -- remains, with the bytes that follow it.
   pub record IsFirstStretch (bytes : List ℕ) (item : Item) (more : List ℕ) : Type 0 where
     pub parts : List Part
     pub pending : List ℕ
@@ -28,7 +28,7 @@ module _ (limit : ℕ) where
     pub bytes_are : bytes ≡ bytes_of parts ++ more
     pub stretch : IsStretch limit parts pending
 
-  -- the lines of the places in these bytes, which come after the items
+  -- The output is the lines of the locations in these bytes, which follow the items.
   pub record SaysPlaces (items : List Item) (bytes : List ℕ) (said : Said) : Type 0 where
     pub parts : List Part
     pub bytes_are : bytes ≡ bytes_of parts
@@ -40,12 +40,12 @@ module _ (limit : ℕ) where
   SaysStretch items item said =
       (bytes : List ℕ) × (item ≡ text bytes) × SaysPlaces items bytes said
 
-  -- the run never stops at its input
+  -- The run never ends within its input.
   abbrev pub EndsWithPlaces : List Item → List ℕ → Reply → Type 0
   EndsWithPlaces items bytes (says said) = SaysPlaces items bytes said
   EndsWithPlaces items bytes (stops stop) = ⊥
 
--- the limit, where a request asks for a search
+-- The limit, if the request is a search.
 module _ (limit_by : Request → Option ℕ) where
   abbrev pub Finds : Request → Fetches → Result ℕ Stop → Type 0
   Finds request files result =

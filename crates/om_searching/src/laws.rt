@@ -1,4 +1,4 @@
-//! The laws. Each function does nothing: what it ensures is the law.
+//! Lemma functions. They do nothing at run time: the contract of each function is a law.
 
 ghost use Rattle.std.specs.Prelude.{ℕ, Option};
 ghost use Rattle.om_outcome.specs.Outcome.{Request};
@@ -20,12 +20,13 @@ use om_causes::laws::{Meant, causes_of_tables};
 use om_promises::laws::{Act, files_in_turns, lawful_commands, promised, promises_of_commands};
 use std::marker::PhantomData;
 
-/// Which requests ask for a search, and under which limit of words on 64 bits in a value.
+/// The parameter of the command: the requests for a search, each with its limit of 64-bit words in
+/// a value.
 pub trait Searches {
     ghost limit_by: { Request → Option ℕ };
 }
 
-/// The command that tells where values stand, and what each status means at it.
+/// The command `scan`, and its exit status specification.
 pub struct OnStretches<S>(PhantomData<S>);
 
 impl<S: Searches> Act for OnStretches<S> {
@@ -42,17 +43,18 @@ impl<S: Searches> Meant for OnStretches<S> {
     ghost tables = { searching_tables };
 }
 
-/// The command is lawful.
+/// Proves that the command is lawful.
 pub fn searching_is_lawful<S: Searches>()
     ensures { AreLawful (searching S.limit_by) }
 {}
 
-/// It takes no file, so that each comes in its turn.
+/// Proves that the command fetches its files in turn. It fetches none.
 pub fn searching_takes_turns<S: Searches>()
     ensures { AreInTurns (searching S.limit_by) }
 {}
 
-/// So words and an input have one outcome, and no input holds a stop.
+/// Proves that arguments and input have at most one outcome, and that no input contains an exit
+/// reason.
 pub fn searching_answers_once<S: Searches>()
     ensures outcome { HaveOneOutcome (searching S.limit_by) }
     ensures stop { HaveOneStop (searching S.limit_by) }
@@ -63,7 +65,8 @@ pub fn searching_answers_once<S: Searches>()
     lawful_commands::<OnStretches<S>>();
 }
 
-/// What is promised of a call follows from its account, and from that all else.
+/// Proves that the specification of a run follows from its account, and that the other laws follow
+/// from the specification.
 pub fn searching_keeps_promises<S: Searches>()
     ensures account { ArePromised (searching S.limit_by) }
     ensures stop { let c = searching S.limit_by in Follow c (IfStop c) }
@@ -94,29 +97,30 @@ pub fn searching_keeps_promises<S: Searches>()
     files_in_turns::<OnStretches<S>>();
 }
 
-/// It is idle at each request that asks for no search.
+/// Proves that the command does nothing for a request that is no search.
 pub fn searching_is_idle_elsewhere<S: Searches>()
     ensures { IsIdleElsewhere S.limit_by }
 {}
 
-/// No request is for it and for commands that are idle at each request that asks for a search.
+/// Proves that the command is disjoint from all commands that do nothing for searches: no request
+/// is for both.
 pub fn searching_stands_apart<S: Searches, C: Act>()
     ensures { StandsApartFrom S.limit_by C.commands }
 {}
 
-/// What is said of a whole input are the lines of the places at which values stand, of which the
-/// input has one list.
+/// Proves that the output for a whole input is the lines of the locations of its values. An input
+/// has one list of locations.
 pub fn searching_tells_places<S: Searches>()
     ensures { TellsPlaces S.limit_by }
 {}
 
-/// The tables are exact: each input ends well.
+/// Proves that the status tables are exact: each input ends without errors.
 pub fn searching_has_meanings<S: Searches>()
     ensures { AreExact (searching S.limit_by) searching_tables }
 {}
 
-/// What is promised of a call gives each status its cause, and to each cause its status; and 1, 3,
-/// 4, 5, 8, 11 and 12 never come.
+/// Proves the exit status specification: each status has its cause, and each cause has its status.
+/// Statuses 1, 3, 4, 5, 8, 11 and 12 never occur.
 pub fn causes_of_searching<S: Searches>()
     ensures causes { let c = searching S.limit_by in Follow c (Causes c searching_tables) }
     ensures others { Follow (searching S.limit_by) (λ words. IsNeverStopped) }

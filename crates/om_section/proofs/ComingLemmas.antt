@@ -1,4 +1,4 @@
--- A certificate, as its bytes come.
+-- A certificate that is received in chunks.
 use Rattle.std.proofs.Common.{ℕ, ◌+◌, ◌≤◌, ◌≡◌, ◌∙◌, inl, false, List, [], ◌++◌, length, Option, Some, None, refl, sym, ap, subst, arith, zero-add, length-append, append_assoc}
 use Rattle.std.specs.Prelude.{Contains, is_some}
 use Rattle.std.proofs.lemmas.List.{append-nil}
@@ -13,7 +13,7 @@ use Rattle.om_section.proofs.CutLemmas.{lacks_append}
 use Rattle.om_section.proofs.ReadLemmas.{lines_few}
 use Rattle.om_model.proofs.Options.{Contains-none}
 
--- nothing has come
+-- The state before the first byte.
 pub nothing_is : IsReading nothing
 nothing_is = record { stated = record { stated = All-nil IsStated; few = omega arith }; opened = tt }
 
@@ -27,19 +27,19 @@ begins = record {
   begins = inl refl;
 }
 
--- from nothing on
+-- A fault relative to the initial state is a fault of the bytes.
 pub fault_from_nothing : (bytes : List ℕ) (fault : CertFault) → IsFaultFrom nothing bytes fault → IsFaultOf bytes fault
 fault_from_nothing bytes (faults.Syntax n) at =
     subst (λ (b : List ℕ). IsSyntaxAt b n) (append-nil bytes)
     (subst (λ (k : ℕ). IsSyntaxAt (bytes ++ []) k) (zero-add n) (at []))
 fault_from_nothing bytes faults.Memory at = tt
 
--- a piece in which no line ends
+-- A chunk in which no line ends.
 pub cut_lacks : (piece front rest : List ℕ) → IsCut piece 10 front rest → rest ≡ [] → ¬ Contains piece 10
 cut_lacks piece front rest cut none =
     subst (λ (z : List ℕ). ¬ Contains z 10) (sym (cut.whole ∙ (ap (λ (z : List ℕ). front ++ z) none ∙ append-nil front))) cut.none
 
--- no more bytes come
+-- If no more bytes follow, then the stored fault is the fault of the bytes.
 pub fault_told : (reading : Reading) (lines : ℕ) (kept bytes : List ℕ) (fault : Option ℕ) (n : ℕ) → fault ≡ Some n
     → HasComeTo reading lines kept fault bytes → IsSyntaxAt bytes n
 fault_told reading lines kept bytes fault n is at = subst (λ (b : List ℕ). IsSyntaxAt b n) (append-nil bytes) (told []) where
@@ -47,7 +47,7 @@ fault_told reading lines kept bytes fault n is at = subst (λ (b : List ℕ). Is
   told = subst (λ (o : Option ℕ). HasComeTo reading lines kept o bytes) is at
 
 module _ (reading : Reading) (lines : ℕ) (kept bytes piece : List ℕ) where
-  -- the line has not ended yet
+  -- If the line is not complete yet, then the chunk is kept.
   pub kept_more : ¬ Contains piece 10 → HasComeTo reading lines kept None bytes
       → HasComeTo reading lines (kept ++ piece) None (bytes ++ piece)
   kept_more lacks at = record {
@@ -71,7 +71,7 @@ module _ (reading : Reading) (lines : ℕ) (kept bytes piece : List ℕ) where
   kept_longer (Some n) longer none is lacks at = absurd (cc none)
 
 module _ (reading : Reading) (lines : ℕ) (kept bytes : List ℕ) (has : HasKept reading lines kept bytes) where
-  -- lines of what was kept were read
+  -- If lines of the kept bytes were parsed, then the invariant holds for the new state.
   pub came : (next : Reading) (many : ℕ) (line : List ℕ)
       → IsAt (text_of (lines_read reading) ++ kept) next (length (lines_read reading) + many) line []
       → HasComeTo next (lines + many) line None bytes
@@ -79,14 +79,14 @@ module _ (reading : Reading) (lines : ℕ) (kept bytes : List ℕ) (has : HasKep
       subst (λ (b : List ℕ). IsAt b next (lines + many) line []) (sym has.spelled)
       (subst (λ (k : ℕ). IsAt (text_of (lines_read reading) ++ kept) next (k + many) line []) (sym has.counted) at)
 
-  -- or one of them is faulty
+  -- If one of the lines is faulty, then the invariant holds with that fault.
   pub came_fault : (n : ℕ) → IsFaultFrom reading kept (faults.Syntax n) → (next : Reading) (left : ℕ) (line : List ℕ)
       → HasComeTo next left line (Some (lines + n)) bytes
   came_fault n at next left line = λ later.
       subst (λ (b : List ℕ). IsSyntaxAt (b ++ later) (lines + n)) (sym has.spelled)
       (subst (λ (k : ℕ). IsSyntaxAt ((text_of (lines_read reading) ++ kept) ++ later) (k + n)) (sym has.counted) (at later))
 
-  -- it is within the bytes, or the one behind them
+  -- The faulty line is within the bytes, or is the line after them.
   pub fault_few : (from : Reading) (text : List ℕ) (n : ℕ) → from ≡ reading → text ≡ kept → IsFaultFrom from text (faults.Syntax n)
       → lines + n ≤ length bytes + 1
   fault_few from text n same-reading same-text at = few_of (came_fault n own reading lines kept []) where

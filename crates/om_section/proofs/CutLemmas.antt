@@ -1,4 +1,4 @@
--- Bytes are cut in one way at the first of one kind.
+-- The split before the first occurrence of a byte is unique.
 use Rattle.std.proofs.Common.{ℕ, ◌<◌, ◌≤◌, ◌+◌, ◌-◌, ◌≡◌, ◌∙◌, ◌⊎◌, ⊎_elim, inl, inr, Bool, true, false, cond, List, [], ◌∷◌, ◌++◌, length, take, drop, get_or, refl, sym, ap, subst, arith}
 use Rattle.std.specs.Prelude.{Contains, ◌==◌}
 use Rattle.std.proofs.lemmas.Bool.{false≢true}
@@ -8,7 +8,7 @@ use Rattle.std.proofs.lemmas.List.{take-append-drop, length-take-le, get_or_defa
 use Rattle.om_model.proofs.Options.{Contains-first, Contains-later, Contains-none, Contains-cases, same_or_not}
 use Rattle.om_section.specs.Reading.{BeginsAt, IsCut}
 
--- ---- what is not among bytes
+-- ---- bytes that do not occur
 
 pub lacks_append : (a b : List ℕ) (c : ℕ) → ¬ Contains a c → ¬ Contains b c → ¬ Contains (a ++ b) c
 lacks_append a b c one two among = ⊎_elim one two (Contains-append_cases a b c among)
@@ -24,7 +24,7 @@ neither : (x y : Bool) → cond x true y ≡ false → (x ≡ false) × (y ≡ f
 neither true y is = absurd (false≢true (sym is))
 neither false y is = (refl, is)
 
--- by a test, which computes for bytes that are written out
+-- Proof by computation, for literal bytes.
 pub lacks_by_test : (c : ℕ) (bs : List ℕ) → has c bs ≡ false → ¬ Contains bs c
 unfolding has
 lacks_by_test c [] test among = Contains-none c among
@@ -35,7 +35,7 @@ lacks_by_test c (b ∷ bs) test among =
     (λ later. lacks_by_test c bs both.1 later)
     (Contains-cases b bs c among)
 
--- ---- one cut
+-- ---- uniqueness of the split
 
 pub cut_is_one :
     (at : ℕ) (a b x y : List ℕ) → ¬ Contains a at → ¬ Contains b at → BeginsAt at x → BeginsAt at y → a ++ x ≡ b ++ y
@@ -62,7 +62,7 @@ cut_is_one at (c ∷ a) (d ∷ b) x y one two begins other is =
     let whole : c ∷ a ≡ d ∷ b = cc in
     (whole, r.1)
 
--- ---- where the first one stands
+-- ---- the position of the first occurrence
 
 pub is_cut :
     (bytes : List ℕ) (at place : ℕ) → place ≤ length bytes → ((k : ℕ) → k < place → get_or bytes k 0 ≡ at → ⊥)
@@ -88,7 +88,7 @@ is_cut bytes at place within before found = record {
       inr (drop (place + 1) bytes, drop_more bytes place 0 less ∙ ap (λ (b : ℕ). b ∷ drop (place + 1) bytes) (found less))
   begins (inr more) = inl (drop_all place bytes more)
 
--- the others as a slice from there on has them
+-- The same split, with the second part as a slice.
 pub is_cut_slice :
     (bytes : List ℕ) (at place : ℕ) → place ≤ length bytes → ((k : ℕ) → k < place → get_or bytes k 0 ≡ at → ⊥)
     → (place < length bytes → get_or bytes place 0 ≡ at) → IsCut bytes at (take place bytes) (take (length bytes - place) (drop place bytes))

@@ -16,11 +16,11 @@ Lines = List (List ℕ)
 
 -- ---- lines of bytes
 
--- the first line, its line feed, and what stands behind
+-- The first line, its line feed, and the rest.
 line_first : (line : List ℕ) (others rest : List ℕ) → ((line ++ 10 ∷ []) ++ others) ++ rest ≡ line ++ (10 ∷ (others ++ rest))
 line_first line others rest = append_assoc (line ++ 10 ∷ []) others rest ∙ append_assoc line (10 ∷ []) (others ++ rest)
 
--- other lines have a line feed
+-- If there is another line, then the text contains a line feed.
 feed_among : (line : List ℕ) (others : Lines) (rest : List ℕ) → Contains (text_of (line ∷ others) ++ rest) 10
 feed_among line others rest =
     Contains-append_left (text_of (line ∷ others)) rest 10 (Contains-append_left (line ++ 10 ∷ []) (text_of others) 10 (Contains-push line 10))
@@ -51,7 +51,7 @@ record HasLines (bytes : List ℕ) : Type 0 where
   rest : List ℕ
   are : AreLinesOf bytes lines rest
 
--- bytes with one more in front
+-- Prepending one byte.
 one_more : (b : ℕ) (bytes : List ℕ) → HasLines bytes → HasLines (b ∷ bytes)
 one_more b bytes has = by_feed (same_or_not b 10) where
   longer : (lines : Lines) (rest : List ℕ) → AreLinesOf bytes lines rest → (b ≡ 10 → ⊥) → HasLines (b ∷ bytes)
@@ -96,7 +96,7 @@ has_lines [] = record {
 }
 has_lines (b ∷ bytes) = one_more b bytes (has_lines bytes)
 
--- ---- fronts
+-- ---- prefixes of certificates
 
 pub front_no_feed : (lines : Lines) → AreFront lines → HaveNoFeed lines
 front_no_feed lines (all, more, stated, is) line among =
@@ -104,11 +104,11 @@ front_no_feed lines (all, more, stated, is) line among =
     lines_no_feed 0 all stated.stated (omega (arith, few)) line
     (subst (λ (l : Lines). Contains l line) (sym is) (Contains-append_left lines more line among))
 
--- what a front begins with is one
+-- If some certificate begins with these lines, then it begins with a prefix of them.
 front_of_front : (lines others : Lines) → AreFront (lines ++ others) → AreFront lines
 front_of_front lines others (all, more, stated, is) = (all, others ++ more, stated, is ∙ append_assoc lines others more)
 
--- the first lines of one are one
+-- The same for the first `n` lines.
 pub front_first : (n : ℕ) (lines : Lines) → AreFront lines → AreFront (take n lines)
 front_first n lines front =
     front_of_front (take n lines) (drop n lines) (subst (λ (l : Lines). AreFront l) (sym (take-append-drop n lines)) front)
@@ -207,7 +207,7 @@ certificates_have_no_fault bytes all n is fault = ⊎_elim at_line behind fault.
   behind (last, inl some) = some (sym same.1)
   behind (last, inr open') = open' whole
 
--- a fault is not behind another one
+-- No fault comes after another fault.
 never_later : (bytes : List ℕ) (m n : ℕ) → IsSyntaxAt bytes m → IsSyntaxAt bytes n → m < n → ⊥
 never_later bytes m n one two less = ⊎_elim at_line behind one.why where
   same : (one.lines ≡ two.lines) × (one.rest ≡ two.rest)

@@ -1,4 +1,4 @@
--- What single lines of a certificate are, by their pieces.
+-- The parts of single lines of a certificate.
 use Rattle.std.proofs.Common.{ℕ, suc, ◌<◌, ◌≡◌, ◌≢◌, ◌∙◌, inr, Bool, true, false, List, [], ◌∷◌, ◌++◌, length, Option, Some, None, Result, Ok, Err, refl, sym, ap, subst, arith, append_assoc}
 use Rattle.std.specs.Prelude.{All, IfOk, MatchOption, codes, decimal, ◌==◌}
 use Rattle.std.proofs.lemmas.Bool.{false≢true}
@@ -18,7 +18,7 @@ use Rattle.om_section.proofs.TextLemmas.{decimal_lacks, number_is_one, steps_beg
 nil_is_no_cons : (x : ℕ) (xs : List ℕ) → [] ≡ x ∷ xs → ⊥
 nil_is_no_cons x xs is = cc
 
--- ---- what is found
+-- ---- results
 
 pub at_none : {A : Type 0} (r : Option A) (P : Type 0) (Q : A → Type 0) → r ≡ None → P → MatchOption r P Q
 at_none r P Q none holds = subst (λ o. MatchOption o P Q) (sym none) holds
@@ -40,7 +40,7 @@ no_bytes (b ∷ bytes) test is yes' = absurd (let none : suc (length bytes) ≡ 
 
 -- ---- two numbers with a space
 
--- where the bytes go on with the number and a space, they are cut there
+-- If the bytes begin with a number and a space, then they are split there.
 number_cut :
     (text object behind : List ℕ) → IsCut text 32 object behind → (n : ℕ) (rest : List ℕ) → IsNumber n → text ≡ decimal n ++ 32 ∷ rest
     → (object ≡ decimal n) × (behind ≡ 32 ∷ rest)
@@ -160,7 +160,7 @@ steps_go_on (s ∷ path) (t ∷ all) rest one two begins is =
     let whole : t ∷ all ≡ s ∷ (path ++ r.more) = cc in
     record { more = r.more; is = whole; spelled = r.spelled }
 
--- some of the steps, and the text of the others
+-- Some of the steps, and the text of the others.
 pub record AreSteps (text path rest : List ℕ) : Type 0 where
   pub numbers : All IsNumber path
   pub spelled : text ≡ steps_text path ++ rest
@@ -207,7 +207,7 @@ apart : (m n : ℕ) (a b : List ℕ) → (m < n) → m ∷ a ≡ n ∷ b → ⊥
 apart m n a b less is = let first : m ≡ n = first_byte (m ∷ a) (n ∷ b) is in omega (arith, less, first)
 
 module _ (paths one behind : List ℕ) (cut : IsCut paths 32 one behind) where
-  -- it is one with these two paths, or none
+  -- The text is an aliasing conflict with these two paths, or no aliasing conflict.
   no_clash :
       ((first second : List ℕ) → All IsNumber first → All IsNumber second → one ≡ path_text first → behind ≡ 32 ∷ path_text second → ⊥)
       → IsNoVerdict (codes "clash " ++ paths)

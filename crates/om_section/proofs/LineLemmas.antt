@@ -1,4 +1,4 @@
--- What the lines of a certificate are the lines of is one, and how they go on.
+-- The lines of a certificate determine its entries, and how the lines may continue.
 use Rattle.std.proofs.Common.{ℕ, suc, ◌≤◌, ◌+◌, ◌^◌, ◌≡◌, ◌∙◌, ◌⊎◌, ⊎_elim, inl, inr, List, [], ◌∷◌, ◌++◌, length, refl, sym, ap, subst, arith, add-zero, append_assoc}
 use Rattle.std.specs.Prelude.{Contains, All, map, codes}
 use Rattle.std.proofs.lemmas.List.{append-nil}
@@ -42,7 +42,7 @@ pairs_are_one (p ∷ ps) (q ∷ qs) one two x y is =
     let r = pairs_are_one ps qs (All-tail AreNumbers p ps one) (All-tail AreNumbers q qs two) x y (rest_is _ _ _ _ is) in
     (both_are p q ps qs first r.0, r.1)
 
--- the others begin with the pairs, and then the line is that of a pair
+-- If the other pairs begin with these pairs, then the line is that of a pair.
 pub record HasPair (ps qs : List (ℕ × ℕ)) (line : List ℕ) : Type 0 where
   pub pair : ℕ × ℕ
   pub rest : List (ℕ × ℕ)
@@ -74,9 +74,9 @@ pairs_have_end [] (q ∷ qs) x is = nil_is_no_cons _ _ (sym is)
 pairs_have_end (p ∷ ps) [] x is = pair_is_no_end p (sym (first_is _ _ _ _ is))
 pairs_have_end (p ∷ ps) (q ∷ qs) x is = pairs_have_end ps qs x (rest_is _ _ _ _ is)
 
--- ---- sections
+-- ---- entries
 
--- the lines behind the first
+-- The lines after the first line.
 behind : (one : Section) (x : Lines) → (pair_lines one ++ (codes "end" ∷ [])) ++ x ≡ pair_lines one ++ (codes "end" ∷ x)
 behind one x = append_assoc (pair_lines one) (codes "end" ∷ []) x
 
@@ -101,7 +101,7 @@ section_is_one k one other a b x y is =
       by_kind (sections.Clash first second) (sections.Clash one other) a b alike is =
           (ap (λ (p : List ℕ). sections.Clash p second) alike.0 ∙ ap (λ (p : List ℕ). sections.Clash one p) alike.1, rest_is _ _ _ _ is)
 
--- the sections begin with the whole ones
+-- The entries begin with the complete ones.
 pub record Begin (k : ℕ) (whole all : List Section) (more : Lines) : Type 0 where
   pub rest : List Section
   pub is : all ≡ whole ++ rest

@@ -1,4 +1,4 @@
--- Decimal digits, and the numbers that they are the text of.
+-- Decimal digits and the numbers that they denote.
 use Rattle.std.proofs.Common.{ℕ, zero, suc, ◌≡◌, ◌<◌, ◌≤◌, ◌+◌, ◌-◌, ◌*◌, ◌^◌, ◌∙◌, Bool, true, false, List, [], ◌∷◌, ◌++◌, length, take, drop, get_or, refl, sym, ap, subst, arith}
 use Rattle.std.specs.Prelude.{◌==◌, decimal}
 use Rattle.std.proofs.lemmas.Bool.{false≢true}
@@ -59,14 +59,14 @@ pub is_number :
 is_number bytes some leading all less =
     (less, sym (decimal-digits_value own bytes all some leading (omega (arith, less))))
 
--- ---- one digit more
+-- ---- one more digit
 
 pub few_digits : (bytes : List ℕ) (i : ℕ) → length bytes ≤ 19 → i < length bytes → AllDigits 10 (take i bytes) → digits_value 10 (take i bytes) < 10 ^ 18
 few_digits bytes i few inside all =
     let many = length-take-le i bytes (omega (arith, inside)) in
     digits_value_short own (take i bytes) 18 all (omega (arith, many, few, inside))
 
--- the value of a digit
+-- The value of a digit.
 pub digit_is : (c : ℕ) → 48 ≤ c → c ≤ 57 → digit_value c ≡ c - 48
 digit_is c low high = grind arith
 
@@ -82,20 +82,20 @@ digit_more bytes i n d m inside low high before is sum =
       omega (arith, sum, old, is, more, value),
     )
 
--- all of them
+-- All digits have been read.
 pub whole : (bytes : List ℕ) (i n : ℕ) → length bytes ≤ i → i ≤ length bytes → AllDigits 10 (take i bytes) × (n ≡ digits_value 10 (take i bytes)) → AllDigits 10 bytes × (n ≡ digits_value 10 bytes)
 whole bytes i n low high held =
     let same : i ≡ length bytes = omega (arith, low, high) in
     let is : take i bytes ≡ bytes = ap (λ k. take k bytes) same ∙ take-length bytes in
     subst (λ b. AllDigits 10 b × (n ≡ digits_value 10 b)) is held
 
--- ---- the first of some bytes
+-- ---- a number at the start of bytes
 
 few_first : (bytes : List ℕ) (i : ℕ) → i ≤ 18 → i ≤ length bytes → AllDigits 10 (take i bytes) → digits_value 10 (take i bytes) < 10 ^ 18
 few_first bytes i few inside all =
     let many = length-take-le i bytes inside in digits_value_short own (take i bytes) 18 all (omega (arith, many, few))
 
--- one digit more
+-- One more digit.
 pub first_more :
     (bytes : List ℕ) (i n d m : ℕ) → i < length bytes → 48 ≤ get_or bytes i 0 → get_or bytes i 0 ≤ 57
     → AllDigits 10 (take i bytes) × (n ≡ digits_value 10 (take i bytes)) → i < 18 → d ≡ get_or bytes i 0 - 48 → m ≡ 10 * n + d

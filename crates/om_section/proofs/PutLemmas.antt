@@ -1,4 +1,4 @@
--- Sections that are put one after another.
+-- Entries that are written one after another.
 use Rattle.std.proofs.Common.{ℕ, suc, ◌≡◌, ◌∙◌, List, [], ◌∷◌, ◌++◌, refl, sym, ap}
 use Rattle.std.proofs.lemmas.List.Concat.{flat_map-append}
 use Rattle.om_section.specs.declared.section.Section.{Section}

@@ -1,4 +1,4 @@
--- Reading a certificate line by line.
+-- Parsing of a certificate, line by line.
 use Rattle.std.proofs.Common.{ℕ, zero, suc, ◌≤◌, ◌+◌, ◌-◌, ◌≡◌, ◌∙◌, ⊎_elim, inl, inr, Bool, false, List, [], ◌∷◌, ◌++◌, length, Option, Some, None, refl, sym, ap, subst, arith, zero-add, length-append, append_assoc, take, drop}
 use Rattle.std.specs.Prelude.{All, IfSome, is_some, not, map, codes, decimal, slice_get}
 use Rattle.std.proofs.lemmas.Bool.{false≢true}
@@ -33,7 +33,7 @@ at_before [] others k one at = absurd (let inside = slice_get_within [] k one at
 at_before (p ∷ pairs) others zero one at = at
 at_before (p ∷ pairs) others (suc k) one at = at_before pairs others k one at
 
--- what comes next in a list that increases is above what came before
+-- In an increasing list the next pair is above the pairs before it.
 next_is_above : (pairs : List (ℕ × ℕ)) (pair : ℕ × ℕ) (rest : List (ℕ × ℕ)) → AreIncreasing (pairs ++ (pair ∷ rest)) → IsAbove pairs pair
 next_is_above pairs pair rest increasing k one at =
     increasing k (length pairs) one pair (slice_get_within pairs k one at) (at_before pairs (pair ∷ rest) k one at) (at_push pairs pair rest)
@@ -42,7 +42,7 @@ all_at : (pairs : List (ℕ × ℕ)) (pair : ℕ × ℕ) (rest : List (ℕ × �
 all_at [] pair rest all = All-head AreNumbers pair rest all
 all_at (p ∷ pairs) pair rest all = all_at pairs pair rest (λ k d inside. all (suc k) d (omega (arith, inside)))
 
--- a pair that is larger than all is one more
+-- If a pair is larger than all others, then it can be added.
 pub has_one_more :
     (pairs longer : List (ℕ × ℕ)) (pair : ℕ × ℕ) (line : List ℕ) → IsStated (sections.Pairs pairs) → IsAbove pairs pair
     → IsPairLine line pair → longer ≡ pairs ++ pair ∷ [] → HasOneMore (sections.Pairs pairs) line (sections.Pairs longer)
@@ -61,13 +61,13 @@ pub no_longer :
 no_longer pairs pair line own below other above is =
     below (subst (λ (p : ℕ × ℕ). IsAbove pairs p) (pair_is_one other pair is.0 own.0 (sym is.1 ∙ own.1)) above)
 
--- ---- readings
+-- ---- states
 
 module _ (whole : List Section) (stated : AreStated whole) where
   abbrev n : ℕ
   n = length whole
 
-  -- what a certificate has that begins with the lines of the whole ones
+  -- The entries of a certificate that begins with the lines of the complete entries.
   rest_of : (all : List Section) → AreStated all → (more : Lines) → lines_from 0 all ≡ lines_from 0 whole ++ more → Begin 0 whole all more
   rest_of all others more is = begin_with 0 whole all stated.stated others.stated more is
 
@@ -75,7 +75,7 @@ module _ (whole : List Section) (stated : AreStated whole) where
   all_behind [] ys all = all
   all_behind (x ∷ xs) ys all = all_behind xs ys (λ k d inside. all (suc k) d (omega (arith, inside)))
 
-  -- the first of the sections behind the whole ones
+  -- The first entry after the complete ones.
   next_stated : (all : List Section) → AreStated all → (section : Section) (rest : List Section) → all ≡ whole ++ (section ∷ rest) → IsStated section
   next_stated all others section rest is =
       All-head IsStated section rest (all_behind whole (section ∷ rest) (subst (λ (s : List Section). All IsStated s) is others.stated))
@@ -86,7 +86,7 @@ module _ (whole : List Section) (stated : AreStated whole) where
       let long = ap length is ∙ length-append whole (section ∷ rest) in
       omega (arith, few, long)
 
-  -- ---- fronts
+  -- ---- prefixes of certificates
 
   pub whole_is_front : AreFront (lines_from 0 whole ++ [])
   whole_is_front = (whole, [], stated, sym (append-nil (lines_from 0 whole)) ∙ sym (append-nil (lines_from 0 whole ++ [])))
@@ -108,7 +108,7 @@ module _ (whole : List Section) (stated : AreStated whole) where
       (section : Section) → IsStated section → IsNumber (length whole) → AreFront (lines_from 0 whole ++ (head_line (length whole) section ∷ pair_lines section))
   open_is_front section own number = (whole ++ section ∷ [], codes "end" ∷ [], pushed section own number, pushed_lines section)
 
-  -- ---- one line more
+  -- ---- one more line
 
   pub opened : (section : Section) (line : List ℕ) → IsHead (length whole) line section → GoesOn (record { whole = whole; begun = None }) line (record { whole = whole; begun = Some section })
   opened section line head = record {
@@ -143,7 +143,7 @@ module _ (whole : List Section) (stated : AreStated whole) where
         ∙ sym (append_assoc (lines_from 0 whole) (head_line (length whole) section ∷ pair_lines section) (line ∷ []));
   }
 
-  -- ---- a line with which nothing goes on
+  -- ---- a line with which no certificate continues
 
   pub no_head : (line : List ℕ) → IsNoHead (length whole) line → GoesNowhere (record { whole = whole; begun = None }) line
   no_head line none (all, more, others, is) =
@@ -159,9 +159,9 @@ module _ (whole : List Section) (stated : AreStated whole) where
             none (next_number all others section rest whole') section (next_stated all others section rest whole')
             (sym (first_is _ _ _ _ lines) ∙ ap (λ (k : ℕ). head_line k section) (zero-add (length whole)))
 
-  -- the lines behind the whole sections, where one is open
+  -- The lines after the complete entries, if an entry is open.
   module _ (section : Section) (own : IsStated section) where
-    -- the first section behind them has the open one's verdict and lines
+    -- The first entry after the complete ones has the verdict and the lines of the open entry.
     record IsNext (more : Lines) : Type 0 where
       next : Section
       stated' : IsStated next
@@ -232,7 +232,7 @@ module _ (whole : List Section) (stated : AreStated whole) where
   never_whole_here (sections.Clash first second) (sections.Misfit path) behind alike is = alike
   never_whole_here (sections.Clash first second) (sections.Clash its others) behind alike is = nil_is_no_cons _ _ (sym is)
 
-  -- a certificate does not end in an open section
+  -- A certificate does not end in an open entry.
   pub never_whole : (section : Section) → IsStated section → ¬ AreWhole (lines_from 0 whole ++ (head_line (length whole) section ∷ pair_lines section))
   never_whole section own (all, others, is) = never_whole_here section next.next next.behind next.alike next.lines where
     next : IsNext section own []
@@ -240,7 +240,7 @@ module _ (whole : List Section) (stated : AreStated whole) where
         next_is section own all others []
         (is ∙ ap (λ (l : Lines). lines_from 0 whole ++ (head_line (length whole) section ∷ l)) (sym (append-nil (pair_lines section))))
 
--- ---- a reading as a whole
+-- ---- the whole state
 
 begun_is :
     (reading : Reading) (section : Section) → IsReading reading → reading.begun ≡ Some section → IsStated section × IsNumber (length reading.whole)
@@ -300,12 +300,12 @@ nothing_read reading begun' text is same =
 
 -- ---- all of the lines
 
--- what has been read, by its parts
+-- The claim by cases on the open entry.
 pub front_of : (whole : List Section) (begun' : Option Section) → IsReading (record { whole = whole; begun = begun' }) → AreFront (lines_read (record { whole = whole; begun = begun' }))
 front_of whole None is = whole_is_front whole is.stated
 front_of whole (Some section) is = open_is_front whole is.stated section is.opened.0 is.opened.1
 
--- the line feed, and what stands behind it
+-- The line feed and the rest.
 behind_feed : (rest : List ℕ) → BeginsAt 10 rest → (rest ≡ [] → ⊥) → rest ≡ 10 ∷ drop 1 rest
 behind_feed rest (inl none) some = absurd (some none)
 behind_feed rest (inr (more, is)) some = is ∙ ap (λ (z : List ℕ). 10 ∷ drop 1 z) (sym is)
@@ -313,7 +313,7 @@ behind_feed rest (inr (more, is)) some = is ∙ ap (λ (z : List ℕ). 10 ∷ dr
 pub lines_more : (xs ys : Lines) → text_of xs ++ text_of ys ≡ text_of (xs ++ ys)
 lines_more xs ys = sym (flat_map-append (λ (l : List ℕ). l ++ 10 ∷ []) xs ys)
 
--- each line has a line feed
+-- Each line has a line feed, so there are at most as many lines as bytes.
 pub lines_few : (lines : Lines) → length lines ≤ length (text_of lines)
 lines_few [] = omega arith
 lines_few (line ∷ lines) =
@@ -322,7 +322,7 @@ lines_few (line ∷ lines) =
     let one = length-append line (10 ∷ []) in
     omega (arith, next, both, one)
 
--- with the lines that the bytes begin with, where the next one is cut off behind them
+-- The state after the lines at the start of the bytes, with the next line split off.
 pub at_begin :
     (from longer : Reading) (text : List ℕ) (many taken : ℕ) (line rest : List ℕ) → HasReadMore from text longer many taken
     → IsCut (take (length text - taken) (drop taken text)) 10 line rest
@@ -351,7 +351,7 @@ at_begin from longer text many taken line rest run slice = record {
   cut : IsCut (drop taken text) 10 line rest
   cut = subst (λ (z : List ℕ). IsCut z 10 line rest) (take_rest text taken) slice
 
--- how many lines and bytes are left then
+-- The bound on the remaining lines and bytes.
 pub few_begin :
     (from longer : Reading) (text : List ℕ) (many taken : ℕ) (line rest : List ℕ) → HasReadMore from text longer many taken
     → IsCut (take (length text - taken) (drop taken text)) 10 line rest → many + length rest ≤ length text
@@ -367,7 +367,7 @@ module _ (bytes : List ℕ) (reading : Reading) (lines : ℕ) (line rest : List 
   front : AreFront (lines_read reading)
   front = front_of reading.whole reading.begun at.is
 
-  -- with the line, which ends, and lines behind it
+  -- The state after a complete line and some lines after it.
   pub at_next :
       (next far : Reading) (many taken : ℕ) (line' rest' : List ℕ) → (rest ≡ [] → ⊥) → GoesOn reading line next
       → HasReadMore next (drop 1 rest) far many taken → IsCut (drop taken (drop 1 rest)) 10 line' rest'
@@ -406,7 +406,8 @@ module _ (bytes : List ℕ) (reading : Reading) (lines : ℕ) (line rest : List 
     one : text_of (line ∷ []) ++ drop 1 rest ≡ line ++ (10 ∷ drop 1 rest)
     one = ap (λ (z : List ℕ). z ++ drop 1 rest) (append-nil (line ++ 10 ∷ [])) ∙ append_assoc line (10 ∷ []) (drop 1 rest)
 
-  -- a line that has ended and with which nothing goes on, whatever comes behind
+  -- If no certificate continues with a complete line, then it is the first faulty line, with any
+  -- later bytes.
   pub faulty_line : (later : List ℕ) → (rest ≡ [] → ⊥) → GoesNowhere reading line → IsSyntaxAt (bytes ++ later) (lines + 1)
   faulty_line later some nowhere =
       subst (λ (n : ℕ). IsSyntaxAt (bytes ++ later) (n + 1)) (sym at.counted)

@@ -1,4 +1,4 @@
--- Lines of pairs read one after another.
+-- Consecutive pair lines.
 use Rattle.std.proofs.Common.{ℕ, ◌≤◌, ◌+◌, ◌-◌, ◌≡◌, ◌∙◌, List, [], ◌∷◌, ◌++◌, length, refl, sym, ap, subst, arith, length-append, append_assoc}
 use Rattle.std.specs.Prelude.{All, map}
 use Rattle.std.proofs.lemmas.List.{append-nil, map-append, length_push}
@@ -8,7 +8,8 @@ use Rattle.om_section.specs.Format.{pair_line, text_of}
 use Rattle.om_section.specs.Reading.{AreNumbers}
 use Rattle.om_section.specs.Runs.{IsFirstPair}
 
--- The pairs have become longer by those whose lines were read, and this is what stands behind them.
+-- The pairs were extended by the pairs of the parsed lines, and `rest` is the text after these
+-- lines.
 pub record IsPast (pairs : List (ℕ × ℕ)) (text : List ℕ) (longer : List (ℕ × ℕ)) (many : ℕ) (rest : List ℕ) : Type 0 where
   pub added : List (ℕ × ℕ)
   pub is : longer ≡ pairs ++ added
@@ -17,7 +18,7 @@ pub record IsPast (pairs : List (ℕ × ℕ)) (text : List ℕ) (longer : List (
   pub few : many + length rest ≤ length text
   pub spelled : text ≡ text_of (map pair_line added) ++ rest
 
--- none was read
+-- No line was parsed.
 pub none_past : (pairs : List (ℕ × ℕ)) (text : List ℕ) → All AreNumbers pairs → IsPast pairs text pairs 0 text
 none_past pairs text numbers = record {
   added = [];

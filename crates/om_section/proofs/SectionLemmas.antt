@@ -1,4 +1,4 @@
--- Pairs that increase are smaller than one that the last of them is smaller than.
+-- If the last of increasing pairs is smaller than a pair, then all of them are.
 use Rattle.std.proofs.Common.{ℕ, zero, suc, ◌≡◌, ◌<◌, ◌-◌, ◌∙◌, ◌⊎◌, ⊎_elim, inl, inr, Bool, List, [], ◌∷◌, ◌++◌, length, Some, refl, sym, ap, subst, arith}
 use Rattle.std.specs.Prelude.{slice_get, IsTrue, ◌↔◌}
 use Rattle.std.proofs.lemmas.Option.{same_Some, none-some, slice_get_within}

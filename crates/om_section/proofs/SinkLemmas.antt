@@ -1,4 +1,4 @@
--- A text that goes to a sink through a buffer.
+-- Writing of a text to a sink through a buffer.
 use Rattle.std.proofs.Common.{ℕ, ◌≡◌, ◌+◌, ◌∙◌, List, [], ◌∷◌, ◌++◌, take, drop, Some, Result, Ok, Err, sym, ap, subst, append_assoc, append-nil}
 use Rattle.std.specs.Prelude.{IsErr, map, codes, slice_get}
 use Rattle.std.proofs.lemmas.List.{take-append-drop, take_more, map-append}
@@ -12,7 +12,7 @@ use Rattle.om_section.specs.Format.{pair_line, text_of, head_line, pair_lines, s
 use Rattle.om_section.specs.declared.section.Section.{Section}
 use Rattle.om_section.specs.Putting.{Leaves, PutsFront, PutsAll}
 
--- ---- what a buffer has
+-- ---- the contents of the buffer
 
 module _ (a b c : ByteState) (text rest : List ℕ) (left : Leaves (change a b) text rest) where
   pub leaves_then : (last : List ℕ) → Leaves (change b c) rest last → Leaves (change a c) text last
@@ -39,7 +39,7 @@ leaves_more a b text rest more longer left is = record {
   put = left.put;
 }
 
--- where a call failed
+-- A call failed.
 pub front_fails : {A E : Type 0} (a b : ByteState) (text rest : List ℕ) (result : Result A E) → IsErr result → PutsPart (change a b) text
     → PutsFront (change a b) text rest result
 front_fails a b text rest result is part =
@@ -49,7 +49,7 @@ pub all_fails : {A E : Type 0} (a b : ByteState) (text : List ℕ) (result : Res
     → PutsAll (change a b) text result
 all_fails a b text result is part = MatchResult-from_err result (λ _. Puts (change a b) text) (λ _. PutsPart (change a b) text) is (λ _. part)
 
--- what is put of the rest is what is put of the text
+-- If the rest is written after a prefix, then the whole text is written.
 pub all_then : {A E : Type 0} (a b c : ByteState) (text rest : List ℕ) (result : Result A E) → Leaves (change a b) text rest
     → PutsAll (change b c) rest result → PutsAll (change a c) text result
 all_then a b c text rest (Ok done) left all = puts_then a b c text rest left all
@@ -77,7 +77,7 @@ lines_more text pairs i pair at_i =
           take_more pairs i pair (slice_get_within pairs i pair at_i)
           ∙ ap (λ (p : ℕ × ℕ). take i pairs ++ p ∷ []) (get_or_from_slice_get pairs i pair pair at_i)
 
--- a part of the first lines is one of all
+-- A proper prefix of the first lines is a proper prefix of all lines.
 pub part_of_lines : (a b : ByteState) (text : List ℕ) (pairs : List (ℕ × ℕ)) (i : ℕ) → PutsPart (change a b) (text ++ lines_of (take i pairs))
     → PutsPart (change a b) (text ++ lines_of pairs)
 part_of_lines a b text pairs i part =
@@ -86,7 +86,7 @@ part_of_lines a b text pairs i part =
     ∙ ap (λ (t : List ℕ). text ++ t) (sym (lines_both (take i pairs) (drop i pairs)) ∙ ap lines_of (take-append-drop i pairs)))
     (part_more a b (text ++ lines_of (take i pairs)) (lines_of (drop i pairs)) part)
 
--- a section is its first line, the lines of its pairs, and the last one
+-- An entry consists of its first line, the lines of its pairs, and the last line.
 pub whole_text : (k : ℕ) (section : Section) (text : List ℕ) → text ≡ head_line k section ++ 10 ∷ []
     → (text ++ text_of (pair_lines section)) ++ codes "end\n" ≡ section_text k section
 whole_text k section text is =

@@ -1,4 +1,4 @@
--- Lines of pairs whose objects differ in the last digit alone.
+-- Pair lines whose objects differ only in the last digit.
 use Rattle.std.proofs.Common.{zero, suc, add-zero, ℕ, ◌≡◌, ◌∙◌, ◌<◌, ◌≤◌, ◌+◌, ◌-◌, ◌*◌, ◌/◌, ◌%◌, ◌^◌, List, [], ◌∷◌, ◌++◌, length, take, drop, get_or, refl, sym, ap, inl, inr, arith, length-append, append_assoc}
 use Rattle.std.specs.Prelude.{codes, decimal}
 use Rattle.std.proofs.lemmas.Bool.{cases_lt}
@@ -8,7 +8,7 @@ use Rattle.std.proofs.lemmas.Nat.{le_bytes_8}
 use Rattle.om_section.specs.Numbers.{IsNumber}
 use Rattle.om_section.specs.Runs.{eight_from, word_of, IsPairEnd, IsFirstPair, IsStem}
 
--- ---- words
+-- ---- 64-bit words
 
 abbrev pub AreBytes : List ℕ → Type 0
 AreBytes bytes = (k : ℕ) → get_or bytes k 0 < 256
@@ -35,7 +35,7 @@ at_eight bytes place (suc (suc (suc (suc (suc (suc zero)))))) less = refl
 at_eight bytes place (suc (suc (suc (suc (suc (suc (suc zero))))))) less = refl
 at_eight bytes place (suc (suc (suc (suc (suc (suc (suc (suc k)))))))) less = absurd (omega (arith, less))
 
--- bytes with one word are the same
+-- If two lists of eight bytes form the same word, then they are equal.
 words_tell :
     (one other : List ℕ) (place : ℕ) → AreBytes one → AreBytes other → word_of one place ≡ word_of other place
     → eight_from one place ≡ eight_from other place
@@ -44,7 +44,7 @@ words_tell one other place valid sound same =
     sym (le_bytes_8 (eight_from one place) (word_of one place) refl (eight_bytes one place valid) refl)
     ∙ le_bytes_8 (eight_from other place) (word_of one place) refl (eight_bytes other place sound) same
 
--- so it is of each byte among eight
+-- Hence each of the eight bytes is equal.
 byte_told :
     (one other : List ℕ) (place k : ℕ) → AreBytes one → AreBytes other → word_of one place ≡ word_of other place → place ≤ k → k < place + 8
     → get_or one k 0 ≡ get_or other k 0
@@ -56,7 +56,7 @@ byte_told one other place k valid sound same low high =
       is_at : (bytes : List ℕ) → place + (k - place) ≡ k → k - place < 8 → get_or (eight_from bytes place) (k - place) 0 ≡ get_or bytes k 0
       is_at bytes at less = at_eight bytes place (k - place) less ∙ ap (λ (n : ℕ). get_or bytes n 0) at
 
--- two words that cover bytes tell that others begin with them
+-- If two overlapping words are equal, then the text begins with the bytes that they cover.
 pub front_told :
     (text front : List ℕ) → 8 ≤ length front → length front ≤ 16 → length front ≤ length text → AreBytes text → AreBytes front
     → word_of text 0 ≡ word_of front 0 → word_of text (length front - 8) ≡ word_of front (length front - 8)
@@ -80,7 +80,7 @@ front_told text front many few within valid sound first last =
 
 -- ---- lines with a stem
 
--- a type of one digit
+-- A type with one digit.
 pub short_end :
     (text : List ℕ) (n : ℕ) → 1 < length text → n ≡ get_or text 0 0 - 48 → 48 ≤ get_or text 0 0 → get_or text 0 0 ≤ 57
     → get_or text 1 0 ≡ 10 → IsPairEnd text n (take (length text - 2) (drop 2 text))
@@ -97,7 +97,7 @@ short_end text n some is low high feed = record {
       let same : get_or text 0 0 ≡ 48 + n = omega (arith, is, low) in
       ap (λ (b : ℕ). b ∷ []) same ∙ sym (decimal_digit n (omega (arith, is, high)))
 
--- the object of a line with the stem
+-- The object of a line with the stem.
 object_of :
     (number d : ℕ) → 0 < number → number < 10 ^ 17 → 48 ≤ d → d ≤ 57 → decimal (10 * number + (d - 48)) ≡ decimal number ++ d ∷ []
 object_of number d some small low high =

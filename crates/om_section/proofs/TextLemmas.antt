@@ -1,4 +1,4 @@
--- What the texts of a certificate's lines are the texts of is one.
+-- The texts of a certificate's lines determine their contents.
 use Rattle.std.proofs.Common.{ℕ, ◌<◌, ◌^◌, ◌≡◌, ◌∙◌, inl, inr, List, [], ◌∷◌, ◌++◌, length, get_or, refl, sym, ap, arith, length-append}
 use Rattle.std.specs.Prelude.{Contains, All, codes, decimal}
 use Rattle.std.proofs.lemmas.Fmt.{decimal_is_IsNumeral, decimal_nonempty, decimal_injective}
@@ -109,7 +109,7 @@ end_lacks = lacks_by_test 10 (codes "end") refl
 
 -- ---- verdicts
 
--- of one kind, with the same paths
+-- The entries are of the same kind and have the same paths.
 abbrev pub AreAlike : Section → Section → Type 0
 AreAlike (sections.Pairs pairs) (sections.Pairs others) = Unit {0}
 AreAlike (sections.Pairs pairs) (sections.Misfit path) = ⊥

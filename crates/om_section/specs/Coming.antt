@@ -1,4 +1,4 @@
--- What has come of a certificate that is read as its bytes come.
+-- The state of a parser that receives a certificate in chunks.
 use Rattle.std.specs.Prelude.{ℕ, ◌≡◌, List, [], ◌++◌, length, Option, Some, None}
 use Rattle.om_section.specs.declared.read.Reading.{Reading}
 use Rattle.om_section.specs.declared.read.CertReader.{CertReader}
@@ -11,14 +11,14 @@ Bytes = List ℕ
 abbrev pub nothing : Reading
 nothing = record { whole = []; begun = None }
 
--- these lines were read of the bytes, and the others are kept
+-- The bytes consist of the parsed lines and the bytes that are kept.
 pub record HasKept (reading : Reading) (lines : ℕ) (kept bytes : List ℕ) : Type 0 where
   pub is : IsReading reading
   pub counted : lines ≡ length (lines_read reading)
   pub spelled : bytes ≡ text_of (lines_read reading) ++ kept
 
--- the lines of the bytes were read, and the one that has not ended is kept; or the first faulty
--- line has ended, whatever comes behind
+-- Without a fault, all complete lines of the bytes were parsed and the incomplete line is kept.
+-- With a fault, the first faulty line is complete, and any later bytes do not change it.
 abbrev pub HasComeTo : Reading → ℕ → List ℕ → Option ℕ → List ℕ → Type 0
 HasComeTo reading lines kept None bytes = IsAt bytes reading lines kept []
 HasComeTo reading lines kept (Some n) bytes = (later : List ℕ) → IsSyntaxAt (bytes ++ later) n

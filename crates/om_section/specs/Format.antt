@@ -1,4 +1,5 @@
--- The text of a certificate, and where a text that is none has its first fault (of this project).
+-- The text of a certificate, and the position of the first fault in any other text. The format is
+-- defined by this project.
 use Rattle.std.specs.Prelude.{ℕ, suc, ◌+◌, ◌-◌, ◌^◌, ◌<◌, ◌≤◌, ◌≡◌, ◌≢◌, ◌⊎◌, List, [], ◌∷◌, ◌++◌}
 use Rattle.std.specs.Prelude.{length, map, take, flat_map, All, codes, decimal, Contains}
 use Rattle.om_model.specs.PathText.{path_text}
@@ -7,7 +8,7 @@ use Rattle.om_section.specs.declared.section.Section.TheVariants as sections
 use Rattle.om_section.specs.Increasing.{AreIncreasing}
 use Rattle.om_section.specs.Numbers.{IsNumber}
 
--- ---- what is stated
+-- ---- entries
 
 abbrev pub IsStated : Section → Type 0
 IsStated (sections.Pairs pairs) =
@@ -15,7 +16,7 @@ IsStated (sections.Pairs pairs) =
 IsStated (sections.Misfit path) = All IsNumber path
 IsStated (sections.Clash first second) = All IsNumber first × All IsNumber second
 
--- the sections that a certificate may have, in its order
+-- The entries that a certificate may have, in order.
 pub record AreStated (all : List Section) : Type 0 where
   pub stated : All IsStated all
   pub few : length all ≤ 2 ^ 63
@@ -25,14 +26,14 @@ pub record AreStated (all : List Section) : Type 0 where
 abbrev pub pair_line : ℕ × ℕ → List ℕ
 pair_line pair = codes "pair " ++ (decimal pair.0 ++ (codes " " ++ decimal pair.1))
 
--- what the first line of a section says behind its number
+-- The verdict: the text after the number in the first line of an entry.
 abbrev pub verdict_text : Section → List ℕ
 verdict_text (sections.Pairs pairs) = codes "yes"
 verdict_text (sections.Misfit path) = codes "misfit " ++ path_text path
 verdict_text (sections.Clash first second) =
     codes "clash " ++ (path_text first ++ (codes " " ++ path_text second))
 
--- the first line of section k, and the lines behind it
+-- The first line of entry `k`, and the pair lines after it.
 abbrev pub head_line : ℕ → Section → List ℕ
 head_line k section = codes "value " ++ (decimal k ++ (codes " " ++ verdict_text section))
 
@@ -44,32 +45,33 @@ pair_lines (sections.Clash first second) = []
 abbrev pub section_lines : ℕ → Section → List (List ℕ)
 section_lines k section = head_line k section ∷ (pair_lines section ++ codes "end" ∷ [])
 
--- those of all sections, the first of which has number k
+-- The lines of all entries; the first entry has number `k`.
 abbrev pub lines_from : ℕ → List Section → List (List ℕ)
 lines_from k [] = []
 lines_from k (section ∷ more) = section_lines k section ++ lines_from (suc k) more
 
--- each line ends with a line feed
+-- Each line ends with a line feed.
 abbrev pub text_of : List (List ℕ) → List ℕ
 text_of lines = flat_map (λ line. line ++ 10 ∷ []) lines
 
 abbrev pub section_text : ℕ → Section → List ℕ
 section_text k section = text_of (section_lines k section)
 
--- the bytes are the certificate of these sections
+-- The bytes are the certificate of these entries.
 pub record IsCertificate (bytes : List ℕ) (all : List Section) : Type 0 where
   pub stated : AreStated all
   pub spelled : bytes ≡ text_of (lines_from 0 all)
 
 -- ---- faults
 
--- the lines that end with a line feed, and what stands behind the last of them
+-- The lines that end with a line feed, and the bytes after the last of them.
 pub record AreLinesOf (bytes : List ℕ) (lines : List (List ℕ)) (rest : List ℕ) : Type 0 where
   pub whole : bytes ≡ text_of lines ++ rest
   pub no_feed : (line : List ℕ) → Contains lines line → ¬ Contains line 10
   pub no_feed_behind : ¬ Contains rest 10
 
--- some certificate begins with these lines, or has no others
+-- `AreFront`: some certificate begins with these lines. `AreWhole`: some certificate consists of
+-- exactly these lines.
 abbrev pub AreFront : List (List ℕ) → Type 0
 AreFront lines =
     (all : List Section) × (more : List (List ℕ)) × AreStated all
@@ -78,8 +80,9 @@ AreFront lines =
 abbrev pub AreWhole : List (List ℕ) → Type 0
 AreWhole lines = (all : List Section) × AreStated all × (lines_from 0 all ≡ lines)
 
--- Line n, counted from 1, is the first with which no certificate goes on; or it is the one behind
--- all lines, where the last one does not end, or a section does not.
+-- Line `n`, counted from 1, is the first faulty line: no certificate continues with it. If all
+-- lines are possible, but the last line or entry is not complete, it is the line after the last
+-- one.
 pub record IsSyntaxAt (bytes : List ℕ) (n : ℕ) : Type 0 where
   pub lines : List (List ℕ)
   pub rest : List ℕ

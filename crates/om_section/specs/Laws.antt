@@ -1,29 +1,29 @@
--- What the format is good for.
+-- Laws of the format.
 use Rattle.std.specs.Prelude.{ℕ, suc, ◌≡◌, List, [], ◌∷◌, ◌++◌}
 use Rattle.om_section.specs.declared.section.Section.{Section}
 use Rattle.om_section.specs.Format.{AreStated, section_text, IsCertificate, IsSyntaxAt}
 
--- a text is the certificate of one list of sections
+-- A text is the certificate of at most one list of entries.
 abbrev pub SectionsAreOne : Type 0
 SectionsAreOne =
     (bytes : List ℕ) (all others : List Section) → IsCertificate bytes all
     → IsCertificate bytes others → all ≡ others
 
--- and has no faulty line then
+-- A certificate has no faulty line.
 abbrev pub CertificatesHaveNoFault : Type 0
 CertificatesHaveNoFault =
     (bytes : List ℕ) (all : List Section) (n : ℕ) → IsCertificate bytes all → ¬ IsSyntaxAt bytes n
 
--- one line is the first that is faulty
+-- A text has at most one first faulty line.
 abbrev pub FaultsAreOne : Type 0
 FaultsAreOne = (bytes : List ℕ) (m n : ℕ) → IsSyntaxAt bytes m → IsSyntaxAt bytes n → m ≡ n
 
--- the texts of sections, the first of which has number k
+-- The texts of entries; the first entry has number `k`.
 abbrev pub texts_from : ℕ → List Section → List ℕ
 texts_from k [] = []
 texts_from k (section ∷ more) = section_text k section ++ texts_from (suc k) more
 
--- sections that are put one after another are a certificate
+-- The texts of entries, one after another, form a certificate.
 abbrev pub PutSectionsAreCertificates : Type 0
 PutSectionsAreCertificates =
     (all : List Section) → AreStated all → IsCertificate (texts_from 0 all) all

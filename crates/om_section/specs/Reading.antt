@@ -1,4 +1,4 @@
--- What reading a certificate knows on its way.
+-- The state of the parser of certificates.
 use Rattle.std.specs.Prelude.{ℕ, ◌+◌, ◌≤◌, ◌≡◌, ◌≢◌, ◌⊎◌, List, [], ◌∷◌, ◌++◌, length, Option, Some}
 use Rattle.std.specs.Prelude.{None}
 use Rattle.std.specs.Prelude.{IfSome, All, codes, decimal, Contains}
@@ -13,13 +13,13 @@ use Rattle.om_section.specs.Numbers.{IsNumber}
 use Rattle.om_section.specs.Format.{IsStated, AreStated, pair_line, pair_lines, verdict_text}
 use Rattle.om_section.specs.Format.{head_line, lines_from, text_of, AreFront, IsSyntaxAt}
 
--- ---- pieces of a line
+-- ---- parts of a line
 
--- there are none, or the first is this one
+-- The bytes are empty or begin with `at`.
 abbrev pub BeginsAt : ℕ → List ℕ → Type 0
 BeginsAt at bytes = (bytes ≡ []) ⊎ ((rest : List ℕ) × (bytes ≡ at ∷ rest))
 
--- the bytes up to the first of these, and the others
+-- The bytes, split before the first occurrence of `at`.
 pub record IsCut (bytes : List ℕ) (at : ℕ) (front rest : List ℕ) : Type 0 where
   pub whole : bytes ≡ front ++ rest
   pub none : ¬ Contains front at
@@ -48,7 +48,7 @@ IsStepsText text steps = All IsNumber steps × (text ≡ steps_text steps)
 abbrev pub IsNoStepsText : List ℕ → Type 0
 IsNoStepsText text = (steps : List ℕ) → ¬ IsStepsText text steps
 
--- the text begins with a step, and goes on with others or ends
+-- The text begins with a step; then another step follows or the text ends.
 pub record IsStep (text : List ℕ) (step : ℕ) (rest : List ℕ) : Type 0 where
   pub number : IsNumber step
   pub spelled : text ≡ codes "." ++ (decimal step ++ rest)
@@ -57,7 +57,7 @@ pub record IsStep (text : List ℕ) (step : ℕ) (rest : List ℕ) : Type 0 wher
 abbrev pub IsNoStep : List ℕ → Type 0
 IsNoStep text = (step : ℕ) (rest : List ℕ) → ¬ IsStep text step rest
 
--- the text is that of the section's verdict, which has no pair yet
+-- The text is the verdict of an entry without pairs.
 pub record IsVerdict (text : List ℕ) (section : Section) : Type 0 where
   pub stated : IsStated section
   pub spelled : text ≡ verdict_text section
@@ -66,7 +66,7 @@ pub record IsVerdict (text : List ℕ) (section : Section) : Type 0 where
 abbrev pub IsNoVerdict : List ℕ → Type 0
 IsNoVerdict text = (section : Section) → IsStated section → text ≢ verdict_text section
 
--- the line is the first of section k, which has no pair yet
+-- The line is the first line of entry `k`, which has no pairs yet.
 pub record IsHead (k : ℕ) (line : List ℕ) (section : Section) : Type 0 where
   pub number : IsNumber k
   pub stated : IsStated section
@@ -76,26 +76,26 @@ pub record IsHead (k : ℕ) (line : List ℕ) (section : Section) : Type 0 where
 abbrev pub IsNoHead : ℕ → List ℕ → Type 0
 IsNoHead k line = IsNumber k → (section : Section) → IsStated section → line ≢ head_line k section
 
--- ---- sections
+-- ---- entries
 
--- with the line, which is that of a pair, the section has one pair more
+-- The line is that of a pair, and `longer` is the entry with this additional pair.
 pub record HasOneMore (section : Section) (line : List ℕ) (longer : Section) : Type 0 where
   pub stated : IsStated longer
   pub spelled : pair_lines longer ≡ pair_lines section ++ line ∷ []
   pub same : verdict_text longer ≡ verdict_text section
 
--- with no line of a pair it has one more
+-- The line does not add a pair to the entry.
 abbrev pub HasNoMore : Section → List ℕ → Type 0
 HasNoMore (sections.Pairs pairs) line = (pair : ℕ × ℕ) → IsAbove pairs pair → ¬ IsPairLine line pair
 HasNoMore (sections.Misfit path) line = Unit {0}
 HasNoMore (sections.Clash first second) line = Unit {0}
 
--- the lines of an open section
+-- The lines of an open entry.
 abbrev pub open_lines : ℕ → Option Section → List (List ℕ)
 open_lines k None = []
 open_lines k (Some section) = head_line k section ∷ pair_lines section
 
--- the lines read so far
+-- The lines that were parsed so far.
 abbrev pub lines_read : Reading → List (List ℕ)
 lines_read reading = lines_from 0 reading.whole ++ open_lines (length reading.whole) reading.begun
 
@@ -103,21 +103,21 @@ pub record IsReading (reading : Reading) : Type 0 where
   pub stated : AreStated reading.whole
   pub opened : IfSome reading.begun (λ section. IsStated section × IsNumber (length reading.whole))
 
--- with the line more has been read
+-- The state after one more line.
 pub record GoesOn (reading : Reading) (line : List ℕ) (next : Reading) : Type 0 where
   pub is : IsReading next
   pub lines : lines_read next ≡ lines_read reading ++ line ∷ []
 
--- no certificate goes on with the line
+-- No certificate continues with the line.
 abbrev pub GoesNowhere : Reading → List ℕ → Type 0
 GoesNowhere reading line = ¬ AreFront (lines_read reading ++ line ∷ [])
 
--- what a fault says of the bytes: nothing, where memory ran out
+-- The meaning of a fault. If memory ran out, nothing is specified.
 abbrev pub IsFaultOf : List ℕ → CertFault → Type 0
 IsFaultOf bytes (faults.Syntax n) = IsSyntaxAt bytes n
 IsFaultOf bytes faults.Memory = Unit {0}
 
--- some lines have been read, and this is the next one, if something stands behind it
+-- Some lines were parsed, and `line` is the next one. It is complete if `rest` is not empty.
 pub record IsAt (bytes : List ℕ) (reading : Reading) (lines : ℕ) (line rest : List ℕ) : Type 0 where
   pub is : IsReading reading
   pub counted : lines ≡ length (lines_read reading)
@@ -126,8 +126,8 @@ pub record IsAt (bytes : List ℕ) (reading : Reading) (lines : ℕ) (line rest 
   pub none : ¬ Contains line 10
   pub begins : BeginsAt 10 rest
 
--- behind what was read, the first faulty line of these has ended: it is that of all bytes, whatever
--- comes behind
+-- The first faulty line after the parsed lines is complete. So it is the first faulty line of the
+-- whole text, with any later bytes.
 abbrev pub IsFaultFrom : Reading → List ℕ → CertFault → Type 0
 IsFaultFrom reading text (faults.Syntax n) =
     (later : List ℕ)

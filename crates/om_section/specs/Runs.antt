@@ -1,4 +1,4 @@
--- Lines of pairs that stand one after another.
+-- Consecutive pair lines.
 use Rattle.std.specs.Prelude.{ℕ, ◌+◌, ◌*◌, ◌^◌, ◌≡◌, ◌<◌, ◌≤◌, List, [], ◌∷◌, ◌++◌, length, map}
 use Rattle.std.specs.Prelude.{drop}
 use Rattle.std.specs.Prelude.{All, slice_index, codes, decimal}
@@ -8,17 +8,17 @@ use Rattle.om_section.specs.Numbers.{IsNumber}
 use Rattle.om_section.specs.Format.{pair_line, text_of}
 use Rattle.om_section.specs.Reading.{AreNumbers, lines_read, IsReading}
 
--- the bytes begin with the line of the pair
+-- The bytes begin with the line of the pair.
 pub record IsFirstPair (text : List ℕ) (pair : ℕ × ℕ) (rest : List ℕ) : Type 0 where
   pub numbers : AreNumbers pair
   pub spelled : text ≡ pair_line pair ++ 10 ∷ rest
 
--- they begin with the number of a type and the end of its line
+-- The bytes begin with the number of a type and the end of its line.
 pub record IsPairEnd (text : List ℕ) (type : ℕ) (rest : List ℕ) : Type 0 where
   pub number : IsNumber type
   pub spelled : text ≡ decimal type ++ 10 ∷ rest
 
--- the lines of pairs begin so whose objects are ten times a number and a digit
+-- The stem of lines: the lines of pairs whose object is `tens` plus a digit begin with these bytes.
 pub record IsStem (bytes : List ℕ) (tens : ℕ) : Type 0 where
   pub many : 8 ≤ length bytes
   pub few : length bytes ≤ 16
@@ -28,18 +28,18 @@ pub record IsStem (bytes : List ℕ) (tens : ℕ) : Type 0 where
   pub times : tens ≡ 10 * number
   pub spelled : bytes ≡ codes "pair " ++ decimal number
 
--- the eight bytes from a place on
+-- The eight bytes from position `place`.
 abbrev pub eight_from : List ℕ → ℕ → List ℕ
 eight_from bytes place =
     slice_index bytes place ∷ slice_index bytes (place + 1) ∷ slice_index bytes (place + 2)
     ∷ slice_index bytes (place + 3) ∷ slice_index bytes (place + 4) ∷ slice_index bytes (place + 5)
     ∷ slice_index bytes (place + 6) ∷ slice_index bytes (place + 7) ∷ []
 
--- the same as a word, the least significant first
+-- These bytes as a little-endian 64-bit word.
 unfoldable pub word_of : List ℕ → ℕ → ℕ
 word_of bytes place = from_le_bytes w64 (eight_from bytes place)
 
--- they begin with so many lines, and these have so many bytes
+-- The text begins with these lines. `many` is their number, and `taken` is their length in bytes.
 pub record BeginsWithLines (text : List ℕ) (lines : List (List ℕ)) (many taken : ℕ)
     : Type 0 where
   pub counted : many ≡ length lines
@@ -47,7 +47,7 @@ pub record BeginsWithLines (text : List ℕ) (lines : List (List ℕ)) (many tak
   pub few : many ≤ taken
   pub spelled : text ≡ text_of lines ++ drop taken text
 
--- the longer list has these pairs more, with whose lines the bytes begin
+-- `longer` extends `pairs` by pairs whose lines the text begins with.
 pub record HasMorePairs (pairs : List (ℕ × ℕ)) (text : List ℕ) (longer : List (ℕ × ℕ))
     (many taken : ℕ) : Type 0 where
   pub added : List (ℕ × ℕ)
@@ -55,7 +55,7 @@ pub record HasMorePairs (pairs : List (ℕ × ℕ)) (text : List ℕ) (longer : 
   pub numbers : All AreNumbers longer
   pub begins : BeginsWithLines text (map pair_line added) many taken
 
--- with the lines that the bytes begin with more has been read
+-- The state after some lines that the text begins with.
 pub record HasReadMore (reading : Reading) (text : List ℕ) (next : Reading) (many taken : ℕ)
     : Type 0 where
   pub is : IsReading next

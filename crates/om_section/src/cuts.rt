@@ -1,10 +1,11 @@
-//! Bytes cut at a byte, or behind a front.
+//! Splitting of bytes at a delimiter or after a prefix.
 
 ghost use Rattle.std.specs.Prelude.{ℕ, ◌≡◌, ◌≢◌, ◌<◌, ◌≤◌, ◌++◌, List, MatchOption, length};
 ghost use Rattle.std.specs.Prelude.{slice_index};
 ghost use Rattle.om_section.specs.Reading.{IsCut};
 
-/// The bytes up to the first of these, and the others.
+/// Splits the bytes before the first occurrence of `at`. If `at` does not occur, the second part is
+/// empty.
 pub fn until(bytes: &[u8], at: u8) -> (&[u8], &[u8])
     ensures { IsCut bytes.now at result.0.now result.1.now }
 {
@@ -12,7 +13,7 @@ pub fn until(bytes: &[u8], at: u8) -> (&[u8], &[u8])
     (&bytes[..place], &bytes[place..])
 }
 
-// The place of the first of these bytes, or how many there are where none is.
+// Returns the position of the first occurrence of `at`, or the length if there is none.
 fn place_of(bytes: &[u8], at: u8) -> usize
     ensures within { result ≤ length bytes.now }
     ensures before { (k : ℕ) → k < result → slice_index bytes.now k ≢ at }
@@ -26,7 +27,7 @@ fn place_of(bytes: &[u8], at: u8) -> usize
     bytes.len()
 }
 
-/// What stands behind this front.
+/// Returns the bytes after this prefix, or `None` if the bytes do not begin with it.
 #[inline(always)]
 pub fn after<'a>(bytes: &'a [u8], front: &[u8]) -> Option<&'a [u8]>
     ensures { MatchOption result ((rest : List ℕ) → bytes.now ≢ front.now ++ rest)

@@ -1,4 +1,4 @@
-//! Single lines of a certificate.
+//! Parsing of single lines of a certificate.
 
 ghost use Rattle.std.specs.Prelude.{◌++◌, IfOk, MatchOption, codes};
 ghost use Rattle.om_section.specs.Reading.{BeginsAt, IsPairLine, IsNoPairLine, IsPathText};
@@ -12,7 +12,7 @@ use om_model::Memory;
 use om_model::path::Path;
 use std::alloc::Global;
 
-/// A pair by its line.
+/// Parses the line of a pair. Returns `None` if the line has another form.
 pub fn pair_of(line: &[u8]) -> Option<(u64, u64)>
     ensures { MatchOption result (IsNoPairLine line.now) (IsPairLine line.now) }
 {
@@ -24,7 +24,7 @@ pub fn pair_of(line: &[u8]) -> Option<(u64, u64)>
     Some((object, ty))
 }
 
-/// A path by its text.
+/// Parses a path. Returns `None` if the text has another form.
 fn path_of(alloc: Global, text: &[u8]) -> Result<Option<Path>, Memory>
     ensures { IfOk result (λ found.
         MatchOption found (IsNoPathText text.now) (IsPathText text.now)) }
@@ -38,7 +38,7 @@ fn path_of(alloc: Global, text: &[u8]) -> Result<Option<Path>, Memory>
     steps_of(alloc, text)
 }
 
-/// The steps of a path by their text, which has a dot before each.
+/// Parses the steps of a path. Each step begins with a dot.
 fn steps_of(alloc: Global, text: &[u8]) -> Result<Option<Path>, Memory>
     requires { BeginsAt 46 text.now }
     ensures { IfOk result (λ found.
@@ -56,7 +56,7 @@ fn steps_of(alloc: Global, text: &[u8]) -> Result<Option<Path>, Memory>
     Ok(Some(path))
 }
 
-/// The first step of a path, and what stands behind it.
+/// Parses the first step of a path, and returns it with the rest of the text.
 fn first_step(text: &[u8]) -> Option<(u64, &[u8])>
     ensures { MatchOption result (IsNoStep text.now) (λ p. IsStep text.now p.0 p.1.now) }
 {
@@ -66,7 +66,8 @@ fn first_step(text: &[u8]) -> Option<(u64, &[u8])>
     Some((step, rest))
 }
 
-/// What the text behind the number of a section states; pairs follow on lines of their own.
+/// Parses the verdict, which is the text after the entry's number. The pairs follow on lines of
+/// their own.
 fn verdict_of(alloc: Global, text: &[u8]) -> Result<Option<Section>, Memory>
     ensures { IfOk result (λ found. MatchOption found (IsNoVerdict text.now) (IsVerdict text.now)) }
 {
@@ -82,7 +83,7 @@ fn verdict_of(alloc: Global, text: &[u8]) -> Result<Option<Section>, Memory>
     }
 }
 
-/// The path of a misfit.
+/// Parses the path of a type mismatch.
 fn misfit_of(alloc: Global, path: &[u8]) -> Result<Option<Section>, Memory>
     ensures { IfOk result (λ found.
         MatchOption found (IsNoVerdict (codes "misfit " ++ path.now))
@@ -94,7 +95,7 @@ fn misfit_of(alloc: Global, path: &[u8]) -> Result<Option<Section>, Memory>
     }
 }
 
-/// The two paths of a clash.
+/// Parses the two paths of an aliasing conflict.
 fn clash_of(alloc: Global, paths: &[u8]) -> Result<Option<Section>, Memory>
     ensures { IfOk result (λ found.
         MatchOption found (IsNoVerdict (codes "clash " ++ paths.now))
@@ -113,7 +114,8 @@ fn clash_of(alloc: Global, paths: &[u8]) -> Result<Option<Section>, Memory>
     }
 }
 
-/// What the first line of a section of this number states.
+/// Parses the first line of the entry with this number. Returns `None` if the line has another
+/// form.
 pub fn head_of(alloc: Global, line: &[u8], number: u64) -> Result<Option<Section>, Memory>
     ensures { IfOk result (λ found.
         MatchOption found (IsNoHead number line.now) (IsHead number line.now)) }

@@ -1,17 +1,17 @@
-//! The laws of the format, as contracts.
+//! The laws of the format, as contracts of lemma functions.
 
 ghost use Rattle.om_section.specs.Laws.{SectionsAreOne, CertificatesHaveNoFault, FaultsAreOne};
 ghost use Rattle.om_section.specs.Laws.{PutSectionsAreCertificates};
 
-/// A text is the certificate of one list of sections, and has no faulty line then; else one line
-/// is the first that is faulty.
+/// States that a text is the certificate of at most one list of entries. A certificate has no
+/// faulty line, and a text has at most one first faulty line.
 pub fn texts_are_one()
     ensures sections { SectionsAreOne }
     ensures no_fault { CertificatesHaveNoFault }
     ensures fault { FaultsAreOne }
 {}
 
-/// The texts of sections, one after another, are the certificate of these sections.
+/// States that the texts of entries, one after another, form the certificate of these entries.
 pub fn put_sections_are_certificates()
     ensures { PutSectionsAreCertificates }
 {}

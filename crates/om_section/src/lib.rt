@@ -1,5 +1,8 @@
-//! The format of certificates: what a certificate states of each value, its text, and how it is
-//! read and put.
+//! The text format of certificates: the entry for each value, a parser that reads a certificate in
+//! chunks, and a writer that needs little memory. `read_cert` promises to accept exactly the
+//! certificates (`IsCertificate`) and to report the first faulty line (`IsSyntaxAt`). The laws
+//! `texts_are_one` and `put_sections_are_certificates` show that the format is unambiguous. The
+//! crate does not check whether an entry is true.
 #![tactic(auto)]
 
 mod cuts;

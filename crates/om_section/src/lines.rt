@@ -1,4 +1,4 @@
-//! The lines of pairs, put to a sink through a buffer, so that no memory holds them all.
+//! Writing of pair lines to a sink through a buffer, so that they are never all in memory.
 
 ghost use Rattle.std.specs.Prelude.{◌≡◌, ◌+◌, ◌≤◌, ◌++◌, ◌∷◌, [], length, map, decimal, OnOk};
 ghost use Rattle.std.specs.Prelude.{vec_len, vec_capacity};
@@ -10,7 +10,7 @@ use crate::section::Pairs;
 use itoa::Buffer;
 use om_edge::{Failed, Sink, put_all};
 
-/// Puts bytes at the end, for which there is room.
+/// Appends bytes to a buffer that has room for them.
 #[inline(always)]
 pub fn append(text: &mut Vec<u8>, bytes: &[u8])
     requires { vec_len text.old + length bytes.now ≤ vec_capacity text.old }
@@ -21,7 +21,7 @@ pub fn append(text: &mut Vec<u8>, bytes: &[u8])
     text.extend_from_slice(bytes).unwrap();
 }
 
-/// Puts a number at the end, for which there is room.
+/// Appends a number in decimal to a buffer that has room for it.
 #[inline(always)]
 fn append_number(text: &mut Vec<u8>, n: u64)
     requires { vec_len text.old + 20 ≤ vec_capacity text.old }
@@ -32,7 +32,7 @@ fn append_number(text: &mut Vec<u8>, n: u64)
     append(text, Buffer::new().format(n).as_bytes());
 }
 
-/// Puts the line of a pair at the end, for which there is room.
+/// Appends the line of a pair to a buffer that has room for it.
 #[inline(always)]
 fn append_pair(text: &mut Vec<u8>, object: u64, ty: u64)
     requires { vec_len text.old + 64 ≤ vec_capacity text.old }
@@ -46,7 +46,7 @@ fn append_pair(text: &mut Vec<u8>, object: u64, ty: u64)
     append(text, b"\n");
 }
 
-/// Puts the text where it has no room for a line more.
+/// If the buffer has no room for one more line, writes its contents to the sink.
 #[inline(always)]
 pub fn make_room<K: Sink>(text: &mut Vec<u8>, out: &mut K) -> Result<(), Failed>
     requires { 64 ≤ vec_capacity text.old }
@@ -62,8 +62,7 @@ pub fn make_room<K: Sink>(text: &mut Vec<u8>, out: &mut K) -> Result<(), Failed>
     Ok(())
 }
 
-/// Puts the text and the lines of pairs behind it, but for the last of them, which the text has
-/// then.
+/// Writes the buffered text and the lines of pairs after it. The last part stays in the buffer.
 pub fn put_lines<K: Sink>(text: &mut Vec<u8>, pairs: &Pairs, out: &mut K) -> Result<(), Failed>
     requires { 64 ≤ vec_capacity text.old }
     ensures puts { PutsFront (change (K.state out.old) (K.state out.new))

@@ -1,10 +1,10 @@
-//! Numbers of a certificate.
+//! Numbers in a certificate.
 
 ghost use Rattle.std.specs.Prelude.{IfSome, MatchOption};
 ghost use Rattle.om_section.specs.Numbers.{IsNumberText, IsNoNumberText, BeginsWithNumber};
 
-/// The number whose text these bytes are: decimal digits without a leading zero, of a number
-/// below 2^63.
+/// Parses a number below 2^63 in decimal digits without leading zeros. Returns `None` if the bytes
+/// have another form.
 pub fn number_of(digits: &[u8]) -> Option<u64>
     ensures { MatchOption result (IsNoNumberText digits.now) (IsNumberText digits.now) }
 {
@@ -24,8 +24,8 @@ pub fn number_of(digits: &[u8]) -> Option<u64>
     if n < 1 << 63 { Some(n) } else { None }
 }
 
-/// A number of at most 18 digits that the bytes begin with, and what stands behind it. Of a longer
-/// one nothing is said.
+/// Fast path: parses a number of at most 18 digits at the start of the text, and returns it with
+/// the rest of the text. May return `None` for a longer number.
 #[inline(always)]
 pub fn first_number(text: &[u8]) -> Option<(u64, &[u8])>
     ensures { IfSome result (λ p. BeginsWithNumber text.now p.0 p.1.now) }

@@ -1,4 +1,4 @@
-//! The first line of a section.
+//! The first line of an entry.
 
 ghost use Rattle.std.specs.Prelude.{◌≡◌, ◌++◌, ◌∷◌, [], OnOk, decimal};
 ghost use Rattle.om_model.specs.PathText.{path_text};
@@ -10,21 +10,21 @@ use om_model::Memory;
 use om_model::path::Path;
 use std::alloc::Global;
 
-/// Puts bytes at the end.
+/// Appends bytes.
 fn put(text: &mut Vec<u8>, bytes: &[u8]) -> Result<(), Memory>
     ensures { OnOk result (text.new.items ≡ text.old.items ++ bytes.now) }
 {
     Ok(text.extend_from_slice(bytes)?)
 }
 
-/// Puts a number.
+/// Appends a number in decimal.
 fn put_number(text: &mut Vec<u8>, n: u64) -> Result<(), Memory>
     ensures { OnOk result (text.new.items ≡ text.old.items ++ decimal n) }
 {
     put(text, Buffer::new().format(n).as_bytes())
 }
 
-/// Puts a path.
+/// Appends a path.
 fn put_path(text: &mut Vec<u8>, alloc: Global, path: &Path) -> Result<(), Memory>
     ensures { OnOk result (text.new.items ≡ text.old.items ++ path_text path.now) }
 {
@@ -32,7 +32,7 @@ fn put_path(text: &mut Vec<u8>, alloc: Global, path: &Path) -> Result<(), Memory
     put(text, steps.as_slice())
 }
 
-/// Puts what a section states behind its number.
+/// Appends the verdict, which is the text after the entry's number.
 fn put_verdict(text: &mut Vec<u8>, alloc: Global, section: &Section) -> Result<(), Memory>
     ensures { OnOk result (text.new.items ≡ text.old.items ++ verdict_text section.now) }
 {
@@ -51,7 +51,7 @@ fn put_verdict(text: &mut Vec<u8>, alloc: Global, section: &Section) -> Result<(
     }
 }
 
-/// Puts the first line of a section.
+/// Appends the first line of an entry.
 pub fn put_head(
     text: &mut Vec<u8>,
     alloc: Global,

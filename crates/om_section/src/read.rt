@@ -1,4 +1,4 @@
-//! Certificates read from their bytes, line by line.
+//! Parsing of a certificate from its bytes, line by line.
 
 ghost use Rattle.std.specs.Prelude.{◌≡◌, ◌<◌, ◌+◌, ◌^◌, ◌++◌, [], None, length, IfOk, IfErr, OnOk};
 ghost use Rattle.std.specs.Prelude.{MatchOption};
@@ -18,10 +18,11 @@ use om_model::list::List;
 use std::alloc::Global;
 use std::mem;
 
-/// The sections of a certificate, in their order.
+/// The entries of a certificate, in order.
 pub type Cert = List<Section>;
 
-/// The first line outside the format, counted from 1; or out of memory.
+/// Error of parsing a certificate: the number of the first line outside the format, counted from 1,
+/// or out of memory.
 #[derive(Clone, Copy, PartialEq, Eq)]
 pub enum CertFault {
     Syntax(usize),
@@ -39,15 +40,14 @@ impl From<Memory> for CertFault {
     }
 }
 
-/// What was read up to the end of some line: the sections that are whole, and the one that is
-/// open, if there is one.
+/// The state after some whole lines: the complete entries, and the open entry if there is one.
 #[derive(Drop)]
 struct Reading {
     whole: List<Section>,
     begun: Option<Section>,
 }
 
-/// No line has been read.
+/// Returns the state before the first line.
 fn nothing_read(alloc: Global) -> Reading
     ensures { result ≡ nothing }
 {
@@ -57,8 +57,9 @@ fn nothing_read(alloc: Global) -> Reading
     }
 }
 
-/// The sections of a certificate. What is outside the format is refused at the first line with
-/// which no certificate goes on, or at the one behind the last.
+/// Parses a certificate. If the text is outside the format, reports the first line that no
+/// certificate has after the lines before it. If all lines are possible, but the last line or entry
+/// is not complete, reports the line after the last complete line.
 pub fn read_cert(alloc: Global, bytes: &[u8]) -> Result<Cert, CertFault>
     ensures ok { IfOk result (λ all. IsCertificate bytes.now all) }
     ensures err { IfErr result (IsFaultOf bytes.now) }
@@ -67,8 +68,8 @@ pub fn read_cert(alloc: Global, bytes: &[u8]) -> Result<Cert, CertFault>
     read_all(reading, lines, line)
 }
 
-/// What has been read with the lines that end in the bytes, how many these are, and the bytes
-/// behind them; or the first of these lines with which no certificate goes on.
+/// Parses the lines that end in the bytes. Returns the new state, the number of these lines, and
+/// the bytes after them. Reports the first line with which no certificate continues.
 fn with_lines<'a>(
     alloc: Global,
     reading: Reading,
@@ -96,8 +97,8 @@ fn with_lines<'a>(
     Ok((longer, lines, line))
 }
 
-/// No more bytes come behind these lines and these bytes: the sections, or the line behind the
-/// last, where it does not end, or a section does not.
+/// Finishes parsing at the end of the input. Returns the entries. If the last line or entry is not
+/// complete, reports the line after the last complete line.
 fn read_all(reading: Reading, lines: usize, line: &[u8]) -> Result<Cert, CertFault>
     requires { (bytes : Bytes) × IsAt bytes reading lines line.now [] × (length bytes < 2 ^ 63) }
     ensures ok { (bytes : Bytes) → IsAt bytes reading lines line.now []
@@ -112,9 +113,9 @@ fn read_all(reading: Reading, lines: usize, line: &[u8]) -> Result<Cert, CertFau
     }
 }
 
-/// A certificate, read as its bytes come: what was read of the lines that have ended, how many
-/// these are, and the bytes behind them; and the first line with which no certificate goes on,
-/// once it has ended.
+/// A parser that receives a certificate in chunks. It stores the state after the complete lines,
+/// the number of these lines, and the bytes after them. It also stores the first complete line with
+/// which no certificate continues.
 #[derive(Drop)]
 pub struct CertReader {
     alloc: Global,
@@ -125,7 +126,7 @@ pub struct CertReader {
 }
 
 impl CertReader {
-    /// No byte has come.
+    /// Creates a parser that has received no bytes.
     pub fn new(alloc: Global) -> CertReader
         ensures { HasCome result [] }
     {
@@ -138,7 +139,7 @@ impl CertReader {
         }
     }
 
-    /// Takes the next bytes. Where memory runs out the reader is of no more use.
+    /// Receives the next bytes. If memory runs out, the parser must not be used any more.
     pub fn take(&mut self, piece: &[u8]) -> Result<(), Memory>
         requires { (bytes : Bytes) × HasCome self.old bytes
             × (length bytes + length piece.now < 2 ^ 63) }
@@ -156,7 +157,7 @@ impl CertReader {
         self.take_lines()
     }
 
-    /// Takes the lines that have ended.
+    /// Parses the lines that are complete.
     fn take_lines(&mut self) -> Result<(), Memory>
         requires none { self.old.fault ≡ None }
         requires kept { (bytes : Bytes) × HasKept self.old.reading self.old.lines
@@ -182,7 +183,7 @@ impl CertReader {
         }
     }
 
-    /// No more bytes come: the sections, or the first line outside the format.
+    /// Ends the input. Returns the entries, or the first line outside the format.
     pub fn finish(self) -> Result<Cert, CertFault>
         requires { (bytes : Bytes) × HasCome self bytes × (length bytes < 2 ^ 63) }
         ensures ok { (bytes : Bytes) → HasCome self bytes
@@ -196,8 +197,8 @@ impl CertReader {
     }
 }
 
-/// What has been read with the lines of pairs that the bytes begin with, as far as this is told at
-/// once; how many these are, and how many bytes.
+/// Fast path: parses some of the pair lines at the start of the bytes. Returns the new state and
+/// the numbers of parsed lines and bytes.
 fn with_run(reading: Reading, text: &[u8]) -> Result<(Reading, usize, usize), Memory>
     requires { IsReading reading }
     ensures { IfOk result (λ run. HasReadMore reading text.now run.0 run.1 run.2) }
@@ -216,7 +217,7 @@ fn with_run(reading: Reading, text: &[u8]) -> Result<(Reading, usize, usize), Me
     }
 }
 
-/// What has been read with one line more, if a certificate goes on with it.
+/// Parses one more line. Returns `None` if no certificate continues with it.
 fn with_line(alloc: Global, reading: Reading, line: &[u8]) -> Result<Option<Reading>, Memory>
     requires { IsReading reading }
     ensures { IfOk result (λ next.
@@ -247,7 +248,7 @@ fn with_line(alloc: Global, reading: Reading, line: &[u8]) -> Result<Option<Read
     }
 }
 
-/// The section with a pair more, by its line.
+/// Parses the line of a pair and adds the pair to the entry.
 fn with_pair(section: Section, line: &[u8]) -> Result<Option<Section>, Memory>
     requires { IsStated section }
     ensures { IfOk result (λ longer.
@@ -260,7 +261,7 @@ fn with_pair(section: Section, line: &[u8]) -> Result<Option<Section>, Memory>
     }
 }
 
-/// Pairs with one more, by its line.
+/// Parses the line of a pair and adds the pair to the pairs.
 fn with_next(mut pairs: Pairs, line: &[u8]) -> Result<Option<Section>, Memory>
     requires { IsStated (sections.Pairs pairs) }
     ensures { IfOk result (λ longer.

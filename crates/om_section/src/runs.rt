@@ -1,4 +1,5 @@
-//! Lines of pairs that stand one after another, read without being cut first.
+//! Fast path for consecutive pair lines, which parses them without splitting the text into lines
+//! first.
 
 ghost use Rattle.std.specs.Prelude.{All, IfOk, IfSome};
 ghost use Rattle.om_section.specs.Reading.{AreNumbers};
@@ -10,8 +11,8 @@ use crate::section::Pairs;
 use crate::stems::{first_alike, first_end, stem_of};
 use om_model::Memory;
 
-/// A pair whose line the bytes begin with, and what stands behind the line; then the stem of lines
-/// like it. Where nothing is said they may begin with one all the same.
+/// Parses a pair line at the start of the bytes. Returns the pair, the rest of the text, and the
+/// stem for similar lines. If the result is `None`, the bytes may still begin with such a line.
 #[inline(always)]
 fn first_pair<'a>(
     text: &'a [u8],
@@ -32,8 +33,8 @@ fn first_pair<'a>(
     Some(((object, ty), rest, like, at))
 }
 
-/// The pairs with those whose lines the bytes begin with, as long as they increase; how many these
-/// are, and how many bytes.
+/// Parses pair lines at the start of the bytes, as long as the pairs increase, and adds the pairs.
+/// Returns the pairs and the numbers of parsed lines and bytes.
 pub fn with_pairs(pairs: Pairs, text: &[u8]) -> Result<(Pairs, usize, usize), Memory>
     requires { All AreNumbers pairs }
     ensures { IfOk result (λ run. HasMorePairs pairs text.now run.0 run.1 run.2) }

@@ -1,4 +1,4 @@
-//! What a certificate states of a value.
+//! The entries of a certificate.
 
 ghost use Rattle.std.specs.Prelude.{◌≡◌, ◌<◌, ◌↔◌, ◌++◌, ◌∷◌, [], length, slice_get, Some, IsTrue};
 ghost use Rattle.std.specs.Prelude.{OnOk, OnErr};
@@ -9,8 +9,8 @@ use om_model::path::Path;
 use std::alloc::Global;
 use std::marker::Model;
 
-/// Pairs of objects and types, by their numbers. They increase by the object, then by the type.
-/// Those before the first number that is not below 2^32 take half the room of the others.
+/// Pairs of an object number and a type number, strictly increasing by object, then by type. The
+/// pairs before the first number of 2^32 or more take half the memory of the others.
 #[derive(Drop)]
 pub struct Pairs {
     small: Vec<(u32, u32)>,
@@ -30,7 +30,7 @@ impl Model for Pairs {
 }
 
 impl Pairs {
-    /// No pair.
+    /// Creates an empty list.
     pub fn new(alloc: Global) -> Pairs
         ensures { result ≡ [] }
     {
@@ -40,7 +40,7 @@ impl Pairs {
         }
     }
 
-    /// Pairs that increase.
+    /// Creates a list from pairs that are strictly increasing.
     pub fn of(alloc: Global, pairs: Vec<(u64, u64)>) -> Pairs
         requires { AreIncreasing pairs.items }
         ensures { result ≡ pairs.items }
@@ -51,7 +51,7 @@ impl Pairs {
         }
     }
 
-    /// How many there are. They increase.
+    /// Returns the number of pairs. They are strictly increasing.
     #[inline(always)]
     pub fn len(&self) -> usize
         ensures count { result ≡ length self.now }
@@ -60,7 +60,7 @@ impl Pairs {
         self.small.len() + self.large.len()
     }
 
-    /// Pair number i.
+    /// Returns the pair at index `i`.
     #[inline(always)]
     pub fn at(&self, i: usize) -> (u64, u64)
         requires { i < length self.now }
@@ -74,7 +74,7 @@ impl Pairs {
         self.large[i - many]
     }
 
-    /// Whether a pair is larger than all that are there: than the last of them.
+    /// Returns true if the pair is larger than the last pair, and hence larger than all pairs.
     #[inline(always)]
     pub fn is_above(&self, object: u64, ty: u64) -> bool
         ensures { IsTrue result ↔ IsAbove self.now (object, ty) }
@@ -86,8 +86,8 @@ impl Pairs {
         is_smaller(self.at(many - 1), object, ty)
     }
 
-    /// Puts a pair at the end that is larger than all before it. After `Memory` nothing has
-    /// changed.
+    /// Appends a pair that is larger than all others. If the result is `Memory`, the list is
+    /// unchanged.
     #[inline(always)]
     pub fn push(&mut self, object: u64, ty: u64) -> Result<(), Memory>
         requires { IsAbove self.old (object, ty) }
@@ -99,8 +99,8 @@ impl Pairs {
     }
 }
 
-/// Puts a pair behind small ones, where it is small and there are no others; else behind the
-/// others.
+/// Appends a pair to `small` if both numbers are below 2^32 and `large` is empty; otherwise to
+/// `large`.
 #[inline(always)]
 fn append(
     small: &mut Vec<(u32, u32)>,
@@ -125,7 +125,7 @@ fn append(
     Ok(())
 }
 
-/// Whether a pair is smaller than another one.
+/// Returns true if `one` is smaller than the pair of `object` and `ty`.
 #[inline(always)]
 fn is_smaller(one: (u64, u64), object: u64, ty: u64) -> bool
     ensures { IsTrue result ↔ IsSmaller one (object, ty) }
@@ -137,7 +137,8 @@ fn is_smaller(one: (u64, u64), object: u64, ty: u64) -> bool
     }
 }
 
-/// Pairs that justify one another; or the paths of a fault.
+/// The entry for one value: pairs that justify one another, or the paths of a fault. `Misfit` is a
+/// type mismatch and `Clash` is an aliasing conflict.
 #[derive(Drop)]
 pub enum Section {
     Pairs(Pairs),

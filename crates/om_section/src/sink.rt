@@ -1,4 +1,4 @@
-//! A section put to a sink.
+//! Writing of an entry to a sink.
 
 ghost use Rattle.std.specs.Prelude.{◌≡◌, ◌≤◌, ◌++◌, ◌∷◌, [], IfOk, IsErrOf, OnOk, vec_capacity};
 ghost use Rattle.om_edge.specs.Sink.{Writes};
@@ -13,7 +13,8 @@ use om_edge::{Failed, Sink, WriteError, put_all};
 use om_model::Memory;
 use std::alloc::Global;
 
-/// The room for lines at once: for all of the section's pairs, where they are few.
+/// Returns the buffer size in bytes: room for the lines of all pairs if there are few, and at most
+/// 65,536.
 fn room_of(section: &Section) -> usize
     ensures { result ≤ 65536 }
 {
@@ -24,9 +25,9 @@ fn room_of(section: &Section) -> usize
     }
 }
 
-/// Puts the section of a value of this number to a sink. All memory is taken first, and it is
-/// little, however many pairs there are: after a fault a proper prefix was put, out of memory
-/// nothing.
+/// Writes the entry for the value with this number to a sink. Allocates all memory first; the
+/// amount is small for any number of pairs. If a call on the sink fails, a proper prefix was
+/// written. If memory runs out, nothing was written.
 pub fn put_cert<K: Sink>(
     alloc: Global,
     number: u64,
@@ -42,7 +43,7 @@ pub fn put_cert<K: Sink>(
     Ok(())
 }
 
-/// The first line of a section, with room for a line more.
+/// Returns a buffer that contains the first line of an entry and has room for one more line.
 fn begun(alloc: Global, number: u64, section: &Section) -> Result<Vec<u8>, Memory>
     ensures text { IfOk result (λ text. text.items ≡ head_line number section.now ++ 10 ∷ []) }
     ensures room { IfOk result (λ text. 64 ≤ vec_capacity text) }
@@ -53,7 +54,7 @@ fn begun(alloc: Global, number: u64, section: &Section) -> Result<Vec<u8>, Memor
     Ok(text)
 }
 
-/// Puts the section of which the text has the first line.
+/// Writes an entry whose first line is in the buffer.
 fn put_begun<K: Sink>(
     text: &mut Vec<u8>,
     _number: u64,
@@ -71,8 +72,8 @@ fn put_begun<K: Sink>(
     put_all(out, text.as_slice())
 }
 
-/// Puts the text and the lines of the section's pairs behind it, if it has such, but for the last
-/// of them, which the text has then.
+/// Writes the buffered text and the entry's pair lines after it, if there are any. The last part
+/// stays in the buffer.
 fn put_body<K: Sink>(text: &mut Vec<u8>, section: &Section, out: &mut K) -> Result<(), Failed>
     requires { 64 ≤ vec_capacity text.old }
     ensures puts { PutsFront (change (K.state out.old) (K.state out.new))

@@ -1,5 +1,5 @@
-//! Lines of pairs whose objects differ in the last digit alone: the bytes before it are compared
-//! and not read.
+//! Fast path for pair lines whose objects differ only in the last digit. The bytes before that
+//! digit (the stem) are compared and not parsed.
 
 ghost use Rattle.std.specs.Prelude.{◌≡◌, ◌+◌, ◌≤◌, ◌++◌, length, take, IfSome, codes, decimal};
 ghost use Rattle.std.specs.Bool.{OnTrue};
@@ -9,7 +9,7 @@ ghost use Rattle.om_section.specs.Runs.{word_of, IsPairEnd, IsFirstPair, IsStem}
 use crate::cuts::after;
 use crate::number::first_number;
 
-/// The eight bytes from a place on, as a word.
+/// Returns the eight bytes from position `place` as a 64-bit word.
 #[inline(always)]
 fn word_from(bytes: &[u8], place: usize) -> u64
     requires { place + 8 ≤ length bytes.now }
@@ -27,7 +27,8 @@ fn word_from(bytes: &[u8], place: usize) -> u64
     ])
 }
 
-/// Whether bytes begin with others, of which there are 8 to 16. Two words tell it, which overlap.
+/// Returns true if the text begins with `front`, which has 8 to 16 bytes. Compares two overlapping
+/// words.
 #[inline(always)]
 fn begins_with(text: &[u8], front: &[u8]) -> bool
     requires many { 8 ≤ length front.now }
@@ -45,7 +46,7 @@ fn begins_with(text: &[u8], front: &[u8]) -> bool
     true
 }
 
-/// The type with which the line of a pair ends, and what stands behind the line.
+/// Parses the type at the end of a pair line. Returns the type and the text after the line.
 #[inline(always)]
 pub fn first_end(text: &[u8]) -> Option<(u64, &[u8])>
     ensures { IfSome result (λ p. IsPairEnd text.now p.0 p.1.now) }
@@ -58,7 +59,7 @@ pub fn first_end(text: &[u8]) -> Option<(u64, &[u8])>
     Some((ty, rest))
 }
 
-/// A pair whose line begins with the stem, and what stands behind the line.
+/// Parses a pair line that begins with the stem. Returns the pair and the text after the line.
 #[inline(always)]
 pub fn first_alike<'a>(text: &'a [u8], stem: &[u8], tens: u64) -> Option<((u64, u64), &'a [u8])>
     requires { IsStem stem.now tens }
@@ -75,8 +76,8 @@ pub fn first_alike<'a>(text: &'a [u8], stem: &[u8], tens: u64) -> Option<((u64, 
     Some(((tens + u64::from(text[len] - b'0'), ty), rest))
 }
 
-/// The stem of a line, whose object is told with what stands behind it; or the stem before, where
-/// the object is too small or too large.
+/// Returns the stem of a line with this object. If the object is too small or too large for a stem,
+/// returns the previous stem.
 #[inline(always)]
 pub fn stem_of<'a>(
     text: &'a [u8],

@@ -1,4 +1,4 @@
--- The account of a call, from what each stage gave.
+-- Proves `Account` for a run, from the result of each stage.
 use Rattle.std.proofs.Common.{◌≡◌, ◌⊎◌, ℕ, zero, suc, Bool, true, List, Option, Result, Ok, Err, inl, inr, refl, sym, ap, subst}
 use Rattle.om_outcome.specs.declared.status.Status.{Status}
 use Rattle.std.specs.Borrow.{Bor}
@@ -44,22 +44,22 @@ use Rattle.om_work.proofs.StopLemmas.{nothing_found, none_fetched as nothing_fet
 
 -- ---- the values
 
--- the job is done with the values
+-- The operation is performed on the values.
 abbrev DoesJob : Job → Passed → Option ℕ → Change ByteState → Change ByteState → Change ByteState → Status → Type 0
 DoesJob job over only = HasAccount on_values_after (over, (only, task_of job))
 
--- ---- the words
+-- ---- the arguments
 
--- what came of the first turn and of the second one
+-- The results of the first and the second turn.
 abbrev two_found : Found → Found → ℕ → List ℕ → Found
 two_found first second zero name = first
 two_found first second (suc turn) name = second
 
--- nothing was fetched
+-- No file was fetched.
 none_fetched : (words : List (List ℕ)) (files : FilesState) → FetchesFor on_values_after words (change files files) nothing_found
 none_fetched words = nothing_fetched on_values_after words 2 values_in_turns
 
--- PATH is no path, or memory ran out for it
+-- PATH is not a path, or memory ran out.
 pub path_account : (words : List (List ℕ)) (name type text : List ℕ) (style : Style) (lines : Bool) (reading : Reading) → Asks words (get name type text style lines reading)
     → (fault : PathFault) → UnlessMemory (λ f. IsAnswer text (Err f)) fault → (stop : Stop) → IsPathStop fault stop
     → (input out : ByteState) (files : FilesState) (err : Change ByteState) (status : Status)
@@ -99,20 +99,20 @@ module _ (words : List (List ℕ)) (name : List ℕ) (type : AskedType) (saying 
   gives_err stop (inl reads) = inl (prepared_err _ reads)
   gives_err stop (inr memory) = inr memory
 
-  -- there is no type
+  -- There is no type.
   pub type_account : (stop : Stop) → GivesType name type found (Err stop) → (input out : ByteState) (err : Change ByteState) (status : Status)
       → Reports stop err status → Account on_values_after words (call (change input input) files (change out out) err status)
   type_account stop gives input out err status r =
       stop_account on_values_after words all_found input out files fetches err status stop (gives_err stop gives) r
 
-  -- this is told of the values at the type
+  -- The report on the values at the type is written.
   pub told_account : (t : Bor Prepared) → GivesType name type found (Ok t.now) → (input out err : Change ByteState) (status : Status)
       → DoesJob (jobs.Say (speeches.Tell t saying) reading.limit) (passed_in reading) reading.only input out err status → Account on_values_after words (call input files out err status)
   told_account t gives input out err status does = does words all_found files fetches (prepared_ok t gives.0)
 
 -- ---- SCRIPT
 
--- FILE or TYPE is not read
+-- FILE or TYPE cannot be read.
 module _ (words : List (List ℕ)) (file type script : List ℕ) (compat lines decimal : Bool) (reading : Reading) (asks : Asks words (edit file type script compat lines decimal reading)) (files : Change FilesState) (found : Found)
     (fetched : Fetched files file found) where
   abbrev file_found : Fetches
@@ -136,7 +136,7 @@ module _ (words : List (List ℕ)) (file type script : List ℕ) (compat lines d
       → Reports stop err status → Account on_values_after words (call (change input input) files (change out out) err status)
   file_account stop gives input out err status r = stop_account on_values_after words file_found input out files file_fetches err status stop (file_gives stop gives) r
 
--- they are, and SCRIPT comes next
+-- FILE and TYPE are read, and SCRIPT is next.
 module _ (words : List (List ℕ)) (r : Bor Prepared) (script : List ℕ) (compat : Bool) (reading : Reading) (a b c : FilesState) (asks : AsksToEdit words r.now script compat reading (change a b))
     (found : Found) (fetched : Fetched (change b c) script found) where
   abbrev both_found : Fetches
@@ -165,7 +165,8 @@ module _ (words : List (List ℕ)) (r : Bor Prepared) (script : List ℕ) (compa
       (inl (asks.file, wants_file declared_types words both_found request asks.asks asks.file edit_wanted, asks.fetched))
       (inl (script, wants_script declared_types words both_found request asks.asks script script_wanted, fetched))))
 
-  -- places in SCRIPT are told as those in FILE and TYPE, and decimals are read as it was asked
+  -- Positions in SCRIPT are reported in the same form as those in FILE and TYPE, and decimals are
+  -- read as requested.
   as_asked : (result : Result (List ScriptLine) Stop) → ReadsScriptOf declared_types r.now.lines r.now.decimal (λ name. found) script result
       → ReadsScriptOf declared_types asks.lines asks.decimal (λ name. found) script result
   as_asked result reads =
@@ -184,7 +185,7 @@ module _ (words : List (List ℕ)) (r : Bor Prepared) (script : List ℕ) (compa
   script_account stop gives input out err status reports =
       stop_account on_values_after words both_found input out (change a c) both_fetched err status stop (script_gives stop gives) reports
 
-  -- the values are edited
+  -- The values are edited.
   pub edits_account : (s : Bor Script) → GivesScript r.now.lines r.now.decimal script found (Ok s.now) → (input out err : Change ByteState) (status : Status)
       → DoesJob (jobs.Edit (record { requested = r; script = s; compat = compat }) reading.limit) (record { bytes = reading.skip; copied = true }) reading.only input out err status → Account on_values_after words (call input (change a c) out err status)
   edits_account s gives input out err status does =
@@ -194,17 +195,17 @@ module _ (words : List (List ℕ)) (r : Bor Prepared) (script : List ℕ) (compa
       (Ok request, asks.asks, (refl, (refl, (Ok (task_of job).work, (Ok (type_over r.now), asks.gives.0, (Ok s.now.lines, read, refl)), refl))))
 
 module _ (words : List (List ℕ)) (reading : Reading) (files : FilesState) (input out err : Change ByteState) (status : Status) where
-  -- the values are put as they are
+  -- The untyped dumps of the values are written.
   pub dump_account : Asks words (dump reading) → DoesJob (jobs.Say speeches.Dump reading.limit) (passed_in reading) reading.only input out err status → Account on_values_after words (call input (change files files) out err status)
   dump_account asks does = does words nothing_found (change files files) (none_fetched words files) (Ok (dump reading), asks, (refl, (refl, (Ok dumps, refl, refl))))
 
-  -- two values are compared
+  -- Two values are compared.
   pub compare_account : Asks words (compare reading) → DoesJob (jobs.Compare reading.limit) (passed_in reading) reading.only input out err status → Account on_values_after words (call input (change files files) out err status)
   compare_account asks does = does words nothing_found (change files files) (none_fetched words files) (Ok (compare reading), asks, (refl, (refl, (Ok compares, refl, refl))))
 
 -- ---- the lines
 
--- the lines that a file gives copy from values before their own
+-- The lines that a file gives copy from values before the edited ones.
 pub given_in_time : ((text : List ℕ) (lines : List ScriptLine) → AreEdits 1 text (Ok lines) → AreInTime lines) → (lines decimal : Bool) (name : List ℕ) (found : Found) (script : Script) → GivesScript lines decimal name found (Ok script) → AreInTime script.lines
 given_in_time law lines decimal name found script (Ok text, read, is) = script_in_time law lines decimal text script.lines is
 given_in_time law lines decimal name found script (Err stop, read, is) = absurd (cc is)

@@ -1,4 +1,4 @@
--- Canonical values that are edited by no line are put as they came.
+-- Canonical values that no line edits are written unchanged.
 use Rattle.std.proofs.Common.{◌≡◌, ◌<◌, ◌+◌, ℕ, Bool, true, false, List, [], ◌∷◌, ◌++◌, length, map, Option, Some, None, Ok, inl, inr, refl, sym, ap, ◌∙◌, subst, length-append, arith}
 use Rattle.std.specs.Prelude.{if◌then◌else◌}
 use Rattle.std.specs.List.{concat, AllByRecursion}
@@ -33,7 +33,7 @@ use Rattle.om_commands.specs.Tasks.{items_of, commands}
 use Rattle.om_commands.proofs.GivenLemmas.{type_given}
 use Rattle.om_commands.proofs.FirstLemmas.{says_first, goes_on}
 
--- what is said of a value
+-- The output for a value.
 abbrev pub said_of : Tree → Said
 said_of tree = record { text = canon tree; well = true }
 
@@ -48,7 +48,7 @@ pub all_are_well : (trees : List Tree) → all_well (map said_of trees ++ nothin
 all_are_well [] = refl
 all_are_well (tree ∷ trees) = all_are_well trees
 
--- its bytes
+-- The bytes of the value.
 bytes_are : (compat : Bool) (tree : Tree) (large : Option TooLargeFor32) → (compat ≡ true → large ≡ None) → Ok (canon tree) ≡ bytes_for compat tree large
 bytes_are compat tree None fits = refl
 bytes_are false tree (Some large) fits = refl
@@ -62,7 +62,7 @@ module _ (t : TypeOver) (compat : Bool) (limit : ℕ) where
   abbrev its_task : Task TypeOver ScriptLine
   its_task = task (edits t [] compat) limit
 
-  -- no run stops where no byte comes
+  -- If no byte follows, the run does not end with an error.
   none_at_end : (trees : List Tree) (stop : Stop)
       → StopsAt declared_types (edits t [] compat) limit trees [] stop → ⊥
   none_at_end trees stop at =
@@ -128,7 +128,8 @@ module _ (once : HaveOneOutcome (commands declared_types)) (words : List (List �
         (reply is.type_is is.compat is.limit (type_given declared_types (fetches_of (contents_of files)) is.file (asked_with is.type is.lines is.decimal) is.type_is is.typed) is.trees is.canonical (subst AreBytes is.bytes are_bytes)),
   )
 
-  -- where the words ask to edit, what all commands promise is promised by those on values
+  -- If the arguments request edits, then the specification of a run by all commands implies the one
+  -- by the commands on values.
   pub leaves_canonical : IsPart on_values_after IsOfValues → Promises all_commands words call
       → LeavesCanonical words call
   leaves_canonical part all input files honest some is =

@@ -1,4 +1,4 @@
--- The earlier values that are kept, as the lines make one more.
+-- The kept earlier values, as the lines make one more.
 use Rattle.std.proofs.Common.{◌≡◌, ◌∙◌, ◌⊎◌, inl, inr, ⊎_elim, ℕ, zero, suc, ◌+◌, ◌<◌, ◌≤◌, Bool, true, false, ltb, eqb, List, [], ◌∷◌, ◌++◌, length, map, set, get_or, Option, None, Some, Result, Ok, Err, is_some, refl, sym, ap, subst, length-append, eqb-true, eq-eqb, ne_eqb, lt-ltb, le-ltb, arith}
 use Rattle.std.proofs.lemmas.Bool.{ltb-true, ltb-false, eqb-false, cases_lt}
 use Rattle.std.proofs.lemmas.List.{get_or_append_left, get_or_default, get_or-map, length-map, with_items_is}
@@ -31,7 +31,7 @@ use Rattle.om_read.specs.declared.value.Value.{Value}
 use Rattle.om_session.specs.declared.earlier.Earlier.{Earlier}
 use Rattle.om_session.specs.Earlier.{IsMade, AreMade, AreInOrder, IsThere, IsServed, AreServed, IsEntry, AreEarlier, IsUsedUpTo, AreNamed, without, after_value, after_copy, after_action, all_after, with_made}
 
--- ---- the values as they were made
+-- ---- the values after their lines
 
 module _ (others : List Other) where
   one_stays : (made : Other) (number : ℕ) (value : Option Value) → IfSome value (λ v. IsMade others number v) → IfSome value (λ v. IsMade (others ++ made ∷ []) number v)
@@ -41,11 +41,11 @@ module _ (others : List Other) where
     same = slice_get-append_left others (made ∷ []) number (value.heap, value.root) is.same;
   }
 
-  -- what is kept stays so
+  -- The kept values remain valid.
   pub all_stay : (made : Other) (kept : List Earlier) → AreMade others kept → AreMade (others ++ made ∷ []) kept
   all_stay made kept are = λ k d less. one_stays made (get_or kept k d).number (get_or kept k d).value (are k d less)
 
-  -- the one that is made last
+  -- The value that was made last.
   pub last_made : (number : ℕ) (value : Value) → IsValue (length value.heap) value.root → number ≡ length others
       → IsMade (others ++ (value.heap, value.root) ∷ []) number value
   last_made number value valid is = record {
@@ -68,17 +68,18 @@ module _ (others : List Other) where
   one_more kept made true are is = All-push IsMadeEntry kept made are is
   one_more kept made false are is = are
 
-  -- with one more, and without those that are let go
+  -- One more value, without those that are freed.
   pub still_made : (number : ℕ) (kept : List Earlier) (made : Earlier) → AreMade others kept → IsMadeEntry made → AreMade others (with_made (all_after number kept) made)
   still_made number kept made are is = one_more (all_after number kept) made (nat_lt made.number made.last) (after_made number kept are) is
 
--- what is found by its number
+-- The value that is found by its number.
 pub found_made : (others : List Other) (kept : List Earlier) (number : ℕ) (value : Value) → AreMade others kept → Any (λ (e : Earlier). (e.number ≡ number) × (e.value ≡ Some value)) kept → IsMade others number value
 found_made others kept number value are (k, e, within, at, (same, is)) =
     let made : IfSome e.value (λ v. IsMade others e.number v) = subst (λ (x : Earlier). IfSome x.value (λ v. IsMade others x.number v)) at (are k e within) in
     subst (λ n. IsMade others n value) same (subst (λ (o : Option Value). IfSome o (λ v. IsMade others e.number v)) is made)
 
--- where a function changes no other item, it is done at this one alone
+-- If a function changes no other entry, then applying it to this entry alone is the same as mapping
+-- it.
 set_is_map : (f : Earlier → Earlier) (kept : List Earlier) (i : ℕ) (d : Earlier) → i < length kept
     → ((k : ℕ) (e : Earlier) → k < length kept → (k ≡ i → ⊥) → f (get_or kept k e) ≡ get_or kept k e) → set kept i (f (get_or kept i d)) ≡ map f kept
 set_is_map f [] i d within others = absurd (omega (arith, within))
@@ -90,7 +91,7 @@ set_is_map f (e ∷ kept) (suc i) d within others =
 
 -- ---- the search
 
--- the numbers rise
+-- The numbers increase.
 pub numbers_rise : (kept : List Earlier) → AreInOrder kept → IsNonDecreasingBy (λ (e : Earlier). e.number) kept
 numbers_rise kept ordered i j d to within = ⊎_elim
     (λ less. let rises = ordered i j d less within in omega (arith, rises))
@@ -98,7 +99,7 @@ numbers_rise kept ordered i j d to within = ⊎_elim
     (cases_lt i j)
 
 module _ (kept : List Earlier) (number : ℕ) (ordered : AreInOrder kept) (i : ℕ) (point : IsPartitionPoint (λ (e : Earlier). ltb e.number number ≡ true) (λ (e : Earlier). ltb e.number number ≡ false) kept i) where
-  -- what is not at the place that is found has another number
+  -- An entry at another index has another number.
   others_differ : (k : ℕ) (d : Earlier) → k < length kept → (k ≡ i → ⊥) → (get_or kept k d).number ≡ number → ⊥
   others_differ k d within other same = ⊎_elim
       (λ before. let less = ltb-true _ _ (point.0 k d (omega arith) before) in omega (arith, less, same))
@@ -114,7 +115,7 @@ module _ (kept : List Earlier) (number : ℕ) (ordered : AreInOrder kept) (i : �
     by true same = eqb-true k i same
     by false differs = absurd (others_differ k e within (eqb-false k i differs) (ap (λ (x : Earlier). x.number) at ∙ is))
 
-  -- where the numbers are no more less, there is the one that is in the list
+  -- If the value is in the list, then the search finds an index within the list.
   pub found_within : IsThere kept number → i < length kept
   found_within (k, e, within, at, (is, some)) =
       let place = is_place k e within at is in omega (arith, place, within)
@@ -123,7 +124,7 @@ module _ (kept : List Earlier) (number : ℕ) (ordered : AreInOrder kept) (i : �
   found_entry k e within at is d =
       ap (λ n. get_or kept n d) (sym (is_place k e within at is)) ∙ (get_or_default kept k d e within ∙ at)
 
-  -- it has its value
+  -- The entry has its value.
   pub found_some : IsThere kept number → (d : Earlier) → (get_or kept i d).value ≡ None → ⊥
   found_some (k, e, within, at, (is, some)) d none =
       let entry = found_entry k e within at is d in
@@ -133,7 +134,7 @@ module _ (kept : List Earlier) (number : ℕ) (ordered : AreInOrder kept) (i : �
   found_there (k, e, within, at, (is, some)) value d has =
       (k, e, within, at, (is, ap (λ (x : Earlier). x.value) (sym (found_entry k e within at is d)) ∙ has))
 
-  -- ---- what is let go there
+  -- ---- the entry that is freed
 
   other_stays : (after : ℕ) (e : Earlier) → (e.number ≡ number → ⊥) → after_copy number after e ≡ e
   other_stays after e other = ap (λ b. if b then after_value after e else e) (ne_eqb e.number number other)
@@ -146,7 +147,7 @@ module _ (kept : List Earlier) (number : ℕ) (ordered : AreInOrder kept) (i : �
   let_go_none after past = sym (map_fixed (after_copy number after) kept
       (λ k e within. other_stays after (get_or kept k e) (others_differ k e within (λ same. omega (arith, same, within, past)))))
 
--- ---- what is left of an entry
+-- ---- the entry after a value
 
 later_stays : (number : ℕ) (e : Earlier) → number < e.last → after_value number e ≡ e
 later_stays number e less = ap (λ b. if b then e else without e) (lt-ltb number e.last less)
@@ -154,7 +155,7 @@ later_stays number e less = ap (λ b. if b then e else without e) (lt-ltb number
 past_goes : (number : ℕ) (e : Earlier) → e.last ≤ number → after_value number e ≡ without e
 past_goes number e past = ap (λ b. if b then e else without e) (le-ltb number e.last past)
 
--- the three ways of an entry
+-- The three cases for an entry.
 pub other_left : (from number : ℕ) (e : Earlier) → (e.number ≡ from → ⊥) → e ≡ after_copy from number e
 other_left from number e other = sym (ap (λ b. if b then after_value number e else e) (ne_eqb e.number from other))
 
@@ -167,7 +168,7 @@ later_left from number e is less = sym (later_stays number e less) ∙ that_left
 pub past_left : (from number : ℕ) (e : Earlier) → e.number ≡ from → e.last ≤ number → without e ≡ after_copy from number e
 past_left from number e is past = sym (past_goes number e past) ∙ that_left from number e is
 
--- its number stays
+-- The number of an entry does not change.
 number_left : (number : ℕ) (e : Earlier) → (after_value number e).number ≡ e.number
 number_left number e = at (nat_lt number e.last) where
   at : (b : Bool) → (if b then e else without e).number ≡ e.number
@@ -181,7 +182,7 @@ number_by (actions.Graft path from source) number e = at (nat_eq e.number from) 
   at true = number_left number e
   at false = refl
 
--- what a line lets go is let go
+-- Freeing an entry twice is the same as freeing it once.
 left_twice : (number : ℕ) (e : Earlier) → after_value number (after_value number e) ≡ after_value number e
 left_twice number e = at (nat_lt number e.last) refl where
   at : (b : Bool) → nat_lt number e.last ≡ b → after_value number (if b then e else without e) ≡ (if b then e else without e)
@@ -201,12 +202,12 @@ all_left_by action number (e ∷ kept) =
     ap (λ (x : Earlier). x ∷ all_after number (map (after_action action number) kept)) (left_by action number e)
     ∙ ap (λ (xs : List Earlier). after_value number e ∷ xs) (all_left_by action number kept)
 
--- a line that copies from no value leaves all
+-- A line that does not copy frees nothing.
 pub no_copy : (action : Action) (edit : Edit) (number : ℕ) (kept : List Earlier) → action ≡ actions.Edit edit → kept ≡ map (after_action action number) kept
 no_copy action edit number kept is =
     subst (λ (a : Action). kept ≡ map (after_action a number) kept) (sym is) (sym (map_fixed (after_action (actions.Edit edit) number) kept (λ k d within. refl)))
 
--- the order stays
+-- The order does not change.
 order_left : (f : Earlier → Earlier) → ((e : Earlier) → (f e).number ≡ e.number) → (kept : List Earlier) → AreInOrder kept → AreInOrder (map f kept)
 order_left f same kept ordered i j d less within =
     let size = length-map kept f in
@@ -219,7 +220,7 @@ order_left f same kept ordered i j d less within =
 pub order_left_by : (action : Action) (number : ℕ) (kept : List Earlier) → AreInOrder kept → AreInOrder (map (after_action action number) kept)
 order_left_by action number kept ordered = order_left (after_action action number) (number_by action number) kept ordered
 
--- ---- those that the lines of a value name
+-- ---- the values that the lines of a value name
 
 abbrev Names : ℕ → ScriptLine → Type 0
 Names number line = CopiesFrom number line.action
@@ -231,7 +232,7 @@ first_or_rest P line lines (suc k, x, within, at, is) = inr (k, x, omega (arith,
 in_none : (P : ScriptLine → Type 0) → Any P [] → ⊥
 in_none P (k, x, within, at, is) = omega (arith, within)
 
--- one whose value is kept yet is named by another line
+-- If the value of an entry is still kept, then another line names it.
 named_by_rest : (action : Action) (number : ℕ) (rest : List ScriptLine) (e : Earlier)
     → (IsSome e.value → e.last ≤ number → CopiesFrom e.number action ⊎ Any (Names e.number) rest)
     → IsSome (after_action action number e).value → (after_action action number e).last ≤ number → Any (Names (after_action action number e).number) rest
@@ -253,7 +254,7 @@ named_more number line rest kept named =
 abbrev with_value : Earlier → Option Value → Earlier
 with_value e value = record { number = e.number; last = e.last; value = value }
 
--- once no line is left, none is to be let go
+-- If no line is left, then no entry is to be freed.
 stays_so : (number : ℕ) (e : Earlier) → (IsSome e.value → e.last ≤ number → ⊥) → after_value number e ≡ e
 stays_so number e unkept = at (nat_lt number e.last) refl where
   has_none : (o : Option Value) → e.value ≡ o → e.last ≤ number → without e ≡ e
@@ -268,17 +269,17 @@ pub none_left : (number : ℕ) (kept : List Earlier) → AreNamed number [] kept
 none_left number kept named = map_fixed (after_value number) kept
     (λ k d within. let e = get_or kept k d in stays_so number e (λ some past. in_none (Names e.number) (named k d within some past)))
 
--- the list that a slice of it was made
+-- The list after its slice was changed.
 pub dropped : (v : Vec Earlier Global) (ws : List Earlier) (number : ℕ) → ws ≡ all_after number v.items → (with_items v ws).items ≡ all_after number v.items
 dropped v ws number is = with_items_is v ws (ap length is ∙ (length-map v.items (after_value number) ∙ sym v.ok.0)) ∙ is
 
--- what is put where there is room for it is there
+-- If memory is reserved, then appending succeeds.
 pub pushed : {E : Type 0} (result : Result (Unit {0}) E) (old new : List Earlier) (made : Earlier) (size room : ℕ) → new ≡ (if is_ok result then old ++ made ∷ [] else old)
     → OnErr result (room ≤ size) → size < room → new ≡ old ++ made ∷ []
 pushed (Ok unit) old new made size room is full less = is
 pushed (Err e) old new made size room is full less = absurd (omega (arith, full, less))
 
--- it is kept, if it is used
+-- If the value is used later, then it is kept.
 pub is_kept : (kept : List Earlier) (made : Earlier) → made.number < made.last → kept ++ made ∷ [] ≡ with_made kept made
 is_kept kept made less = sym (ap (λ b. if b then kept ++ made ∷ [] else kept) (lt-ltb made.number made.last less))
 
@@ -288,9 +289,9 @@ not_kept kept made used = at (nat_lt made.number made.last) refl where
   at true is = let less = ltb-true made.number made.last is in absurd (omega (arith, less, used))
   at false is = refl
 
--- ---- those that are needed
+-- ---- the values that are needed
 
--- no value is needed before there is one
+-- Before the first value, none is needed.
 pub none_needed : (lines : List ScriptLine) → AreEarlier lines 0 []
 none_needed lines = record {
   in_order = λ i j d less within. absurd (omega (arith, within));
@@ -298,12 +299,12 @@ none_needed lines = record {
   needed = λ i d within number copies less after. absurd (omega (arith, less));
 }
 
--- up to where a value is used
+-- The last value into which a value is copied.
 pub used_up_to : (lines : List ScriptLine) (number : ℕ) (last : Option ℕ) → MatchOption last (IsUnused lines number) (IsLastUse lines number) → IsUsedUpTo lines number (unwrap_or last 0)
 used_up_to lines number None unused = λ i d within copies. absurd (unused i d within copies)
 used_up_to lines number (Some last) (some, all) = all
 
--- and no further than any greater number
+-- The bound may be replaced by any greater number.
 pub used_within : (lines : List ScriptLine) (number last : ℕ) → last ≤ number → IsUsedUpTo lines number last → IsUsedUpTo lines number number
 used_within lines number last most used = λ i d within copies. let up_to = used i d within copies in omega (arith, up_to, most)
 
@@ -317,7 +318,7 @@ there_before P xs ys (k, e, within, at, is) =
     (k, e, omega (arith, size, within), get_or_append_left xs ys e k within ∙ at, is)
 
 module _ (lines : List ScriptLine) (n : ℕ) (kept : List Earlier) (are : AreEarlier lines n kept) where
-  -- the entries that there are, after one more value
+  -- The entries after one more value.
   entry_after : (e : Earlier) → IsEntry lines n e → IsEntry lines (n + 1) (after_value n e)
   entry_after e is = at (nat_lt n e.last) refl where
     at : (b : Bool) → nat_lt n e.last ≡ b → IsEntry lines (n + 1) (if b then e else without e)
@@ -342,7 +343,7 @@ module _ (lines : List ScriptLine) (n : ℕ) (kept : List Earlier) (are : AreEar
   below_after = All-map (λ (e : Earlier). e.number < n) (after_value n) kept
       (λ k d within. let same = number_left n (get_or kept k d) in let less = (are.entries k d within).before in omega (arith, same, less))
 
-  -- one that is copied into a value after the next stays
+  -- If a value is copied into a value after the next one, then it stays.
   old_there : (i : ℕ) (d : ScriptLine) → i < length lines → (number : ℕ) → CopiesFrom number (get_or lines i d).action → n + 1 ≤ (get_or lines i d).value
       → IsThere kept number → IsThere (all_after n kept) number
   old_there i d within number copies after (k, e, inside, at, (same, some)) =
@@ -352,7 +353,7 @@ module _ (lines : List ScriptLine) (n : ℕ) (kept : List Earlier) (are : AreEar
       let here : get_or (all_after n kept) k e ≡ e = get_or-map (after_value n) kept k e e inside ∙ (ap (after_value n) at ∙ later_stays n e (omega (arith, after, up_to))) in
       (k, e, omega (arith, size, inside), here, (same, some))
 
-  -- one value more
+  -- One more value.
   module _ (made : Earlier) (is : made.number ≡ n) (some : IsSome made.value) (last : made.number < made.last → IsLastUse lines n made.last) (used : IsUsedUpTo lines n made.last) where
     new_entry : made.number < made.last → IsEntry lines (n + 1) made
     new_entry less = record {
@@ -392,7 +393,7 @@ module _ (lines : List ScriptLine) (n : ℕ) (kept : List Earlier) (are : AreEar
       needed = λ i d within number copies less after. there_more i d within number copies less after (nat_lt made.number made.last) (eqb number n) refl refl;
     }
 
-  -- a line of the next value copies from each that is let go then
+  -- If a value is freed after the next one, then a line of the next one copies from it.
   named_now : (number last : ℕ) → last ≡ n → Any (λ (line : ScriptLine). CopiesFrom number line.action × (line.value ≡ last)) lines → Any (λ (line : ScriptLine). CopiesFrom number line.action) (lines_of_value n lines)
   named_now number last is (k, line, within, at, (copies, value)) =
       let own : Contains (lines_of_value n lines) line = Contains-filter (λ (line : ScriptLine). eqb line.value n) lines line (k, within, at) (eq-eqb line.value n (value ∙ is)) in
@@ -404,7 +405,7 @@ module _ (lines : List ScriptLine) (n : ℕ) (kept : List Earlier) (are : AreEar
       let at_least = entry.used some in
       named_now (get_or kept k d).number (get_or kept k d).last (omega (arith, at_least, past)) entry.last.0
 
-  -- a value that no line edits or copies from later leaves them as they are
+  -- If no line edits a value or copies from it later, then the entries do not change.
   left_entry : AreNamed n [] kept → All (IsEntry lines (n + 1)) kept
   left_entry named k d within =
       let entry = are.entries k d within in record {
@@ -429,7 +430,7 @@ module _ (lines : List ScriptLine) (n : ℕ) (kept : List Earlier) (are : AreEar
         (cases_lt number n);
   }
 
-  -- those that the lines of the next value copy from are there
+  -- The values from which the lines of the next value copy are kept.
   copies_before : (value number : ℕ) (action : Action) → IsInTime value action → CopiesFrom number action → number < value
   copies_before value number (actions.Edit edit) in_time copies = absurd copies
   copies_before value number (actions.Graft path other source) in_time copies = subst (λ m. m < value) copies in_time
@@ -453,10 +454,10 @@ module _ (lines : List ScriptLine) (n : ℕ) (kept : List Earlier) (are : AreEar
                   are.needed i d within number copies (omega (arith, before, same)) (omega (arith, same));
             }
 
--- ---- what a line asks for
+-- ---- the request of a line
 
 module _ (table : Tabled) (others : List Other) (old new : List Obj) (old_root new_root : Val) where
-  -- an edit
+  -- An edit.
   pub edit_applied : (edit : Edit) (result : Result (Unit {0}) EditRefusal) → IsApplied table edit old old_root new new_root result
       → IsLineApplied table others (actions.Edit edit) old old_root new new_root result
   edit_applied edit (Ok unit) is = is
@@ -465,7 +466,7 @@ module _ (table : Tabled) (others : List Other) (old new : List Obj) (old_root n
     at None is = is
     at (Some reason) is = is
 
-  -- a copy from an earlier value
+  -- A copy from an earlier value.
   pub graft_applied : (path source : List ℕ) (number : ℕ) (value : Value) (result : Result (Unit {0}) EditRefusal) → IsMade others number value
       → IsGraftApplied table path (value.heap, value.root) source old old_root new new_root result
       → IsLineApplied table others (actions.Graft path number source) old old_root new new_root result

@@ -1,4 +1,4 @@
--- Values that are edited: the type, the lines, and the bytes.
+-- Editing a value: the type, the lines, and the bytes.
 use Rattle.std.proofs.Common.{◌≡◌, ◌∙◌, ◌==◌, ◌≢◌, ℕ, Bool, true, false, cond, List, [], ◌∷◌, length, Option, None, Some, Result, Ok, Err, inl, inr, refl, sym, ap, subst, eq-eqb}
 use Rattle.std.specs.Prelude.{filter, IsErrAnd, OnOk, option_map, if◌then◌else◌, codes}
 use Rattle.om_model.specs.declared.value.Val.{Val}
@@ -44,13 +44,13 @@ use Rattle.om_declared.specs.Bytes.{PutsBytes}
 -- ---- lines
 
 module _ (r : Prepared) (others : List Other) (k : ℕ) (line : ScriptLine) where
-  -- a line of another value changes nothing
+  -- A line of another value changes nothing.
 
   module _ (ready : IsReady r) (alike : TablesAnswerLinesAlike) (own : line.value ≡ k) (old : Value) where
     own_line : (rest : List ScriptLine) (all : Edited Ty) → Edit r others (line ∷ lines_of_value k rest) old.heap old.root all → Edit r others (lines_of_value k (line ∷ rest)) old.heap old.root all
     own_line rest all edits = subst (λ b. Edit r others (if b then line ∷ lines_of_value k rest else lines_of_value k rest) old.heap old.root all) (sym (eq-eqb line.value k own)) edits
 
-    -- what the table says of an edit is said of the type
+    -- The result of an edit by the table is its result at the type.
     pub line_applied : (new : Value) → IsValue (length new.heap) new.root → IsLineApplied r.table others line.action old.heap old.root new.heap new.root (Ok tt) → EditsOn r others k line old new
     line_applied new valid applied = at (alike r.decls r.ty r.table ready.made others line.action old.heap old.root (Ok (new.heap, new.root)) applied) where
       at : (other : Answer Ty) × IsDeclaredLine r.decls r.ty others line.action old.heap old.root other × SayTheSame r.table (Ok (new.heap, new.root)) other → EditsOn r others k line old new
@@ -71,7 +71,7 @@ module _ (r : Prepared) (others : List Other) (k : ℕ) (line : ScriptLine) wher
         told ∙ ap (λ t. script_line line.number t) (same (place_on r.lines line.number)),
       )
 
-    -- a line is refused for the reason that is told
+    -- If a line is refused, then the exit reason states its reason.
     pub refused_by : (new : Value) (refusal : EditRefusal) (stop : Stop) → IsReasonStop r line.number (reason_of refusal) stop → IsLineApplied r.table others line.action old.heap old.root new.heap new.root (Err refusal)
         → IsRefusedLine r others k line old stop
     refused_by new refusal stop told (same, same_root, is) = at (reason_of refusal) told is where
@@ -79,7 +79,7 @@ module _ (r : Prepared) (others : List Other) (k : ℕ) (line : ScriptLine) wher
       at None told is = absurd told
       at (Some reason) told is = line_refused reason stop told is
 
--- a literal that is not refused for out of memory has a reason
+-- If the error of a literal is not out of memory, then it has a reason.
 pub literal_told : (fault : LiteralFault) → fault ≢ literals.Memory → (reason : Reason ℕ) × (literal_reason fault ≡ Some reason)
 literal_told (literals.Syntax place) some = (no_literal place, refl)
 literal_told (literals.Misfit place t) some = (misread (misfit_at place t), refl)
@@ -87,14 +87,14 @@ literal_told (literals.IntRange place) some = (misread (int_range_at place), ref
 literal_told (literals.Label place) some = (misread (label_at place), refl)
 literal_told literals.Memory some = absurd (some refl)
 
--- so has a step that is not there, and a value that would not have its type
+-- A missing step and a value that would lose its type have reasons.
 pub step_told : (refusal : EditRefusal) (side : Side) (step : ℕ) → refusal ≡ refusals.NoField side step → (reason : Reason ℕ) × (reason_of refusal ≡ Some reason)
 step_told refusal side step is = (no_field side step, ap reason_of is)
 
 pub type_told : (refusal : EditRefusal) (fault : Fault) → refusal ≡ refusals.IllTyped fault → (reason : Reason ℕ) × (reason_of refusal ≡ Some reason)
 type_told refusal fault is = (ill_typed fault, ap reason_of is)
 
--- the reason of a refusal that is not for out of memory is told
+-- If a refusal is not out of memory, then the exit reason states its reason.
 pub reason_stop : (r : Prepared) (number : ℕ) (refusal : EditRefusal) (text : List ℕ) → (reason : Reason ℕ) × (reason_of refusal ≡ Some reason) → text ≡ reason_or_none (text_at r.table) (place_on r.lines number) (reason_of refusal)
     → IsReasonStop r number (reason_of refusal) (script_line number text)
 reason_stop r number refusal text (reason, is) spelled = at (reason_of refusal) is spelled where
@@ -102,12 +102,12 @@ reason_stop r number refusal text (reason, is) spelled = at (reason_of refusal) 
   at None is spelled = absurd (cc is)
   at (Some other) is spelled = ap (λ t. script_line number t) spelled
 
--- what the lines so far made goes on to what all make
+-- The result of the lines so far continues to the result of all lines.
 pub record EditedSoFar (r : Prepared) (others : List Other) (k : ℕ) (lines rest : List ScriptLine) (old value : Value) : Type 0 where
   pub valid : IsValue (length value.heap) value.root
   pub goes_on : (all : Edited Ty) → Edit r others (lines_of_value k rest) value.heap value.root all → Edit r others (lines_of_value k lines) old.heap old.root all
 
--- what a test keeps it keeps again
+-- Filtering twice is the same as filtering once.
 same_kept : {X : Type 0} (test : X → Bool) (xs : List X) → filter test (filter test xs) ≡ filter test xs
 same_kept test [] = refl
 same_kept test (x ∷ xs) = at (same_kept test xs) (test x) refl where
@@ -116,7 +116,7 @@ same_kept test (x ∷ xs) = at (same_kept test xs) (test x) refl where
   at rest false is = rest
 
 module _ (r : Prepared) (others : List Other) (k : ℕ) (lines : List ScriptLine) (old : Value) where
-  -- the lines of a value are all that edit it
+  -- Only the lines of a value edit it.
   pub edits_begin : IsValue (length old.heap) old.root → (own : List ScriptLine) → own ≡ lines_of_value k lines → EditedSoFar r others k lines own old old
   edits_begin valid own are = record {
     valid = valid;
@@ -148,7 +148,7 @@ module _ (r : Prepared) (others : List Other) (k : ℕ) (lines : List ScriptLine
 -- ---- the value
 
 module _ (e : Edits) (others : List Other) (k : ℕ) (old : Value) where
-  -- the value has not the type, or memory ran out
+  -- The value lacks the type, or memory ran out.
   pub checked_halt : (out : ByteState) (halt : Halt) (result : Result (Unit {0}) Halt) → IsErrAnd result (λ h. h ≡ halt) → ChecksType {U = Unit {0}} e.requested.now k old.heap old.root (Err halt)
       → PutsEdited e others k old.heap old.root (change out out) result
   checked_halt out halt (Ok unit) is c = absurd is
@@ -159,7 +159,7 @@ module _ (e : Edits) (others : List Other) (k : ℕ) (old : Value) where
     at (halts.Stop stop) (inr (text, why, some_not, told)) = (inr (untyped text, inr (record { text = text; why = why; some_not = some_not; is = refl }), told), puts_nothing out)
 
   module _ (has : ChecksType {U = Unit {0}} e.requested.now k old.heap old.root (Ok tt)) where
-    -- a line is refused, or memory ran out
+    -- A line is refused, or memory ran out.
     pub lines_halt : (new : Value) (out : ByteState) (halt : Halt) (result : Result (Unit {0}) Halt) → IsErrAnd result (λ h. h ≡ halt) → EditsLines {U = Unit {0}} e.requested.now others k e.script.now.lines old new (Err halt)
         → PutsEdited e others k old.heap old.root (change out out) result
     lines_halt new out halt (Ok unit) is l = absurd is
@@ -170,7 +170,7 @@ module _ (e : Edits) (others : List Other) (k : ℕ) (old : Value) where
       at (halts.Stop stop) (inr (number, reason, refused, told)) =
           (inr (refused_line number (reason_text type_text (place_on e.requested.now.lines number) reason), inl (record { has = has.0; each = has.1; edited = Err (number, reason); made = refused; bytes = refl }), told), puts_nothing out)
 
-    -- what the lines made is put
+    -- The result of the lines is written.
     pub edited_puts : (new : Value) → EditsAll e.requested.now others k e.script.now.lines old new → (out : Change ByteState) (result : Result (Unit {0}) Halt) → PutsBytes e.compat k new.heap new.root out result
         → PutsEdited e others k old.heap old.root out result
     edited_puts new all out result p = at result p where
@@ -183,7 +183,7 @@ module _ (e : Edits) (others : List Other) (k : ℕ) (old : Value) where
       at (Err (halts.Stop stop)) (inr (why, is, told), none) = (inr (why, lifted (Err why) is, told), none)
       at (Err halts.WriteFault) (bytes, are, part) = (bytes, lifted (Ok bytes) are, part)
 
--- what was made is told where its bytes are put
+-- If the bytes are written, then the result was made.
 pub made_where_put : {P : Type 0} (result : Result (Unit {0}) Halt) → P → OnOk result P
 made_where_put (Ok unit) made = made
 made_where_put (Err halt) made = tt

@@ -1,4 +1,4 @@
--- What looks at the bytes in hand show is said of the next value.
+-- The result of the streaming check on the current bytes is the output for the next value.
 use Rattle.std.proofs.Common.{◌≡◌, ℕ, Bool, true, false, ◌+◌, ◌^◌, ◌<◌, List, [], ◌∷◌, ◌++◌, length, take, drop, Option, None, Some, Ok, Err, inl, inr, refl, sym, ap, ◌∙◌, subst, append_assoc, append-nil, length-append, arith}
 use Rattle.std.proofs.lemmas.List.{take-append-drop}
 use Rattle.std.proofs.Math.Seq.{take-append-add}
@@ -62,7 +62,8 @@ use Rattle.om_session.proofs.EarlierLemmas.{all_stay, left_needed}
 use Rattle.om_session.proofs.ReadLemmas.{front_goes_on, none_goes_on, spell_count, next_halts, Halts, last_well-snoc}
 use Rattle.om_session.proofs.VerdictLemmas.{puts_yes, no_line}
 
--- a value that a pass shows to have the type has the declared one, and each closed instance of it
+-- If the streaming check shows that a value has the type of the table, then it has the declared
+-- type and each of its closed instances.
 yes_front : (r : Prepared) → IsReady r → TheRootIsFirst → TablesDecide → (limit n : ℕ) (bytes : List ℕ) → IsTypedFront (table_of r.table) limit n bytes → IsVerdictOn r limit n bytes yes
 yes_front r ready first decide limit n bytes f =
     let put = puts_yes r ready first (objects_of f.tree 0) (root f.tree 0) decide f.typed sayings.Verdict refl [] (codes "yes") refl in record {
@@ -72,7 +73,7 @@ yes_front r ready first decide limit n bytes f =
       says = (put.0, put.1, ap line put.2);
     }
 
--- what a look that goes on with bytes that were kept shows of the type's table, it shows of the type
+-- The same, if the check continues with kept bytes.
 pub yes_next :
     (r : Prepared) → IsReady r → TheRootIsFirst → TablesDecide → (limit : ℕ) (old : Glance) (piece : List ℕ) (new : Glance) (n : ℕ) → IsTypedNext (table_of r.table) limit old piece new n → IsVerdictNext r limit old piece new n yes
 yes_next r ready first decide limit old piece new n it = record {
@@ -83,7 +84,7 @@ yes_next r ready first decide limit old piece new n it = record {
   glance = it.glance;
 }
 
--- the line that is put of the one misfit of a value is the verdict on it
+-- If a value has exactly one mismatch, then the line of this mismatch is the verdict.
 pub no_front :
     (r : Prepared) (limit n : ℕ) (bytes : List ℕ) (found : Found) (f : IsFound (table_of r.table) limit n bytes found) (text : List ℕ) → PutsNo (type_over r) (objects_of f.front.tree 0) (root f.front.tree 0) [] text
     → IsVerdictOn r limit n bytes (no_in (line text))
@@ -98,7 +99,7 @@ no_front r limit n bytes found f text puts =
 same_found : (found other : Found) (holds : Option Found) → holds ≡ Some found → holds ≡ Some other → found ≡ other
 same_found found other holds is also = let same : Some found ≡ Some other = sym is ∙ also in cc same
 
--- the line of the misfit that is held is told
+-- The line of the mismatch is reported.
 pub no_next :
     (r : Prepared) (limit : ℕ) (old : Glance) (piece : List ℕ) (new : Glance) (n : ℕ) → IsMissedNext (table_of r.table) limit old piece new n → (found : Found) → held new ≡ Some found → (text : List ℕ)
     → ((limit n : ℕ) (bytes : List ℕ) → IsFound (table_of r.table) limit n bytes found → IsVerdictOn r limit n bytes (no_in text)) → IsVerdictNext r limit old piece new n (no_in text)
@@ -112,16 +113,16 @@ no_next r limit old piece new n it found holds text says =
       glance = it.glance;
     }
 
--- ---- a value of which bytes were kept, and the first n in hand are the others
+-- ---- a value that consists of the kept bytes and the first n current bytes
 
--- where the reader is between values nothing of the next one was taken
+-- If the reader is between values, then it has taken no byte of the next one.
 pub nothing_taken : (w : Job) (taken : List ℕ) (said : List Said) (values : Values) (h : HasRead w values taken said) → IsBetween values → h.front ≡ []
 nothing_taken w taken said values h between = at (between (word_limit w) h.front h.leads) where
   at : EndsInput {U = Unit {0}} (word_limit w) h.front (Ok tt) → h.front ≡ []
   at (inl empty) = empty
   at (inr (tree, spelled)) = absurd (not_whole (word_limit w) h.front tree h.leads.bytes h.is_front spelled)
 
--- a front that comes next leaves all as it is, and holds no stop
+-- A prefix of the next value changes nothing and gives no exit reason.
 module _ (w : Job) (before : List ℕ) (said : List Said) (values : Values) (h : HasRead w values before said) (between : IsBetween values) (kept : List ℕ) (may : MayTake w (length h.trees)) (are_bytes : AreBytes kept)
     (front : IsFront (word_limit w) kept) where
   pub kept_first : SayFirst declared_types (task_of w) (before ++ kept) h.trees said kept
@@ -139,7 +140,7 @@ module _ (w : Job) (before : List ℕ) (said : List Said) (values : Values) (h :
         goes_on = goes_on declared_types (task_of w) h.trees kept are_bytes e.0 e.1 e.2 (λ stop at. front_goes_on w (word_limit w) h.trees kept stop may are_bytes front at);
       }
 
-  -- the input ends with it
+  -- The input ends with the prefix.
   pub ends_kept : 0 < length kept → (o : ByteState) (stop : Stop) → IsOrMemory (value values.count (truncated_text (length kept))) stop
       → PutsLast (commands declared_types) (task_of w) said (items_of h.trees) kept (change o o) (Err (halts.Stop stop))
   ends_kept some o stop (inr memory) = (inr memory, puts_nothing o)
@@ -178,7 +179,7 @@ module _ (r : Bor Prepared) (limit : ℕ) (before : List ℕ) (said : List Said)
       (first_more declared_types (task_of w) (before ++ value_bytes) h.trees said value_bytes [] told.tree next
       (subst (λ b. SayFirst declared_types (task_of w) (before ++ value_bytes) h.trees said b) (sym (append-nil value_bytes)) whole) spelled_kept told.says)
 
-  -- out failed
+  -- Writing the output fails.
   pub told_fault : AreBytes kept → IsFront limit kept → (a b : ByteState) → PutsPart (change a b) next.text
       → HaltsIn (commands declared_types) (task_of w) (before ++ kept) in_hand said (change a b) halts.WriteFault
   told_fault are_bytes front a b part =
@@ -194,7 +195,7 @@ module _ (r : Bor Prepared) (limit : ℕ) (before : List ℕ) (said : List Said)
         part,
       )
 
-  -- its line was put, and the reader waits for the next one
+  -- The line was written, and the reader waits for the next value.
   pub told_read : HasRead w (record values { well = values.well && next.well; last = next.well; count = values.count + 1 }) ((before ++ kept) ++ take n in_hand) (said ++ next ∷ [])
   told_read =
       let trees : List Tree = h.trees ++ told.tree ∷ [] in
@@ -212,9 +213,10 @@ module _ (r : Bor Prepared) (limit : ℕ) (before : List ℕ) (said : List Said)
         kept = tt;
       }
 
--- ---- a value that is put as it came
+-- ---- a value that is written unchanged
 
--- one that a pass shows to have the type, and whose bytes are what the runtime writes
+-- If the streaming check shows that a value has the type, and its bytes are those that the runtime
+-- writes, then it is unchanged.
 unchanged_front : (r : Prepared) → IsReady r → TheRootIsFirst → TablesDecide → (limit n : ℕ) (bytes : List ℕ) → IsTypedFront (table_of r.table) limit n bytes → IsAsWritten (take n bytes) → IsUnchanged r limit n bytes
 unchanged_front r ready first decide limit n bytes f written =
     let graph = objects_of f.tree 0 in
@@ -228,7 +230,7 @@ unchanged_front r ready first decide limit n bytes f written =
       each = ready_each r ready graph v by_type;
     }
 
--- what a look at a piece shows of the type's table, it shows of the type
+-- The result of the check by the table of the type holds for the type.
 pub unchanged_next :
     (r : Prepared) → IsReady r → TheRootIsFirst → TablesDecide → (limit : ℕ) (old : Glance) (piece : List ℕ) (new : Glance) (n : ℕ) → old.kept.items ≡ [] → IsTypedNext (table_of r.table) limit old piece new n → IsAsWritten (take n piece)
     → IsUnchangedNext r limit piece new n
@@ -241,14 +243,14 @@ unchanged_next r ready first decide limit old piece new n none it written =
       glance = it.glance;
     }
 
--- a piece was kept of a value of which there was nothing
+-- A chunk was kept of a value of which no byte was kept before.
 pub only_kept : (old new : Glance) (piece : List ℕ) → old.kept.items ≡ [] → new.kept.items ≡ old.kept.items ++ piece → new.kept.items ≡ piece
 only_kept old new piece none same = same ∙ ap (λ kept. kept ++ piece) none
 
 abbrev answer_of : List ℕ → Result (List ℕ) Unedited
 answer_of bytes = Ok bytes
 
--- the bytes of a value are those of its tree, where each reader may hold it
+-- If `compat` is false, then the bytes of a value are those of its tree.
 left_bytes : (compat : Bool) (tree : Tree) (large : Option TooLargeFor32) → compat ≡ false → bytes_for compat tree large ≡ answer_of (canon tree)
 left_bytes compat tree None small = refl
 left_bytes false tree (Some large) small = refl
@@ -295,11 +297,11 @@ module _ (e : Edits) (limit : ℕ) (taken : List ℕ) (said : List Said) (values
       first_more declared_types (task_of job) (taken ++ take n in_hand) h.trees said (take n in_hand) [] seen.tree put_said
       (subst (λ b. SayFirst declared_types (task_of job) (taken ++ take n in_hand) h.trees said b) (sym (append-nil (take n in_hand))) whole) seen.spelled left_says
 
-  -- out failed
+  -- Writing the output fails.
   pub left_fault : (a b : ByteState) → PutsPart (change a b) (take n in_hand) → Halts job taken said values h in_hand (change a b) halts.WriteFault
   left_fault a b part = next_halts job taken said values h in_hand n a b values halts.WriteFault (put_said, (h.trees ++ seen.tree ∷ [], [], left_first), part)
 
-  -- what later lines copy from stays, with one value more
+  -- The values from which later lines copy stay kept after one more value.
   left_kept : IsKept job (h.trees ++ seen.tree ∷ []) values.kept.items values.earlier.items
   left_kept =
       let t = type_over e.requested.now in
@@ -316,7 +318,7 @@ module _ (e : Edits) (limit : ℕ) (taken : List ℕ) (said : List Said) (values
         needed = subst (λ k. AreEarlier lines k values.earlier.items) (sym (length-append h.trees (seen.tree ∷ []))) (left_needed lines (length h.trees) values.earlier.items h.kept.needed left_here.lines left_here.unused);
       }
 
-  -- its bytes were put, and the reader waits for the next one
+  -- The bytes were written, and the reader waits for the next value.
   pub left_read : HasRead job (record values { last = true; count = values.count + 1 }) (taken ++ take n in_hand) (said ++ put_said ∷ [])
   left_read =
       let leads : Leads limit [] values.reader = subst (λ front. Leads limit front values.reader) (nothing_taken job taken said values h between) h.leads in record {
@@ -333,7 +335,7 @@ module _ (e : Edits) (limit : ℕ) (taken : List ℕ) (said : List Said) (values
         kept = left_kept;
       }
 
--- there are no more values than bytes
+-- There are no more values than bytes.
 pub room_for_seen : (w : Job) (taken : List ℕ) (said : List Said) (values : Values) → HasRead w values taken said → length taken < 2 ^ 63 → values.count + 1 < 2 ^ 64
 room_for_seen w taken said values h short =
     let fewer = spell_count (word_limit w) taken h.front h.trees h.first.spelled in

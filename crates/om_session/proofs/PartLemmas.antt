@@ -1,4 +1,4 @@
--- Each set of commands is a part of all: no request is for two of them.
+-- Each command set is a part of the whole set: no request belongs to two sets.
 use Rattle.std.proofs.Common.{◌≡◌, ℕ, List, None, inl, inr, refl, subst, arith}
 use Rattle.om_outcome.specs.CommandLine.{certify, scan, searched_by}
 use Rattle.om_outcome.specs.Outcome.{Request, tell, get, edit, dump, compare, own, OwnRequest, build, generate, verify, Asks}
@@ -32,7 +32,7 @@ use Rattle.om_picking.proofs.PickingLemmas.{idle as picked_idle}
 use Rattle.om_picking.proofs.EachLemmas.{promises_of_each}
 use Rattle.om_session.specs.All.{on_values, on_values_picked, on_values_after, on_texts, on_certificates, on_certificates_after, on_certified, on_certified_after, on_places, on_made, on_values_or_texts, on_others, on_items, on_input, all_commands, IsOfValues, IsOfTexts, IsOfCertificates, IsOfSections, IsOfPlaces, IsOfMade, AskOnly, IsPartOf, IsPart}
 
--- ---- a part of a choice is a part of all
+-- ---- a part of a sum is a part of the whole set
 
 module _ {A B : Type 0} (c : Commands A) (d : Commands B) (IsOf : Request → Type 0) where
   first_part : ((request : Request) → IsOf request → IsIdleAt d request) → HaveAccountsOfFirst c d
@@ -62,7 +62,7 @@ part_of_part c d e IsOf inner outer = record {
       inner.promises words call only (outer.promises words call only promises);
 }
 
--- ---- what is asked of one set is not asked of another
+-- ---- a request of one set is not a request of another
 
 values_after_idle : (request : OwnRequest) → IsIdleAt on_values_after (own request)
 values_after_idle request =
@@ -133,7 +133,7 @@ module _ (texts_idle : TextsIdleElsewhere declared_types declared_texts)
 
   module _ (outer_accounts : HaveAccountsOfFirst on_input on_made)
       (outer : PromiseAsFirst on_input on_made) where
-    -- a part of those on the input is a part of all
+    -- A part of the commands on the input is a part of the whole set.
     part_of_input : {A : Type 0} (c : Commands A) (IsOf : Request → Type 0)
         → ((request : Request) → IsOf request → generated_by request ≡ None)
         → IsPartOf on_input c IsOf → IsPart c IsOf
@@ -144,7 +144,7 @@ module _ (texts_idle : TextsIdleElsewhere declared_types declared_texts)
 
     module _ (items_accounts : HaveAccountsOfFirst on_items on_places)
         (items : PromiseAsFirst on_items on_places) where
-      -- so is a part of those on its values or lines
+      -- A part of the commands on the values or lines of the input is a part of the whole set.
       part_of_items : {A : Type 0} (c : Commands A) (IsOf : Request → Type 0)
           → ((request : Request) → IsOf request
           → (searched_by request ≡ None) × (generated_by request ≡ None))
@@ -157,7 +157,7 @@ module _ (texts_idle : TextsIdleElsewhere declared_types declared_texts)
 
       module _ (middle_accounts : HaveAccountsOfFirst on_others on_certified_after)
           (middle : PromiseAsFirst on_others on_certified_after) where
-        -- and one of those that do not certify
+        -- A part of the commands other than `check --cert` is a part of the whole set.
         part_of_others : {A : Type 0} (c : Commands A) (IsOf : Request → Type 0)
             → ((request : Request) → IsOf request → (certified_by request ≡ None)
             × (searched_by request ≡ None) × (generated_by request ≡ None))
@@ -170,7 +170,7 @@ module _ (texts_idle : TextsIdleElsewhere declared_types declared_texts)
 
         module _ (inner_accounts : HaveAccountsOfFirst on_values_or_texts on_certificates_after)
             (inner : PromiseAsFirst on_values_or_texts on_certificates_after) where
-          -- and one of those on values or texts
+          -- A part of the commands on values or texts is a part of the whole set.
           part_of_all : {A : Type 0} (c : Commands A) (IsOf : Request → Type 0)
               → ((request : Request) → IsOf request
               → (verified_by request ≡ None) × (certified_by request ≡ None)
@@ -260,20 +260,21 @@ module _ (texts_idle : TextsIdleElsewhere declared_types declared_texts)
       (places_idle request others.4))
       accounts promise
 
--- words ask for one request at most
+-- The arguments request at most one command.
 pub only_this : (IsOf : Request → Type 0) (words : List (List ℕ)) (request : Request)
     → Asks words request → IsOf request → AskOnly IsOf words
 only_this IsOf words request asks of other asks' =
     subst IsOf (one_request words request other asks asks') of
 
--- so an account by the set that the request is for is one by all
+-- An `Account` by the set of the request is one by the whole set.
 pub all_account : {A : Type 0} (c : Commands A) (IsOf : Request → Type 0) → IsPart c IsOf
     → (words : List (List ℕ)) (call : Call) (request : Request)
     → Asks words request → IsOf request → Account c words call → Account all_commands words call
 all_account c IsOf part words call request asks of account =
     part.account words call (only_this IsOf words request asks of) account
 
--- and where nothing is passed over, what all promise is promised by the set at once
+-- Without `--skip`, the specification of a run by the whole set implies the specification by the
+-- set itself.
 pub part_at_once : {A : Type 0} (c : Commands A) (IsOf : Request → Type 0)
     → IsPart (skipping passed_by c) IsOf → (words : List (List ℕ)) (call : Call) (request : Request)
     → Asks words request → IsOf request → (passed_by request).bytes ≡ 0
@@ -284,7 +285,7 @@ part_at_once c IsOf part words call request asks of none all =
     subst (λ r. (passed_by r).bytes ≡ 0) (one_request words request other asks asks') none)
     call (part.promises words call (only_this IsOf words request asks of) all)
 
--- of the one on values, also where each value is told of
+-- The same for the commands on values, also without `--only`.
 pub values_at_once : IsPart on_values_after IsOfValues
     → (words : List (List ℕ)) (call : Call) (request : Request)
     → Asks words request → IsOfValues request → (passed_by request).bytes ≡ 0
@@ -295,7 +296,7 @@ values_at_once part words call request asks of none each all =
     subst (λ r. picked_by r ≡ None) (one_request words request other asks asks') each)
     call (part_at_once on_values_picked IsOfValues part words call request asks of none all)
 
--- files are wanted in two turns at most
+-- Files are fetched in at most two turns.
 pub values_in_turns : WantsInTurns 2 on_values_after
 values_in_turns request files turn name (inl (first, w)) = omega (arith, first)
 values_in_turns request files turn name (inr (second, w)) = omega (arith, second)

@@ -1,4 +1,4 @@
--- What is said of the values so far, as a piece is taken.
+-- The output for the values so far, while a chunk is taken.
 use Rattle.std.proofs.Common.{◌≡◌, ◌⊎◌, ℕ, zero, suc, ◌+◌, ◌^◌, ◌<◌, ◌≤◌, Bool, true, false, List, [], ◌∷◌, ◌++◌, length, take, drop, Result, Ok, Err, inl, inr, refl, sym, ap, ◌∙◌, subst, append_assoc, append-nil, length-append, take_all, arith}
 use Rattle.std.proofs.lemmas.List.{length-take-le, take-append-drop}
 use Rattle.std.specs.Prelude.{◌&&◌, ◌↔◌, ◌≢◌, IsTrue, IsErrAnd, IfSome, Vec}
@@ -61,14 +61,14 @@ use Rattle.om_session.proofs.EarlierLemmas.{none_needed}
 use Rattle.om_promises.proofs.PutLemmas.{puts_nothing}
 use Rattle.om_promises.proofs.ValueLemmas.{not_whole, nothing_front, first_none, first_more, first_after, silent, and_true, all_well-snoc}
 
--- where a value comes, no front of one does
+-- Bytes that begin with a complete value are not a proper prefix of a value.
 front_or_value : (limit : ℕ) (rest more : List ℕ) (tree : Tree) → AreBytes rest → IsFront limit rest → SpellAll limit rest (tree ∷ []) more → ⊥
 front_or_value limit rest more tree are_bytes front (first, after, same, spelled, end) =
     let some : 0 < length first = spelled_some limit first tree spelled in
     let size : length rest ≡ length first + length after = ap length same ∙ length-append first after in
     value_or_tail one_judgement_lem limit first after rest tree (cut (length rest)) are_bytes spelled same (omega (arith, some, size), refl, front)
 
--- where one more value may come, a front of one stops nothing
+-- If one more value may follow, then a prefix of one does not end the run.
 pub front_goes_on : (w : Job) (limit : ℕ) (trees : List Tree) (rest : List ℕ) (stop : Stop) → MayTake w (length trees) → AreBytes rest → IsFront limit rest
     → StopsAt declared_types (work_of w) limit trees rest stop → ⊥
 front_goes_on (jobs.Say (speeches.Tell r saying) most) limit trees rest stop may are_bytes front at = at
@@ -76,7 +76,7 @@ front_goes_on (jobs.Say speeches.Dump most) limit trees rest stop may are_bytes 
 front_goes_on (jobs.Edit e most) limit trees rest stop may are_bytes front at = front_or_value limit rest at.more at.tree are_bytes front at.spelled
 front_goes_on (jobs.Compare most) limit trees rest stop may are_bytes front at = let two = at.0 in omega (arith, may, two)
 
--- and where none come, nothing stops the run
+-- If no bytes follow, then the run does not end with an error.
 pub none_goes_on : (w : Job) (limit : ℕ) (trees : List Tree) (stop : Stop) → StopsAt declared_types (work_of w) limit trees [] stop → ⊥
 none_goes_on (jobs.Say (speeches.Tell r saying) most) limit trees stop at = at
 none_goes_on (jobs.Say speeches.Dump most) limit trees stop at = at
@@ -86,7 +86,7 @@ none_goes_on (jobs.Edit e most) limit trees stop at =
     let size : length {A = ℕ} [] ≡ length s.0 + length s.1 = ap length s.2 ∙ length-append s.0 s.1 in omega (arith, some, size)
 none_goes_on (jobs.Compare most) limit trees stop at = at.1 refl
 
--- what was taken holds no stop
+-- The bytes taken so far give no exit reason.
 abbrev pub holds : (w : Job) (taken : List ℕ) (said : List Said) (values : Values) → HasRead w values taken said → HoldNoStop (commands declared_types) (task_of w) taken said
 holds w taken said values h =
     let e = front_end (word_limit w) h.front h.is_front in
@@ -97,11 +97,11 @@ holds w taken said values h =
       goes_on = goes_on declared_types (task_of w) h.trees h.front h.leads.bytes e.0 e.1 e.2 h.goes_on;
     }
 
--- a value stays one when bytes follow
+-- A value remains one if further bytes follow.
 pub values_stay : (w : Job) → ItemsStay (commands declared_types) (task_of w)
 values_stay w items = first_stays declared_types (word_limit w)
 
--- no value was read
+-- No value was read.
 begins_kept : (w : Job) (kept : List Value) (earlier : List Earlier) → kept ≡ [] → earlier ≡ [] → IsKept w [] kept earlier
 begins_kept (jobs.Say speech most) kept earlier none no_earlier = tt
 begins_kept (jobs.Edit e most) kept earlier none no_earlier = record {
@@ -127,9 +127,9 @@ begins w values ready leads counted well last none no_earlier = record {
   kept = begins_kept w values.kept.items values.earlier.items none no_earlier;
 }
 
--- ---- the input's end
+-- ---- the end of the input
 
--- what is said after two values
+-- The output after two values.
 pub compares_alike : (kept : List Value) (trees : List Tree) → AllZip IsValueOf kept trees → (first second : Value) → kept ≡ first ∷ second ∷ [] → (alike : Bool)
     → (IsTrue alike ↔ Iso first.heap first.root second.heap second.root) → FinishesRun declared_types compares trees (says (comparison alike))
 compares_alike kept trees are first second two alike is = at trees (subst (λ k. AllZip IsValueOf k trees) two are) where
@@ -144,13 +144,13 @@ compares_alike kept trees are first second two alike is = at trees (subst (λ k.
     refl,
   )
 
--- out failed within the line, by `?`
+-- Writing the line fails, propagated by `?`.
 pub last_fault : (trees : List Tree) (out : Change ByteState) (result : Result Bool Halt) → IsErrAnd result (λ h. h ≡ halts.WriteFault) → (final : Said) → FinishesRun declared_types compares trees (says final) → PutsPart out final.text
     → PutsComparison trees out result
 last_fault trees out (Ok well) is final finishes part = absurd is
 last_fault trees out (Err halt) is final finishes part = subst (λ h. PutsComparison trees out (Err h)) (sym is) (final, finishes, part)
 
--- or other than two
+-- There are not exactly two values.
 pub compares_none : (kept : List Value) (trees : List Tree) → AllZip IsValueOf kept trees → length kept ≢ 2 → FinishesRun declared_types compares trees (outcome.stops not_two_values)
 compares_none kept [] are not = refl
 compares_none kept (t ∷ []) are not = refl
@@ -160,7 +160,7 @@ compares_none (a ∷ []) (t ∷ u ∷ []) are not = absurd are.1
 compares_none (a ∷ b ∷ []) (t ∷ u ∷ []) are not = absurd (not refl)
 compares_none (a ∷ b ∷ c ∷ kept) (t ∷ u ∷ []) are not = absurd are.1.1
 
--- what is kept are values
+-- The kept values are valid.
 pub kept_values : (kept : List Value) (trees : List Tree) → AllZip IsValueOf kept trees → AreValues kept
 kept_values kept trees are = All-from_recursion (λ v. IsValue (length v.heap) v.root) kept (each kept trees are) where
   each : (kept : List Value) (trees : List Tree) → AllZip IsValueOf kept trees → AllByRecursion (λ v. IsValue (length v.heap) v.root) kept
@@ -168,23 +168,23 @@ kept_values kept trees are = All-from_recursion (λ v. IsValue (length v.heap) v
   each (v ∷ kept) [] are = absurd are
   each (v ∷ kept) (t ∷ trees) are = (are.0.valid, each kept trees are.1)
 
--- the last reply follows from the values and the rest
+-- The final output follows from the values and the remaining bytes.
 abbrev Replies : Job → List Tree → List ℕ → outcome.Reply → Type 0
 Replies w trees rest last = EndsHere declared_types (task_of w) (items_of trees) rest last
 
 module _ (w : Job) (taken : List ℕ) (said : List Said) (values : Values) (h : HasRead w values taken said) where
-  -- how the input ends is known
+  -- The end of the input is known.
   abbrev Ends : Change ByteState → Result Bool Halt → Type 0
   Ends out result = PutsLast (commands declared_types) (task_of w) said (items_of h.trees) h.front out result
 
-  -- the reader is at the end of a value
+  -- The reader is at the end of a value.
   ends_clean : EndsInput {U = Unit {0}} (word_limit w) h.front (Ok tt) → (last : outcome.Reply) → FinishesRun declared_types (work_of w) h.trees last → Replies w h.trees h.front last
   ends_clean end last finishes = record { trees = h.trees; are = refl; end = clean; tail = none end; ends = finishes } where
     none : EndsInput {U = Unit {0}} (word_limit w) h.front (Ok tt) → h.front ≡ []
     none (inl empty) = empty
     none (inr (tree, spelled)) = absurd (not_whole (word_limit w) h.front tree h.leads.bytes h.is_front spelled)
 
-  -- or within one
+  -- The reader is within a value.
   pub ends_cut : (truncated : Truncated) → EndsInput {U = Unit {0}} (word_limit w) h.front (Err truncated) → (o : ByteState) (stop : Stop)
       → IsOrMemory (stops.Value values.count (truncated_text truncated.taken)) stop → Ends (change o o) (Err (halts.Stop stop))
   ends_cut truncated within o stop (inr memory) = (inr memory, puts_nothing o)
@@ -201,7 +201,7 @@ module _ (w : Job) (taken : List ℕ) (said : List Said) (values : Values) (h : 
         puts_nothing o,
       )
 
-  -- nothing more is said
+  -- There is no further output.
   silent_end : EndsInput {U = Unit {0}} (word_limit w) h.front (Ok tt) → FinishesRun declared_types (work_of w) h.trees (says nothing_said) → (o : ByteState) (well : Bool) → well ≡ values.well
       → Ends (change o o) (Ok well)
   silent_end end finishes o well same = (
@@ -211,7 +211,7 @@ module _ (w : Job) (taken : List ℕ) (said : List Said) (values : Values) (h : 
     puts_nothing o,
   )
 
--- values of which something was said are done with
+-- Nothing more is written for values with output.
 said_finishes : (speech : Speech) (trees : List Tree) → FinishesRun declared_types (work_by speech) trees (says nothing_said)
 said_finishes (speeches.Tell r saying) trees = refl
 said_finishes speeches.Dump trees = refl
@@ -221,7 +221,7 @@ ends_said : (speech : Speech) (most : ℕ) (taken : List ℕ) (said : List Said)
 ends_said speech most taken said values h end o =
     silent_end (jobs.Say speech most) taken said values h end (said_finishes speech h.trees) o values.well refl
 
--- values that are kept are compared
+-- The kept values are compared.
 ends_compared : (most : ℕ) (taken : List ℕ) (said : List Said) (values : Values) (h : HasRead (jobs.Compare most) values taken said) → EndsInput {U = Unit {0}} most h.front (Ok tt) → (out : Change ByteState)
     (result : Result Bool Halt) → PutsComparison h.trees out result → Ends (jobs.Compare most) taken said values h out result
 ends_compared most taken said values h end out (Ok well) (final, finishes, is, put) = (
@@ -236,7 +236,7 @@ ends_compared most taken said values h end out (Err (halts.Stop stop)) (inr memo
 ends_compared most taken said values h end out (Err halts.WriteFault) (final, finishes, part) =
     (final, ends_clean (jobs.Compare most) taken said values h end (says final) finishes, part)
 
--- values that are edited: a line may edit none of them
+-- The values are edited: a line may edit none of them.
 ends_edited : (e : Edits) (most : ℕ) (taken : List ℕ) (said : List Said) (values : Values) (h : HasRead (jobs.Edit e most) values taken said) → EndsInput {U = Unit {0}} most h.front (Ok tt) → (o : ByteState)
     (result : Result Bool Halt) → EndsScript e h.trees values.well result → Ends (jobs.Edit e most) taken said values h (change o o) result
 ends_edited e most taken said values h end o (Ok well) (finishes, same) = silent_end (jobs.Edit e most) taken said values h end finishes o well same
@@ -245,7 +245,7 @@ ends_edited e most taken said values h end o (Err (halts.Stop stop)) (inl finish
     (inl (ends_clean (jobs.Edit e most) taken said values h end (outcome.stops stop) finishes), puts_nothing o)
 ends_edited e most taken said values h end o (Err halts.WriteFault) never = absurd never
 
--- the same, where the work is known by an equation
+-- The same, if an equation gives the operation.
 module _ (w : Job) (taken : List ℕ) (said : List Said) (values : Values) (h : HasRead w values taken said) where
   pub ends_as_said : (speech : Speech) (most : ℕ) → w ≡ jobs.Say speech most → EndsInput {U = Unit {0}} (word_limit w) h.front (Ok tt) → (o : ByteState) → Ends w taken said values h (change o o) (Ok values.well)
   ends_as_said speech most is e o =
@@ -269,7 +269,7 @@ module _ (w : Job) (taken : List ℕ) (said : List Said) (values : Values) (h : 
       let P : Job → Type 0 = λ w. HasRead w values taken said → AreValues values.kept.items in
       subst P (sym is) (λ h. kept_values values.kept.items h.trees h.kept.0) h
 
--- what is said of a value that was read whole
+-- The output for a value that was read completely.
 pub says_read : (speech : Speech) (earlier : List Tree) (value : Value) (tree : Tree) (text : List ℕ) (well : Bool) → IsValueOf value tree → IsSaidOf speech value.heap value.root text well
     → Says declared_types (work_by speech) earlier tree (record { text = text; well = well })
 says_read speech earlier value tree text well is_value it_says =
@@ -278,18 +278,18 @@ says_read speech earlier value tree text well is_value it_says =
       of_tree (speeches.Tell r saying) h = h
       of_tree speeches.Dump h = h
 
--- the bytes of a value that was read whole, and edited
+-- The bytes of a value that was read completely and edited.
 pub edited_read : (e : Edits) (others : List Other) (k : ℕ) (value : Value) (tree : Tree) (answer : Result (List ℕ) outcome.Unedited) → IsValueOf value tree → AnswersOf e others k value.heap value.root answer
     → AnswersOf e others k (objects_of tree 0) (root tree 0) answer
 edited_read e others k value tree answer is it = subst (λ v. AnswersOf e others k (objects_of tree 0) v answer) is.root (subst (λ h. AnswersOf e others k h value.root answer) is.heap it)
 
--- ---- bytes in hand
+-- ---- current bytes
 
 module _ (w : Job) (taken : List ℕ) (said : List Said) (values : Values) (h : HasRead w values taken said) (rest : List ℕ) (reader : Reader) (fed : Fed) (f : Feeds (word_limit w) h.front rest reader fed) where
   abbrev after : Values
   after = record values { reader = reader }
 
-  -- they complete the value
+  -- The current bytes complete the value.
   abbrev pub whole_read : MayTake w (length h.trees) → fed.done ≡ true → IsValueRead w after (taken ++ take fed.taken rest) said
   whole_read may done = record {
     ready = h.ready;
@@ -311,7 +311,7 @@ module _ (w : Job) (taken : List ℕ) (said : List Said) (values : Values) (h : 
       let some = length-take-le fed.taken rest in
       let fits = f.within in omega (arith, all, some, short, fits)
 
-  -- then there are some
+  -- If the value is complete, then some bytes were taken.
   pub some_taken : fed.done ≡ true → 0 < fed.taken
   some_taken done = some fed.taken refl where
     some : (n : ℕ) → fed.taken ≡ n → 0 < n
@@ -321,7 +321,7 @@ module _ (w : Job) (taken : List ℕ) (said : List Said) (values : Values) (h : 
         absurd (not_whole (word_limit w) h.front whole.0 h.leads.bytes h.is_front (subst (λ b. SpelledUnder (word_limit w) b whole.0) none whole.1))
     some (suc n) e = omega arith
 
-  -- they are all taken, and do not complete it
+  -- All current bytes are taken, and the value is not complete.
   pub front_read : MayTake w (length h.trees) → fed.done ≡ false → HasRead w after (taken ++ take fed.taken rest) (said ++ [])
   front_read may not_done =
       let more = f.more not_done in
@@ -341,13 +341,13 @@ module _ (w : Job) (taken : List ℕ) (said : List Said) (values : Values) (h : 
         kept = h.kept;
       })
 
--- a value that was read whole, and what is said of it
+-- A value that was read completely, and its output.
 pub value_said : (w : Job) (taken : List ℕ) (said : List Said) (values : Values) (v : IsValueRead w values taken said) (tree : Tree) → SpelledUnder (word_limit w) v.whole tree
     → (next : Said) → Says declared_types (work_of w) v.trees tree next → SayFirst declared_types (task_of w) taken (v.trees ++ tree ∷ []) (said ++ next ∷ []) []
 value_said w taken said values v tree spelled next it_says =
     first_more declared_types (task_of w) taken v.trees said v.whole [] tree next (subst (λ b. SayFirst declared_types (task_of w) taken v.trees said b) (sym (append-nil v.whole)) v.first) spelled it_says
 
--- something is said of each value
+-- Each value has an output.
 as_many : (w : Job) (earlier trees : List Tree) (said : List Said) → AllSay declared_types (work_of w) earlier trees said → length trees ≡ length said
 as_many w earlier [] [] all = refl
 as_many w earlier [] (s ∷ said) all = absurd all
@@ -357,12 +357,12 @@ as_many w earlier (tree ∷ trees) (s ∷ said) all = let more = as_many w (earl
 pub said_count : (w : Job) (taken : List ℕ) (said : List Said) (values : Values) → HasRead w values taken said → values.count ≡ length said
 said_count w taken said values h = h.counted ∙ as_many w [] h.trees said h.first.all_say
 
--- what is said of one more is said last
+-- The output of one more value is the last one.
 pub last_well-snoc : (well : Bool) (said : List Said) (next : Said) → last_well well (said ++ next ∷ []) ≡ next.well
 last_well-snoc well [] next = refl
 last_well-snoc well (s ∷ said) next = last_well-snoc s.well said next
 
--- the reader waits for the next one
+-- The reader waits for the next value.
 pub value_put : (w : Job) (taken : List ℕ) (said : List Said) (values : Values) (v : IsValueRead w values taken said) (tree : Tree) → SpelledUnder (word_limit w) v.whole tree
     → (next : Said) → Says declared_types (work_of w) v.trees tree next → (reader : Reader) → Leads (word_limit w) [] reader → (well : Bool) → well ≡ (values.well && next.well) → (last : Bool) → last ≡ next.well
     → (kept : Vec Value Global) (earlier : Vec Earlier Global) → IsKept w (v.trees ++ tree ∷ []) kept.items earlier.items → (line : Vec ℕ Global)
@@ -387,7 +387,7 @@ zip_push [] (t ∷ trees) value tree are is = absurd are
 zip_push (v ∷ kept) [] value tree are is = absurd are
 zip_push (v ∷ kept) (t ∷ trees) value tree are is = (are.0, zip_push kept trees value tree are.1 is)
 
--- it is kept
+-- The value is kept.
 pub value_kept : (most : ℕ) (taken : List ℕ) (said : List Said) (values : Values) (v : IsValueRead (jobs.Compare most) values taken said) (value : Value) (f : Finishes most v.whole value)
     → (kept : Vec Value Global) → kept.items ≡ values.kept.items ++ value ∷ [] → (reader : Reader) → Leads most [] reader
     → HasRead (jobs.Compare most) (record { reader = reader; well = values.well; last = true; count = values.count + 1; kept = kept; earlier = values.earlier; line = values.line }) taken (said ++ nothing_said ∷ [])
@@ -398,7 +398,7 @@ value_kept most taken said values v value f kept same reader leads =
     (subst (λ k. AllZip IsValueOf k (v.trees ++ f.tree ∷ [])) (sym same) (zip_push values.kept.items v.trees value f.tree v.kept.0 f.is_value), omega (arith, few, size)))
     values.line
 
--- where the work is known by an equation
+-- The same, if an equation gives the operation.
 pub kept_next : (w : Job) (most : ℕ) (taken : List ℕ) (said : List Said) (values : Values) → IsValueRead w values taken said → w ≡ jobs.Compare most → (new : Values) (o : ByteState)
     → (IsValueRead (jobs.Compare most) values taken said → HasRead (jobs.Compare most) new taken (said ++ nothing_said ∷ [])) → (next : Said) × HasRead w new taken (said ++ next ∷ []) × Puts (change o o) next.text
 kept_next w most taken said values v is new o kept =
@@ -411,7 +411,7 @@ next_as w known is taken said values v out new result next =
     let P : Job → Type 0 = λ w. (v : IsValueRead w values taken said) → PutsNext {U = Unit {0}} w taken said v.trees v.whole out new result in
     subst P (sym is) next v
 
--- there are no more values than bytes
+-- There are no more values than bytes.
 pub spell_count : (limit : ℕ) (bytes rest : List ℕ) (trees : List Tree) → SpellAll limit bytes trees rest → length trees + length rest ≤ length bytes
 spell_count limit bytes rest [] same = let e : length bytes ≡ length rest = ap length same in omega (arith, e)
 spell_count limit bytes rest (tree ∷ trees) (first, more, same, spelled, all) =
@@ -425,7 +425,7 @@ room_for_one w taken said values v short =
     let counted = v.counted in
     let some = v.some in omega (arith, fewer, short, counted, some)
 
--- the run stops at these bytes after the values, or memory ran out
+-- The run ends at these bytes after the values, or memory ran out.
 abbrev StopsIn : Job → List Tree → List ℕ → Stop → Type 0
 StopsIn w trees rest stop = StopsHere declared_types (task_of w) (items_of trees) rest stop ⊎ (stop ≡ out_of_memory)
 
@@ -435,7 +435,7 @@ may_come (jobs.Say speeches.Dump most) n may = tt
 may_come (jobs.Edit e most) n may = tt
 may_come (jobs.Compare most) n may = may
 
--- what is refused in hand stops the run, or memory ran out
+-- If the reader refuses the current bytes, then the run ends, or memory ran out.
 pub stops_in : (w : Job) (trees : List Tree) (rest : List ℕ) (refusal : ReadRefusal) (stop : Stop) → MayTake w (length trees) → RefusedIn (word_limit w) rest refusal → IsStopOf (length trees) refusal stop
     → StopsIn w trees rest stop
 stops_in w trees rest refusal stop may r (inl memory) = inr memory
@@ -449,7 +449,7 @@ stops_in w trees rest refusal stop may r (inr (some, is)) =
       })
     ]
 
--- any byte after two values does
+-- Any byte after two values ends the run.
 pub full_stops : (w : Job) (trees : List Tree) (front rest : List ℕ) → IsFull w (length trees) → 0 < length rest → StopsIn w trees (front ++ rest) not_two_values
 full_stops (jobs.Say speech most) trees front rest full some = absurd full
 full_stops (jobs.Edit e most) trees front rest full some = absurd full
@@ -457,7 +457,7 @@ full_stops (jobs.Compare most) trees front rest full some =
     let any : front ++ rest ≡ [] → ⊥ = λ none. let e : length (front ++ rest) ≡ 0 = ap length none in let size = length-append front rest in omega (arith, e, size, some) in
     inl (record { trees = trees; are = refl; why = inl (full, any, refl) })
 
--- a halt, in what is in hand
+-- A error in the current bytes.
 module _ (w : Job) (taken : List ℕ) (said : List Said) (values : Values) (h : HasRead w values taken said) (rest : List ℕ) where
   abbrev pub Halts : Change ByteState → Halt → Type 0
   Halts out halt = HaltsIn (commands declared_types) (task_of w) taken rest said out halt
@@ -465,7 +465,7 @@ module _ (w : Job) (taken : List ℕ) (said : List Said) (values : Values) (h : 
   pub stops_now : (stop : Stop) → StopsIn w h.trees (h.front ++ rest) stop → (a b : ByteState) → Puts (change a b) [] → Halts (change a b) (halts.Stop stop)
   stops_now stop why a b none = (holds w taken said values h, why, none)
 
-  -- at the line of the value that ends there
+  -- The error is at the line of the value that ends there.
   pub next_halts : (n : ℕ) (a b : ByteState) (new : Values) (halt : Halt) → PutsNext {U = Unit {0}} w (taken ++ take n rest) said h.trees (h.front ++ take n rest) (change a b) new (Err halt)
       → Halts (change a b) halt
   next_halts n a b new (halts.Stop stop) (inl memory, none) = stops_now stop (inr memory) a b none
@@ -485,7 +485,7 @@ module _ (w : Job) (taken : List ℕ) (said : List Said) (values : Values) (h : 
         part,
       )
 
--- memory ran out, by `?`
+-- Memory ran out, propagated by `?`.
 pub memory_halts : (w : Job) (taken : List ℕ) (said : List Said) (trees : List Tree) (whole : List ℕ) (o : ByteState) (new : Values) (result : Result (Unit {0}) Halt)
     → IsErrAnd result (λ h. h ≡ halts.Stop out_of_memory) → PutsNext {U = Unit {0}} w taken said trees whole (change o o) new result
 memory_halts w taken said trees whole o new (Ok unit) is = absurd is
@@ -494,7 +494,7 @@ memory_halts w taken said trees whole o new (Err h) is = subst (λ h. PutsNext {
 -- ---- a value that is edited
 
 module _ (e : Edits) (most : ℕ) (taken : List ℕ) (said : List Said) (values : Values) (v : IsValueRead (jobs.Edit e most) values taken said) (value : Value) (f : Finishes most v.whole value) where
-  -- what is answered to it is answered to the tree after the values
+  -- The output for the value is the output for its tree after the earlier values.
   answered : (answer : Result (List ℕ) outcome.Unedited) → AnswersOf e v.kept.others values.count value.heap value.root answer
       → AreBytesIn (type_over e.requested.now) e.script.now.lines e.compat v.trees f.tree answer
   answered answer it = (
@@ -503,13 +503,13 @@ module _ (e : Edits) (most : ℕ) (taken : List ℕ) (said : List Said) (values 
     edited_read e v.kept.others (length v.trees) value f.tree answer f.is_value (subst (λ k. AnswersOf e v.kept.others k value.heap value.root answer) v.counted it),
   )
 
-  -- it comes after those that the lines made
+  -- The value comes after those that the lines made.
   pub comes_last : values.count ≡ length v.kept.others
   comes_last =
       let size = done_length (type_over e.requested.now) e.script.now.lines [] v.trees v.kept.others v.kept.done in
       let counted = v.counted in omega (arith, size, counted)
 
-  -- and they made it
+  -- The lines made the value.
   abbrev pub all_made : Value → List Other
   all_made new = v.kept.others ++ (new.heap, new.root) ∷ []
 
@@ -530,7 +530,7 @@ module _ (e : Edits) (most : ℕ) (taken : List ℕ) (said : List Said) (values 
   abbrev edited_said : List ℕ → Said
   edited_said bytes = record { text = bytes; well = true }
 
-  -- its bytes were put, and the reader waits for the next one
+  -- The bytes were written, and the reader waits for the next value.
   pub edited_put : (new : Value) (out : Change ByteState) → PutsEdited {U = Unit {0}} e v.kept.others values.count value.heap value.root out (Ok tt)
       → EditsAll e.requested.now v.kept.others values.count e.script.now.lines value new
       → (reader : Reader) → Leads most [] reader → (earlier : Vec Earlier Global) → AreMade (all_made new) earlier.items → AreEarlier e.script.now.lines (values.count + 1) earlier.items
@@ -550,7 +550,7 @@ module _ (e : Edits) (most : ℕ) (taken : List ℕ) (said : List Said) (values 
     put,
   )
 
-  -- or it stops the run, or out failed
+  -- The value ends the run, or writing the output fails.
   edited_halt : (out : Change ByteState) (halt : Halt) (new : Values) → PutsEdited {U = Unit {0}} e v.kept.others values.count value.heap value.root out (Err halt)
       → PutsNext {U = Unit {0}} (jobs.Edit e most) taken said v.trees v.whole out new (Err halt)
   edited_halt out (halts.Stop stop) new (inl memory, none) = (inl memory, none)

@@ -1,4 +1,4 @@
--- What is said of a value, put, and what of that is said of the values so far.
+-- Writing the output for a value, and the effect on the output for the values so far.
 use Rattle.std.proofs.Common.{◌≡◌, ℕ, ◌+◌, Bool, List, [], ◌∷◌, ◌++◌, Result, Ok, Err, inl, refl, sym, subst}
 use Rattle.std.specs.Prelude.{◌&&◌, IsErrAnd, Vec}
 use Rattle.std.specs.declared.alloc.Global.{Global}
@@ -22,12 +22,12 @@ use Rattle.om_session.specs.Verdict.{IsSaidOf}
 use Rattle.om_session.proofs.ReadLemmas.{says_read, value_said, value_put}
 
 module _ (speech : Speech) (graph : List Obj) (root : Val) (out : Change ByteState) where
-  -- memory ran out, by `?`
+  -- Memory ran out, propagated by `?`.
   pub said_memory : (result : Result Bool Halt) → IsErrAnd result (λ h. h ≡ halts.Stop out_of_memory) → Puts out [] → PutsSaid speech graph root out result
   said_memory (Ok well) is none = absurd is
   said_memory (Err halt) is none = subst (λ h. PutsSaid speech graph root out (Err h)) (sym is) (refl, none)
 
-  -- out failed, by `?`
+  -- Writing the output fails, propagated by `?`.
   pub said_fault : (result : Result Bool Halt) → IsErrAnd result (λ h. h ≡ halts.WriteFault) → (text : List ℕ) (well : Bool) → IsSaidOf speech graph root text well → PutsPart out text
       → PutsSaid speech graph root out result
   said_fault (Ok well) is text fine it part = absurd is
@@ -35,7 +35,7 @@ module _ (speech : Speech) (graph : List Obj) (root : Val) (out : Change ByteSta
 
 module _ (speech : Speech) (most : ℕ) (taken : List ℕ) (said : List Said) (values : Values) (v : IsValueRead (jobs.Say speech most) values taken said) (value : Value)
     (f : Finishes most v.whole value) where
-  -- it was put, and the reader waits for the next value
+  -- The output was written, and the reader waits for the next value.
   pub said_put : (out : Change ByteState) (well : Bool) → PutsSaid speech value.heap value.root out (Ok well) → (reader : Reader) → Leads most [] reader → (all : Bool) → all ≡ (values.well && well)
       → (line : Vec ℕ Global)
       → (next : Said) × HasRead (jobs.Say speech most) (record { reader = reader; well = all; last = well; count = values.count + 1; kept = values.kept; earlier = values.earlier; line = line }) taken (said ++ next ∷ []) × Puts out next.text
@@ -57,7 +57,7 @@ module _ (speech : Speech) (most : ℕ) (taken : List ℕ) (said : List Said) (v
         part,
       )
 
-  -- or it was not
+  -- The output was not written.
   pub said_halts : (out : Change ByteState) (halt : Halt) (new : Values) (result : Result (Unit {0}) Halt) → IsErrAnd result (λ h. h ≡ halt)
       → PutsSaid speech value.heap value.root out (Err halt) → PutsNext {U = Unit {0}} (jobs.Say speech most) taken said v.trees v.whole out new result
   said_halts out halt new (Ok unit) is p = absurd is

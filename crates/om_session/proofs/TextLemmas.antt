@@ -1,4 +1,4 @@
--- The account of a call that makes bytes of texts, from what its file gave.
+-- Proves `Account` for a run of `build`, from the contents of its file.
 use Rattle.std.proofs.Common.{◌≡◌, ◌⊎◌, ◌<◌, ℕ, zero, suc, Bool, List, Ok, Err, inl, inr, refl, arith}
 use Rattle.om_outcome.specs.declared.status.Status.{Status}
 use Rattle.om_outcome.specs.Outcome.{Found, asked_with, own, build, Asks}
@@ -52,7 +52,7 @@ module _ (words : List (List ℕ)) (file type : List ℕ) (lines decimal : Bool)
   gives_stop stop (inl reads) = inl (Ok (own (build file type lines decimal)), asks, ((file, asked_with type lines decimal), refl, reads))
   gives_stop stop (inr memory) = inr memory
 
-  -- there is no type
+  -- There is no type.
   pub no_type_account : (stop : Stop) → GivesType file (asked_with type lines decimal) found (Err stop)
       → (input out : ByteState) (err : Change ByteState) (status : Status)
       → Reports stop err status
@@ -61,7 +61,7 @@ module _ (words : List (List ℕ)) (file type : List ℕ) (lines decimal : Bool)
       let why = gives_stop stop gives in
       stop_account on_texts words all_found input out files fetches err status stop why r
 
-  -- bytes are made of the texts at the type
+  -- The bytes of the values at the type are written.
   pub texts_account : (r : Prepared) → GivesType file (asked_with type lines decimal) found (Ok r)
       → (input out err : Change ByteState) (status : Status)
       → HasAccount on_texts (type_over r) input out err status

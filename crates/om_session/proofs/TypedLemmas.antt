@@ -1,4 +1,4 @@
--- Where a path leads to in a value that has a type, there is a value that has its type.
+-- If a value has a type, then the value at the end of each path has its type.
 use Rattle.std.proofs.Common.{ℕ, ◌≡◌, ⊎_elim, inl, List, [], ◌∷◌, Some, subst}
 use Rattle.std.specs.Prelude.{Contains, IsSomeAnd}
 use Rattle.om_model.proofs.Options.{Contains-first, Contains-later, Contains-none, Contains-cases, IsSomeAnd-weaker}
@@ -12,7 +12,7 @@ use Rattle.om_types.specs.Fault.{value_at}
 use Rattle.om_types.proofs.FaultLemmas.{place_is_held}
 
 module _ {T : Type 0} (shapes : Shapes T) (lawful : AreLawful shapes Everything) (graph : List Obj) where
-  -- a held value is held at each equal type, by more pairs too
+  -- If a value is held at a type, then it is held at each equal type, also by more pairs.
   held_by_more : (pairs : List (ℕ × T)) (pair : ℕ × T) (v : Val) (t u : T) → shapes.equal t u → IsHeld shapes graph pairs v t → IsHeld shapes graph (pair ∷ pairs) v u
   held_by_more pairs pair (vals.Int z) t u same held = record { fits = lawful.fits graph (vals.Int z) t u (inl tt) same held.fits; listed = tt }
   held_by_more pairs pair (vals.Atom tag) t u same held = record { fits = lawful.fits graph (vals.Atom tag) t u (inl tt) same held.fits; listed = tt }
@@ -23,7 +23,7 @@ module _ {T : Type 0} (shapes : Shapes T) (lawful : AreLawful shapes Everything)
   }
 
   module _ (pairs : List (ℕ × T)) (typing : IsTyping shapes graph pairs) (o : ℕ) (u : T) (held : IsHeld shapes graph pairs (vals.Ref o) u) where
-    -- each pair is one of the typing, at an equal type
+    -- Each pair belongs to the typing, at an equal type.
     abbrev Known : ℕ → T → Type 0
     Known p t = (s : T) × Contains pairs (p, s) × shapes.equal s t
 
@@ -33,7 +33,7 @@ module _ {T : Type 0} (shapes : Shapes T) (lawful : AreLawful shapes Everything)
         (λ later. (t, later, lawful.reflexive t tt))
         (Contains-cases (o, u) pairs (p, t) among)
 
-    -- so that the pair may be added
+    -- The pair may be added to the typing.
     typing_more : IsTyping shapes graph ((o, u) ∷ pairs)
     typing_more = record {
       fits = λ p t among. let k = known p t among in lawful.fits graph (vals.Ref p) k.0 t (inl tt) k.2 (typing.fits p k.0 k.1);

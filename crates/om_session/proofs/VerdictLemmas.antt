@@ -1,4 +1,4 @@
--- What is told of a value by numbers is told at the type.
+-- The report on a value by type numbers is the report at the type.
 use Rattle.std.proofs.Common.{ℕ, ◌≡◌, ◌∙◌, Bool, List, ◌++◌, Option, Some, None, inl, inr, refl, sym, ap, subst, true, false}
 use Rattle.std.specs.Prelude.{codes, option_map}
 use Rattle.om_model.specs.declared.value.Val.{Val}
@@ -33,7 +33,7 @@ use Rattle.om_declared.specs.Verdict.{PutsNo}
 module _ (r : Prepared) (ready : IsReady r) where
   module _ (root_first : TheRootIsFirst) (graph : List Obj) (root : Val) where
     module _ (decide : TablesDecide) (has : HasType (table_shapes (table_of r.table)) graph root 0) where
-      -- what is told of a value that has the type is put after another text
+      -- The report on a value that has the type is appended to another text.
       tells : (saying : outcome.Saying) (text : List ℕ) (well : Bool) → IsToldOf saying (type_over r) graph root (record { text = text; well = well })
           → (old new : List ℕ) → new ≡ old ++ text → PutsLine saying (type_over r) graph root old new well
       tells saying text well told old new put =
@@ -80,20 +80,20 @@ module _ (r : Prepared) (ready : IsReady r) where
           puts_part (Some text) is old new put =
               tells (outcome.the_part path style) (styled style text) true (sym (part_is ∙ ap styled_part is)) old new put
 
-          -- the path leads somewhere
+          -- The path leads to a part.
           pub puts_found : (w : Val) (i : ℕ) → Some (w, i) ≡ value_at (table_shapes (table_of r.table)) graph root 0 path → (old new : List ℕ)
               → new ≡ old ++ styled style (shown_text (shape_in r.table) (names_in r.table) graph w i) → PutsLine (outcome.the_part path style) (type_over r) graph root old new true
           puts_found w i leads old new put =
               puts_part (Some (shown_text (shape_in r.table) (names_in r.table) graph w i))
               (ap (λ (place : Option (Val × ℕ)). option_map (λ (p : Val × ℕ). shown_text (shape_in r.table) (names_in r.table) graph p.0 p.1) place) (sym leads)) old new put
 
-          -- or nowhere
+          -- The path leads nowhere.
           pub puts_none : None ≡ value_at (table_shapes (table_of r.table)) graph root 0 path → (old new : List ℕ) → new ≡ old ++ codes "none"
               → PutsLine (outcome.the_part path style) (type_over r) graph root old new false
           puts_none leads old new put =
               puts_part None
               (ap (λ (place : Option (Val × ℕ)). option_map (λ (p : Val × ℕ). shown_text (shape_in r.table) (names_in r.table) graph p.0 p.1) place) (sym leads)) old new put
 
--- that line is said whatever was asked for
+-- The `no` line is the output for every kind of report.
 pub no_line : (saying : outcome.Saying) (r : Prepared) (graph : List Obj) (root : Val) (old new : List ℕ) → PutsNo (type_over r) graph root old new → PutsLine saying (type_over r) graph root old new false
 no_line saying r graph root old new (line, why, some_not, put) = (line, inr (record { why = why; some_not = some_not; is_well = refl }), put)

@@ -1,5 +1,5 @@
--- All commands as one set: those on values, and each command that is a set of its own. A later set
--- is added here.
+-- All commands as one command set: the commands on values, and the other commands, each a set of
+-- its own. To add a command set, add it here.
 use Rattle.std.specs.Prelude.{ℕ, ◌⊎◌, List, Option}
 use Rattle.om_section.specs.declared.section.Section.{Section}
 use Rattle.om_outcome.specs.CommandLine.{certify, scan, searched_by}
@@ -25,9 +25,8 @@ use Rattle.om_picking.specs.Picking.{picking}
 pub use Rattle.om_verifier.specs.Reading.{on_certificates, on_certificates_after}
 pub use Rattle.om_certifier.specs.Certified.{on_certified, on_certified_after}
 
--- the commands on values, also of one value alone, where the words ask for it, and after the bytes
--- that they ask to pass over; the one on texts, the one on where values stand, and the one on a
--- value that is made from a number
+-- The commands on values, also with `--only` and `--skip`, and the commands `build`, `scan` and
+-- `gen`.
 abbrev pub on_values : Commands (Task TypeOver ScriptLine)
 on_values = commands declared_types
 
@@ -46,43 +45,43 @@ on_places = searching searched_by
 abbrev pub on_made : Commands (Making TypeOver)
 on_made = generation declared_types
 
--- what may be done with values or texts
+-- The sum of the commands on values and on texts.
 abbrev pub ActOnValuesOrTexts : Type 0
 ActOnValuesOrTexts = (Passed × (Option ℕ × Task TypeOver ScriptLine)) ⊎ TypeOver
 
 abbrev pub on_values_or_texts : Commands ActOnValuesOrTexts
 on_values_or_texts = choice on_values_after on_texts
 
--- what may be done with the values or lines of the input, but to certify them
+-- The sum of all commands on the values or lines of the input, except `check --cert`.
 abbrev pub ActOnOthers : Type 0
 ActOnOthers = ActOnValuesOrTexts ⊎ (Passed × Verification TypeOver Section)
 
 abbrev pub on_others : Commands ActOnOthers
 on_others = choice on_values_or_texts on_certificates_after
 
--- what may be done with the values or lines of the input
+-- The sum of all commands on the values or lines of the input.
 abbrev pub ActOnItems : Type 0
 ActOnItems = ActOnOthers ⊎ (Passed × Certification TypeOver)
 
 abbrev pub on_items : Commands ActOnItems
 on_items = choice on_others on_certified_after
 
--- what may be done with the input
+-- The sum of all commands on the input.
 abbrev pub ActOnInput : Type 0
 ActOnInput = ActOnItems ⊎ ℕ
 
 abbrev pub on_input : Commands ActOnInput
 on_input = choice on_items on_places
 
--- what may be done, by one of them
+-- The sum of all commands.
 abbrev pub Act : Type 0
 Act = ActOnInput ⊎ Making TypeOver
 
 abbrev pub all_commands : Commands Act
 all_commands = choice on_input on_made
 
--- what is asked for is to be done with values, with texts, with values and their certificate, with
--- values that are certified, with bytes among which values stand, or with a value that is made
+-- The set to which a request belongs: values, texts (`build`), certificates (`verify`), certificate
+-- entries (`check --cert`), positions of values (`scan`), or generated values (`gen`).
 abbrev pub IsOfValues : Request → Type 0
 IsOfValues (own request) = ⊥
 IsOfValues request = Unit {0}
@@ -107,12 +106,13 @@ abbrev pub IsOfMade : Request → Type 0
 IsOfMade (own (generate number count type)) = Unit {0}
 IsOfMade request = ⊥
 
--- each request that the words ask for is such a one: so it is where they ask for nothing
+-- Every request of the arguments belongs to this set. This also holds if the arguments request
+-- nothing.
 abbrev pub AskOnly : (Request → Type 0) → List (List ℕ) → Type 0
 AskOnly IsOf words = (request : Request) → Asks words request → IsOf request
 
--- for such words an account by the set is one by the whole, and what the whole promises is promised
--- by the set
+-- For such arguments, an `Account` by the set is one by the whole set, and the specification of a
+-- run by the whole set implies the specification by the set.
 pub record IsPartOf {A B : Type 0} (whole : Commands B) (c : Commands A) (IsOf : Request → Type 0)
     : Type 0 where
   pub account : (words : List (List ℕ)) (call : Call) → AskOnly IsOf words

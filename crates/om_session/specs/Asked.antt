@@ -1,4 +1,4 @@
--- The words that ask for the work, where the type, and the script, are read.
+-- The arguments of a command, after the type and the script were read.
 use Rattle.std.specs.Prelude.{ℕ, Bool, List, Ok}
 use Rattle.om_outcome.specs.declared.reading.Reading.{Reading}
 use Rattle.om_outcome.specs.Outcome.{Found, AskedType, Saying}
@@ -9,7 +9,7 @@ use Rattle.om_promises.specs.Given.{Fetched}
 use Rattle.om_session.specs.Telling.{AsksToTell, AsksToEdit}
 use Rattle.om_declared.specs.Types.{GivesType, GivesScript}
 
--- FILE and TYPE gave this type, and this is told of the values
+-- FILE and TYPE gave this type, and the arguments request this report.
 pub record AsksToSay (words : List (List ℕ)) (r : Prepared) (saying : Saying)
     (reading : Reading) (files : Change FilesState) : Type 0 where
   pub file : List ℕ
@@ -19,7 +19,7 @@ pub record AsksToSay (words : List (List ℕ)) (r : Prepared) (saying : Saying)
   pub fetched : Fetched files file found
   pub gives : GivesType file type found (Ok r)
 
--- they did, and SCRIPT gave these lines
+-- FILE and TYPE gave this type, and SCRIPT gave these lines.
 pub record AsksForLines (words : List (List ℕ)) (r : Prepared) (script : Script) (compat : Bool)
     (reading : Reading) (files : Change FilesState) : Type 0 where
   pub name : List ℕ

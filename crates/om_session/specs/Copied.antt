@@ -1,4 +1,4 @@
--- Canonical values that are edited by no line are put as they came.
+-- Canonical values that no line edits are written unchanged.
 use Rattle.std.specs.Prelude.{ℕ, ◌≡◌, ◌≢◌, Bool, true, List, [], map, None, Ok}
 use Rattle.std.specs.List.{concat, AllByRecursion}
 use Rattle.om_types.specs.Equal.{declared_shapes}
@@ -16,15 +16,15 @@ use Rattle.om_promises.specs.Call.{Call}
 use Rattle.om_declared.specs.Language.{TypeOver, declared_types}
 use Rattle.om_promises.specs.Outside.{IsHonest}
 
--- the canonical bytes of the tree keep the limit; its value has the type, and where it is asked for
--- a reader on 32 bits can hold it
+-- The canonical bytes of the tree respect the limit, its value has the type, and with `--compat32`
+-- a 32-bit reader can hold it.
 pub record IsCanonical (t : TypeOver) (compat : Bool) (limit : ℕ) (tree : Tree) : Type 0 where
   pub spelled : SpelledUnder limit (canon tree) tree
   pub has : HasType (declared_shapes t.decls) (objects_of tree 0) (root tree 0) t.type
   pub fits : compat ≡ true → too_large_for_32 tree ≡ None
 
--- the words ask to edit all values by a SCRIPT that has no line, FILE and TYPE are accepted, and
--- the input is canonical values
+-- The arguments request to edit all values by a SCRIPT without lines, FILE and TYPE are accepted,
+-- and the input consists of canonical values.
 pub record IsLeftAlone (words : List (List ℕ)) (input : List ℕ) (files : List File) : Type 0 where
   pub file : List ℕ
   pub type : List ℕ
@@ -43,13 +43,14 @@ pub record IsLeftAlone (words : List (List ℕ)) (input : List ℕ) (files : Lis
   pub bytes : input ≡ concat (map canon trees)
   pub canonical : AllByRecursion (IsCanonical type_is compat limit) trees
 
--- out has the input, byte for byte
+-- The output equals the input, byte for byte.
 pub record PutsInput (call : Call) (input : List ℕ) : Type 0 where
   pub out : Puts call.out input
   pub err : Puts call.err []
   pub status : call.status ≡ Well
 
--- unless memory runs out, an honest call leaves such an input as it is
+-- If the environment is honest and memory does not run out, then such an input is written
+-- unchanged.
 abbrev pub LeavesCanonical : List (List ℕ) → Call → Type 0
 LeavesCanonical words call =
     (input : List ℕ) (files : List File) → IsHonest call input files → call.status ≢ Memory

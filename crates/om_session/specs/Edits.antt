@@ -32,12 +32,12 @@ use Rattle.om_declared.specs.Checked.{OrMemory}
 
 -- ---- lines
 
--- what lines make of a value at the type, after these values
+-- The result of lines on a value at the type, after these earlier values.
 abbrev pub Edit : Prepared → List Other → List ScriptLine → List Obj → Val → Edited Ty → Type 0
 Edit r others lines graph v all =
     AreEdited (shape r.decls) (names_of r.decls) (Equal r.decls) r.ty others lines graph v all
 
--- a line, of value k or of another one, is followed by others
+-- A line, of value `k` or of another one, followed by further lines.
 pub record EditsOn (r : Prepared) (others : List Other) (k : ℕ) (line : ScriptLine)
     (old new : Value) : Type 0 where
   pub valid : IsValue (length new.heap) new.root
@@ -45,14 +45,14 @@ pub record EditsOn (r : Prepared) (others : List Other) (k : ℕ) (line : Script
       → Edit r others (lines_of_value k rest) new.heap new.root all
       → Edit r others (lines_of_value k (line ∷ rest)) old.heap old.root all
 
--- the stop at a line of this number that is refused for this reason; without one there is no such
--- stop
+-- The exit reason for a line with this number that is refused for this reason. Without a reason
+-- there is no exit reason.
 abbrev pub IsReasonStop : Prepared → ℕ → Option (Reason ℕ) → Stop → Type 0
 IsReasonStop r number None stop = ⊥
 IsReasonStop r number (Some reason) stop =
     stop ≡ script_line number (reason_text (text_at r.table) (place_on r.lines number) reason)
 
--- it is refused, whatever lines come after it
+-- The line is refused, whatever lines follow it.
 abbrev pub IsRefusedLine : Prepared → List Other → ℕ → ScriptLine → Value → Stop → Type 0
 IsRefusedLine r others k line old stop =
     (reason : Reason Ty)
@@ -67,14 +67,14 @@ EditsLine r others k line old new (Err (halts.Stop stop)) =
     OrMemory (IsRefusedLine r others k line old) stop
 EditsLine r others k line old new (Err halts.WriteFault) = ⊥
 
--- some line of value k is refused
+-- Some line of value `k` is refused.
 abbrev pub AreRefusedLines : Prepared → List Other → ℕ → List ScriptLine → Value → Stop → Type 0
 AreRefusedLines r others k lines old stop =
     (number : ℕ) × (reason : Reason Ty)
     × Edit r others (lines_of_value k lines) old.heap old.root (Err (number, reason))
     × (stop ≡ script_line number (reason_text type_text (place_on r.lines number) reason))
 
--- the lines of value k made this of it
+-- The result of the lines of value `k`.
 pub record EditsAll (r : Prepared) (others : List Other) (k : ℕ) (lines : List ScriptLine)
     (old new : Value) : Type 0 where
   pub valid : IsValue (length new.heap) new.root
@@ -89,7 +89,7 @@ EditsLines r others k lines old new (Err halts.WriteFault) = ⊥
 
 -- ---- bytes
 
--- what is answered to value k, after these values
+-- The output for value `k`, after these earlier values.
 abbrev pub AnswersOf : Edits → List Other → ℕ → List Obj → Val → Result (List ℕ) Unedited → Type 0
 AnswersOf e others k graph v answer =
     IsBytesLine (type_over e.requested.now) others (lines_of_value k e.script.now.lines) e.compat
@@ -101,6 +101,6 @@ PutsEdited e others k graph v out result = PutsAnswer k (AnswersOf e others k gr
 
 -- ---- the end
 
--- the number of the first line that edits none of the first n values
+-- The number of the first line that edits none of the first `n` values.
 abbrev pub IsPast : List ScriptLine → ℕ → Option ℕ → Type 0
 IsPast lines n number = number ≡ option_map (λ line. line.number) (line_past declared_types lines n)

@@ -1,4 +1,4 @@
--- What a look at the bytes in hand shows of the next value.
+-- The results of the streaming check on the current bytes for the next value.
 use Rattle.std.specs.Prelude.{ℕ, ◌+◌, ◌<◌, ◌≤◌, ◌≡◌, true, false, List, [], ◌++◌, length, take}
 use Rattle.std.specs.Prelude.{codes, Ok}
 use Rattle.std.specs.Borrow.{Bor}
@@ -30,16 +30,16 @@ use Rattle.om_session.specs.declared.values.Job.TheVariants as jobs
 use Rattle.om_session.specs.declared.verdict.Saying.TheVariants as sayings
 use Rattle.om_session.specs.declared.verdict.Speech.TheVariants as speeches
 
--- this is said of a value that has the type
+-- The output for a value that has the type.
 abbrev pub yes : Said
 yes = record { text = line (codes "yes"); well = true }
 
--- this is said of one that has not, in a line with its line feed
+-- The output for a value that lacks the type: this line with its line feed.
 abbrev pub no_in : List ℕ → Said
 no_in text = record { text = text; well = false }
 
--- the first n bytes spell a value of at most so many words, and this is said of it where the
--- verdict is told
+-- The first `n` bytes encode a value of at most `limit` 64-bit words, and this is the output for
+-- its verdict.
 pub record IsVerdictOn (r : Prepared) (limit n : ℕ) (bytes : List ℕ) (said : Said) : Type 0 where
   pub within : n ≤ length bytes
   pub tree : Tree
@@ -47,8 +47,8 @@ pub record IsVerdictOn (r : Prepared) (limit n : ℕ) (bytes : List ℕ) (said :
   pub says :
       SaysLine the_verdict (type_over r) (objects_of tree 0) (root tree 0) said.text said.well
 
--- the bytes that were kept, and the first n of the piece, are such a value; nothing is kept of the
--- next one
+-- The kept bytes and the first `n` bytes of the chunk satisfy `IsVerdictOn`. No byte of the next
+-- value is kept.
 pub record IsVerdictNext (r : Prepared) (limit : ℕ) (old : Glance) (piece : List ℕ) (new : Glance)
     (n : ℕ) (said : Said) : Type 0 where
   pub some : 0 < n
@@ -57,8 +57,8 @@ pub record IsVerdictNext (r : Prepared) (limit : ℕ) (old : Glance) (piece : Li
   pub none : new.kept.items ≡ []
   pub glance : (table : Table) (limit' : ℕ) → IsGlance table limit' new
 
--- what a look at a piece shows: the verdict on such a value, in this text where it is no `yes`, or
--- more has to come, or nothing
+-- The result of the streaming check on a chunk. It is the verdict on the value, with this text if
+-- it is `no`. Or more bytes are needed, or the check is inconclusive.
 abbrev pub IsGlimpse : Prepared → ℕ → Glance → List ℕ → Glance → List ℕ → Seen → Type 0
 IsGlimpse r limit old piece new text (seen.Yes n) = IsVerdictNext r limit old piece new n yes
 IsGlimpse r limit old piece new text (seen.No n) =
@@ -68,24 +68,24 @@ IsGlimpse r limit old piece new text seen.More =
 IsGlimpse r limit old piece new text seen.Untold =
     (new.kept.items ≡ old.kept.items) × IsGlance (table_of r.table) limit new
 
--- after the bytes of which this is so these were kept
+-- The state after the bytes before the kept ones.
 abbrev pub Later : List ℕ → Has → Has
 Later kept has taken said = (before : List ℕ) × (taken ≡ before ++ kept) × has before said
 
--- the work that tells the verdict of each value
+-- The operation that reports the verdict on each value.
 abbrev pub verdict_job : Bor Prepared → ℕ → Job
 verdict_job r limit = jobs.Say (speeches.Tell r sayings.Verdict) limit
 
--- the reader waits for a value, and has taken nothing of it
+-- The reader waits for a value, and has taken no byte of it.
 abbrev pub IsBetween : Values → Type 0
 IsBetween values =
     (limit : ℕ) (taken : List ℕ) → Leads limit taken values.reader
     → EndsInput {U = Unit {0}} limit taken (Ok tt)
 
--- ---- a value that is put as it came
+-- ---- a value that is written unchanged
 
--- the first n bytes spell a value of at most so many words that has the type, and each closed
--- instance of it, and they are its canonical bytes
+-- The first `n` bytes encode a value of at most `limit` 64-bit words that has the type and each of
+-- its closed instances, and they are its canonical bytes.
 pub record IsUnchanged (r : Prepared) (limit n : ℕ) (bytes : List ℕ) : Type 0 where
   pub within : n ≤ length bytes
   pub tree : Tree
@@ -94,7 +94,7 @@ pub record IsUnchanged (r : Prepared) (limit n : ℕ) (bytes : List ℕ) : Type 
   pub has : HasType (declared_shapes r.decls) (objects_of tree 0) (root tree 0) r.ty
   pub each : HasEachInstance r.decls (objects_of tree 0) (root tree 0) r.ty
 
--- the first n bytes of the piece are such a value; nothing is kept of the next one
+-- The first `n` bytes of the chunk satisfy `IsUnchanged`. No byte of the next value is kept.
 pub record IsUnchangedNext (r : Prepared) (limit : ℕ) (piece : List ℕ) (new : Glance) (n : ℕ)
     : Type 0 where
   pub some : 0 < n
@@ -102,8 +102,8 @@ pub record IsUnchangedNext (r : Prepared) (limit : ℕ) (piece : List ℕ) (new 
   pub none : new.kept.items ≡ []
   pub glance : (table : Table) (limit' : ℕ) → IsGlance table limit' new
 
--- what a look at a piece shows, of whose value nothing was kept: such a value, or more has to come,
--- or nothing
+-- The result of the streaming check on a chunk, if no bytes were kept before. The value is
+-- unchanged, or more bytes are needed, or the check is inconclusive.
 abbrev pub IsUnchangedGlimpse : Prepared → ℕ → List ℕ → Glance → Unchanged → Type 0
 IsUnchangedGlimpse r limit piece new (unchanged.Whole n) = IsUnchangedNext r limit piece new n
 IsUnchangedGlimpse r limit piece new unchanged.More =
@@ -111,8 +111,7 @@ IsUnchangedGlimpse r limit piece new unchanged.More =
 IsUnchangedGlimpse r limit piece new unchanged.Untold =
     (new.kept.items ≡ []) × IsGlance (table_of r.table) limit new
 
--- no line edits value k, none copies from it into a later one, and it is put whatever readers can
--- hold it
+-- No line edits value `k`, none copies from it into a later value, and `compat` is false.
 pub record IsLeft (e : Edits) (k : ℕ) : Type 0 where
   pub compat : e.compat ≡ false
   pub lines : lines_of_value k e.script.now.lines ≡ []

@@ -1,4 +1,4 @@
--- What was taken of the input, where looks are taken at values before they are read.
+-- The bytes taken from the input, if values are given to the streaming check before they are read.
 use Rattle.std.specs.Prelude.{ℕ, ◌≡◌, ◌⊎◌, List, [], ◌++◌}
 use Rattle.om_type_table.specs.Made.{table_of}
 use Rattle.om_outcome.specs.Outcome.{Said}
@@ -12,8 +12,8 @@ use Rattle.om_session.specs.declared.verdict.Speech.TheVariants as speeches
 use Rattle.om_session.specs.Glimpse.{IsBetween}
 use Rattle.om_session.specs.Values.{HasRead}
 
--- bytes are kept only where the verdict is told or values are edited, and only of a value of which
--- none were read: they are a front of it
+-- The streaming check keeps bytes only for verdicts and edits, and only of a value of which the
+-- reader has taken none. They are a prefix of that value.
 abbrev pub IsGlanced : Job → Values → Glance → Type 0
 IsGlanced (jobs.Say (speeches.Tell r sayings.Verdict) limit) values glance =
     IsGlance (table_of r.now.table) limit glance
@@ -23,7 +23,7 @@ IsGlanced (jobs.Edit e limit) values glance =
     × ((glance.kept.items ≡ []) ⊎ IsBetween values)
 IsGlanced job values glance = glance.kept.items ≡ []
 
--- all but the bytes that are kept were read, and this was said of their values
+-- All bytes except the kept ones were read, and this is the output for their values.
 pub record HasTaken
     (job : Job) (values : Values) (glance : Glance) (taken : List ℕ) (said : List Said)
     : Type 0 where

@@ -1,4 +1,4 @@
--- What is said of a value, put.
+-- The output for a value, written.
 use Rattle.std.specs.Prelude.{ℕ, ◌≡◌, Bool, List, [], Result, Ok, Err}
 use Rattle.om_outcome.specs.declared.stop.Stop.TheVariants.{Memory as out_of_memory}
 use Rattle.om_model.specs.declared.value.Val.{Val}
@@ -10,8 +10,8 @@ use Rattle.om_stops.specs.declared.stop.Halt.TheVariants as halts
 use Rattle.om_session.specs.declared.verdict.Speech.{Speech}
 use Rattle.om_session.specs.Verdict.{IsSaidOf}
 
--- the text is put, and the answer is whether nothing is wrong with the value; or memory ran out,
--- and nothing is put; or out failed
+-- The text is written, and the result is whether the value is ok. Or memory ran out and nothing is
+-- written. Or writing the output fails.
 abbrev pub PutsSaid : Speech → List Obj → Val → Change ByteState → Result Bool Halt → Type 0
 PutsSaid speech graph root out (Ok well) =
     (text : List ℕ) × IsSaidOf speech graph root text well × Puts out text

@@ -1,5 +1,4 @@
--- The words that ask to tell something of the values at a FILE and a TYPE, or to edit them by a
--- SCRIPT.
+-- The arguments that request a report on the values at a FILE and a TYPE, or edits by a SCRIPT.
 use Rattle.std.specs.Prelude.{ℕ, ◌≡◌, Bool, false, List, Some, Result, Ok}
 use Rattle.om_outcome.specs.declared.reading.Reading.{Reading}
 use Rattle.om_outcome.specs.Outcome.{Found, Fetches, AskedType, asked_with, Saying, Work, Request}
@@ -16,11 +15,11 @@ use Rattle.om_promises.specs.Given.{Fetched}
 use Rattle.om_commands.specs.Tasks.{HasPath}
 use Rattle.om_declared.specs.Types.{GivesType}
 
--- nothing that is passed over is put
+-- Skipped bytes are not written.
 abbrev pub passed_in : Reading → Passed
 passed_in reading = record { bytes = reading.skip; copied = false }
 
--- PATH, if there, is a path, and what FILE and TYPE give is what is told
+-- If there is a PATH, it is a path. The report uses FILE and TYPE.
 pub record AsksToTell (words : List (List ℕ)) (name : List ℕ) (type : AskedType) (saying : Saying)
     (reading : Reading) : Type 0 where
   pub request : Request
@@ -34,7 +33,7 @@ pub record AsksToTell (words : List (List ℕ)) (name : List ℕ) (type : AskedT
       → TellsAt declared_types found.file (name, type) saying result
       → FindsWork declared_types found request result
 
--- FILE and TYPE gave this type, and SCRIPT comes next
+-- FILE and TYPE gave this type, and SCRIPT is read next.
 pub record AsksToEdit (words : List (List ℕ)) (r : Prepared) (script : List ℕ) (compat : Bool)
     (reading : Reading) (files : Change FilesState) : Type 0 where
   pub file : List ℕ

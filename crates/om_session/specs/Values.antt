@@ -1,4 +1,4 @@
--- What is said of the values of the input, as their bytes come.
+-- The output for the values of the input, while their bytes arrive.
 use Rattle.std.specs.Prelude.{ℕ, ◌<◌, ◌≤◌, ◌≡◌, ◌⊎◌, Bool, true, List, [], ◌∷◌, ◌++◌, length}
 use Rattle.std.specs.Prelude.{Result, Ok, Err, All}
 use Rattle.std.specs.List.{AllZip}
@@ -32,13 +32,13 @@ use Rattle.om_declared.specs.Types.{type_over, IsReady}
 use Rattle.om_session.specs.Verdict.{work_by, IsReadySpeech}
 use Rattle.om_declared.specs.Checked.{OrMemory}
 
--- the limit of words on 64 bits in a value
+-- The greatest number of 64-bit words in a value.
 abbrev pub word_limit : Job → ℕ
 word_limit (jobs.Say speech limit) = limit
 word_limit (jobs.Edit e limit) = limit
 word_limit (jobs.Compare limit) = limit
 
--- the work that edits each value
+-- The operation that edits each value.
 abbrev pub edits_by : Edits → Work TypeOver ScriptLine
 edits_by e = edits (type_over e.requested.now) e.script.now.lines e.compat
 
@@ -47,26 +47,26 @@ work_of (jobs.Say speech limit) = work_by speech
 work_of (jobs.Edit e limit) = edits_by e
 work_of (jobs.Compare limit) = compares
 
--- the table that values are checked by, if they are, is the type's; lines copy from values before
--- their own
+-- If values are checked, their table is that of the type. Script lines copy from values before the
+-- edited ones.
 abbrev pub IsReadyJob : Job → Type 0
 IsReadyJob (jobs.Say speech limit) = IsReadySpeech speech
 IsReadyJob (jobs.Edit e limit) = IsReady e.requested.now × AreInTime e.script.now.lines
 IsReadyJob (jobs.Compare limit) = Unit {0}
 
--- the work with the values
+-- The operation on the values.
 abbrev pub task_of : Job → Task TypeOver ScriptLine
 task_of job = task (work_of job) (word_limit job)
 
 -- ---- between two calls on the input
 
--- after n values any more byte stops the run
+-- After `n` values, any further byte ends the run.
 abbrev pub IsFull : Job → ℕ → Type 0
 IsFull (jobs.Say speech limit) n = ⊥
 IsFull (jobs.Edit e limit) n = ⊥
 IsFull (jobs.Compare limit) n = n ≡ 2
 
--- after n values one more may come
+-- After `n` values, one more may follow.
 abbrev pub MayTake : Job → ℕ → Type 0
 MayTake (jobs.Say speech limit) n = Unit {0}
 MayTake (jobs.Edit e limit) n = Unit {0}
@@ -75,28 +75,28 @@ MayTake (jobs.Compare limit) n = n < 2
 abbrev pub AreValues : List Value → Type 0
 AreValues kept = All (λ v. IsValue (length v.heap) v.root) kept
 
--- the lines made these values of the trees, and of them those are kept that later ones copy from
+-- The lines made these values from the trees, and those are kept from which later lines copy.
 pub record HaveMade (e : Edits) (trees : List Tree) (earlier : List Earlier) : Type 0 where
   pub others : List Other
   pub done : AreDone (type_over e.requested.now) e.script.now.lines [] trees others
   pub kept : AreMade others earlier
   pub needed : AreEarlier e.script.now.lines (length trees) earlier
 
--- the values of the trees are kept, where they are compared; where they are edited, what the lines
--- made of those that later ones copy from
+-- If values are compared, the values of the trees are kept. If they are edited, the results are
+-- kept from which later lines copy.
 abbrev pub IsKept : Job → List Tree → List Value → List Earlier → Type 0
 IsKept (jobs.Say speech limit) trees kept earlier = Unit {0}
 IsKept (jobs.Edit e limit) trees kept earlier = HaveMade e trees earlier
 IsKept (jobs.Compare limit) trees kept earlier =
     AllZip IsValueOf kept trees × (length trees ≤ 2)
 
--- whether nothing is wrong with what is said last, where something is said
+-- Whether the last value with output is ok. If there is no output, the given result.
 abbrev pub last_well : Bool → List Said → Bool
 last_well well [] = well
 last_well well (said ∷ more) = last_well said.well more
 
--- Of these bytes the reader has taken what comes after the values, a front of the next one, and
--- nothing stops the run; this is said of the values.
+-- The reader has taken the bytes after the complete values, which are a prefix of the next value,
+-- and nothing ends the run. `said` is the output for the values.
 pub record HasRead (job : Job) (values : Values) (taken : List ℕ) (said : List Said) : Type 0 where
   pub ready : IsReadyJob job
   pub trees : List Tree
@@ -111,7 +111,7 @@ pub record HasRead (job : Job) (values : Values) (taken : List ℕ) (said : List
   pub last : values.last ≡ last_well true said
   pub kept : IsKept job trees values.kept.items values.earlier.items
 
--- The same where the reader has taken all of the next one.
+-- The same, if the reader has taken all bytes of the next value.
 pub record IsValueRead (job : Job) (values : Values) (taken : List ℕ) (said : List Said)
     : Type 0 where
   pub ready : IsReadyJob job
@@ -126,20 +126,20 @@ pub record IsValueRead (job : Job) (values : Values) (taken : List ℕ) (said : 
   pub well : values.well ≡ all_well said
   pub kept : IsKept job trees values.kept.items values.earlier.items
 
--- this is said of the first values of the bytes
+-- This is the output for the first values of the bytes.
 abbrev pub AreSaid : Job → List ℕ → List Said → Type 0
 AreSaid job bytes said =
     (trees : List Tree) × (rest : List ℕ)
     × SayFirst declared_types (task_of job) bytes trees said rest
 
--- the value that is there is kept
+-- The current value is kept.
 abbrev pub KeepsNext : {U : Type 0} → ℕ → List ℕ → List Said → Values → Result U Memory → Type 0
 KeepsNext limit taken said new (Ok unit) =
     HasRead (jobs.Compare limit) new taken (said ++ nothing_said ∷ [])
 KeepsNext limit taken said new (Err memory) = Unit {0}
 
--- what is said of the value that is there, after these, is put, and the reader waits for the next
--- one; or it stops the run, or memory ran out, or out failed
+-- The output for the current value is written, and the reader waits for the next value. Or the
+-- value ends the run, or memory ran out, or writing the output fails.
 abbrev pub PutsNext : {U : Type 0} → Job → List ℕ → List Said → List Tree → List ℕ
     → Change ByteState → Values → Result U Halt → Type 0
 PutsNext job taken said trees whole out new (Ok unit) =
@@ -151,9 +151,9 @@ PutsNext job taken said trees whole out new (Err (halts.Stop stop)) =
 PutsNext job taken said trees whole out new (Err halts.WriteFault) =
     (next : Said) × AreSaid job taken (said ++ next ∷ []) × PutsPart out next.text
 
--- ---- the input's end
+-- ---- the end of the input
 
--- the line on the values is put, and the answer is whether nothing is wrong with it
+-- The output line of the comparison is written, and the result is whether it is ok.
 abbrev pub PutsComparison : List Tree → Change ByteState → Result Bool Halt → Type 0
 PutsComparison trees out (Ok well) =
     (final : Said) × Finishes declared_types compares trees (says final) × (well ≡ final.well)
@@ -165,13 +165,13 @@ PutsComparison trees out (Err (halts.Stop stop)) =
 PutsComparison trees out (Err halts.WriteFault) =
     (final : Said) × Finishes declared_types compares trees (says final) × PutsPart out final.text
 
--- the values that are kept are compared, whatever their trees
+-- The kept values are compared, whatever their trees are.
 abbrev pub Compares : List Value → Change ByteState → Result Bool Halt → Type 0
 Compares kept out result =
     (trees : List Tree) → AllZip IsValueOf kept trees → PutsComparison trees out result
 
--- a line that edits none of the values stops the run, or memory ran out; else the answer is what it
--- was
+-- A line that edits none of the values ends the run, or memory ran out. Otherwise the result is
+-- unchanged.
 abbrev pub EndsScript : Edits → List Tree → Bool → Result Bool Halt → Type 0
 EndsScript e trees well (Ok same) =
     Finishes declared_types (edits_by e) trees (says nothing_said) × (same ≡ well)

@@ -1,4 +1,4 @@
--- What is said of a value.
+-- The output for a value.
 use Rattle.std.specs.Prelude.{ℕ, ◌≡◌, Bool, true, if◌then◌else◌, List, ◌++◌}
 use Rattle.om_model.specs.declared.value.Val.{Val}
 use Rattle.om_model.specs.declared.value.Obj.{Obj}
@@ -19,27 +19,27 @@ saying_of (sayings.Text style) = outcome.the_text style
 saying_of (sayings.Part path style) = outcome.the_part path.now style
 saying_of sayings.Trees = outcome.the_trees
 
--- the work that says so of each value
+-- The operation that writes this output for each value.
 abbrev pub work_by : Speech → outcome.Work TypeOver ScriptLine
 work_by (speeches.Tell r saying) = outcome.tells (saying_of saying) (type_over r.now)
 work_by speeches.Dump = outcome.dumps
 
--- the table that values are checked by is the type's
+-- The table by which values are checked is that of the type.
 abbrev pub IsReadySpeech : Speech → Type 0
 IsReadySpeech (speeches.Tell r saying) = IsReady r.now
 IsReadySpeech speeches.Dump = Unit {0}
 
--- this is said of a value, and whether nothing is wrong with it
+-- This is the output for a value, and whether the value is ok.
 abbrev pub IsSaidOf : Speech → List Obj → Val → List ℕ → Bool → Type 0
 IsSaidOf (speeches.Tell r saying) graph v text well =
     SaysLine (saying_of saying) (type_over r.now) graph v text well
 IsSaidOf speeches.Dump graph v text well = (text ≡ dump_text graph v) × (well ≡ true)
 
--- a text with its doubles as decimals, or by their bits
+-- A text with its doubles as decimals, or by their bits.
 abbrev pub with_decimals : (decimal : Bool) → List ℕ → List ℕ
 with_decimals decimal text = if decimal then decimal_text text else text
 
--- the line is put after another text, and the answer is whether nothing is wrong with the value
+-- The line is appended to another text, and the result is whether the value is ok.
 abbrev pub PutsLine : outcome.Saying → TypeOver → List Obj → Val → List ℕ → List ℕ → Bool → Type 0
 PutsLine saying t graph root old new well =
     (line : List ℕ) × IsTypeLine saying t graph root line well × (new ≡ old ++ line)

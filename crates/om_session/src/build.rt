@@ -1,4 +1,4 @@
-//! `build`: bytes are made of the texts of the input.
+//! The command `build`: writes the bytes of the values that the lines of the input denote.
 
 ghost use Rattle.std.specs.Prelude.{List, ℕ};
 ghost use Rattle.om_outcome.specs.Outcome.{Asks, own, build as build_of};
@@ -17,7 +17,7 @@ use om_stops::stop::report_stop;
 use om_work::run_reported;
 use std::alloc::Global;
 
-// Makes bytes of the texts, at the type that a FILE and a TYPE gave.
+// Writes the bytes of the values at the type from FILE and TYPE.
 fn build_over<S: Source, K: Sink, E: Sink>(
     alloc: Global,
     requested: Requested,
@@ -33,7 +33,8 @@ fn build_over<S: Source, K: Sink, E: Sink>(
     run_reported(alloc, &mut Texts::new(alloc, &requested), input, out, err)
 }
 
-/// Reads FILE and TYPE, and makes bytes of the texts.
+/// Reads FILE and TYPE, and writes the bytes of the values that the lines denote. Returns the exit
+/// status.
 pub fn build<S: Source, O: Opener, K: Sink, E: Sink>(
     alloc: Global,
     file: &str,

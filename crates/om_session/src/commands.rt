@@ -1,7 +1,6 @@
-//! The commands of the program: those on values at declared types, the one on texts, the one that
-//! verifies certificates, the one that writes them, the one that tells where values stand, and the
-//! one on a value that is made; and all of them as one set, with what follows from what is promised
-//! of a call.
+//! All commands of the program as one command set: the commands on values at declared types,
+//! `build`, `verify`, `check --cert`, `scan` and `gen`. The laws state the properties of the whole
+//! set, and what follows from the specification of a run.
 
 ghost use Rattle.om_causes.specs.Causes.{Causes as CausesBy};
 ghost use Rattle.om_meanings.specs.Tables.{values_tables};
@@ -72,7 +71,7 @@ use om_verification::laws::{
 };
 use om_verifier::laws::{DeclaredSections, declared_sections_are_read_once};
 
-/// What asks where values stand.
+/// The command that searches the input for values.
 pub struct Scans;
 
 impl Searches for Scans {
@@ -109,7 +108,7 @@ type Input = Choice<Items, Places>;
 
 type All = Choice<Input, Made>;
 
-/// Lawful commands of all kinds are lawful as one set, and take their files turn by turn.
+/// Proves that the set of all commands is lawful, and that its commands fetch their files in turns.
 pub fn all_commands_are_lawful()
     ensures lawful { AreLawful all_commands }
     ensures turns { AreInTurns all_commands }
@@ -195,7 +194,8 @@ pub fn all_commands_are_lawful()
     choices_take_turns::<Input, Made>();
 }
 
-/// What is promised of a call follows from its account; and from that what the outside causes.
+/// Proves that the specification of a run follows from its `Account`. Also proves which exit
+/// statuses the environment can cause.
 pub fn all_commands_keep_promises()
     ensures account { ArePromised all_commands }
     ensures outside { Follow all_commands (OutsideCauses all_commands) }
@@ -206,7 +206,7 @@ pub fn all_commands_keep_promises()
     files_in_turns::<All>();
 }
 
-/// Words, files and an input have one outcome.
+/// Proves that arguments, files and an input determine the outcome.
 pub fn all_commands_have_one_outcome()
     ensures { HaveOneOutcome all_commands }
 {
@@ -214,7 +214,7 @@ pub fn all_commands_have_one_outcome()
     lawful_commands::<All>();
 }
 
-/// So have they by the commands on values, where nothing is passed over.
+/// Proves the same for the commands on values, without `--skip` and `--only`.
 pub fn values_have_one_outcome()
     ensures { HaveOneOutcome on_values }
 {
@@ -222,7 +222,8 @@ pub fn values_have_one_outcome()
     commands_answer_once::<DeclaredTypes>();
 }
 
-/// Each set is a part of all, for words that ask only for what is its own.
+/// Proves that each command set is a part of the whole set, for arguments that request only its own
+/// commands.
 pub fn all_commands_have_parts()
     ensures values { IsPart on_values_after IsOfValues }
     ensures texts { IsPart on_texts IsOfTexts }
@@ -252,8 +253,8 @@ pub fn all_commands_have_parts()
     choices_promise_as_the_second::<Input, Made>();
 }
 
-/// What is promised of a call by the commands on values gives each status its cause, and to each
-/// cause its status.
+/// Proves the exit status specification of the commands on values: each status has its cause, and
+/// each cause has its status.
 pub fn statuses_of_values_have_causes()
     ensures { Follow on_values_after
         (CausesBy on_values_after
@@ -269,7 +270,7 @@ pub fn statuses_of_values_have_causes()
     causes_after_skipping::<ByWords, Picking<OneByWords, MeantValues<DeclaredTypes>>>();
 }
 
-/// And so does what is promised by the one on texts.
+/// Proves the exit status specification of `build`.
 pub fn statuses_of_texts_have_causes()
     ensures { Follow on_texts (CausesBy on_texts (texts_tables declared_types declared_texts)) }
 {
@@ -278,7 +279,7 @@ pub fn statuses_of_texts_have_causes()
     causes_of_texts::<DeclaredTexts>();
 }
 
-/// And so does what is promised by the one that verifies certificates.
+/// Proves the exit status specification of `verify`.
 pub fn statuses_of_certificates_have_causes()
     ensures { Follow on_certificates_after (CausesBy on_certificates_after
         (skipping_tables (certificate_tables declared_types reads_sections declared_sections))) }
@@ -291,7 +292,7 @@ pub fn statuses_of_certificates_have_causes()
     causes_after_skipping::<ByWords, CertificatesAtOnce>();
 }
 
-/// And so does what is promised by the one that writes them.
+/// Proves the exit status specification of `check --cert`.
 pub fn statuses_of_sections_have_causes()
     ensures { Follow on_certified_after (CausesBy on_certified_after
         (skipping_tables (certifying_tables declared_types declared_certificates))) }
@@ -304,14 +305,14 @@ pub fn statuses_of_sections_have_causes()
     causes_after_skipping::<ByWords, SectionsAtOnce>();
 }
 
-/// And so does what is promised by the one that tells where values stand.
+/// Proves the exit status specification of `scan`.
 pub fn statuses_of_places_have_causes()
     ensures { Follow on_places (CausesBy on_places searching_tables) }
 {
     causes_of_searching::<Scans>();
 }
 
-/// And so does what is promised by the one on a value that is made.
+/// Proves the exit status specification of `gen`.
 pub fn statuses_of_made_have_causes()
     ensures { Follow on_made (CausesOfMade declared_types) }
 {

@@ -1,4 +1,4 @@
-//! The earlier values of the input, for the lines that copy parts of them.
+//! Earlier values of the input, kept for script lines that copy parts of them.
 
 ghost use Rattle.std.specs.Prelude.{◌≡◌, ◌<◌, ◌++◌, ◌∷◌, [], Some, Any, OnOk, map, vec_len};
 ghost use Rattle.std.specs.Vec.{vec_capacity};
@@ -12,16 +12,16 @@ use om_path::{Action, Script};
 use om_read::{Reader, Value};
 use std::alloc::Global;
 
-/// A value that came before, as its lines made it, until it is let go.
+/// An earlier value after its script lines. `value` is `None` once it is no longer needed.
 #[derive(Drop)]
 pub struct Earlier {
     pub number: u64,
-    /// The number of the last value that a part of it is copied into.
+    /// The number of the last value into which a part of this value is copied.
     pub last: u64,
     pub value: Option<Value>,
 }
 
-/// The earlier value of this number, found without a look at the others.
+/// Returns the earlier value with this number, by binary search.
 pub fn earlier_value(kept: &[Earlier], number: u64) -> &Value
     requires order { AreInOrder kept.now }
     requires there { IsThere kept.now number }
@@ -34,8 +34,8 @@ pub fn earlier_value(kept: &[Earlier], number: u64) -> &Value
     }
 }
 
-/// Makes room for the value of this number, if a part of it is copied into a later one, up to
-/// `last`.
+/// Reserves memory for the value with this number, if a part of it is copied into a later value.
+/// `last` is the number of the last such value.
 pub fn make_room(kept: &mut Vec<Earlier>, number: u64, last: u64) -> Result<(), Memory>
     ensures items { kept.new.items ≡ kept.old.items }
     ensures room { OnOk result (number < last → vec_len kept.new < vec_capacity kept.new) }
@@ -46,7 +46,7 @@ pub fn make_room(kept: &mut Vec<Earlier>, number: u64, last: u64) -> Result<(), 
     Ok(kept.reserve(1)?)
 }
 
-/// Puts a value at the end, for which there is room.
+/// Appends a value. The memory must be reserved.
 fn keep_made(kept: &mut Vec<Earlier>, made: Earlier)
     requires { vec_len kept.old < vec_capacity kept.old }
     ensures { kept.new.items ≡ kept.old.items ++ made ∷ [] }
@@ -54,8 +54,8 @@ fn keep_made(kept: &mut Vec<Earlier>, made: Earlier)
     let _pushed = kept.push(made);
 }
 
-/// Lets the value go, if it has the number `from` and no part of it is copied into a value after
-/// that of `number`.
+/// Frees the value if it has the number `from`, and no part of it is copied into a value after
+/// `number`.
 fn let_go(made: &mut Earlier, from: u64, number: u64)
     ensures { made.new ≡ after_copy from number made.old }
 {
@@ -68,7 +68,7 @@ fn let_go(made: &mut Earlier, from: u64, number: u64)
     made.value = None;
 }
 
-/// The same with the value of the number `from`, found without a look at the others.
+/// Does the same for the value with the number `from`, which it finds by binary search.
 fn let_go_of(kept: &mut [Earlier], from: u64, number: u64)
     requires { AreInOrder kept.old }
     ensures { kept.new ≡ map (λ made. after_copy from number made) kept.old }
@@ -79,7 +79,7 @@ fn let_go_of(kept: &mut [Earlier], from: u64, number: u64)
     }
 }
 
-/// The same with the value that a line of this value copies from, if it copies.
+/// Does the same for the value from which a line of value `number` copies, if it copies.
 fn let_go_by(kept: &mut [Earlier], action: &Action, number: u64)
     requires { AreInOrder kept.old }
     ensures { kept.new ≡ map (after_action action.now number) kept.old }
@@ -90,8 +90,8 @@ fn let_go_by(kept: &mut [Earlier], action: &Action, number: u64)
     }
 }
 
-/// Lets the values go of which no part is copied into a value after that of this number. A look is
-/// taken at those alone that its own lines copy from.
+/// Frees the values of which no part is copied into a value after `number`. Inspects only the
+/// values from which the lines of value `number` copy.
 fn drop_used(kept: &mut [Earlier], script: &Script, number: u64)
     requires order { AreInOrder kept.old }
     requires named { AreNamed number (lines_of number script.now.lines) kept.old }
@@ -103,9 +103,9 @@ fn drop_used(kept: &mut [Earlier], script: &Script, number: u64)
     }
 }
 
-/// Once the value of this number is edited: lets those go that no later line copies from, and keeps
-/// this one, if a part of it is copied into a later value, up to `last`. A reader waits for the
-/// next value, in the memory of this one unless that is kept.
+/// Cleans up after value `number` was edited. Frees the values from which no later line copies, and
+/// keeps this one if a part of it is copied into a later value. Returns a reader for the next
+/// value, which reuses the memory of this one unless it is kept.
 pub fn next_reader(
     alloc: Global,
     limit: u64,

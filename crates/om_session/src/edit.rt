@@ -1,4 +1,4 @@
-//! Values that are edited by the lines of a script.
+//! Edits values by the lines of a script.
 
 ghost use Rattle.std.specs.Prelude.{◌≡◌, ℕ, List, true, false, length, Some, IfOk, OnOk};
 ghost use Rattle.om_model.specs.Graph.{IsValue};
@@ -25,8 +25,8 @@ use om_read::Value;
 use om_stops::stop::Halt;
 use std::alloc::Global;
 
-/// The lines of a script, at a type; and whether a value that a reader on 32 bits cannot hold is
-/// refused.
+/// The lines of a script and the type of the values. If `compat` is true, values that a 32-bit
+/// reader cannot hold are refused.
 #[derive(Clone, Copy)]
 pub struct Edits<'a> {
     pub requested: &'a Requested,
@@ -38,8 +38,8 @@ impl Edits<'_> {
     ghost use Rattle.std.specs.Bool.{OnTrue};
     ghost use Rattle.om_session.specs.Glimpse.{IsLeft};
 
-    /// Whether no line edits the value of this number or copies from it into a later one, and it is
-    /// put whatever readers can hold it: then its canonical bytes are put.
+    /// Returns true if no line edits the value with this number or copies from it into a later
+    /// value, and `compat` is false. Then the value's canonical bytes are written.
     pub fn leave(self, number: u64) -> bool
         ensures { OnTrue result (IsLeft self.entry number) }
     {
@@ -57,8 +57,8 @@ impl Edits<'_> {
     }
 }
 
-/// Checks the value of this number against the type, edits it by its lines, which may copy parts of
-/// earlier values that are kept, and puts its bytes.
+/// Checks the value with this number against the type, edits it by its lines, and writes its bytes.
+/// Lines may copy parts of the earlier values in `kept`.
 pub fn edit_value<K: Sink>(
     alloc: Global,
     value: &mut Value,
@@ -91,7 +91,7 @@ pub fn edit_value<K: Sink>(
     put_bytes(alloc, &new, number, edits.compat, out)
 }
 
-/// Edits the value of this number by its lines of the script, in their order.
+/// Edits the value with this number by its lines of the script, in order.
 fn edit_by_lines(
     alloc: Global,
     value: &mut Value,
@@ -113,7 +113,7 @@ fn edit_by_lines(
     Ok(())
 }
 
-/// Edits the value of this number by a line, if that is its own.
+/// Edits the value with this number by a line, if the line edits this value.
 fn edit_by_line(
     alloc: Global,
     value: &mut Value,
@@ -139,7 +139,7 @@ fn edit_by_line(
     }
 }
 
-/// Does what a line asks for: an edit, or a copy of a part of an earlier value.
+/// Executes the request of a line: an edit, or a copy of a part of an earlier value.
 fn act(
     alloc: Global,
     value: &mut Value,
@@ -174,7 +174,7 @@ fn act(
     }
 }
 
-/// The stop at a line that is refused.
+/// Returns the exit reason for a line that is refused.
 fn line_stop(
     alloc: Global,
     requested: &Requested,
@@ -191,7 +191,7 @@ fn line_stop(
     Ok(Stop::Script(number, text))
 }
 
-/// Whether memory ran out.
+/// Returns true if the refusal is out of memory.
 fn is_memory(refusal: &EditRefusal) -> bool
     ensures { result ≡ false → (reason : Reason ℕ) × (reason_of refusal.now ≡ Some reason) }
 {
@@ -204,7 +204,7 @@ fn is_memory(refusal: &EditRefusal) -> bool
     }
 }
 
-/// The same of a literal.
+/// Returns true if the error of a literal is out of memory.
 fn is_memory_in(fault: LiteralFault) -> bool
     ensures { result ≡ false → (reason : Reason ℕ) × (literal_reason fault ≡ Some reason) }
 {
@@ -214,7 +214,8 @@ fn is_memory_in(fault: LiteralFault) -> bool
     }
 }
 
-/// The number of the first line that edits none of so many values.
+/// Returns the line number of the first line whose value number is at least `count`, if there is
+/// one.
 pub fn line_past(lines: &[ScriptLine], count: u64) -> Option<usize>
     ensures { IsPast lines.now count result }
 {

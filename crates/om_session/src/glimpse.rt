@@ -1,5 +1,6 @@
-//! The verdict on a value, as one look at its bytes shows it while they come, without a heap; and a
-//! value that has its type and whose bytes are those that the runtime writes for it.
+//! Fast paths by the streaming check, which reads a value's bytes without building a heap. It
+//! reports the verdict on a value. It also recognizes a value that has its type and whose bytes are
+//! exactly those that the runtime writes for it.
 
 ghost use Rattle.std.specs.Bool.{OnTrue};
 ghost use Rattle.std.specs.Prelude.{◌≡◌, ◌≤◌, ◌<◌, ℕ, List, [], length, take, IfOk, OnOk};
@@ -17,13 +18,15 @@ use om_table::tables_decide;
 use om_written::is_as_written;
 use std::alloc::Global;
 
-/// After so many looks in a row that were of no use most values are not looked at.
+/// After this many useless streaming checks in a row, most values are not checked in this way.
 const USELESS: u8 = 8;
 
-/// So many are not before the next one is.
+/// The number of values that are then read without a streaming check before the next one is
+/// checked.
 const SKIPPED: u8 = 64;
 
-/// How many looks in a row were of no use, and how many values are not looked at now.
+/// The number of useless streaming checks in a row, and the number of values still to be read
+/// without one.
 #[derive(Clone, Copy)]
 pub struct Looks {
     useless: u8,
@@ -31,7 +34,7 @@ pub struct Looks {
 }
 
 impl Looks {
-    /// The first values are looked at.
+    /// Creates the initial counters. The first values are checked.
     pub fn new() -> Looks {
         Looks {
             useless: 0,
@@ -39,7 +42,7 @@ impl Looks {
         }
     }
 
-    /// Whether the value that begins is looked at. One that is not is counted.
+    /// Returns true if the next value should be checked. Otherwise counts the skipped value.
     pub fn is_due(&mut self) -> bool {
         if self.skipped == 0 {
             return true;
@@ -48,12 +51,12 @@ impl Looks {
         false
     }
 
-    /// A look was of use.
+    /// Counts a useful streaming check.
     pub fn count_useful(&mut self) {
         self.useless = 0;
     }
 
-    /// A look was of no use.
+    /// Counts a useless streaming check.
     pub fn count_useless(&mut self) {
         if self.useless < USELESS {
             self.useless += 1;
@@ -64,20 +67,21 @@ impl Looks {
     }
 }
 
-/// What a look shows of the value in hand.
+/// The result of a streaming check of the current value.
 #[derive(Clone, Copy)]
 pub enum Seen {
-    /// So many bytes of the piece complete it, and `yes` is told of it.
+    /// The first bytes of the chunk, this many, complete the value, and its verdict is `yes`.
     Yes(usize),
-    /// So many do, and the line that was put is told of it: it starts with `no`.
+    /// The first bytes of the chunk, this many, complete the value. Its verdict is `no`, and its
+    /// line is in the line buffer.
     No(usize),
-    /// All of the piece was taken: more has to come.
+    /// All bytes of the chunk were taken, and the value needs more bytes.
     More,
-    /// Nothing is said, and nothing of the piece was taken.
+    /// The check is inconclusive, and no byte of the chunk was taken.
     Untold,
 }
 
-/// The line of a value that has one misfit, in place of what was there.
+/// Replaces the line by that of a value with exactly one type mismatch.
 #[inline(never)]
 fn put_missed_line(
     line: &mut Vec<u8>,
@@ -95,8 +99,9 @@ fn put_missed_line(
     Ok(line.push(b'\n')?)
 }
 
-/// A look at the value in hand, of which bytes were kept, with a piece more: what is told of it, or
-/// whether more of it has to come. The line of a `no` is put in place of what was there.
+/// Continues the streaming check of the current value with a chunk. Returns the verdict, or that
+/// more bytes are needed, or that the check is inconclusive. If the verdict is `no`, replaces
+/// `line` by the line of the value.
 #[inline(always)]
 pub fn glimpse<'a>(
     alloc: Global,
@@ -127,7 +132,8 @@ pub fn glimpse<'a>(
     }
 }
 
-/// Whether the first n bytes are what the runtime writes for the value that they spell.
+/// Returns true if the first `n` bytes are exactly what the runtime writes for the value that they
+/// encode.
 fn is_front_as_written(bytes: &[u8], n: usize) -> bool
     requires { n ≤ length bytes.now }
     ensures { OnTrue result (IsAsWritten (take n bytes.now)) }
@@ -135,20 +141,20 @@ fn is_front_as_written(bytes: &[u8], n: usize) -> bool
     is_as_written(&bytes[..n])
 }
 
-/// What a look shows of a value that is to be put as it came.
+/// The result of a streaming check of a value that could be written unchanged.
 #[derive(Clone, Copy)]
 pub enum Unchanged {
-    /// So many bytes of the piece are a value that has the type, and what the runtime writes for
-    /// it.
+    /// The first bytes of the chunk, this many, are a value that has the type, and exactly what the
+    /// runtime writes for it.
     Whole(usize),
-    /// All of the piece was taken: more has to come.
+    /// All bytes of the chunk were taken, and the value needs more bytes.
     More,
-    /// Nothing is said, and nothing of the piece was taken.
+    /// The check is inconclusive, and no byte of the chunk was taken.
     Untold,
 }
 
-/// A look at a piece, of whose value nothing was kept: whether the value lies whole in it, has the
-/// type, and its bytes are what the runtime writes for it.
+/// Checks a value that begins with this chunk: whether it lies completely in the chunk, has the
+/// type, and consists of exactly the bytes that the runtime writes for it.
 pub fn glimpse_unchanged<'a>(
     alloc: Global,
     requested: &'a Requested,

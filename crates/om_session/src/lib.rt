@@ -1,4 +1,7 @@
-//! The top call: the words, the files, the type, and the values of the input one by one.
+//! Runs the program: parses the arguments, reads the files and the type, and processes the values
+//! of the input one by one while their bytes arrive. `run` executes every command and returns the
+//! exit status; its contract is the specification of a run. The module `commands` combines all
+//! command sets and proves their laws.
 #![tactic(auto)]
 
 mod build;

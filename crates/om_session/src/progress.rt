@@ -1,5 +1,5 @@
-//! A job over the values of the input: where only the verdict is told of each, or they are edited,
-//! a look is taken at the bytes of most first.
+//! Processes the values of the input. For verdicts and edits, most values are first given to the
+//! streaming check.
 
 ghost use Rattle.std.specs.Prelude.{◌≡◌, ◌≢◌, ◌<◌, ◌+◌, ◌^◌, ℕ, List, [], length, OnOk, MatchBool};
 ghost use Rattle.std.specs.Bool.{OnTrue};
@@ -28,15 +28,15 @@ use om_work::Work;
 use std::alloc::Global;
 use std::mem;
 
-/// Whether no byte is kept.
+/// Returns true if the streaming check has kept no bytes.
 fn keeps_none(glance: &Glance<'_>) -> bool
     ensures { MatchBool result (glance.now.kept.items ≡ []) (glance.now.kept.items ≢ []) }
 {
     glance.kept().is_empty()
 }
 
-/// Whether a look is taken at the bytes in hand: they go on with a value that was looked at, or
-/// begin one, and the next one is to be looked at.
+/// Returns true if the current bytes should be given to the streaming check. Either they continue a
+/// value that is being checked, or a new value begins and the next value should be checked.
 fn is_due(looks: &mut Looks, values: &Values, glance: &Glance<'_>) -> bool
     requires { (job : Job) × (taken : List ℕ) × (said : List Said)
         × HasRead job values.now taken said }
@@ -53,8 +53,8 @@ fn is_due(looks: &mut Looks, values: &Values, glance: &Glance<'_>) -> bool
     }
 }
 
-/// Whether a look is taken at a value that is edited: it begins with the bytes in hand, no line
-/// needs it, and the next one is to be looked at.
+/// Returns true if a value to be edited should be given to the streaming check: it begins with the
+/// current bytes, no script line needs it, and the next value should be checked.
 fn is_left_due(looks: &mut Looks, values: &Values, glance: &Glance<'_>, edits: Edits<'_>) -> bool
     requires { (job : Job) × (taken : List ℕ) × (said : List Said)
         × HasRead job values.now taken said }
@@ -73,7 +73,8 @@ fn is_left_due(looks: &mut Looks, values: &Values, glance: &Glance<'_>, edits: E
     looks.is_due()
 }
 
-/// The values take what was kept of the next one, and it is looked at no more.
+/// Passes the bytes kept by the streaming check to the reader of the values, and ends the check of
+/// this value.
 fn give_up(alloc: Global, values: &mut Values, glance: &mut Glance<'_>) -> Result<(), Memory>
     requires { (job : Job) × (taken : List ℕ) × (said : List Said)
         × HasTaken job values.old glance.old taken said }
@@ -89,8 +90,9 @@ fn give_up(alloc: Global, values: &mut Values, glance: &mut Glance<'_>) -> Resul
     values.take_front(kept.kept())
 }
 
-/// A job, the values so far, what was taken of the next one while it was looked at, whether those
-/// to come are, and the line of the last one that a look told a fault of.
+/// The state of the operation: the operation itself, the values so far, the streaming check with
+/// the bytes that it has kept, the counters of useful checks, and the line buffer for `no`
+/// verdicts.
 #[derive(Drop)]
 pub struct Progress<'a> {
     job: Job<'a>,
@@ -101,7 +103,7 @@ pub struct Progress<'a> {
 }
 
 impl<'a> Progress<'a> {
-    /// No byte was taken.
+    /// Creates the state before any byte is taken.
     pub fn new(alloc: Global, job: Job<'a>) -> Progress<'a>
         requires { IsReadyJob job }
         ensures job { result.job ≡ job.entry }
@@ -116,7 +118,7 @@ impl<'a> Progress<'a> {
         }
     }
 
-    /// Takes bytes in hand without a look, after those that were kept.
+    /// Takes current bytes without a streaming check, after those that the check has kept.
     fn read_on<K: Sink>(
         &mut self,
         alloc: Global,
@@ -137,8 +139,9 @@ impl<'a> Progress<'a> {
         self.values.read_some(alloc, self.job, in_hand, out)
     }
 
-    /// Takes bytes in hand where values are edited: one that is left as it is, whole in hand, is
-    /// put without being read, where a look shows what is to be known of it.
+    /// Takes current bytes if values are edited. If a value is left unchanged, lies completely in
+    /// the current bytes, and the streaming check is conclusive, then it is written without being
+    /// read.
     fn feed_edited<K: Sink>(
         &mut self,
         alloc: Global,

@@ -1,4 +1,4 @@
-//! The top call.
+//! The program's top-level function.
 
 ghost use Rattle.std.specs.Prelude.{List, ℕ};
 ghost use Rattle.om_outcome.specs.Outcome.{Asks, asked_type, get as get_of, edit as edit_of};
@@ -66,15 +66,15 @@ use om_verifier::verify;
 use om_work::run_reported;
 use std::alloc::Global;
 
-// Puts the line of a stop on err, and answers the status.
+// Writes the error line of an exit reason to `err`, and returns the exit status.
 fn report<E: Sink>(alloc: Global, err: &mut E, stop: Stop) -> Status
     ensures { Reports stop (change (E.state err.old) (E.state err.new)) result }
 {
     report_stop(alloc, err, &stop)
 }
 
-// Does the job with the values of the input, after the bytes that are passed over; of one value
-// alone something is said, if that is asked for.
+// Performs the operation on the values of the input, after the bytes that `--skip` names. With
+// `--only`, writes output for one value alone.
 fn take_values<S: Source, K: Sink, E: Sink>(
     alloc: Global,
     job: Job<'_>,
@@ -96,7 +96,7 @@ fn take_values<S: Source, K: Sink, E: Sink>(
     run_reported(alloc, &mut passing, input, out, err)
 }
 
-// Tells something of the values, at the type that a FILE and a TYPE gave.
+// Reports on the values at the type from FILE and TYPE.
 fn tell_over<S: Source, K: Sink, E: Sink>(
     alloc: Global,
     requested: Requested,
@@ -122,7 +122,7 @@ fn tell_over<S: Source, K: Sink, E: Sink>(
     take_values(alloc, job, over, reading.only, input, out, err)
 }
 
-// Tells something of the values, at a FILE and a TYPE.
+// Reads FILE and TYPE, and reports on the values.
 fn tell<S: Source, O: Opener, K: Sink, E: Sink>(
     alloc: Global,
     file: &str,
@@ -150,7 +150,7 @@ fn tell<S: Source, O: Opener, K: Sink, E: Sink>(
     }
 }
 
-// `get`: reads PATH, and then FILE and TYPE.
+// The command `get`: parses PATH, then reads FILE and TYPE.
 fn get<S: Source, O: Opener, K: Sink, E: Sink>(
     alloc: Global,
     file: &str,
@@ -183,7 +183,7 @@ fn get<S: Source, O: Opener, K: Sink, E: Sink>(
     }
 }
 
-// Edits the values by the lines that a SCRIPT gave.
+// Edits the values by the lines of SCRIPT.
 fn edit_with<S: Source, K: Sink, E: Sink>(
     alloc: Global,
     requested: &Requested,
@@ -216,7 +216,7 @@ fn edit_with<S: Source, K: Sink, E: Sink>(
     take_values(alloc, job, over, reading.only, input, out, err)
 }
 
-// Reads SCRIPT, and edits the values.
+// Reads SCRIPT and edits the values.
 fn edit_by<S: Source, O: Opener, K: Sink, E: Sink>(
     alloc: Global,
     requested: &Requested,
@@ -243,7 +243,7 @@ fn edit_by<S: Source, O: Opener, K: Sink, E: Sink>(
     }
 }
 
-// Reads SCRIPT, and edits the values at the type that a FILE and a TYPE gave.
+// Reads SCRIPT and edits the values at the type from FILE and TYPE.
 fn edit_over<S: Source, O: Opener, K: Sink, E: Sink>(
     alloc: Global,
     requested: Requested,
@@ -267,7 +267,7 @@ fn edit_over<S: Source, O: Opener, K: Sink, E: Sink>(
     )
 }
 
-// `edit`: reads FILE and TYPE, and then SCRIPT.
+// The command `edit`: reads FILE and TYPE, then SCRIPT.
 fn edit<S: Source, O: Opener, K: Sink, E: Sink>(
     alloc: Global,
     file: &str,
@@ -298,7 +298,7 @@ fn edit<S: Source, O: Opener, K: Sink, E: Sink>(
     }
 }
 
-// Does what is asked for.
+// Executes a request.
 fn run_request<S: Source, O: Opener, K: Sink, E: Sink>(
     alloc: Global,
     request: Request<'_>,
@@ -456,7 +456,7 @@ fn run_request<S: Source, O: Opener, K: Sink, E: Sink>(
     }
 }
 
-// Runs the command that the words ask for.
+// Runs the command that the arguments request.
 fn run_command<S: Source, O: Opener, K: Sink, E: Sink>(
     alloc: Global,
     words: &[String],
@@ -478,8 +478,8 @@ fn run_command<S: Source, O: Opener, K: Sink, E: Sink>(
     }
 }
 
-/// Runs the command that the words ask for: reads the files and the input, puts texts on out and a
-/// line on err where the run stops, and answers the status.
+/// Runs the command that the arguments request and returns the exit status. Reads the files and the
+/// input, and writes the output to `out`. If the run ends with an error, writes one line to `err`.
 pub fn run<S: Source, O: Opener, K: Sink, E: Sink>(
     alloc: Global,
     words: &[String],

@@ -1,4 +1,4 @@
-//! The values of the input, one by one, as their bytes come.
+//! The values of the input, one by one, while their bytes arrive.
 
 ghost use Rattle.std.specs.Bool.{OnTrue};
 ghost use Rattle.std.specs.Prelude.{◌≡◌, ◌<◌, ◌≤◌, ◌+◌, ◌^◌, ◌++◌, ◌∷◌, ℕ, List, [], length, OnOk};
@@ -35,8 +35,8 @@ use om_stops::stop::Halt;
 use std::alloc::Global;
 use std::mem;
 
-/// What is done with the values: something is said of each, each is edited, or the two are
-/// compared. The number is the limit of words on 64 bits in a value.
+/// The operation on the values: report on each, edit each, or compare two. The number is the
+/// greatest number of 64-bit words in a value.
 #[derive(Clone, Copy)]
 pub enum Job<'a> {
     Say(Speech<'a>, u64),
@@ -55,7 +55,7 @@ impl<'a> Job<'a> {
         }
     }
 
-    /// The type and the limit, where only the verdict is told of each value.
+    /// Returns the type and the limit, if the operation reports only the verdict on each value.
     pub fn verdict(self) -> Option<(&'a Requested, u64)>
         ensures { IfSome result (λ at. self.entry ≡ verdict_job at.0 at.1) }
     {
@@ -66,25 +66,24 @@ impl<'a> Job<'a> {
     }
 }
 
-/// Puts a value at the end.
+/// Appends a value.
 fn keep(kept: &mut Vec<Value>, value: Value) -> Result<(), Memory>
     ensures { OnOk result (kept.new.items ≡ kept.old.items ++ value ∷ []) }
 {
     Ok(kept.push(value)?)
 }
 
-/// Memory with room for no more bytes is kept for the lines to come.
+/// The greatest capacity in bytes of a line buffer that is kept for the next lines.
 const ROOM_KEPT: usize = 1 << 20;
 
-/// Gives memory with room for more back.
+/// Frees a line buffer with a greater capacity.
 fn give_back(line: &mut Vec<u8>, alloc: Global) {
     if line.capacity() > ROOM_KEPT {
         *line = Vec::new(alloc);
     }
 }
 
-/// Puts what is said of a value, and answers whether nothing is wrong with it. The line is made in
-/// the memory of the line before.
+/// Writes the output for a value. Returns true if the value is ok. Reuses the line buffer.
 fn put_said<K: Sink>(
     alloc: Global,
     value: &Rooted<'_>,
@@ -101,14 +100,15 @@ fn put_said<K: Sink>(
     Ok(well)
 }
 
-/// The line on two values.
+/// Returns the output line of a comparison.
 fn comparison_line(alike: bool) -> &'static [u8]
     ensures { result.now ≡ (comparison alike).text }
 {
     if alike { b"same\n" } else { b"differ\n" }
 }
 
-/// Puts the line on two values, and answers whether they are the same; other than two stop the run.
+/// Writes the output line of a comparison. Returns true if the two values are isomorphic. If there
+/// are not exactly two values, the run ends with an error.
 fn compare<K: Sink>(alloc: Global, kept: &[Value], out: &mut K) -> Result<bool, Halt>
     requires { AreValues kept.now }
     ensures { Compares kept.now (change (K.state out.old) (K.state out.new)) result }
@@ -123,9 +123,9 @@ fn compare<K: Sink>(alloc: Global, kept: &[Value], out: &mut K) -> Result<bool, 
     Ok(alike)
 }
 
-/// The values so far: how many there are, whether nothing is wrong with any and with the last one,
-/// those that are kept to be compared, those that later lines copy parts of, the reader of the next
-/// one, and the line of the last one.
+/// The state of the values so far: the reader of the next value, whether all values and the last
+/// one are ok, their number, the values kept for comparison, the values from which later lines
+/// copy, and the line buffer.
 #[derive(Drop)]
 pub struct Values {
     reader: Reader,
@@ -138,7 +138,7 @@ pub struct Values {
 }
 
 impl Values {
-    /// No byte was taken.
+    /// Creates the state before any byte is taken.
     pub fn new(alloc: Global, job: Job<'_>) -> Values
         requires { IsReadyJob job }
         ensures { HasRead job.entry result [] [] }
@@ -154,7 +154,7 @@ impl Values {
         }
     }
 
-    /// Whether any more byte stops the run.
+    /// Returns true if any further byte ends the run with an error.
     fn is_full(&self, job: Job<'_>) -> bool
         requires { (taken : List ℕ) × (said : List Said) × HasRead job self.now taken said }
         ensures { MatchBool result (IsFull job.entry self.now.count)
@@ -166,8 +166,8 @@ impl Values {
         }
     }
 
-    /// Puts what is said of the value that the reader has whole, where it is. Then the reader waits
-    /// for the next one.
+    /// Writes the output for the value that the reader has read completely. Then the reader waits
+    /// for the next value.
     fn put_line<K: Sink>(
         &mut self,
         alloc: Global,
@@ -195,8 +195,8 @@ impl Values {
         Ok(())
     }
 
-    /// Edits the value that the reader has whole, and puts its bytes. A new reader waits for the
-    /// next one, in the memory of this one unless a later line copies a part of it.
+    /// Edits the value that the reader has read completely, and writes its bytes. The reader for
+    /// the next value reuses the memory of this one, unless a later line copies a part of it.
     fn put_edited<K: Sink>(
         &mut self,
         alloc: Global,
@@ -237,7 +237,7 @@ impl Values {
         Ok(())
     }
 
-    /// Keeps the value that the reader has whole. A new reader waits for the next one.
+    /// Keeps the value that the reader has read completely. A new reader waits for the next value.
     fn keep_value(&mut self, alloc: Global, limit: u64) -> Result<(), Memory>
         requires { (taken : List ℕ) × (said : List Said)
             × IsValueRead (jobs.Compare limit) self.old taken said × (length taken < 2 ^ 64) }
@@ -252,7 +252,7 @@ impl Values {
         Ok(())
     }
 
-    /// Does the work with the value that the reader has whole.
+    /// Performs the operation on the value that the reader has read completely.
     fn put_value<K: Sink>(&mut self, alloc: Global, job: Job<'_>, out: &mut K) -> Result<(), Halt>
         requires { (taken : List ℕ) × (said : List Said) × IsValueRead job self.old taken said
             × (length taken < 2 ^ 64) }
@@ -268,7 +268,7 @@ impl Values {
         }
     }
 
-    /// Whether nothing was taken of the next value.
+    /// Returns true if no byte of the next value was taken.
     pub fn is_between(&self) -> bool
         requires { (job : Job) × (taken : List ℕ) × (said : List Said)
             × HasRead job self.now taken said }
@@ -280,8 +280,8 @@ impl Values {
         }
     }
 
-    /// Takes a value, of which bytes were kept and the first n in hand are the others: looks at
-    /// them showed the verdict on it. Its line is put.
+    /// Takes a value whose verdict the streaming check has reported, and writes its line. The value
+    /// consists of the bytes kept by the check and the first `n` current bytes.
     #[inline(always)]
     pub fn take_told<K: Sink>(
         &mut self,
@@ -313,8 +313,9 @@ impl Values {
         Ok(n)
     }
 
-    /// Takes a value, the first n bytes in hand: no line needs it, and a look showed that it has
-    /// the type and that they are its canonical bytes. They are put.
+    /// Takes a value that consists of the first `n` current bytes, and writes these bytes. No
+    /// script line needs the value, and the streaming check has shown that it has the type and that
+    /// these are its canonical bytes.
     pub fn take_left<K: Sink>(
         &mut self,
         edits: Edits<'_>,
@@ -340,7 +341,7 @@ impl Values {
         Ok(n)
     }
 
-    /// Takes a front of the next value, or memory runs out.
+    /// Takes a prefix of the next value. Fails only if memory runs out.
     pub fn take_front(&mut self, front: &[u8]) -> Result<(), Memory>
         requires { (job : Job) × (taken : List ℕ) × (said : List Said)
             × HasRead job self.old taken said }
@@ -350,15 +351,15 @@ impl Values {
     {
         match self.reader.feed(front) {
             Ok(fed) => {
-                // A front completes no value.
+                // A proper prefix does not complete a value.
                 if fed.done { Err(Memory) } else { Ok(()) }
             }
-            // It is refused for want of memory alone.
+            // The reader can refuse the prefix only because memory ran out.
             Err(_) => Err(Memory),
         }
     }
 
-    /// Takes bytes up to the end of a value, of which is said what is to be, or all of them.
+    /// Takes bytes up to the end of a value and writes its output, or takes all bytes.
     pub fn read_some<K: Sink>(
         &mut self,
         alloc: Global,
@@ -387,7 +388,7 @@ impl Values {
         }
     }
 
-    /// The input ends here, where values are edited: a line that edits none of them stops the run.
+    /// Ends the input after edits. If a line edits none of the values, the run ends with an error.
     fn finish_script(&self, alloc: Global, edits: Edits<'_>) -> Result<bool, Halt>
         ensures { (trees : List Tree) → self.now.count ≡ length trees
             → EndsScript edits.entry trees self.now.well result }
@@ -398,8 +399,8 @@ impl Values {
         }
     }
 
-    /// The input ends here: whether nothing is wrong with any value, or a value is cut. Two values
-    /// are compared.
+    /// Ends the input. Returns true if all values are ok. A truncated value is an error. If the
+    /// operation is a comparison, the two values are compared.
     pub fn finish<K: Sink>(&self, alloc: Global, job: Job<'_>, out: &mut K) -> Result<bool, Halt>
         requires { (taken : List ℕ) × (said : List Said) × HasRead job self.now taken said }
         ensures { EndsAt (commands declared_types) (task_of job.entry) (HasRead job.entry self.now)

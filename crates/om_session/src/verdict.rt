@@ -1,4 +1,4 @@
-//! What is said of a value.
+//! The output for a value.
 
 ghost use Rattle.std.specs.Prelude.{◌≡◌, ◌<◌, ◌++◌, length, IfOk, OnOk, MatchBool};
 ghost use Rattle.om_types.specs.Typing.{HasType};
@@ -33,8 +33,8 @@ use om_trees::TreeVerdict;
 use om_type_table::TypeTable;
 use std::alloc::Global;
 
-/// What is told of a value that has a type: that it has it, its text, the text of the part at a
-/// path, or the verdict on its sets and maps.
+/// The report on a value that has its type: that it has the type, its text, the text of the part at
+/// a path, or the verdict on its sets and maps.
 #[derive(Clone, Copy)]
 pub enum Saying<'a> {
     Verdict,
@@ -43,15 +43,14 @@ pub enum Saying<'a> {
     Trees,
 }
 
-/// What is said of a value: something at a type, or its lines as it is.
+/// The kind of output for a value: a report at a type, or the untyped dump.
 #[derive(Clone, Copy)]
 pub enum Speech<'a> {
     Tell(&'a Requested, Saying<'a>),
     Dump,
 }
 
-/// Puts what is said of a value, with its line feeds, in place of what was there, and answers
-/// whether nothing is wrong with the value.
+/// Replaces `line` by the output for a value, with its line feeds. Returns true if the value is ok.
 pub fn line_of(
     line: &mut Vec<u8>,
     alloc: Global,
@@ -67,7 +66,7 @@ pub fn line_of(
     }
 }
 
-/// Puts the lines of a value as it is in place of what was there.
+/// Replaces `line` by the untyped dump of a value.
 fn dumped_lines(line: &mut Vec<u8>, value: &Rooted<'_>) -> Result<bool, Memory>
     ensures { IfOk result
         (IsSaidOf speeches.Dump value.now.heap.now value.now.root line.new.items) }
@@ -77,7 +76,7 @@ fn dumped_lines(line: &mut Vec<u8>, value: &Rooted<'_>) -> Result<bool, Memory>
     Ok(true)
 }
 
-/// Checks a value against a type, and puts what comes of that in place of what was there.
+/// Checks a value against a type, and replaces `line` by the report.
 fn told_line(
     line: &mut Vec<u8>,
     alloc: Global,
@@ -95,8 +94,8 @@ fn told_line(
     Ok(well)
 }
 
-/// Checks a value against a type, puts what is told of it at the end, and answers whether nothing
-/// is wrong with it. Of most small values a few tests tell that they have the type.
+/// Checks a value against a type, and appends the report. Returns true if the value is ok. A few
+/// tests suffice for most small values that have the type.
 fn put_checked(
     text: &mut Vec<u8>,
     alloc: Global,
@@ -119,9 +118,10 @@ fn put_checked(
     put_line(text, alloc, value, requested, saying, &verdict)
 }
 
-/// Puts `no` and the fault at the end, where the verdict alone is told and the fault is found near
-/// the root: no look at the value's bytes told the verdict, and most such values have a fault. The
-/// answer is whether it was put.
+/// Fast path for faults near the root. If only the verdict is requested, and a small value has its
+/// first fault near the root, appends `no` and the fault and returns true. Otherwise leaves `text`
+/// unchanged and returns false. The streaming check was inconclusive for this value, so the value
+/// probably has a fault.
 fn put_soon(
     text: &mut Vec<u8>,
     alloc: Global,
@@ -141,8 +141,8 @@ fn put_soon(
     }
 }
 
-/// Puts what is told of a value of this verdict at the end, and answers whether nothing is wrong
-/// with it: `no` and the fault where it has not the type.
+/// Appends the report on a value with this verdict: `no` and the fault if the value lacks the type.
+/// Returns true if the value is ok.
 fn put_line(
     text: &mut Vec<u8>,
     alloc: Global,
@@ -165,8 +165,7 @@ fn put_line(
     }
 }
 
-/// Puts what is told of a value that has the type at the end, and answers whether nothing is wrong
-/// with it.
+/// Appends the report on a value that has the type. Returns true if the value is ok.
 fn put_told(
     text: &mut Vec<u8>,
     alloc: Global,
@@ -199,8 +198,8 @@ fn put_told(
     }
 }
 
-/// Puts the text of a value at a type of the table at the end, on one line, with its doubles as
-/// decimals or by their bits.
+/// Appends the text of a value at a type of the table, on one line. If `decimal` is true, doubles
+/// are printed as decimals, otherwise by their bits.
 fn put_plain_at(
     text: &mut Vec<u8>,
     alloc: Global,
@@ -227,7 +226,7 @@ fn put_plain_at(
     put_decimal_text(alloc, text, bits.as_slice())
 }
 
-/// Puts the text of a value at a type of the table at the end, in this style.
+/// Appends the text of a value at a type of the table, in this style.
 fn put_styled_at(
     text: &mut Vec<u8>,
     alloc: Global,
@@ -254,8 +253,8 @@ fn put_styled_at(
     put_pretty(text, alloc, plain.as_slice())
 }
 
-/// Puts the text of the part at a path at the end, or `none` where it leads nowhere; and answers
-/// whether it leads anywhere.
+/// Appends the text of the part at a path, or `none` if the path leads nowhere. Returns true if the
+/// path leads to a part.
 fn put_part(
     text: &mut Vec<u8>,
     alloc: Global,
@@ -288,7 +287,7 @@ fn put_part(
     }
 }
 
-/// Whether the sets and maps are sound.
+/// Returns true if the sets and maps are sound.
 fn is_sound(verdict: &TreeVerdict) -> bool
     ensures { result ≡ is_sound_verdict verdict.now }
 {
@@ -298,7 +297,7 @@ fn is_sound(verdict: &TreeVerdict) -> bool
     }
 }
 
-/// Puts the verdict on the sets and maps in a value at the end, and answers whether they are sound.
+/// Appends the verdict on the sets and maps in a value. Returns true if they are sound.
 fn put_trees(
     text: &mut Vec<u8>,
     alloc: Global,

@@ -1,4 +1,5 @@
--- A value has one text at two types whose shapes and names say the same, part by part.
+-- If two types have equivalent representations and names, part by part, then a value has the same
+-- text at both.
 use Rattle.std.proofs.Common.{ℕ, zero, suc, ◌+◌, ◌≡◌, ◌∙◌, ℤ, List, [], ◌∷◌, length, Option, Some, None, refl, ap}
 use Rattle.std.specs.Prelude.{if◌then◌else◌, slice_get, unwrap_or}
 use Rattle.om_model.specs.declared.value.Val.{Val}
@@ -16,7 +17,7 @@ use Rattle.om_show.specs.Shown.{Met, met, led_by, parts_from, object_met, asked_
 
 module _ {T U : Type 0} (shape : T → ShapeOf T) (names : T → Names) (shape' : U → ShapeOf U)
     (names' : U → Names) (Of : T → U → Type 0) (graph : List Obj) where
-  -- texts of values without parts, frames, and what is needed
+  -- Texts of values without parts, frames, and typed fields agree.
   pub record SayAlike : Type 0 where
     pub ints : (t : T) (u : U) → Of t u → (z : ℤ) → int_text (shape t) (names t) z ≡ int_text (shape' u) (names' u) z
     pub frames : (t : T) (u : U) → Of t u → (tag : ℕ) (values : List Val)

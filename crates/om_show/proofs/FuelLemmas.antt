@@ -1,4 +1,4 @@
--- More values one inside the other than there are objects, and one, are never met, so that a larger bound changes nothing.
+-- Values never nest deeper than the number of objects plus one, so a larger bound changes nothing.
 use Rattle.std.proofs.Common.{ℕ, zero, suc, ◌+◌, ◌<◌, ◌≤◌, ◌≡◌, ◌∙◌, List, [], ◌∷◌, length, Bool, true, false, ◌||◌, Option, Some, None, refl, ap, sym, subst, arith}
 use Rattle.std.specs.Prelude.{if◌then◌else◌, slice_get, unwrap_or, ◌==◌}
 use Rattle.std.proofs.lemmas.Bool.{false≢true}
@@ -16,9 +16,9 @@ use Rattle.om_leaves.specs.Frames.{Frame, frame_of, before_part, hidden_text}
 use Rattle.om_show.specs.Pieces.{Text, First, Again, has}
 use Rattle.om_show.specs.Shown.{Met, met, led_by, parts_from, object_met, met_within, asked_met}
 
--- ---- objects that were not met
+-- ---- objects not yet visited
 
--- how many of the first k objects were not met
+-- The number of the first `k` objects that were not visited.
 abbrev pub unmet : ℕ → List ℕ → ℕ
 unmet zero seen = 0
 unmet (suc k) seen = if has seen k then unmet k seen else suc (unmet k seen)
@@ -31,7 +31,7 @@ one_more k seen o true false less = omega (arith, less)
 one_more k seen o false true less = less
 one_more k seen o false false less = omega (arith, less)
 
--- no more objects are unmet after one more is met
+-- After one more object is visited, no more objects are unvisited.
 pub unmet_after : (k : ℕ) (seen : List ℕ) (o : ℕ) → unmet k (o ∷ seen) ≤ unmet k seen
 unmet_after zero seen o = omega arith
 unmet_after (suc k) seen o = one_more k seen o (o == k) (has seen k) (unmet_after k seen o)
@@ -45,7 +45,7 @@ one_less k seen o true false new later less = omega (arith, less)
 one_less k seen o false true new later less = later refl
 one_less k seen o false false new later less = let fewer = later refl in omega (arith, fewer)
 
--- fewer are after a new one is met
+-- After a new object is visited, fewer objects are unvisited.
 pub unmet_less : (k : ℕ) (seen : List ℕ) (o : ℕ) → o < k → has seen o ≡ false → unmet k (o ∷ seen) < unmet k seen
 unmet_less zero seen o below new = absurd (omega (arith, below))
 unmet_less (suc k) seen o below new =
@@ -68,9 +68,9 @@ module _ {T : Type 0} (shape : T → ShapeOf T) (names : T → Names) (graph : L
   abbrev left : List ℕ → ℕ
   left seen = unmet (length graph) seen
 
-  -- ---- what was met stays met
+  -- ---- visited objects stay visited
 
-  -- no more objects are unmet after a value is met
+  -- After a value is visited, no more objects are unvisited.
   abbrev Keeps : (List ℕ → Val → T → Met) → Type 0
   Keeps meet = (seen : List ℕ) (v : Val) (t : T) → left (meet seen v t).seen ≤ left seen
 
@@ -160,7 +160,7 @@ module _ {T : Type 0} (shape : T → ShapeOf T) (names : T → Names) (graph : L
       (λ new. object_same meet meet' keeps (left seen) same (o ∷ seen) o t (slice_get graph o)
       (λ found at. unmet_less (length graph) seen o (slice_get_within graph o found at) new))
 
-  -- any two bounds above the number of objects that are not met
+  -- Any two bounds above the number of unvisited objects.
   pub within_same : (n m : ℕ) (seen : List ℕ) (v : Val) (t : T) → left seen < n → left seen < m
       → met_within shape names graph n seen v t ≡ met_within shape names graph m seen v t
   within_same zero m seen v t few few' = absurd (omega (arith, few))

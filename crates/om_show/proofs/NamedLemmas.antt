@@ -1,4 +1,5 @@
--- Where a value fits a type, the type has the names that the value's text wants.
+-- If a value matches a type's representation, then the type has the names that the value's text
+-- needs.
 use Rattle.std.proofs.Common.{ℕ, zero, suc, ◌+◌, ◌<◌, ◌≡◌, ◌∙◌, ℤ, pos, negsuc, inl, inr, List, [], ◌∷◌, length, Bool, true, false, cond, Option, Some, None, refl, ap, sym, subst, arith}
 use Rattle.std.specs.Prelude.{map, slice_get, find, IsSome, IsTrue, IsSomeAnd, if◌then◌else◌, ◌==◌, ◌&&◌, nat_lt, option_and_then}
 use Rattle.std.specs.List.{filter_map, cons_option}
@@ -39,16 +40,16 @@ use Rattle.om_types.specs.Shape.{is_flat, is_constant, constants_in, types_of_fi
 use Rattle.om_leaves.specs.Frames.{is_hash, tag_of_values}
 use Rattle.om_show.specs.Named.{HasTag, AreForFields, HasIntName, HasBlockNames, HasDoublesNames, HasObjectNames, HasItsNames}
 
--- ---- the names of a shape
+-- ---- the names of a representation
 
 module _ {T : Type 0} where
-  -- one constructor after another
+  -- One constructor after another.
   abbrev AreForBlocks : List (Constr T) → List ConstrNames → Type 0
   AreForBlocks [] [] = Unit {0}
   AreForBlocks (block ∷ blocks) (c ∷ all) = AreForFields c.fields (length block.fields) × AreForBlocks blocks all
   AreForBlocks blocks all = ⊥
 
-  -- one tag after another
+  -- One tag after another.
   abbrev AreForTags : List (PolyTag T) → List TagName → Type 0
   AreForTags [] [] = Unit {0}
   AreForTags (tag ∷ tags) (name ∷ all) = (tag.hash ≡ name.hash) × AreForTags tags all
@@ -62,7 +63,7 @@ module _ {T : Type 0} where
   AreFor (shapes.Poly tags) names = AreForTags tags names.tags
   AreFor s names = Unit {0}
 
--- ---- those of a type
+-- ---- the names of a type
 
 constant_more : (test : Bool) (name : List ℕ) (rest : List (List ℕ))
     → length (cons_option (if test then Some name else None) rest) ≡ cond test (1 + length rest) (length rest)
@@ -141,7 +142,7 @@ head_named decls (heads.Tuple ts) = inl refl
 head_named decls (heads.Variants tags) = tags_named tags
 head_named decls heads.Absent = tt
 
--- ---- what fits has its names
+-- ---- a matching value has its names
 
 pub none_if_true : (T : Type 0) (test : Bool) → IsSome (none_if {T = T} test) → IsTrue test
 none_if_true T true some = refl
@@ -154,7 +155,7 @@ both_true : (a b : Bool) → IsTrue (a && b) → IsTrue b
 both_true true b both = both
 both_true false b both = absurd (false≢true both)
 
--- a list that is as long as is wanted has the place
+-- A list of the required length has an element at this index.
 there : {X : Type 0} (xs : List X) (n k : ℕ) → length xs ≡ n → IsTrue (nat_lt k n) → IsSome (slice_get xs k)
 there xs n k long below =
     let less : k < length xs = subst (λ m. k < m) (sym long) ((Decides-ltb k n).0 below) in
@@ -170,7 +171,7 @@ module _ {T : Type 0} where
   tag_more tag name found found' true false same later some = absurd (false≢true (sym same))
   tag_more tag name found found' false true same later some = refl
 
-  -- a tag that is found has a name
+  -- A tag that is found has a name.
   tag_there : (tags : List (PolyTag T)) (all : List TagName) (z : ℤ) → AreForTags tags all
       → IsSome (tag_with tags z) → IsSome (find (is_hash z) all)
   tag_there [] [] z named some = some

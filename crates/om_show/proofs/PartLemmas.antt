@@ -1,4 +1,4 @@
--- Where a value has a sound type, each part has the names that its text wants.
+-- If a value has a sound type, then each part has the names that its text needs.
 use Rattle.std.proofs.Common.{ℕ, ◌≡◌, List, Some}
 use Rattle.std.specs.Prelude.{Contains}
 use Rattle.om_model.specs.declared.value.Val.{Val}
@@ -17,7 +17,8 @@ use Rattle.om_show.proofs.NamedLemmas.{has_its_names}
 
 module _ {T : Type 0} (shapes : Shapes T) (InQuestion : T → Type 0) (lawful : AreLawful shapes InQuestion)
     (graph : List Obj) where
-  -- where a path leads from a value that has its type, the value fits the type
+  -- If a path leads from a value that has its type to another value, then that value matches its
+  -- type's representation.
   part_fits : (v : Val) (t : T) → InQuestion t → HasType shapes graph v t → (path : List ℕ) (w : Val) (u : T)
       → value_at shapes graph v t path ≡ Some (w, u) → shapes.fits graph w u
   part_fits v t in_question has path w u leads =

@@ -1,4 +1,4 @@
--- Pieces of a text, one after the other.
+-- Lemmas about concatenated chunks.
 use Rattle.std.proofs.Common.{◌≡◌, List, [], ◌∷◌, ◌++◌, refl, ap}
 use Rattle.om_show.specs.Pieces.{Piece, Text, First, Again, firsts, agains}
 

@@ -1,4 +1,4 @@
--- What a table of types says of a value's text is what its types say.
+-- The text of a value by a table of types equals the text by its types.
 use Rattle.std.proofs.Common.{ℕ, ◌≡◌, ◌∙◌, ⊎_elim, ℤ, List, [], ◌∷◌, Option, Some, None, refl, ap, sym}
 use Rattle.std.specs.Prelude.{map, slice_get, option_map, option_and_then, unwrap_or}
 use Rattle.om_model.proofs.Options.{Contains-none}
@@ -26,7 +26,7 @@ use Rattle.om_show.specs.Shown.{shown_text, shown_at}
 use Rattle.om_show.specs.Tables.{shape_in, names_in}
 use Rattle.om_show.proofs.AlikeLemmas.{SayAlike, shown_alike}
 
--- ---- texts of values without parts, and frames, do not look at parts of shapes
+-- ---- texts of values without parts, and frames, do not depend on the types of parts
 
 module _ {T U : Type 0} (f : T → U) (names : Names) where
   int_kept : (s : ShapeOf T) (z : ℤ) → int_text (with_parts f s) names z ≡ int_text s names z
@@ -85,7 +85,7 @@ module _ (decls : List Decl) (t : Ty) (table : Tabled) (is : IsTypeTable decls t
   abbrev pub Is : ℕ → Ty → Type 0
   Is i u = slice_get (types_of table) i ≡ Some u
 
-  -- the shape at a number is the type's, but for numbers in the place of types
+  -- The representation at a number is that of the type, with numbers for the types of parts.
   pub shape_is : (i : ℕ) (u : Ty) → Is i u
       → with_parts (slice_get (types_of table)) (shape_in table i) ≡ with_parts Some (shape decls u)
   shape_is i u at =
@@ -160,7 +160,7 @@ module _ (decls : List Decl) (t : Ty) (table : Tabled) (is : IsTypeTable decls t
     places_same None (Some q) places = absurd places
     places_same (Some p) None places = absurd places
 
-    -- whichever numbers and types are equal
+    -- The lemma holds for every choice of equal numbers and types.
     pub part_same : (Same : ℕ → ℕ → Type 0) (Same' : Ty → Ty → Type 0) (v : Val) (i : ℕ) (u : Ty)
         → Is i u → (path : List ℕ)
         → shown_at (shape_in table) (names_in table) graph Same v i path
@@ -181,7 +181,7 @@ module _ (decls : List Decl) (t : Ty) (table : Tabled) (is : IsTypeTable decls t
     plain_part = λ graph v path. part_same graph ◌≡◌ ◌≡◌ v i u at path;
   }
 
-  -- the type that was asked for has the number 0
+  -- The type that was asked for has number 0.
   root_is : Is 0 t
   root_is = ⊎_elim
       (λ seen. absurd (Contains-none t seen.0))

@@ -1,11 +1,11 @@
--- The text of a graph as it is, whatever its types: a line for the root, and one for each object in
--- the order of numbers.
+-- The text of an untyped graph: a line for the root, and one for each object in the order of their
+-- numbers.
 use Rattle.std.specs.Prelude.{ℕ, suc, List, [], ◌∷◌, ◌++◌}
 use Rattle.om_model.specs.declared.value.Val.{Val}
 use Rattle.om_model.specs.declared.value.Obj.{Obj}
 use Rattle.om_leaves.specs.Dumped.{root_line, object_line}
 
--- the lines of the objects from number k on
+-- The lines of the objects from number `k` on.
 abbrev pub lines_from : ℕ → List Obj → List ℕ
 lines_from k [] = []
 lines_from k (object ∷ more) = object_line k object ++ lines_from (suc k) more

@@ -1,4 +1,5 @@
--- What a table of types says of a value's text is what its types say, and texts are whole.
+-- The text of a value by a table of types equals the text by its types, and texts are never
+-- truncated.
 use Rattle.std.specs.Prelude.{ℕ, ◌+◌, ◌≡◌, List, [], length, Some, slice_get, IsSome}
 use Rattle.om_model.specs.declared.value.Val.{Val}
 use Rattle.om_model.specs.declared.value.Obj.{Obj}
@@ -18,12 +19,13 @@ use Rattle.om_show.specs.Named.{HasItsNames}
 use Rattle.om_show.specs.Shown.{met_within, shown_text, shown_at}
 use Rattle.om_show.specs.Tables.{shape_in, names_in}
 
--- numbers of one class are equal
+-- The numbers are in one class of equal types.
 abbrev pub SameClass : Tabled → ℕ → ℕ → Type 0
 SameClass table i j = slice_get table.classes i ≡ slice_get table.classes j
 
--- A value has one text at a number and at its type, and so has the part at each path. Which types
--- are equal does not matter: it is said for those of one class, and for those that are the same.
+-- A value has the same text at a number and at its type, and so has the part at each path. The
+-- choice of equal types does not matter: the statement holds for types in one class and for
+-- identical types.
 pub record ShowAlike (decls : List Decl) (table : Tabled) (i : ℕ) (t : Ty) : Type 0 where
   pub whole : (graph : List Obj) (v : Val)
       → shown_text (shape_in table) (names_in table) graph v i
@@ -35,41 +37,42 @@ pub record ShowAlike (decls : List Decl) (table : Tabled) (i : ℕ) (t : Ty) : T
       → shown_at (shape_in table) (names_in table) graph ◌≡◌ v i path
       ≡ shown_at (shape decls) (names_of decls) graph ◌≡◌ v t path
 
--- so it is at every number of a table
+-- The law holds for every number of a table.
 abbrev pub TablesShowAlike : Type 0
 TablesShowAlike =
     (decls : List Decl) (t : Ty) (table : Tabled) → IsTypeTable decls t table
     → (i : ℕ) (u : Ty) → slice_get (types_of table) i ≡ Some u → ShowAlike decls table i u
 
--- and at the number 0, which is that of the type that was asked for
+-- The law holds for number 0, which is that of the type that was asked for.
 abbrev pub RootsShowAlike : Type 0
 RootsShowAlike =
     (decls : List Decl) (t : Ty) (table : Tabled) → IsTypeTable decls t table
     → ShowAlike decls table 0 t
 
--- where more values may be one inside the other than there are objects, and one, the same pieces
--- are met: nothing is cut off
+-- A bound of more than one plus the number of objects gives the same chunks, so nothing is
+-- truncated.
 abbrev pub MoreIsTheSame : Type 0
 MoreIsTheSame =
     (decls : List Decl) (graph : List Obj) (v : Val) (t : Ty) (more : ℕ)
     → met_within (shape decls) (names_of decls) graph (length graph + 1 + more) [] v t
     ≡ met_within (shape decls) (names_of decls) graph (length graph + 1) [] v t
 
--- the same at a number of a table
+-- The same at a number of a table.
 abbrev pub MoreIsTheSameByNumbers : Type 0
 MoreIsTheSameByNumbers =
     (table : Tabled) (graph : List Obj) (v : Val) (i : ℕ) (more : ℕ)
     → met_within (shape_in table) (names_in table) graph (length graph + 1 + more) [] v i
     ≡ met_within (shape_in table) (names_in table) graph (length graph + 1) [] v i
 
--- where a value fits a type, the type has the names that its text wants
+-- If a value matches a type's representation, then the type has the names that the value's text
+-- needs.
 abbrev pub NoNameIsMissing : Type 0
 NoNameIsMissing =
     (decls : List Decl) (graph : List Obj) (v : Val) (t : Ty)
     → IsSome (fields_of graph v (shape decls t))
     → HasItsNames (shape decls t) (names_of decls t) graph v
 
--- so where a value has its type, the names are there at each of its parts
+-- If a value has its type, then the names exist at each of its parts.
 abbrev pub NoNameIsMissingInParts : Type 0
 NoNameIsMissingInParts =
     (decls : List Decl) (t : Ty) (types : List Ty) → AreWellFormed decls → IsSoundType decls t

@@ -1,4 +1,4 @@
--- That the names are there which the text of a value wants, at its shape.
+-- The names that the text of a value needs exist, by its representation.
 use Rattle.std.specs.Prelude.{ℕ, ℤ, ◌≡◌, ◌⊎◌, List, [], length, slice_get, find, IsSome, IsSomeAnd}
 use Rattle.om_model.specs.declared.value.Val.{Val}
 use Rattle.om_model.specs.declared.value.Val.TheVariants as vals
@@ -10,22 +10,22 @@ use Rattle.om_types.specs.declared.shape.ShapeOf.{ShapeOf}
 use Rattle.om_types.specs.declared.shape.ShapeOf.TheVariants as shapes
 use Rattle.om_leaves.specs.Frames.{is_hash, natural, tag_of_values}
 
--- some tag has this hash
+-- Some tag has this hash.
 abbrev pub HasTag : Names → ℤ → Type 0
 HasTag names z = IsSome (find (is_hash z) names.tags)
 
--- no fields have names, as in a tuple, or each of n has one
+-- The fields have no names, as in a tuple, or each of the `n` fields has one.
 abbrev pub AreForFields : List (List ℕ) → ℕ → Type 0
 AreForFields fields n = (fields ≡ []) ⊎ (length fields ≡ n)
 
 module _ {T : Type 0} where
-  -- of a constant constructor or a tag, where the shape has such
+  -- The name of a constant constructor or a tag, if the representation has any.
   abbrev pub HasIntName : ShapeOf T → Names → ℤ → Type 0
   HasIntName (shapes.Sum constants blocks) names z = IsSome (slice_get names.constants (natural z))
   HasIntName (shapes.Poly tags) names z = HasTag names z
   HasIntName shape names z = Unit {0}
 
-  -- of a constructor, of fields, of a tag
+  -- The name of a constructor, of fields, or of a tag.
   abbrev pub HasBlockNames : ShapeOf T → Names → ℕ → List Val → Type 0
   HasBlockNames (shapes.Sum constants blocks) names tag values =
       IsSomeAnd (slice_get names.constructors tag)
@@ -35,7 +35,7 @@ module _ {T : Type 0} where
   HasBlockNames (shapes.Poly tags) names tag values = HasTag names (tag_of_values values)
   HasBlockNames shape names tag values = Unit {0}
 
-  -- of the fields of a record that lies flat
+  -- The names of the fields of a flat float record.
   abbrev pub HasDoublesNames : ShapeOf T → Names → ℕ → Type 0
   HasDoublesNames (shapes.FlatFloats mutable n) names many = length names.fields ≡ many
   HasDoublesNames shape names many = Unit {0}
@@ -45,7 +45,7 @@ module _ {T : Type 0} where
   HasObjectNames shape names (objects.Doubles all) = HasDoublesNames shape names (length all)
   HasObjectNames shape names object = Unit {0}
 
-  -- the names that the text of a value wants, but for those of its parts
+  -- The names that the text of a value needs, except those of its parts.
   abbrev pub HasItsNames : ShapeOf T → Names → List Obj → Val → Type 0
   HasItsNames shape names graph (vals.Int z) = HasIntName shape names z
   HasItsNames shape names graph (vals.Atom tag) = Unit {0}

@@ -1,11 +1,11 @@
--- A text in which objects are shown where they are first met, and later by a label. Labels are
--- numbered by first meetings, among the objects that are met again.
+-- A text that shows each object at its first occurrence and later only its label. Objects that
+-- occur more than once have labels, numbered in the order of their first occurrences.
 use Rattle.std.specs.Prelude.{ℕ, suc, ◌==◌, if◌then◌else◌, Bool, List, [], ◌∷◌, ◌++◌, codes}
 use Rattle.std.specs.Prelude.{decimal, flat_map, filter}
 use Rattle.std.specs.List.{list_any}
 
--- bytes as they are, the place before the text of an object that is met for the first time, or an
--- object that is met again
+-- Plain bytes, the position before the text of an object at its first occurrence, or a later
+-- occurrence of an object.
 pub data Piece : Type 0 where
   Text : (bytes : List ℕ) → Piece
   First : (o : ℕ) → Piece
@@ -14,25 +14,25 @@ pub data Piece : Type 0 where
 abbrev pub has : List ℕ → ℕ → Bool
 has all o = list_any (λ other. other == o) all
 
--- the objects that are met for the first time, in this order
+-- The objects in the order of their first occurrences.
 abbrev pub firsts : List Piece → List ℕ
 firsts [] = []
 firsts (Text bytes ∷ pieces) = firsts pieces
 firsts (First o ∷ pieces) = o ∷ firsts pieces
 firsts (Again o ∷ pieces) = firsts pieces
 
--- the objects that are met again
+-- The objects that occur again.
 abbrev pub agains : List Piece → List ℕ
 agains [] = []
 agains (Text bytes ∷ pieces) = agains pieces
 agains (First o ∷ pieces) = agains pieces
 agains (Again o ∷ pieces) = o ∷ agains pieces
 
--- the objects that have labels, by the labels' numbers
+-- The objects that have labels, in the order of the labels' numbers.
 abbrev pub labelled : List Piece → List ℕ
 labelled pieces = filter (has (agains pieces)) (firsts pieces)
 
--- the number of an object among others
+-- The index of an object in a list of objects.
 abbrev pub number_in : List ℕ → ℕ → ℕ
 number_in [] o = 0
 number_in (other ∷ others) o = if other == o then 0 else suc (number_in others o)

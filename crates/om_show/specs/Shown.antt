@@ -1,5 +1,5 @@
--- The text of a value at a type, over any shapes and names. The text follows the value depth first,
--- fields from left to right.
+-- The text of a value at a type, over any representations and names. The text visits the value
+-- depth first, fields from left to right.
 use Rattle.std.specs.Prelude.{ℕ, zero, suc, ◌+◌, if◌then◌else◌, List, [], ◌∷◌, ◌++◌, length}
 use Rattle.std.specs.Prelude.{slice_get, codes}
 use Rattle.std.specs.Prelude.{Option, Some, None, option_map, unwrap_or}
@@ -14,9 +14,9 @@ use Rattle.om_types.specs.Fault.{field_of, value_at}
 use Rattle.om_leaves.specs.Frames.{Frame, frame_of, before_part, int_text, object_text, hidden_text}
 use Rattle.om_show.specs.Pieces.{Piece, Text, First, Again, has, text_of}
 
--- ---- a value as pieces
+-- ---- a value as chunks
 
--- the pieces of what was met, and the objects that were met so far
+-- The chunks of the visited values, and the objects visited so far.
 pub record Met : Type 0 where
   pub pieces : List Piece
   pub seen : List ℕ
@@ -28,7 +28,7 @@ abbrev pub led_by : List Piece → Met → Met
 led_by front m = met (front ++ m.pieces) m.seen
 
 module _ {T : Type 0} (shape : T → ShapeOf T) (names : T → Names) (graph : List Obj) where
-  -- the parts from number i on, one after the other, where it is known how one value is met
+  -- The parts from number `i` on, in order. `meet` visits one value.
   abbrev pub parts_from : (List ℕ → Val → T → Met) → Frame → Val → ℕ → List (ℕ × T) → List ℕ → Met
   parts_from meet frame v i [] seen = met (Text frame.closing ∷ []) seen
   parts_from meet frame v i ((field, t) ∷ needs) seen =
@@ -36,7 +36,7 @@ module _ {T : Type 0} (shape : T → ShapeOf T) (names : T → Names) (graph : L
       led_by (Text (before_part frame i) ∷ one.pieces)
       (parts_from meet frame v (suc i) needs one.seen)
 
-  -- an object that is met for the first time
+  -- An object that is visited for the first time.
   abbrev pub object_met : (List ℕ → Val → T → Met) → List ℕ → ℕ → T → Option Obj → Met
   object_met meet seen o t None = met [] seen
   object_met meet seen o t (Some (objects.Block tag values)) =
@@ -46,7 +46,7 @@ module _ {T : Type 0} (shape : T → ShapeOf T) (names : T → Names) (graph : L
   object_met meet seen o t (Some object) =
       met (First o ∷ Text (object_text (shape t) (names t) object) ∷ []) seen
 
-  -- a value of which something is asked
+  -- A value whose type is not a wildcard.
   abbrev pub asked_met : (List ℕ → Val → T → Met) → List ℕ → Val → T → Met
   asked_met meet seen (vals.Int z) t = met (Text (int_text (shape t) (names t) z) ∷ []) seen
   asked_met meet seen (vals.Atom tag) t = met (Text (codes "[||]") ∷ []) seen
@@ -54,24 +54,24 @@ module _ {T : Type 0} (shape : T → ShapeOf T) (names : T → Names) (graph : L
       if has seen o then met (Again o ∷ []) seen
       else object_met meet (o ∷ seen) o t (slice_get graph o)
 
-  -- A value at a type, after these objects were met, with at most n values one inside the other.
-  -- One of which nothing is asked is not met.
+  -- A value at a type, after these objects were visited, with at most `n` nested values. A value at
+  -- a wildcard type is not visited.
   abbrev pub met_within : ℕ → List ℕ → Val → T → Met
   met_within zero seen v t = met [] seen
   met_within (suc n) seen v t =
       if is_asked (shape t) then asked_met (met_within n) seen v t
       else met (Text hidden_text ∷ []) seen
 
-  -- objects that are open are not opened again, so that no more values are one inside the other
-  -- than there are objects, and one
+  -- An object that is being visited is not entered again. So values nest at most as deep as the
+  -- number of objects, plus one.
   abbrev pub pieces_of : Val → T → List Piece
   pieces_of v t = (met_within (length graph + 1) [] v t).pieces
 
-  -- the text of a value at a type
+  -- The text of a value at a type.
   unfoldable pub shown_text : Val → T → List ℕ
   shown_text v t = text_of (pieces_of v t)
 
-  -- the text of the part at a path, if it leads anywhere
+  -- The text of the part at a path, if the path leads anywhere.
   abbrev pub shown_at : (T → T → Type 0) → Val → T → List ℕ → Option (List ℕ)
   shown_at Equal v t path =
       option_map (λ place. shown_text place.0 place.1)

@@ -1,4 +1,4 @@
--- The shapes and the names that a table of types has by its numbers. A number that is not in the
+-- The representations and names of a table of types, by type number. A number that is not in the
 -- table has no values.
 use Rattle.std.specs.Prelude.{ℕ, slice_get, unwrap_or}
 use Rattle.om_types.specs.declared.names.Names.{Names}

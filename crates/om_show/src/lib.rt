@@ -1,13 +1,14 @@
-//! What the text of a value at a type is, with labels for shared parts, what the text of the part
-//! at a path is, and what that of a graph as it is. These are definitions, computed on values that
-//! were worked out by hand, and laws on them.
+//! Defines the text of a value at a type, with labels for shared parts, the text of the part at a
+//! path, and the text of an untyped graph. The crate contains only definitions, examples of them
+//! worked out by hand (`Rows`), and laws about them (`laws`). The code that prints values is in
+//! other crates.
 #![tactic(auto)]
 
 pub mod laws;
 
 ghost use Rattle.om_show.specs.WorkedTexts.{Rows};
 
-/// The texts of worked values are as they should be.
+/// Proves that the texts of the example values are as expected.
 pub fn texts_of_worked_values()
     ensures { Rows }
 {}

@@ -1,4 +1,5 @@
--- What is shown is built, by all commands as by those on values and the one on texts.
+-- The law for all commands follows from the law for the commands on values and the command on
+-- texts.
 use Rattle.std.proofs.Common.{false, refl}
 use Rattle.om_outcome.specs.CommandLine.{styled_by}
 use Rattle.om_outcome.specs.Outcome.{all_under, tell, the_text, own, build}

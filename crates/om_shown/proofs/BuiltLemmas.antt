@@ -1,4 +1,4 @@
--- So `build` of these lines has one outcome, which puts the canonical bytes of the values.
+-- The `build` command has one outcome for these lines: it writes the canonical bytes of the values.
 use Rattle.std.proofs.Common.{◌≡◌, ℕ, Bool, true, false, List, [], ◌∷◌, ◌++◌, map, Some, Ok, inl, inr, refl, sym, ap, ◌∙◌, subst, append_assoc}
 use Rattle.std.specs.Prelude.{if◌then◌else◌, IfSome}
 use Rattle.std.specs.List.{AllByRecursion}
@@ -80,7 +80,7 @@ module _ (t : TypeOver) (put : Bool) where
     },
   )
 
--- each value is made of its line
+-- Each value is built from its line.
 all_built : (t : TypeOver) (put : Bool) (limit : ℕ)
     → ((bytes : List ℕ) (tree : Tree) → SpelledUnder limit bytes tree → HasIt t tree
     → IsBuilt t put tree)
@@ -90,7 +90,7 @@ all_built t put limit one bytes [] rest s h = tt
 all_built t put limit one bytes (tree ∷ trees) rest (first, more, is, spelled, s) h =
     (one first tree spelled h.0, all_built t put limit one more trees rest s h.1)
 
--- the texts of values are the same, however places are told, and decimals read or not
+-- The texts of values do not depend on how positions are reported, or on whether decimals are read.
 lines_at : (t : TypeOver) (lines decimal put : Bool) (trees : List Tree)
     → lines_of t put trees ≡ lines_of (asked_at t lines decimal) put trees
 lines_at t lines decimal put [] = refl
@@ -149,7 +149,7 @@ module _ (told : Follow (commands declared_types) (AreAsTold (commands declared_
     declared : IsDeclared contents v.read.decls
     declared = subst (λ text. IsDeclared text v.read.decls) (sym same_contents) v.read.declared
 
-    -- at the type, where places are told so, and decimals read if they were put, each line is built
+    -- If decimals are read in case they were printed, then each line is built at the type.
     module _ (places decimal : Bool) (reads : shows.decimal ≡ true → decimal ≡ true) where
       abbrev now : TypeOver
       now = asked_at v.t places decimal

@@ -1,4 +1,4 @@
--- The text of a value at a type that was read is a line that is made into its canonical bytes.
+-- The text of a value at a type that was read is a line from which its canonical bytes are built.
 use Rattle.std.proofs.Common.{◌≡◌, ℕ, ◌<◌, ◌^◌, Bool, true, false, true≢false, List, [], length, refl, sym, subst, arith}
 use Rattle.std.specs.Prelude.{if◌then◌else◌}
 use Rattle.om_format.specs.Canonical.{canon}
@@ -28,7 +28,7 @@ use Rattle.om_decimal_texts.proofs.FeedLemmas.{decimals_no_feed}
 use Rattle.om_decimal_readback.specs.Laws.{StandsForIt}
 use Rattle.om_decimal_readback.proofs.ApartLemmas.{texts_are_read_back}
 
--- ---- a value that is spelled has few objects
+-- ---- an encoded value has few objects
 
 few_objects : (limit : ℕ) (bytes : List ℕ) (tree : Tree) → SpelledUnder limit bytes tree
     → made tree < 2 ^ 63
@@ -38,13 +38,13 @@ few_objects limit bytes tree s =
 
 -- ---- decimals
 
--- a text stays on one line
+-- A text stays on one line.
 stays_unbroken : (decimal : Bool) (text : List ℕ) → IsUnbroken text
     → IsUnbroken (if decimal then decimal_text text else text)
 stays_unbroken true text h = decimals_no_feed text h
 stays_unbroken false text h = h
 
--- where decimals are read if they were put, the text stands for the plain one
+-- If decimals are read in case they were printed, then the plain text is the same.
 same_plain : (put read : Bool) (text : List ℕ) → (put ≡ true → read ≡ true) → StandsForIt text
     → plain_if read (if put then decimal_text text else text) ≡ text
 same_plain true true text reads stands = stands.decimals
@@ -52,22 +52,22 @@ same_plain true false text reads stands = absurd (true≢false (sym (reads refl)
 same_plain false true text reads stands = stands.plain
 same_plain false false text reads stands = refl
 
--- nothing stands for nothing
+-- The plain text of the empty text is empty.
 pub none_plain : (decimal : Bool) → plain_if decimal [] ≡ []
 unfolding decimals_from
 none_plain true = refl
 none_plain false = refl
 
--- ---- a line
+-- ---- one line
 
--- the type is sound over well-formed declarations, and reaches few types
+-- The type is sound over well-formed declarations, and reaches few types.
 pub record IsSoundOver (t : TypeOver) : Type 0 where
   pub well : AreWellFormed t.decls
   pub sound : IsSoundType t.decls t.type
   pub few : ReachesFew t.decls t.type
 
 module _ (t : TypeOver) where
-  -- the value has the type
+  -- The value has the type.
   abbrev pub HasIt : Tree → Type 0
   HasIt tree = HasType (declared_shapes t.decls) (objects_of tree 0) (root tree 0) t.type
 
@@ -75,11 +75,11 @@ module _ (t : TypeOver) where
   text_of tree =
       shown_text (shape t.decls) (names_of t.decls) (objects_of tree 0) (root tree 0) t.type
 
-  -- as it is shown, with decimals or without them
+  -- The text that is shown, with decimals or without.
   abbrev pub shown_of : Bool → Tree → List ℕ
   shown_of decimal tree = if decimal then decimal_text (text_of tree) else text_of tree
 
-  -- what is shown is a line that is made into these bytes
+  -- The shown text is a line from which these bytes are built.
   pub record IsBuilt (decimal : Bool) (tree : Tree) : Type 0 where
     pub one_line : IsUnbroken (shown_of decimal tree)
     pub is_made : IsMade t (plain_if t.decimal (shown_of decimal tree)) (canon tree)

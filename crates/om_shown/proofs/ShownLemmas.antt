@@ -1,5 +1,5 @@
--- A call of `show` that ended well: FILE and TYPE were read, all of the input is values that have
--- the type, and their texts are put as lines.
+-- A call of `show` that ended without errors: FILE and TYPE were read, the whole input is values of
+-- the type, and their texts were written as lines.
 use Rattle.std.proofs.Common.{◌≡◌, ◌⊎◌, ℕ, Bool, true, false, List, [], ◌∷◌, ◌++◌, length, Some, Result, Ok, Err, inl, inr, refl, sym, ap, ◌∙◌, subst}
 use Rattle.std.specs.Prelude.{if◌then◌else◌}
 use Rattle.std.proofs.lemmas.Bool.{and_parts}
@@ -26,7 +26,7 @@ use Rattle.om_shown.proofs.WellLemmas.{Refuses, not_last, not_stopped}
 
 -- ---- FILE and TYPE
 
--- what FILE holds, and TYPE, are read as this
+-- The contents of FILE, and TYPE, are read as this type.
 pub record AreRead (files : Fetches) (file : List ℕ) (type : AskedType) (t : TypeOver) : Type 0 where
   pub contents : List ℕ
   pub read : files 0 file ≡ opened (whole contents)
@@ -47,7 +47,7 @@ are_read files file type t (Ok contents, read, (Ok decls, declared, accepted)) =
       accepted = accepted;
     }
 
--- ---- what stops a run before the values
+-- ---- errors before the values
 
 file_refuses : (name : List ℕ) (found : Found) (stop : Stop) → ReadsFile name found (Err stop)
     → Refuses stop
@@ -78,19 +78,19 @@ tells_refuses decimal file typed stop (Err s, reads, is) =
     let same : s ≡ stop = let k : stop ≡ s = cc is in sym k in
     subst Refuses same (type_refuses file typed s reads)
 
--- ---- what is said of values
+-- ---- output for values
 
 well_true : (b : Bool) → (if b then Well else No) ≡ Well → b ≡ true
 well_true true e = refl
 well_true false e = absurd (cc e)
 
--- the texts of values, as lines
+-- The texts of values, as lines.
 abbrev pub lines_of : TypeOver → (decimal : Bool) → List Tree → List ℕ
 lines_of t decimal [] = []
 lines_of t decimal (tree ∷ trees) = line (shown_of t decimal tree) ++ lines_of t decimal trees
 
 module _ (t : TypeOver) (decimal : Bool) where
-  -- nothing is wrong with the value: it has the type, and its text is said
+  -- If the value has the type, then its text is the output.
   said_well : (tree : Tree) (said : Said) (text : List ℕ)
       → IsTypeLine (the_text (styled_by false decimal)) t (objects_of tree 0) (root tree 0) text said.well
       → said.text ≡ line text → said.well ≡ true
@@ -121,7 +121,7 @@ module _ (t : TypeOver) (decimal : Bool) where
 module _ (words : List (List ℕ)) (file type : List ℕ) (lined decimal : Bool) (limit : ℕ)
     (asks : Asks words (tell (the_text (styled_by false decimal)) file type lined (all_under limit))) (given : Given) (all : Replies)
     (well : (ending_of all).status ≡ Well) where
-  -- all of the input is values of the type, and their texts are put
+  -- The whole input is values of the type, and their texts are written.
   pub record AreShown : Type 0 where
     pub t : TypeOver
     pub read : AreRead given.files file (asked_type type lined) t
@@ -135,7 +135,7 @@ module _ (words : List (List ℕ)) (file type : List ℕ) (lined decimal : Bool)
     abbrev its_task : Task TypeOver ScriptLine
     its_task = task (tells (the_text (styled_by false decimal)) t) limit
 
-    -- the input ended, and the reply after all values says nothing
+    -- The input ended, and the reply after all values has no output.
     at_its_end : (u : InputEnd) (items : List Item) (rest : List ℕ)
         → Closes (commands declared_types) its_task items rest u all.last
         → (u ≡ at_end) × EndsHere declared_types its_task items rest all.last
@@ -152,7 +152,7 @@ module _ (words : List (List ℕ)) (file type : List ℕ) (lined decimal : Bool)
     at_clean_end trees rest (cut n) tail ends =
         absurd (not_last all well (value (length trees) (truncated_text n)) tt ends)
 
-    -- what stops the run refuses a value
+    -- The exit reason of the run refuses a value.
     stop_refuses : (items : List Item) (bytes : List ℕ) (stop : Stop)
         → (commands declared_types).Stops its_task items bytes stop → Refuses stop
     stop_refuses items bytes stop s = by s.why where

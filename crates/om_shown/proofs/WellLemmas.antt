@@ -1,4 +1,4 @@
--- A call that ended well has no stop but that it is finished.
+-- If a call ended without errors, then its only exit reason is that it is finished.
 use Rattle.std.proofs.Common.{◌≡◌, sym, ap, ◌∙◌}
 use Rattle.om_outcome.specs.declared.status.Status.TheVariants as statuses
 use Rattle.om_outcome.specs.Outcome.{status_of, ending_of, stops, Replies, stopped}
@@ -6,12 +6,12 @@ use Rattle.om_outcome.specs.declared.stop.Stop.{Stop}
 use Rattle.om_outcome.specs.declared.stop.Stop.TheVariants.{Usage as usage, BadPath as bad_path, NotTwoValues as not_two_values, CannotOpen as cannot_open, Declarations as declarations, RequestedType as requested_type, Value as value, Script as script_line, Text as text_line, Untyped as untyped_value, LargeValue as large_value, Certificate as certificate_line, Uncertified as uncertified_value, SectionsLeft as sections_left, Short as short_input, Finished as finished, ReadFault as read_fault, TooLong as too_long, Memory as out_of_memory}
 use Rattle.om_promises.proofs.SettledLemmas.{stop_status}
 
--- the stop tells that something is refused, or failed
+-- The exit reason is a refusal or a failure.
 abbrev pub Refuses : Stop → Type 0
 Refuses (finished well) = ⊥
 Refuses stop = Unit {0}
 
--- none such ends a run well
+-- No such exit reason has the status `Well`.
 stop_not_well : (stop : Stop) → Refuses stop → status_of stop ≡ statuses.Well → ⊥
 stop_not_well usage refuses e = cc e
 stop_not_well bad_path refuses e = cc e
@@ -34,7 +34,7 @@ stop_not_well too_long refuses e = cc e
 stop_not_well out_of_memory refuses e = cc e
 
 module _ (all : Replies) (well : (ending_of all).status ≡ statuses.Well) where
-  -- so the last reply is no such stop
+  -- The last reply has no such exit reason.
   pub not_last : (stop : Stop) → Refuses stop → all.last ≡ stops stop → ⊥
   not_last stop refuses is = stop_not_well stop refuses (sym (stop_status all stop is) ∙ well)
 

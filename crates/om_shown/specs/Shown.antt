@@ -1,5 +1,5 @@
--- What `show` put is the input of `build`: the values that were shown come out, as their canonical
--- bytes.
+-- The output of `show` as the input of `build`: the result is the values that were shown, as their
+-- canonical bytes.
 use Rattle.std.specs.Prelude.{ℕ, ◌≡◌, ◌≢◌, Bool, true, false, List, [], map, Some}
 use Rattle.std.specs.List.{concat}
 use Rattle.om_format.specs.Canonical.{canon}
@@ -19,9 +19,9 @@ use Rattle.om_promises.specs.Commands.{Commands}
 use Rattle.om_promises.specs.CommandLaws.{Follow}
 use Rattle.om_promises.specs.Outside.{IsHonest}
 
--- The words ask to show all values of the input at FILE and TYPE, each under the limit, on one
--- line each, with decimals or without them; and the call ended well. Its input, what FILE holds,
--- and what it put on out are told.
+-- The arguments ask to show all values of the input at FILE and TYPE. Each value is under the limit
+-- and printed on one line, with decimals or without. The call ended without errors. Its input, the
+-- contents of FILE and its output are known.
 pub record Shows (words : List (List ℕ)) (call : Call) (file type : List ℕ) (limit : ℕ)
     (contents input shown : List ℕ) : Type 0 where
   pub lines : Bool
@@ -35,9 +35,9 @@ pub record Shows (words : List (List ℕ)) (call : Call) (file type : List ℕ) 
   pub input_is : call.input.before.bytes ≡ Some input
   pub puts : HasPut call shown
 
--- The words ask to build at FILE and TYPE, with decimals or without them, FILE holds this, and all
--- of the input is what was shown. No call on the outside failed, nothing is too long, and memory
--- did not run out.
+-- The arguments ask to build at FILE and TYPE, with decimals or without. FILE has these contents,
+-- and the whole input is what was shown. No I/O call failed, nothing is too long, and memory did
+-- not run out.
 pub record Builds (words : List (List ℕ)) (call : Call) (file type contents shown : List ℕ)
     : Type 0 where
   pub lines : Bool
@@ -48,8 +48,8 @@ pub record Builds (words : List (List ℕ)) (call : Call) (file type contents sh
   pub honest : IsHonest call shown files
   pub suffices : call.status ≢ Memory
 
--- the bytes are values, one after another, each under the limit; and the call put the canonical
--- bytes of each, in this order, and ended well
+-- The bytes are consecutive values, each under the limit. The call wrote the canonical bytes of
+-- each, in this order, and ended without errors.
 pub record PutsCanonical (limit : ℕ) (bytes : List ℕ) (call : Call) : Type 0 where
   pub trees : List Tree
   pub values : SpellAll limit bytes trees []
@@ -57,15 +57,15 @@ pub record PutsCanonical (limit : ℕ) (bytes : List ℕ) (call : Call) : Type 0
   pub err : Puts call.err []
   pub status : call.status ≡ Well
 
--- no type that TYPE reaches, over what FILE declares, is `_`
+-- No type that TYPE reaches, over the declarations of FILE, is `_`.
 abbrev pub HidesNothing : List ℕ → List ℕ → Type 0
 HidesNothing contents type =
     (decls : List Decl) (t : Ty) (types : List Ty) → IsDeclared contents decls
     → IsTypeOf decls type t → IsReached decls t types → NoneIsHidden decls types
 
--- of two calls, each with its words: where the first one shows values, and the second one builds
--- what was shown, at the same FILE and TYPE, which hides nothing, and reads decimals if the first
--- one put them, it puts the canonical bytes of these values
+-- Let the first of two calls show values, and the second build what was shown at the same FILE and
+-- TYPE, which reaches no `_`. If the second call reads decimals in case the first printed them,
+-- then it writes the canonical bytes of these values.
 abbrev pub BuildsWhatWasShown : List (List ℕ) → Call → List (List ℕ) → Call → Type 0
 BuildsWhatWasShown words call later_words later =
     (file type : List ℕ) (limit : ℕ) (contents input shown : List ℕ)
@@ -73,7 +73,7 @@ BuildsWhatWasShown words call later_words later =
     → (builds : Builds later_words later file type contents shown)
     → (shows.decimal ≡ true → builds.decimal ≡ true) → PutsCanonical limit input later
 
--- so it is of each two calls of which all is promised, by commands that show and by those that
--- build
+-- The law holds for any two calls that satisfy the specifications of commands that show and of
+-- commands that build.
 abbrev pub ShownTextsAreBuilt : {A B : Type 0} → Commands A → Commands B → Type 0
 ShownTextsAreBuilt c d = Follow c (λ words call. Follow d (BuildsWhatWasShown words call))

@@ -1,4 +1,4 @@
-//! The laws. The functions do nothing: what each ensures is the law.
+//! The laws. Each function is a lemma function: it does nothing, and its contract is the law.
 
 ghost use Rattle.om_build.specs.Lines.{declared_texts};
 ghost use Rattle.om_commands.specs.Tasks.{commands};
@@ -15,8 +15,8 @@ use om_rebuild::declared_texts_are_read_back;
 use om_session::all_commands_have_parts;
 use om_texts::laws::building_answers_once;
 
-/// Where all is promised of a call by the commands on values, and of one by the command on texts:
-/// what the first one shows the second one builds.
+/// Let a call of the commands on values and a call of the command on texts satisfy their
+/// specifications. Then the second builds the values that the first printed.
 pub fn shown_texts_are_built()
     ensures { ShownTextsAreBuilt (commands declared_types)
         (building declared_types declared_texts) }
@@ -30,8 +30,8 @@ pub fn shown_texts_are_built()
     building_answers_once::<DeclaredTexts>();
 }
 
-/// Of two calls by all commands: what one of them shows, another one that takes it as its input
-/// builds.
+/// Let two calls of the program satisfy the specification of all commands. If one takes the output
+/// of the other as its input, then it builds the values that the other printed.
 pub fn all_commands_build_shown_texts()
     ensures { ShownTextsAreBuilt all_commands all_commands }
 {

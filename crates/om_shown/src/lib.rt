@@ -1,6 +1,6 @@
-//! Two calls, one after the other: what `build` makes of what `show` put is the canonical bytes of
-//! the values that were shown. This is a law on what is promised of calls: nothing here does
-//! anything.
+//! Proves that `build` restores what `show` printed. If the output of `show` is the input of
+//! `build`, then `build` writes the canonical bytes of the values. This is a law about the
+//! specifications of two calls; the crate contains no executable code.
 #![tactic(auto)]
 
 pub mod laws;

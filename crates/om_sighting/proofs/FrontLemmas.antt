@@ -1,4 +1,5 @@
--- What begins with a value is no front, and is not refused; what is refused is no front.
+-- If bytes begin with a value, then they are no value prefix and are not refused. If bytes are
+-- refused, then they are no value prefix.
 use Rattle.std.proofs.Common.{◌≡◌, ℕ, ◌<◌, List, [], ◌∷◌, ◌++◌, length, take, drop, refl, sym, ap, ◌∙◌, subst, append_assoc, length-append, take-append-drop, arith}
 use Rattle.std.proofs.lemmas.List.{take-append-le}
 use Rattle.om_format.specs.Front.{IsFront, IsRefused}
@@ -21,7 +22,7 @@ module _ (limit : ℕ) (bytes : List ℕ) where
   refused_no_front (n, refusal, within, refused) front =
       front_or_refused limit bytes n refusal front refused
 
-  -- what is refused stays so when bytes follow
+  -- If bytes are refused, then they are refused with more bytes after them.
   pub refused_after : (later : List ℕ) → AreRefused limit bytes → AreRefused limit (bytes ++ later)
   refused_after later (n, refusal, within, refused) = (
     n,
@@ -30,21 +31,21 @@ module _ (limit : ℕ) (bytes : List ℕ) where
     subst (λ b. IsRefused limit b refusal) (sym (take-append-le n bytes later within)) refused,
   )
 
--- where fewer bytes follow, no value begins either
+-- If no value begins, then none begins with fewer bytes after it.
 pub none_before :
     (limit : ℕ) (bytes later : List ℕ) → BeginNoValue limit (bytes ++ later)
     → BeginNoValue limit bytes
 none_before limit bytes later none value rest tree e =
     none value (rest ++ later) tree (ap (λ b. b ++ later) e ∙ append_assoc value rest later)
 
--- a part has bytes
+-- A part has at least one byte.
 pub part_some :
     (limit : ℕ) (None : List ℕ → Type 0) (part : Part) (parts : List Part) (rest : List ℕ)
     → AreParts limit None (part ∷ parts) rest → 0 < length (part_bytes part)
 part_some limit None (passed byte) parts rest are = omega arith
 part_some limit None (sighted value tree) parts rest are = spelled_some limit value tree are.0
 
--- bytes that begin with a part are no front
+-- If bytes begin with a part, then they are no value prefix.
 pub no_front :
     (limit : ℕ) (bytes : List ℕ) (part : Part) (parts : List Part) (rest later : List ℕ)
     → bytes ≡ (bytes_of (part ∷ parts) ++ rest) ++ later
@@ -60,7 +61,7 @@ no_front limit bytes (sighted value tree) parts rest later e are front =
     ∙ append_assoc value (bytes_of parts ++ rest) later))
     are.0
 
--- nor are those of a stretch, whatever follows
+-- If bytes begin with a stretch, then they are no value prefix.
 pub stretch_no_front :
     (limit : ℕ) (parts : List Part) (pending later : List ℕ) → IsStretch limit parts pending
     → IsFront limit ((bytes_of parts ++ pending) ++ later) → ⊥

@@ -1,4 +1,4 @@
--- An input has its parts in one way, and its first stretch.
+-- The parts of an input, and its first stretch, are unique.
 use Rattle.std.proofs.Common.{◌≡◌, ℕ, ◌<◌, ◌≤◌, List, [], ◌∷◌, ◌++◌, length, take, drop, Option, Some, None, inl, inr, refl, sym, ap, ◌∙◌, subst, append_assoc, append-nil, length-append, take_at, arith}
 use Rattle.std.proofs.lemmas.Bool.{cases_order}
 use Rattle.std.proofs.lemmas.List.{append_cancel_left}
@@ -16,7 +16,7 @@ use Rattle.om_format.proofs.TokenStepLemmas.{header_length-from, header_steps-wi
 use Rattle.om_sighting.specs.Parts.{Part, passed, sighted, bytes_of, BeginNoValue, AreRefused, AreParts, IsStretch}
 use Rattle.om_sighting.proofs.FrontLemmas.{refused_no_value, no_front, stretch_no_front, part_some}
 
--- one value begins the bytes
+-- At most one value begins the bytes.
 pub value_once :
     (limit : ℕ) (v w x y : List ℕ) (t u : Tree) → v ++ x ≡ w ++ y → SpelledUnder limit v t
     → SpelledUnder limit w u → (v ≡ w) × (t ≡ u) × (x ≡ y)
@@ -33,7 +33,7 @@ value_once limit v w x y t u e s r =
 
 module _ (limit : ℕ) (Passed : List ℕ → Type 0)
     (no_value : (bytes : List ℕ) → Passed bytes → BeginNoValue limit bytes) where
-  -- the bytes begin with no part
+  -- The bytes begin with no part.
   abbrev IsEnd : List ℕ → Type 0
   IsEnd bytes = (part : Part) (parts : List Part) (rest : List ℕ)
       → bytes ≡ bytes_of (part ∷ parts) ++ rest → AreParts limit Passed (part ∷ parts) rest → ⊥
@@ -72,7 +72,7 @@ module _ (limit : ℕ) (Passed : List ℕ → Type 0)
 
 -- ---- the whole input
 
--- no bytes begin with no part
+-- The empty list of bytes begins with no part.
 nothing_ends :
     (limit : ℕ) (Passed : List ℕ → Type 0) (part : Part) (parts : List Part) (rest : List ℕ)
     → [] ≡ bytes_of (part ∷ parts) ++ rest → AreParts limit Passed (part ∷ parts) rest → ⊥
@@ -98,7 +98,7 @@ parts_once limit bytes parts others p q are others_are =
 
 -- ---- the first stretch
 
--- no bytes are a front
+-- The empty list of bytes is a value prefix.
 pub nothing_front : (limit : ℕ) → IsFront limit []
 nothing_front limit =
     inl
@@ -113,7 +113,7 @@ nothing_front limit =
         (header_steps-within limit []) e in
         absurd (omega (arith, late))
 
--- the parts that are told, and the front behind them
+-- The determined parts and the value prefix after them are unique.
 pub settled_once :
     (limit : ℕ) (parts others : List Part) (rest more : List ℕ)
     → bytes_of parts ++ rest ≡ bytes_of others ++ more
@@ -132,7 +132,7 @@ settled_once limit parts others rest more e are others_are front others_front =
         no_front limit rest part parts more [] (e ∙ sym (append-nil (bytes_of (part ∷ parts) ++ more)))
         are front
 
--- no stretch begins a longer one
+-- No stretch is a proper prefix of another stretch.
 not_longer :
     (limit : ℕ) (parts others : List Part) (pending more x y : List ℕ)
     → IsStretch limit parts pending → IsStretch limit others more

@@ -1,4 +1,4 @@
--- The places and the lines of parts one after another.
+-- The places and the lines of concatenated parts.
 use Rattle.std.proofs.Common.{◌≡◌, ℕ, ◌+◌, List, [], ◌∷◌, ◌++◌, length, refl, sym, ap, ◌∙◌, append_assoc, length-append, arith}
 use Rattle.om_sighting.specs.Parts.{Part, passed, sighted, bytes_of}
 use Rattle.om_sighting.specs.Places.{Place, place_of, places_of, line_of, lines_of}
@@ -22,7 +22,7 @@ places-append offset (sighted bytes tree ∷ xs) ys =
     (places-append (offset + length bytes) xs ys
     ∙ ap (λ k. places_of (offset + length bytes) xs ++ places_of k ys) (omega (arith, size)))
 
--- the lines of parts one after another
+-- The lines of concatenated parts.
 pub lines_of_parts :
     (offset : ℕ) (xs ys : List Part)
     → lines_of (places_of offset (xs ++ ys))

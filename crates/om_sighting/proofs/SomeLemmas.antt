@@ -1,4 +1,4 @@
--- Parts one after another, and stretches that are found.
+-- Sequences of parts, and the existence of stretches.
 use Rattle.std.proofs.Common.{◌⊎◌, zero, suc, inl, inr, length-drop, take-append-drop, ◌≡◌, ℕ, ◌+◌, ◌<◌, ◌≤◌, drop, List, [], ◌∷◌, ◌++◌, length, take, refl, sym, ap, ◌∙◌, subst, append_assoc, append-nil, length-append, take_all, arith}
 use Rattle.std.proofs.lemmas.List.{length-take-le, take-append-le}
 use Rattle.om_model.specs.Bytes.{AreBytes}
@@ -36,7 +36,7 @@ module _ (limit : ℕ) where
   parts-append None (sighted bytes tree ∷ xs) ys rest are more =
       (are.0, parts-append None xs ys rest are.1 more)
 
-  -- by another property of the bytes that are passed
+  -- The claim with a weaker condition on skipped bytes.
   pub parts-map :
       (None Other : List ℕ → Type 0) → ((bytes : List ℕ) → None bytes → Other bytes)
       → (parts : List Part) (rest : List ℕ) → AreParts limit None parts rest
@@ -47,13 +47,13 @@ module _ (limit : ℕ) where
   parts-map None Other f (sighted bytes tree ∷ parts) rest are =
       (are.0, parts-map None Other f parts rest are.1)
 
-  -- what is told of bytes is so
+  -- If parts are determined by refusals, then they are parts of the input.
   pub undecided :
       (parts : List Part) (rest : List ℕ) → AreParts limit (AreRefused limit) parts rest
       → AreParts limit (BeginNoValue limit) parts rest
   undecided = parts-map (AreRefused limit) (BeginNoValue limit) (refused_no_value limit)
 
-  -- and stays so when bytes follow
+  -- Determined parts stay parts with more bytes after them.
   pub parts-after :
       (parts : List Part) (rest later : List ℕ) → AreParts limit (AreRefused limit) parts rest
       → AreParts limit (AreRefused limit) parts (rest ++ later)
@@ -66,7 +66,7 @@ module _ (limit : ℕ) where
   parts-after (sighted bytes tree ∷ parts) rest later are =
       (are.0, parts-after parts rest later are.1)
 
-  -- without the rest no value begins there either
+  -- If no value begins at skipped bytes, then none begins there without the rest.
   pub parts-before :
       (parts : List Part) (rest : List ℕ) → AreParts limit (BeginNoValue limit) parts rest
       → AreParts limit (BeginNoValue limit) parts []
@@ -80,7 +80,7 @@ module _ (limit : ℕ) where
 
   -- ---- stretches
 
-  -- parts that are told, and a front behind them
+  -- Determined parts, and a value prefix after them.
   pub record IsSettled (bytes : List ℕ) : Type 0 where
     pub parts : List Part
     pub pending : List ℕ
@@ -88,7 +88,7 @@ module _ (limit : ℕ) where
     pub are : AreParts limit (AreRefused limit) parts pending
     pub is_front : IsFront limit pending
 
-  -- where the last byte is needed to tell what they begin with, they are a stretch
+  -- If the last byte is necessary to determine the beginning, then the bytes are a stretch.
   pub stretch_of :
       (bytes : List ℕ) → (IsFront limit bytes → ⊥)
       → (front : List ℕ) × (last : ℕ) × (bytes ≡ front ++ last ∷ []) × IsFront limit front
@@ -103,7 +103,7 @@ module _ (limit : ℕ) where
     is_front = s.is_front;
   }
 
-  -- a value is a stretch of its own: without its last byte it is a front
+  -- A value is a stretch: without its last byte it is a value prefix.
   last_of :
       (bytes : List ℕ) → 0 < length bytes
       → (front : List ℕ) × (last : ℕ) × (bytes ≡ front ++ last ∷ [])
@@ -141,9 +141,9 @@ module _ (limit : ℕ) where
           (value_or_refused limit bytes (length bytes) n tree refusal whole
           (subst (λ b. IsRefused limit b refusal) (sym same) is))
 
-  -- ---- some parts are told of all bytes
+  -- ---- existence of determined parts
 
-  -- the first part, where fewer bytes have theirs
+  -- The first part, by induction on the number of bytes.
   first_settled :
       (b : ℕ) (bytes : List ℕ) → AreBytes (b ∷ bytes) → (judgement : Judgement)
       → Judges limit (b ∷ bytes) judgement
@@ -199,7 +199,7 @@ module _ (limit : ℕ) where
       first_settled b bytes bytes_are j.0 j.1
       (λ more more_are shorter. all_settled n more more_are (omega (arith, fits, shorter)))
 
-  -- bytes are a front or not
+  -- Bytes are a value prefix or not.
   pub front_or :
       (bytes : List ℕ) → AreBytes bytes → IsFront limit bytes ⊎ (IsFront limit bytes → ⊥)
   front_or bytes bytes_are =

@@ -1,4 +1,4 @@
--- Each input has one list of places, which are those of all values.
+-- Each input has exactly one list of places, and it covers all values.
 use Rattle.std.proofs.Common.{◌≡◌, ℕ, zero, suc, ◌+◌, ◌≤◌, List, [], ◌∷◌, ◌++◌, length, take, drop, inl, inr, refl, sym, ap, ◌∙◌, subst, append_assoc, append-nil, length-append, length-drop, take-append-drop, take_at, drop_at, arith}
 use Rattle.std.proofs.lemmas.Bool.{cases_lt}
 use Rattle.std.proofs.lemmas.List.{length-take-le}
@@ -15,14 +15,14 @@ use Rattle.om_format.proofs.JudgementLaws.{spelled_some}
 use Rattle.om_sighting.proofs.FrontLemmas.{front_no_value, refused_no_value}
 use Rattle.om_sighting.proofs.OnceLemmas.{parts_once}
 
--- ---- there is a list
+-- ---- existence of the list
 
 module _ (limit : ℕ) where
   abbrev pub Has : List ℕ → Type 0
   Has bytes =
       (parts : List Part) × (bytes ≡ bytes_of parts) × AreParts limit (BeginNoValue limit) parts []
 
-  -- one byte is passed
+  -- One byte is skipped.
   pass : (b : ℕ) (bytes : List ℕ) → BeginNoValue limit (b ∷ bytes) → Has bytes → Has (b ∷ bytes)
   pass b bytes none (parts, is, are) = (
     passed b ∷ parts,
@@ -30,7 +30,7 @@ module _ (limit : ℕ) where
     (subst (λ x. BeginNoValue limit (b ∷ x)) (is ∙ sym (append-nil (bytes_of parts))) none, are),
   )
 
-  -- the first part, where fewer bytes have their parts
+  -- The first part, by induction on the number of bytes.
   first_part :
       (b : ℕ) (bytes : List ℕ) → AreBytes (b ∷ bytes) → (judgement : Judgement)
       → Judges limit (b ∷ bytes) judgement
@@ -71,7 +71,7 @@ one_list_lemma limit input bytes_are =
           o.3 ∙ ap (places_of 0) (parts_once limit input o.0 h.0 o.1 h.1 o.2 h.2),
     )
 
--- ---- the places are those of all values
+-- ---- the places cover all values
 
 module _ (limit : ℕ) (input : List ℕ) where
   earlier :
@@ -81,13 +81,13 @@ module _ (limit : ℕ) (input : List ℕ) where
   earlier from other (place ∷ places) less (after, is, more) =
       (omega (arith, less, after), is, more)
 
-  -- what is inside a later place is inside
+  -- If an offset is inside a later place, then it is inside one of all places.
   abbrev Covers : List ℕ → List Place → Type 0
   Covers before places =
       (offset size : ℕ) (tree : Tree) → length before ≤ offset
       → IsSpelledAt limit input offset size tree → IsInside offset places
 
-  -- a value that is spelled at these bytes begins what follows them
+  -- If a value is encoded at the offset after these bytes, then the remaining bytes begin with it.
   at_front :
       (before after : List ℕ) (offset size : ℕ) (tree : Tree) → input ≡ before ++ after
       → offset ≡ length before → IsSpelledAt limit input offset size tree

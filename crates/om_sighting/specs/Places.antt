@@ -1,4 +1,4 @@
--- The places at which values stand in an input, and their lines.
+-- The places of values in an input, and their lines.
 use Rattle.std.specs.Prelude.{ℕ, ◌+◌, ◌≡◌, List, [], ◌∷◌, ◌++◌, length, map, codes, decimal}
 use Rattle.om_format.specs.Token.{measure_of}
 use Rattle.om_format.specs.Tree.{Tree, tokens, objects_of, root}
@@ -6,8 +6,8 @@ use Rattle.om_format.specs.Words.{all_words64}
 use Rattle.om_types.specs.VerdictText.{kind_text}
 use Rattle.om_sighting.specs.Parts.{Part, passed, sighted, bytes_of, BeginNoValue, AreParts}
 
--- how many bytes stand before a value, how many it has, how many words its objects take on 64 bits,
--- how many objects it has, and what it is
+-- A place: the offset of a value in bytes, its length in bytes, the size of its objects in 64-bit
+-- words, the number of its objects, and its kind.
 pub record Place : Type 0 where
   pub offset : ℕ
   pub size : ℕ
@@ -24,7 +24,7 @@ place_of offset bytes tree = record {
   kind = kind_text (objects_of tree 0) (root tree 0);
 }
 
--- the places of the values, where so many bytes stand before the parts
+-- The places of the values among the parts, if the parts begin at offset `offset`.
 abbrev pub places_of : ℕ → List Part → List Place
 places_of offset [] = []
 places_of offset (passed byte ∷ parts) = places_of (offset + 1) parts
@@ -33,8 +33,8 @@ places_of offset (sighted bytes tree ∷ parts) =
 
 -- ---- the places of an input
 
--- From left to right: where a value is spelled it has a place, and on after it; a byte at which
--- none begins is passed.
+-- The places of an input, from left to right. If a value is encoded at an offset, it has a place,
+-- and the list continues after it. A byte at which no value begins is skipped.
 abbrev pub ArePlaces : ℕ → List ℕ → List Place → Type 0
 ArePlaces limit input places =
     (parts : List Part) × (input ≡ bytes_of parts)
@@ -42,7 +42,7 @@ ArePlaces limit input places =
 
 -- ---- lines
 
--- OFFSET LENGTH WORDS OBJECTS KIND
+-- The line of a place: OFFSET LENGTH WORDS OBJECTS KIND.
 abbrev pub line_of : Place → List ℕ
 line_of place =
     decimal place.offset ++ codes " " ++ decimal place.size ++ codes " " ++ decimal place.words

@@ -1,14 +1,15 @@
-//! Laws over the definitions. The functions do nothing: what each ensures is the law.
+//! Laws over the definitions, as contracts of lemma functions.
 
 ghost use Rattle.om_sighting.specs.Laws.{HasOneList, ArePlacesOfAll};
 
-/// Under each limit each input has one list of places.
+/// States that each input has exactly one list of places under each limit.
 pub fn one_list()
     ensures { HasOneList }
 {}
 
-/// At each place of the list a value is spelled, as long as is said, and the next one does not come
-/// before its end; and a value that is spelled anywhere else begins inside one of them.
+/// States that a value is encoded at each place of the list, with the stated length, and that
+/// places do not overlap. A value that is encoded at any other offset begins inside one of the
+/// places.
 pub fn places_of_all()
     ensures { ArePlacesOfAll }
 {}

@@ -1,4 +1,4 @@
--- What a site has more, one thing after another.
+-- Additions to a site, one at a time.
 use Rattle.std.proofs.Common.{ℕ, ◌≡◌, ◌∙◌, ◌⊎◌, ⊎_elim, inl, inr, Option, List, [], ◌∷◌, ◌++◌}
 use Rattle.std.proofs.Common.{length, refl, sym, ap, subst, append_assoc}
 use Rattle.std.specs.Prelude.{Contains}
@@ -29,7 +29,7 @@ then_mapped h a b c more last first second =
     then_list a b c (filter_map h more) (filter_map h last) first second
     ∙ ap (λ l. a ++ l) (sym (filter_map-append h more last))
 
--- a row is one of three lists
+-- A row is in one of three lists.
 abbrev Among : List (List Placed) → List (List Placed) → List Occurrence → List Placed → Type 0
 Among old rows all row = Contains old row ⊎ (Contains rows row ⊎ Contains (filter_map as_row all) row)
 
@@ -53,7 +53,7 @@ tags_cases :
 tags_cases more last row among = Contains-append_cases (filter_map as_row more) (filter_map as_row last) row
     (subst (λ (l : List (List Placed)). Contains l row) (filter_map-append as_row more last) among)
 
--- ---- nothing, and one after another
+-- ---- no additions, and consecutive additions
 
 pub Adds-none : (site : Site) → Adds site site [] [] []
 Adds-none site = record {
@@ -92,7 +92,7 @@ Adds-then a b c rows rows' carrying carrying' all all' first second = record {
       first.variables_are second.variables_are;
 }
 
--- ---- one thing more
+-- ---- one more addition
 
 rows_more :
     (old : Site) (row other : List Placed) → Contains (old.rows ++ row ∷ []) other

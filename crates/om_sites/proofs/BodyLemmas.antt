@@ -1,4 +1,4 @@
--- What is added of a body, and of a declaration.
+-- The additions of a body and of a declaration.
 use Rattle.std.proofs.Common.{ℕ, ◌+◌, ◌≡◌, ◌∙◌, false, List, [], ◌∷◌, ◌++◌, length, drop, sym, ap, subst}
 use Rattle.std.proofs.lemmas.List.{drop-drop}
 use Rattle.om_types.specs.Ty.{Ty}
@@ -20,7 +20,7 @@ use Rattle.om_sites.specs.Bodies.{records_of, carrying_of, occurrences_of, const
 use Rattle.om_sites.proofs.FoundLemmas.{AddsFound-then, AddsFound-row, then_row, AreBrackets-added}
 use Rattle.om_sites.proofs.SiteLemmas.{nothing, IsSite-added}
 
--- what is added of a body with the row of its constructors
+-- The additions of a body with the row of its constructors.
 abbrev pub AddsBody : List ℕ → Body → Found → Found → Type 0
 AddsBody ms body a b =
     AddsFound a b (records_in ms body ++ names_in ms body ∷ []) (carrying_body ms body) (in_body ms body)
@@ -59,7 +59,7 @@ module _ (ms name body : List ℕ) (d : Decl) (count : ℕ) (counted : count ≡
   decl_rest rest is = is ∙ ap (drop (body_count d.body)) behind_name
       ∙ drop-drop (body_count d.body) (length d.parameters + 1) ms
 
-  -- what is found of a declaration, from nothing
+  -- The result of a declaration, from the empty result.
   module _ (start first found : Found) (row : List Placed) (empty : start ≡ record { site = nothing; brackets = [] })
       (row_is : row ≡ parameters_in ms d.parameters)
       (put : first ≡ record start { site = record start.site { rows = start.site.rows ++ row ∷ [] } })

@@ -1,4 +1,4 @@
--- Declarations are counted: by the productions of the grammar.
+-- Counting gives the occurrences of declarations, by the productions of the grammar.
 use Rattle.std.proofs.Common.{ℕ, suc, ◌+◌, ◌≡◌, ◌∙◌, Bool, true, false, List, [], ◌∷◌, ◌++◌, length, drop}
 use Rattle.std.proofs.Common.{refl, sym, ap, arith, append_assoc, length-append}
 use Rattle.std.specs.Prelude.{map, slice_index}
@@ -38,7 +38,7 @@ map_same : {X : Type 0} (xs : List X) → map (λ (x : X). x) xs ≡ xs
 map_same [] = refl
 map_same (x ∷ xs) = ap (λ l. x ∷ l) (map_same xs)
 
--- ---- lexemes between things
+-- ---- lexemes between elements
 
 a_semicolon : IsSilent (mark symbols.Semicolon)
 a_semicolon j fresh = refl
@@ -280,7 +280,7 @@ body_counted k (variant_body bar c cs) = ap length (variant_marks k bar c cs)
     (kinds.Symbol symbols.Bar) a_bar (λ j x. refl) (k + length (mark_if bar symbols.Bar)) c cs
 body_counted k (type_body t) = (texpr_stands k false t).counted
 
--- a row of constructors
+-- A row of constructors.
 module _ {Y : Type 0} (of : List ℕ → Constructor → List Y) (in' : ℕ → ConstrTree → List Y)
     (is : IsCounted constr_kinds constructor_of_tree constructor_count of in') where
   constrs_seen :
@@ -430,7 +430,7 @@ made d place parameters records constructors carrying occurrences = record {
   occurrences = occurrences;
 }
 
--- from the lexemes of a declaration and those of its body
+-- A declaration's occurrences from its marks and those of its body.
 abbrev made_from : Decl → List ℕ → List ℕ → DeclPlaces
 made_from d ms body = made d (slice_index ms (length d.parameters)) (parameters_in ms d.parameters)
     (records_in body d.body) (of_constructors name_of_constructor body d.body)

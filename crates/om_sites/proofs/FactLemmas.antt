@@ -1,4 +1,4 @@
--- The facts of one node more.
+-- The facts of one more node.
 use Rattle.std.proofs.Common.{ℕ, ◌+◌, ◌<◌, ◌≤◌, ◌≡◌, ◌∙◌, ⊎_elim, Bool, true, false, not, ◌&&◌, ◌||◌, List, [], ◌∷◌, ◌++◌}
 use Rattle.std.proofs.Common.{length, get_or, Some, refl, sym, ap, subst, arith, length-append}
 use Rattle.std.specs.Prelude.{slice_get}
@@ -34,7 +34,7 @@ grow_last (u ∷ ts) t =
 pub total_is : (types : List Ty) (n : ℕ) (t : Ty) (f : Facts) → IsFacts types n t f → total_of f ≡ capped (inner_count t + own_count t)
 total_is types n t f is = let a = is.inner_is in let b = is.own_is in omega arith
 
--- ---- a node that names no other
+-- ---- a node that refers to no other
 
 leaf_is :
     (types : List Ty) (n : ℕ) (facts : List Facts) (t : Ty) (own : ℕ) (alone : Bool)
@@ -56,7 +56,7 @@ leaf_is types n facts t own alone counted at leaf_t none own_is no_parts holds_i
       begins_there = λ j b arguments items. ap (begins j b arguments items) (sym there);
     }
 
--- ---- a node with a part more than another
+-- ---- a node that extends another by a part
 
 whole_is :
     (types : List Ty) (n w : ℕ) (t u : Ty) (f : Facts) (inner arguments : ℕ) (grows some : Bool)
@@ -149,7 +149,7 @@ node_facts types n facts (nodes.Including w a) small are below at =
     (ap (λ m. capped (m + 1)) f_is.inner_is ∙ cap_one (inner_count t)) (total_is types a u g g_is))
     refl refl (either_same f.holds g.holds (holds t) (holds u) f_is.holds_is g_is.holds_is)
 
--- the next turn of the loop over the nodes
+-- The invariant after one more iteration of the loop over the nodes.
 pub facts_more :
     (nodes : List Node) (i : ℕ) (node : Node) (facts next : List Facts) → length nodes < 18446744073709551616
     → AreOrdered nodes → i < length nodes → node ≡ get_or nodes i node

@@ -1,4 +1,4 @@
--- Declarations are counted: rows of fields, of constructors and of declarations.
+-- Counting gives the occurrences of rows of fields, of constructors and of declarations.
 use Rattle.std.proofs.Common.{ℕ, ◌+◌, ◌≡◌, ◌∙◌, false, List, [], ◌∷◌, ◌++◌, length, drop}
 use Rattle.std.proofs.Common.{refl, ap, arith, append_assoc, length-append}
 use Rattle.std.specs.Prelude.{map}
@@ -12,14 +12,14 @@ use Rattle.om_sites.proofs.StandLemmas.{IsSilent, IsClosed, closed_last, after_a
 
 -- ---- rows
 
--- what stands in a thing by its lexemes is what stands in it by counting
+-- Counting gives the occurrences of an element by its lexemes.
 pub record IsCounted {T X Y : Type 0} (spelled : T → Kinds) (made : T → X) (count : X → ℕ)
     (of : List ℕ → X → List Y) (in' : ℕ → T → List Y) : Type 0 where
   pub closed : (t : T) → IsClosed (spelled t)
   pub counted : (k : ℕ) (t : T) → length (marks k false (spelled t)) ≡ count (made t)
   pub seen : (k : ℕ) (t : T) (rest : List ℕ) → of (marks k false (spelled t) ++ rest) (made t) ≡ in' k t
 
--- things with a lexeme between them, behind which no item begins in them
+-- Elements with one lexeme between them, after which no item begins.
 module _ {T X Y : Type 0} (spelled : T → Kinds) (made : T → X) (count : X → ℕ)
     (of : List ℕ → X → List Y) (in' : ℕ → T → List Y) (is : IsCounted spelled made count of in')
     (before : LexemeKind) (silent : IsSilent (before ∷ []))
@@ -51,7 +51,7 @@ module _ {T X Y : Type 0} (spelled : T → Kinds) (made : T → X) (count : X �
       ∙ ap (λ n. n + length (marks j false (others ts))) (is.counted (k + 1) t)
       ∙ ap (λ n. count (made t) + n) (more_counted j ts)
 
-  -- one, and the others after it
+  -- One element, and the others after it.
   pub then_along :
       (k j : ℕ) (t : T) (ts : List T) (rest : List ℕ)
       → along count of (marks j false (others ts) ++ rest) (map made ts) ≡ spread (λ x. length (spelled x)) in' j ts
@@ -75,7 +75,7 @@ module _ {T X Y : Type 0} (spelled : T → Kinds) (made : T → X) (count : X �
       ap (λ ms. along count of (ms ++ rest) (map made (t ∷ ts))) (marks_next k t ts)
       ∙ then_along (k + 1) (k + 1 + length (spelled t)) t ts rest (more_seen (k + 1 + length (spelled t)) ts rest)
 
-  -- a row that begins with lexeme k
+  -- The marks of a row that begins with lexeme `k`.
   row_marks :
       (k : ℕ) (t : T) (ts : List T)
       → marks k false (spelled t ++ others ts)
@@ -101,7 +101,7 @@ module _ {T X Y : Type 0} (spelled : T → Kinds) (made : T → X) (count : X �
       ap (λ ms. along count of (ms ++ rest) (map made (t ∷ ts))) (row_marks k t ts)
       ∙ then_along k (k + length (spelled t)) t ts rest (more_seen (k + length (spelled t)) ts rest)
 
-  -- behind a row no item begins
+  -- After a row, no item begins.
   pub others_closed : (ts : List T) → after false (others ts) ≡ false
   others_closed [] = refl
   others_closed (t ∷ ts) =

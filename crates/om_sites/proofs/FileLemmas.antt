@@ -1,4 +1,4 @@
--- The sites of declarations, one after another.
+-- The sites of declarations, one at a time.
 use Rattle.std.proofs.Common.{ℕ, zero, suc, ◌+◌, ◌<◌, ◌≤◌, ◌≡◌, ◌∙◌, List, [], ◌∷◌, ◌++◌, Some, length, drop, get_or, false}
 use Rattle.std.proofs.Common.{refl, sym, ap, subst, arith, append_assoc}
 use Rattle.std.specs.Prelude.{slice_get, slice_index}
@@ -49,7 +49,8 @@ AreSites-cons decls names sites all site d is are = record {
       subst (λ x. IsSite x e) (same_Some site s s_is) (subst (IsSite site) (same_Some d e e_is) is)
   stand (suc i) s e s_is e_is = are.stand i s e s_is e_is
 
--- with sites of what is left, those so far are the sites of all
+-- The sites so far, followed by those of the remaining declarations, are the sites of all
+-- declarations.
 pub record FileFollows (ms : List ℕ) (decls : List Decl) (names : List Placed) (sites : List Site)
     (rest : List ℕ) (left : List Decl) : Type 0 where
   pub are :
@@ -124,7 +125,8 @@ AreFileBrackets-cons found all brackets d is are = record { counted = ap suc are
       (subst (λ (x : DeclPlaces). AreBrackets brackets x.occurrences) (same_Some d e e_is) is)
   stand (suc i) b e b_is e_is = are.stand i b e b_is e_is
 
--- with those of what is left, those so far are the brackets of all
+-- The brackets so far, followed by those of the remaining declarations, are the brackets of all
+-- declarations.
 pub record BracketsFollow (ms : List ℕ) (decls : List Decl) (found : List (List TypeBrackets)) (rest : List ℕ)
     (left : List Decl) : Type 0 where
   pub are :
@@ -159,7 +161,7 @@ BracketsFollow-end ms decls found rest i past follows =
     subst (BracketsFollow ms decls found rest) (drop_all i decls past) follows in
     subst (λ l. AreFileBrackets l (counted_file ms decls)) (append-nil found) (so_far.are [] AreFileBrackets-none)
 
--- ---- the text whose tree is known
+-- ---- a text whose syntax tree is known
 
 module _ (lexemes : List Lexeme) (decls : List Decl) (places : List ℕ) (tree : FileTree)
     (spelled : file_kinds tree ≡ kinds_of lexemes) (stand : decls ≡ declarations_of tree)

@@ -1,4 +1,4 @@
--- What is found more, one thing after another.
+-- Additions to a result, one at a time.
 use Rattle.std.proofs.Common.{ℕ, ◌≡◌, ◌∙◌, List, [], ◌∷◌, ◌++◌, sym, ap, subst, append_assoc}
 use Rattle.std.specs.Prelude.{All}
 use Rattle.std.proofs.lemmas.Grind.{flat_map-append}
@@ -15,9 +15,10 @@ use Rattle.om_scope.specs.Brackets.{as_bracket, brackets_among, brackets_told, t
 use Rattle.om_sites.specs.Found.{AddsFound}
 use Rattle.om_sites.proofs.AddsLemmas.{Adds-none, Adds-then, Adds-row, Adds-carrying, then_mapped}
 
--- ---- brackets, one occurrence after another
+-- ---- brackets, one occurrence at a time
 
--- what is left leads to all, and so it does after some of it
+-- If the remaining occurrences complete the brackets, then they do so after the first of them is
+-- added.
 pub told_next :
     (old new whole : List (List PlacedItem)) (left first rest : List Occurrence) → left ≡ first ++ rest
     → new ≡ old ++ brackets_among first → old ++ brackets_among left ≡ whole
@@ -29,7 +30,7 @@ told_next old new whole left first rest is more so_far =
     ∙ ap (λ l. old ++ brackets_among l) (sym is)
     ∙ so_far
 
--- ---- what is found
+-- ---- results
 
 pub AddsFound-none : (found : Found) → AddsFound found found [] [] []
 AddsFound-none found = record {
@@ -49,9 +50,9 @@ AddsFound-then a b c rows rows' carrying carrying' all all' first second = recor
       first.brackets second.brackets;
 }
 
--- ---- one thing more, where no bracket is added
+-- ---- one more addition without a bracket
 
--- what is added to the site alone
+-- An addition to the site only.
 site_alone :
     (old : Found) (site : Site) (rows : List (List Placed)) (carrying : List ℕ) → Adds old.site site rows carrying []
     → AddsFound old (record old { site = site }) rows carrying []
@@ -79,7 +80,7 @@ AddsFound-carrying old new carrying is =
     subst (λ (f : Found). AddsFound old f [] carrying []) (sym is)
     (site_alone old site [] carrying (Adds-carrying old.site site carrying (λ i. site)))
 
--- ---- what was added, and one thing more
+-- ---- consecutive additions
 
 pub then_row :
     (a b c : Found) (rows : List (List Placed)) (carrying : List ℕ) (all : List Occurrence) (row : List Placed)
@@ -99,7 +100,7 @@ carrying_then a b c rows carrying all is adds =
     subst (λ l. AddsFound a c rows l all) (append-nil carrying)
     (AddsFound-then a b c [] rows carrying [] [] all (AddsFound-carrying a b carrying is) adds)
 
--- ---- the brackets of a type more
+-- ---- the brackets of one more type
 
 pub told_more :
     (old : List TypeBrackets) (t : TypeBrackets) → all_told (old ++ t ∷ []) ≡ all_told old ++ type_told t
@@ -115,7 +116,7 @@ pub AddsFound-type :
 AddsFound-type old new types brackets all adds same ordered told =
     record { site = adds; ordered = ordered; brackets = told ∙ ap (λ l. all_told old.brackets ++ l) same }
 
--- ---- what is added to nothing
+-- ---- additions to the empty result
 
 pub AreBrackets-added :
     (old new : Found) (rows : List (List Placed)) (carrying : List ℕ) (all : List Occurrence)

@@ -1,4 +1,4 @@
--- The items of brackets, and the tags that they write, node by node.
+-- The items of brackets, and the tags among them, node by node.
 use Rattle.std.proofs.Common.{ℕ, ◌+◌, ◌<◌, ◌≡◌, ◌∙◌, ⊎_elim, List, [], ◌∷◌, ◌++◌, Option, Some, None}
 use Rattle.std.proofs.Common.{length, drop, get_or, refl, sym, ap, subst, arith, append_assoc}
 use Rattle.std.specs.Prelude.{slice_index, slice_get, reverse}
@@ -25,7 +25,7 @@ use Rattle.om_sites.proofs.WalkLemmas.{place_of, type_at-node, node_below}
 
 -- ---- the items of a bracket
 
--- the items of a bracket are those without the last one, and that
+-- The items of a bracket are the last one and those without it.
 items_more :
     (types : List Ty) (ms : List ℕ) (n : ℕ) (node : Node) (w : ℕ) → without_item node ≡ Some w
     → type_at types n ≡ type_of_node types node
@@ -61,7 +61,7 @@ items_none types ms (nodes.Tag v x) is = absurd (none-some v (sym is))
 items_none types ms (nodes.TagOf v x a) is = absurd (none-some v (sym is))
 items_none types ms (nodes.Including v u) is = absurd (none-some v (sym is))
 
--- no item is left
+-- No item is left.
 pub items_end :
     (types : List Ty) (ms : List ℕ) (n : ℕ) (node : Node) (items : List BracketItem) (whole : List PlacedItem)
     → without_item node ≡ None → type_at types n ≡ type_of_node types node
@@ -80,7 +80,7 @@ item_below n w (nodes.Tag v x) is below = subst (λ m. m < n) (same_Some v w is)
 item_below n w (nodes.TagOf v x a) is below = subst (λ m. m < n) (same_Some v w is) below.0
 item_below n w (nodes.Including v u) is below = subst (λ m. m < n) (same_Some v w is) below.0
 
--- the next turn of the loop down the items
+-- The invariant after one more iteration of the loop over the items.
 module _ (all : List Node) (ordered : AreOrdered all) (facts : List Facts)
     (are : AreFacts (types_of all) (length all) facts) (ms : List ℕ) (small : length ms < 18446744073709551616)
     (first n w : ℕ) (node : Node) (below : n < length all) (read : node ≡ get_or all n node)
@@ -109,7 +109,7 @@ module _ (all : List Node) (ordered : AreOrdered all) (facts : List Facts)
       (sym (items_more types (drop first ms) n node w is (type_at-node all n node ordered below read)))
       ∙ so_far
 
--- ---- the tags that items write
+-- ---- the tags of items
 
 tag_of_node :
     (types : List Ty) (place : ℕ) (node : Node)
@@ -123,7 +123,7 @@ tag_of_node types place (nodes.Tag w x) = refl
 tag_of_node types place (nodes.TagOf w x a) = refl
 tag_of_node types place (nodes.Including w u) = refl
 
--- the tag of an item is that of its node
+-- The tag of an item is that of its node.
 tag_told :
     (all : List Node) (i : BracketItem) → AreOrdered all
     → filter_map written_tag (item_told (types_of all) i ∷ []) ≡ tag_there all i
@@ -142,7 +142,7 @@ tag_told all i ordered = by (slice_get all i.node) refl where
       ap (λ t. filter_map written_tag ((i.place, item_of t) ∷ [])) at ∙ ap (tag_if i.place) (sym is))
       (cases_lt i.node (length all))
 
--- the next turn of the loop along the items
+-- The invariant after one more iteration of the loop over the items.
 pub tags_turn :
     (all : List Node) (items : List BracketItem) (k : ℕ) (e : BracketItem) (row next whole : List Placed)
     → AreOrdered all → k < length items → next ≡ row ++ tag_there all (get_or items k e)

@@ -1,4 +1,4 @@
--- Loops over what stands one after another: what is still to be added.
+-- Loops over lists, by the remaining additions.
 use Rattle.std.proofs.Common.{ℕ, ◌+◌, ◌<◌, ◌≤◌, ◌≡◌, ◌∙◌, List, [], ◌∷◌, ◌++◌, length, drop, get_or}
 use Rattle.std.proofs.Common.{refl, sym, ap, subst, append_assoc}
 use Rattle.std.proofs.lemmas.List.{append-nil, drop-drop, drop_more, drop_all}
@@ -8,20 +8,20 @@ use Rattle.om_sites.specs.CountedFile.{along, count_all}
 use Rattle.om_sites.specs.Found.{AddsFound}
 use Rattle.om_sites.proofs.FoundLemmas.{AddsFound-none, AddsFound-then}
 
--- what is left begins with the element at hand
+-- The remaining list begins with the current element.
 pub left_is :
     {X : Type 0} (xs : List X) (i : ℕ) (x : X) → i < length xs → x ≡ get_or xs i x
     → drop i xs ≡ x ∷ drop (i + 1) xs
 left_is xs i x below read = drop_more xs i x below ∙ ap (λ y. y ∷ drop (i + 1) xs) (sym read)
 
--- nothing of each is nothing
+-- If each element has an empty result, then the list has an empty result.
 pub along_none :
     {X Y : Type 0} (count : X → ℕ) (ms : List ℕ) (xs : List X) → along {X = X} {Y = Y} count (λ at x. []) ms xs ≡ []
 along_none count ms [] = refl
 along_none count ms (x ∷ xs) = along_none count (drop (count x) ms) xs
 
--- From what is found at hand, what is left leads to where all leads from the start; and the places that
--- are left are those behind all.
+-- From the current result, the remaining elements give the result that all elements give from the
+-- start, and the remaining marks are those after all elements.
 pub record Follows {X : Type 0} (count : X → ℕ) (rows : List ℕ → X → List (List Placed))
     (carrying : List ℕ → X → List ℕ) (seen : List ℕ → X → List Occurrence) (start : Found) (ms : List ℕ)
     (all : List X) (found : Found) (rest : List ℕ) (left : List X) : Type 0 where
@@ -31,7 +31,7 @@ pub record Follows {X : Type 0} (count : X → ℕ) (rows : List ℕ → X → L
       → AddsFound start last (along count rows ms all) (along count carrying ms all) (along count seen ms all)
   pub rest_is : drop (count_all count left) rest ≡ drop (count_all count all) ms
 
--- the row of names, and what is left
+-- The row of names so far, and the remaining names.
 pub record RowFollows {X : Type 0} (count : X → ℕ) (name : List ℕ → X → List Placed) (ms : List ℕ)
     (all : List X) (row : List Placed) (rest : List ℕ) (left : List X) : Type 0 where
   pub row_is : row ++ along count name rest left ≡ along count name ms all
@@ -107,7 +107,7 @@ module _ {X : Type 0} (count : X → ℕ) (rows : List ℕ → X → List (List 
   Follows-end found rest i past follows = Follows-last found rest
       (subst (Follows count rows carrying seen start ms all found rest) (drop_all i all past) follows)
 
--- the same where no row and no lexeme of a constructor is added
+-- The invariant without rows and without lexemes of constructors.
 pub Follows-plain :
     {X : Type 0} (count : X → ℕ) (seen : List ℕ → X → List Occurrence) (start : Found) (ms : List ℕ)
     (all : List X) (found : Found) (rest : List ℕ) (i : ℕ) → length all ≤ i

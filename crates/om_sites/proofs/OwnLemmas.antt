@@ -1,4 +1,4 @@
--- What a type begins with, node by node.
+-- The beginnings of types, node by node.
 use Rattle.std.proofs.Common.{ℕ, ◌+◌, ◌<◌, ◌≤◌, ◌≡◌, ◌∙◌, get_or, true, false, cond, List, [], ◌∷◌, ◌++◌}
 use Rattle.std.proofs.Common.{length, drop, refl, sym, ap, subst, arith}
 use Rattle.std.specs.Prelude.{slice_index}
@@ -21,7 +21,7 @@ use Rattle.om_sites.specs.Adds.{Adds}
 use Rattle.om_sites.proofs.AddsLemmas.{Adds-none, Adds-variable, Adds-use, Adds-bracket}
 use Rattle.om_sites.proofs.WalkLemmas.{place_of, type_at-node}
 
--- ---- what a type begins with
+-- ---- the beginning of a type
 
 module _ (types : List Ty) (n : ℕ) (facts : List Facts) (are : AreFacts types n facts) (ms : List ℕ)
     (small : length ms < 18446744073709551616) (task : Task) (below : task.node < n) where
@@ -43,7 +43,7 @@ module _ (types : List Ty) (n : ℕ) (facts : List Facts) (are : AreFacts types 
   skipped_brackets brackets is =
       sym (append-nil brackets) ∙ ap (λ l. brackets ++ brackets_among l) (sym (own_skipped is))
 
-  -- it is told by the node that the type begins with
+  -- The node with which the type begins determines the occurrence.
   pub own_told :
       (node : Node) (place : ℕ) → task.whole ≡ true → type_at types known.base ≡ type_of_node types node
       → place ≡ slice_index ms (capped (task.first + known.inner))
@@ -57,7 +57,7 @@ module _ (types : List Ty) (n : ℕ) (facts : List Facts) (are : AreFacts types 
       (sym (place_is ∙ own_place))
       ∙ ap (λ t. begins place task.in_tag (parts type) (items_in (drop task.first ms) type) t) at
 
--- ---- what is put of it
+-- ---- the additions for it
 
 module _ (all : List Node) (ordered : AreOrdered all) (facts : List Facts)
     (are : AreFacts (types_of all) (length all) facts) (ms : List ℕ) (small : length ms < 18446744073709551616)
@@ -85,7 +85,7 @@ module _ (all : List Node) (ordered : AreOrdered all) (facts : List Facts)
       (base_is ∙ ap (type_of_node types) is)
       (place_is ∙ ap (λ (f : Facts). slice_index ms (capped (task.first + f.inner))) known_is)
 
-  -- it is what begins there, where nothing is a bracket
+  -- If the occurrence is not a bracket, then no bracket is added.
   none_there :
       (old : List (List PlacedItem)) (all : List Occurrence) → shown ≡ all → brackets_among all ≡ []
       → old ≡ old ++ brackets_among shown

@@ -1,4 +1,4 @@
--- What is added to nothing is what the rules of scope ask for.
+-- The additions to the empty site are the site that the scope rules require.
 use Rattle.std.proofs.Common.{ℕ, ◌≡◌, ◌⊎◌, ⊎_elim, inl, inr, Bool, true, false, not, ◌&&◌, ◌||◌, List, [], ◌∷◌}
 use Rattle.std.proofs.Common.{◌++◌, Some, length, refl, sym, ap, subst}
 use Rattle.std.specs.Prelude.{Contains, IsTrue, ◌↔◌}
@@ -149,7 +149,7 @@ tag_row_there all row is =
 abbrev pub nothing : Site
 nothing = record { rows = []; carrying = []; uses = []; variables = [] }
 
--- where nothing but occurrences was added
+-- If only occurrences were added, then the site is that of a type.
 pub IsTypeSite-added :
     (site : Site) (all : List Occurrence) → Adds nothing site [] [] all
     → IsTypeSite (record { rows = site.rows; uses = site.uses }) all
@@ -160,7 +160,7 @@ IsTypeSite-added site all adds = record {
   used = uses_are site.uses all adds.uses_are;
 }
 
--- the rows of a declaration are its parameters, its records and its constructors
+-- The rows of a declaration are its parameters, its records and its constructors.
 pub IsSite-added :
     (site : Site) (d : DeclPlaces)
     → Adds nothing site (d.parameters ∷ (d.records ++ d.constructors ∷ [])) d.carrying d.occurrences

@@ -1,5 +1,5 @@
--- Lexemes that are a type, or the parts of one, with what stands in them. This serves the law that
--- types are counted.
+-- The lexemes of a type, or of its parts, with the occurrences in them. These lemmas serve the law
+-- that types are counted.
 use Rattle.std.proofs.Common.{ℕ, suc, ◌+◌, ◌≡◌, ◌∙◌, Bool, false, List, [], ◌∷◌, ◌++◌, length, drop}
 use Rattle.std.proofs.Common.{refl, sym, ap, arith, append_assoc, length-append}
 use Rattle.std.specs.Prelude.{◌&&◌, slice_index}
@@ -32,11 +32,11 @@ marks_append k fresh (x ∷ xs) ys =
     ∙ ap (λ l. first ++ l) (sym (append_assoc second others rest))
     ∙ sym (append_assoc first (second ++ others) rest)
 
--- lexemes without a mark
+-- Lexemes without a mark.
 abbrev pub IsSilent : Kinds → Type 0
 IsSilent gap = (j : ℕ) (fresh : Bool) → marks j fresh gap ≡ []
 
--- no item begins behind them
+-- No item begins after these lexemes.
 abbrev pub IsClosed : Kinds → Type 0
 IsClosed xs = (fresh : Bool) → after fresh xs ≡ false
 
@@ -54,7 +54,7 @@ pub marks_after :
 marks_after k fresh gap ys silent = marks_append k fresh gap ys
     ∙ ap (λ l. l ++ marks (k + length gap) (after fresh gap) ys) (silent k fresh)
 
--- over one lexeme
+-- The marks on both sides of a lexeme without a mark.
 pub marks_over :
     (k : ℕ) (fresh : Bool) (xs : Kinds) (x : LexemeKind) (ys : Kinds) → IsSilent (x ∷ [])
     → marks k fresh ((xs ++ x ∷ []) ++ ys)
@@ -72,17 +72,17 @@ marks_over k fresh xs x ys silent =
 abbrev pub total : Ty → ℕ
 total t = inner_count t + own_count t
 
--- these are the marks of the type
+-- These are the marks of the type, with its occurrences.
 pub record Stands (b : Bool) (ms : List ℕ) (t : Ty) (all : List Occurrence) : Type 0 where
   pub counted : length ms ≡ total t
   pub seen : (rest : List ℕ) → in_type (ms ++ rest) b t ≡ all
 
--- these are those of its parts
+-- These are the marks of the type's parts, with their occurrences.
 pub record Inside (b : Bool) (ms : List ℕ) (t : Ty) (all : List Occurrence) : Type 0 where
   pub counted : length ms ≡ inner_count t
   pub seen : (rest : List ℕ) → inner (ms ++ rest) b t ≡ all
 
--- a first part
+-- The first part.
 pub first_part :
     (b : Bool) (ms : List ℕ) (w a : Ty) (all : List Occurrence) → inner_count w ≡ 0
     → ((ns : List ℕ) → inner ns b w ≡ []) → Stands b ms a all → Inside b ms (part w a) all
@@ -93,7 +93,7 @@ first_part b ms w a all none empty s = record {
       ∙ ap (λ n. in_type (drop n ns) b a) none ∙ s.seen rest;
 }
 
--- one part more
+-- One more part.
 pub next_part :
     (b : Bool) (ms ns : List ℕ) (w a whole : Ty) (one other : List Occurrence)
     → inner_count whole ≡ inner_count w + total a
@@ -110,7 +110,7 @@ next_part b ms ns w a whole one other count put i s = record {
       ∙ ap (λ l. one ++ l) (s.seen rest);
 }
 
--- nothing of its own, as a tuple
+-- A type without an occurrence of its own, for example a tuple.
 pub alone :
     (b : Bool) (ms : List ℕ) (t : Ty) (all : List Occurrence) → own_count t ≡ 0
     → ((j : ℕ) (arguments : List Ty) (items : List PlacedItem) → begins j b arguments items t ≡ [])
@@ -122,7 +122,7 @@ alone b ms t all none empty i = record {
       ∙ i.seen rest;
 }
 
--- a name after its arguments
+-- A name after its arguments.
 pub with_name :
     (b : Bool) (ms : List ℕ) (j : ℕ) (name : Name) (t : Ty) (all : List Occurrence) → own_count t ≡ 1
     → ((i : ℕ) (arguments : List Ty) (items : List PlacedItem)
@@ -141,11 +141,11 @@ with_name b ms j name t all one named i = record {
 
 -- ---- items of a bracket
 
--- the items that these marks are of
+-- These are the marks of the items.
 abbrev pub Writes : List ℕ → Ty → List PlacedItem → Type 0
 Writes ms w items = (rest : List ℕ) → items_in (ms ++ rest) w ≡ items
 
--- a tag alone
+-- A tag without an argument.
 pub next_tag :
     (b : Bool) (ms : List ℕ) (j : ℕ) (name : Name) (w : Ty) (one : List Occurrence)
     → Inside b ms w one → Inside b (ms ++ j ∷ []) (tag w name) (one ++ [])
@@ -155,7 +155,7 @@ next_tag b ms j name w one i = record {
       ∙ i.seen (j ∷ rest) ∙ sym (append-nil one);
 }
 
--- a tag with an argument, or an included type
+-- A tag with an argument, or an included type.
 pub next_item :
     (b c : Bool) (ms : List ℕ) (j : ℕ) (ns : List ℕ) (w a whole : Ty) (one other : List Occurrence)
     → inner_count whole ≡ inner_count w + 1 + total a

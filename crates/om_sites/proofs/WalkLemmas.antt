@@ -1,4 +1,4 @@
--- What a walk has still to see, step by step.
+-- The remaining occurrences of a traversal, step by step.
 use Rattle.std.proofs.Common.{ℕ, ◌+◌, ◌<◌, ◌≡◌, ◌∙◌, ⊎_elim, Bool, true, List, [], ◌∷◌, ◌++◌}
 use Rattle.std.proofs.Common.{length, drop, take, ◌-◌, refl, sym, ap, subst, arith, append_assoc, get_or}
 use Rattle.std.specs.Prelude.{slice_index}
@@ -17,7 +17,7 @@ use Rattle.om_sites.specs.Facts.{capped, fact_at, AreFacts}
 use Rattle.om_sites.specs.Walk.{inner_task, whole_task, behind, tasks_of, weight, task_own, task_inner}
 use Rattle.om_sites.specs.Walk.{task_seen, stack_seen, stack_weight, AreBelow}
 
--- ---- places past the end
+-- ---- marks beyond the end
 
 pub drop_capped : (n : ℕ) (ms : List ℕ) → length ms < 18446744073709551616 → drop (capped n) ms ≡ drop n ms
 drop_capped n ms small = ⊎_elim
@@ -32,7 +32,7 @@ index_capped n ms small = ⊎_elim
     (λ past. get_or_past ms (capped n) 0 (omega arith) ∙ sym (get_or_past ms n 0 (omega arith)))
     (cases_lt n 18446744073709551615)
 
--- a place of a part
+-- The mark of a part.
 pub place_of :
     (first inside n : ℕ) (ms : List ℕ) → length ms < 18446744073709551616 → inside ≡ capped n
     → slice_index ms (capped (first + inside)) ≡ slice_index (drop first ms) n
@@ -40,7 +40,7 @@ place_of first inside n ms small is =
     let e : capped (first + inside) ≡ capped (first + n) = omega arith in
     ap (λ m. slice_index ms m) e ∙ index_capped (first + n) ms small ∙ sym (get_or-drop first ms n 0)
 
--- the places behind a part
+-- The marks after a part.
 behind_part :
     (first inside n : ℕ) (ms : List ℕ) → length ms < 18446744073709551616 → inside ≡ capped n
     → drop (capped (first + inside)) ms ≡ drop n (drop first ms)
@@ -70,7 +70,7 @@ pub node_below :
 node_below all i node ordered below read =
     ordered i node (slice_get_read all (length all) i node refl below read)
 
--- no node is the empty tuple
+-- A list without nodes denotes the empty tuple.
 pub no_nodes : (all : List Node) (t : Ty) → length all ≡ 0 → type_of all ≡ t → t ≡ tuple
 unfolding type_of types_of
 no_nodes all t none is = sym is ∙ ap (λ l. type_of l) (nil_from_length all none)
@@ -79,7 +79,7 @@ pub last_type : (all : List Node) (t : Ty) → type_of all ≡ t → type_at (ty
 unfolding type_of
 last_type all t is = is
 
--- ---- tasks one after another
+-- ---- one task at a time
 
 stack_seen-append :
     (types : List Ty) (ms : List ℕ) (xs ys : List Task)
@@ -116,7 +116,7 @@ module _ (types : List Ty) (facts : List Facts) (n : ℕ) (are : AreFacts types 
   abbrev from : List ℕ
   from = drop task.first ms
 
-  -- a part, whose marks are these
+  -- A part with these marks.
   part_seen :
       (w a first : ℕ) (in_tag : Bool) (at : List ℕ) → drop first ms ≡ at
       → stack_seen types ms (whole_task a first in_tag ∷ inner_task task w ∷ [])
@@ -172,16 +172,16 @@ parts_below facts n task (nodes.TagOf w x a) below within =
 parts_below facts n task (nodes.Including w u) below within =
     let i = below.0 in let j = below.1 in (omega arith, (omega arith, tt))
 
--- ---- the next turn of the walk
+-- ---- the next step of the traversal
 
--- the task that was taken
+-- The node of the task that was popped exists.
 pub popped_below :
     (n : ℕ) (tasks kept : List Task) (task : Task) → tasks ≡ kept ++ task ∷ [] → AreBelow n tasks
     → task.node < n
 popped_below n tasks kept task popped below =
     (AreBelow-back n kept (task ∷ []) (subst (AreBelow n) popped below)).0
 
--- no task is left
+-- No task is left.
 pub none_left :
     (tasks kept : List Task) (n : ℕ) → tasks ≡ kept ++ [] → kept ≡ take (n - 1) tasks → n ≡ 0 → tasks ≡ []
 none_left tasks kept n popped rest none =

@@ -1,4 +1,4 @@
--- What the rules of scope read of occurrences, and what a site has more than another.
+-- The data that the scope rules read from occurrences, and the additions to a site.
 use Rattle.std.specs.Prelude.{ℕ, ◌≡◌, ◌⊎◌, Option, Some, None, List, ◌++◌, length, Contains}
 use Rattle.std.specs.List.{filter_map}
 use Rattle.om_types.specs.Occurrence.{Placed, Occurrence, use_of, variable_at, bracket_of}
@@ -23,14 +23,14 @@ as_variable (use_of k name arguments in_tag) = None
 as_variable (variable_at k name) = Some (k, name)
 as_variable (bracket_of items) = None
 
--- the tags that a bracket writes
+-- The row of the tags in a bracket.
 abbrev pub as_row : Occurrence → Option (List Placed)
 as_row (use_of k name arguments in_tag) = None
 as_row (variable_at k name) = None
 as_row (bracket_of items) = Some (filter_map written_tag items)
 
--- The new site has these rows more, these lexemes of constructors, and what the rules read of these
--- occurrences. Rows are told as a set.
+-- The new site extends the old one by these rows, by these lexemes of constructors, and by the data
+-- of these occurrences. The order of rows is left open.
 pub record Adds (old new : Site) (rows : List (List Placed)) (carrying : List ℕ)
     (all : List Occurrence) : Type 0 where
   pub rows_are :

@@ -1,4 +1,4 @@
--- What stands in the body of a declaration, constructor by constructor.
+-- The occurrences in the body of a declaration, constructor by constructor.
 use Rattle.std.specs.Prelude.{ℕ, List, [], ◌∷◌, drop}
 use Rattle.om_types.specs.declared.decl.Constructor.{Constructor}
 use Rattle.om_types.specs.declared.decl.Body.{Body}

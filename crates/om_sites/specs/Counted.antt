@@ -1,5 +1,5 @@
--- What stands where in a type, by the tree of the type itself: the n-th name, tag, variable or
--- included type of the type stands at the n-th mark of its text.
+-- The occurrences in a type, by the tree of the type: its n-th name, tag, variable or included type
+-- is at the n-th mark of its text.
 use Rattle.std.specs.Prelude.{ℕ, suc, ◌+◌, Bool, true, false, List, [], ◌∷◌, ◌++◌}
 use Rattle.std.specs.Prelude.{◌&&◌, drop, slice_index, if◌then◌else◌}
 use Rattle.om_lex.specs.declared.lexeme.LexemeKind.{LexemeKind}
@@ -12,7 +12,7 @@ use Rattle.om_types.specs.Occurrence.{Occurrence, PlacedItem, use_of, variable_a
 
 -- ---- lexemes
 
--- a name, a tag or a variable
+-- The lexeme is a name, a tag or a variable.
 abbrev pub is_marked : LexemeKind → Bool
 is_marked (kinds.Lower name) = true
 is_marked (kinds.Upper name) = true
@@ -20,13 +20,13 @@ is_marked (kinds.Tag name) = true
 is_marked (kinds.Variable name) = true
 is_marked kind = false
 
--- an item of a bracket may begin behind it
+-- An item of a bracket may begin after the lexeme.
 abbrev pub opens_item : LexemeKind → Bool
 opens_item (kinds.Symbol symbols.OpenBracket) = true
 opens_item (kinds.Symbol symbols.Bar) = true
 opens_item kind = false
 
--- an item that is a type may begin with it
+-- An item that is a type may begin with the lexeme.
 abbrev pub begins_type : LexemeKind → Bool
 begins_type (kinds.Lower name) = true
 begins_type (kinds.Variable name) = true
@@ -34,7 +34,7 @@ begins_type (kinds.Symbol symbols.OpenParen) = true
 begins_type (kinds.Symbol symbols.OpenBracket) = true
 begins_type kind = false
 
--- whether an item may begin behind these
+-- An item may begin after these lexemes.
 abbrev pub after : Bool → Kinds → Bool
 after fresh [] = fresh
 after fresh (kind ∷ more) = after (opens_item kind) more
@@ -42,9 +42,9 @@ after fresh (kind ∷ more) = after (opens_item kind) more
 abbrev pub one_if : Bool → ℕ → List ℕ
 one_if test k = if test then k ∷ [] else []
 
--- The marks of these lexemes, the first of which is lexeme k: each name, tag and variable, and
--- before them the first lexeme of each included type. Fresh says whether an item may begin with the
--- first.
+-- The marks of these lexemes, the first of which has index `k`: each name, tag and variable, and
+-- before them the first lexeme of each included type. `fresh` says whether an item may begin with
+-- the first lexeme.
 abbrev pub marks : ℕ → Bool → Kinds → List ℕ
 marks k fresh [] = []
 marks k fresh (kind ∷ more) =
@@ -53,7 +53,7 @@ marks k fresh (kind ∷ more) =
 
 -- ---- types
 
--- whether the type is a variable, or begins with a name that its parts are arguments of
+-- 1 if the type is a variable, or begins with a name whose arguments are its parts.
 abbrev pub own_count : Ty → ℕ
 own_count (variable x) = 1
 own_count (named x) = 1
@@ -64,7 +64,7 @@ own_count (tag whole x) = own_count whole
 own_count (tag_of whole x argument) = own_count whole
 own_count (including whole included) = own_count whole
 
--- how many marks the parts of a type have
+-- The number of marks in the parts of a type.
 abbrev pub inner_count : Ty → ℕ
 inner_count (variable x) = 0
 inner_count (named x) = 0
@@ -77,8 +77,8 @@ inner_count (tag_of whole x argument) =
 inner_count (including whole included) =
     inner_count whole + 1 + (inner_count included + own_count included)
 
--- The items of a bracket, each with its first lexeme; the first of the bracket's marks stands at
--- the first of these lexemes.
+-- The items of a bracket, each with its first lexeme. `ms` begins with the first mark of the
+-- bracket.
 abbrev pub items_in : List ℕ → Ty → List PlacedItem
 items_in ms (tag whole x) =
     items_in ms whole ++ (slice_index ms (inner_count whole), tag bracket x) ∷ []
@@ -88,7 +88,7 @@ items_in ms (including whole included) =
     items_in ms whole ++ (slice_index ms (inner_count whole), including bracket included) ∷ []
 items_in ms t = []
 
--- the variable, the name or the bracket that a type begins with
+-- The variable, name or bracket with which a type begins.
 abbrev pub begins : ℕ → Bool → List Ty → List PlacedItem → Ty → List Occurrence
 begins k in_tag arguments items (variable x) = variable_at k x ∷ []
 begins k in_tag arguments items (named x) = use_of k x arguments in_tag ∷ []
@@ -99,11 +99,11 @@ begins k in_tag arguments items (tag whole x) = begins k in_tag arguments items 
 begins k in_tag arguments items (tag_of whole x argument) = begins k in_tag arguments items whole
 begins k in_tag arguments items (including whole included) = begins k in_tag arguments items whole
 
--- it with its lexeme, which follows those of the parts
+-- The beginning of a type with its lexeme, whose mark follows those of the parts.
 abbrev pub own : List ℕ → Bool → Ty → List Occurrence
 own ms in_tag t = begins (slice_index ms (inner_count t)) in_tag (parts t) (items_in ms t) t
 
--- what stands in the parts
+-- The occurrences in the parts.
 abbrev pub inner : List ℕ → Bool → Ty → List Occurrence
 inner ms in_tag (part whole added) =
     inner ms in_tag whole ++ (own (drop (inner_count whole) ms) in_tag added
@@ -117,6 +117,6 @@ inner ms in_tag (including whole included) =
     ++ inner (drop (inner_count whole + 1) ms) in_tag included)
 inner ms in_tag t = []
 
--- what stands in a type
+-- The occurrences in a type.
 abbrev pub in_type : List ℕ → Bool → Ty → List Occurrence
 in_type ms in_tag t = own ms in_tag t ++ inner ms in_tag t

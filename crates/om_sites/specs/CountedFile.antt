@@ -1,5 +1,5 @@
--- What stands where in declarations, by the declarations themselves: the n-th name, tag,
--- variable or included type of the declarations stands at the n-th mark of the text.
+-- The occurrences in declarations, by the declarations themselves: their n-th name, tag, variable
+-- or included type is at the n-th mark of the text.
 use Rattle.std.specs.Prelude.{ℕ, ◌+◌, List, [], ◌∷◌, ◌++◌, length, false, drop, slice_index}
 use Rattle.om_types.specs.declared.decl.Field.{Field}
 use Rattle.om_types.specs.declared.decl.Arguments.{Arguments}
@@ -12,7 +12,7 @@ use Rattle.om_types.specs.Ty.{Ty}
 use Rattle.om_types.specs.Occurrence.{Placed, Occurrence, DeclPlaces}
 use Rattle.om_sites.specs.Counted.{own_count, inner_count, in_type}
 
--- of each of these, where each takes as many lexemes as are counted
+-- The results for each element, if each element takes the number of marks that `count` gives.
 abbrev pub along : {X Y : Type 0} → (X → ℕ) → (List ℕ → X → List Y) → List ℕ → List X → List Y
 along count of ms [] = []
 along count of ms (x ∷ xs) = of ms x ++ along count of (drop (count x) ms) xs
@@ -24,7 +24,7 @@ count_all count (x ∷ xs) = count x + count_all count xs
 abbrev pub type_count : Ty → ℕ
 type_count t = inner_count t + own_count t
 
--- a name at the first of these lexemes
+-- A name at the first of these marks.
 abbrev pub placed : List ℕ → List ℕ → Placed
 placed ms name = (slice_index ms 0, name)
 
@@ -67,7 +67,7 @@ carrying_in ms arguments.Constant = []
 carrying_in ms (arguments.Listed types) = slice_index ms 0 ∷ []
 carrying_in ms (arguments.Inline fields) = slice_index ms 0 ∷ []
 
--- of each constructor of a body
+-- The results for each constructor of a body.
 abbrev pub of_constructors :
     {Y : Type 0} → (List ℕ → Constructor → List Y) → List ℕ → Body → List Y
 of_constructors of ms (bodies.Abbreviation t) = []
@@ -97,7 +97,7 @@ in_body ms (bodies.Variant all) =
 abbrev pub decl_count : Decl → ℕ
 decl_count d = length d.parameters + 1 + body_count d.body
 
--- a declaration; the first of its marks stands at the first of these lexemes
+-- The occurrences of a declaration. `ms` begins with the first mark of the declaration.
 abbrev pub counted_places : List ℕ → Decl → DeclPlaces
 counted_places ms d =
     let body = drop (length d.parameters + 1) ms in

@@ -1,4 +1,4 @@
--- What is known of each node of a type.
+-- Facts about each node of a type.
 use Rattle.std.specs.Prelude.{ℕ, ◌+◌, ◌<◌, ◌≤◌, ◌≡◌, min, Bool, true, false, not, ◌&&◌, ◌||◌, List}
 use Rattle.std.specs.Prelude.{[], ◌∷◌}
 use Rattle.std.specs.Prelude.{length, slice_index_or}
@@ -27,12 +27,12 @@ abbrev pub is_alone : Ty → Bool
 is_alone (variable x) = true
 is_alone t = false
 
--- some type holds a variable and is none
+-- One of the types contains a variable without being one.
 abbrev pub some_grow : List Ty → Bool
 some_grow [] = false
 some_grow (t ∷ ts) = (holds t && not (is_alone t)) || some_grow ts
 
--- ---- facts, up to the greatest number
+-- ---- facts, capped at the greatest number
 
 abbrev pub capped : ℕ → ℕ
 capped n = min n 18446744073709551615
@@ -87,7 +87,7 @@ facts_of facts (nodes.TagOf w x a) = let f = fact_at facts w in let g = fact_at 
 facts_of facts (nodes.Including w u) = let f = fact_at facts w in let g = fact_at facts u in
     whole f (capped (capped (f.inner + 1) + total_of g)) 0 false (f.holds || g.holds)
 
--- ---- of a type
+-- ---- the facts of a type
 
 abbrev pub IsLeaf : Ty → Type 0
 IsLeaf (variable x) = Unit {0}
@@ -96,7 +96,7 @@ IsLeaf tuple = Unit {0}
 IsLeaf bracket = Unit {0}
 IsLeaf t = ⊥
 
--- these are the facts of the type of node n
+-- These are the facts of the type of node `n`.
 pub record IsFacts (types : List Ty) (n : ℕ) (t : Ty) (f : Facts) : Type 0 where
   pub inner_is : f.inner ≡ capped (inner_count t)
   pub own_is : f.own ≡ own_count t

@@ -1,5 +1,4 @@
--- What stands where in a file, by the trees of the grammar, each thing with the number of its
--- lexeme.
+-- The occurrences in a file, by the trees of the grammar, each with the index of its lexeme.
 use Rattle.std.specs.Prelude.{ℕ, ◌+◌, List, [], ◌∷◌, ◌++◌, length, false}
 use Rattle.om_lex.specs.declared.lexeme.Keyword.TheVariants as keywords
 use Rattle.om_lex.specs.declared.lexeme.Symbol.TheVariants as symbols
@@ -13,7 +12,8 @@ use Rattle.om_types.specs.Occurrence.{Placed, Occurrence, DeclPlaces}
 use Rattle.om_parse.specs.Written.{declaration_of_tree}
 use Rattle.om_sites.specs.InText.{in_texpr, in_app}
 
--- of each of these, where lexeme k stands in front of the first, and one in front of each other
+-- The results for each element, if lexeme `k` is before the first one and one lexeme is before each
+-- of the others.
 abbrev pub spread : {X Y : Type 0} → (X → ℕ) → (ℕ → X → List Y) → ℕ → List X → List Y
 spread size of k [] = []
 spread size of k (x ∷ xs) = of (k + 1) x ++ spread size of (k + 1 + size x) xs
@@ -27,7 +27,7 @@ placed_parameters k (params name names) =
 abbrev pub field_size : FieldTree → ℕ
 field_size f = length (field_kinds f)
 
--- of each field of a record whose brace is lexeme k
+-- The results for each field of a record whose brace is lexeme `k`.
 abbrev pub in_fields : {Y : Type 0} → (ℕ → FieldTree → List Y) → ℕ → RecordTree → List Y
 in_fields of k r = of (k + 1) r.first ++ spread field_size of (k + 1 + field_size r.first) r.more
 
@@ -69,7 +69,7 @@ arguments_occurrences k (trees.listed a others) =
 abbrev pub constr_occurrences : ℕ → ConstrTree → List Occurrence
 constr_occurrences k c = arguments_occurrences (k + 2) c.arguments
 
--- of each constructor of a body that begins with lexeme k
+-- The results for each constructor of a body that begins with lexeme `k`.
 abbrev pub in_constrs : {Y : Type 0} → (ℕ → ConstrTree → List Y) → ℕ → BodyTree → List Y
 in_constrs of k (record_body r) = []
 in_constrs of k (variant_body bar c cs) =
@@ -87,7 +87,7 @@ body_occurrences k (record_body r) = in_fields field_occurrences k r
 body_occurrences k (variant_body bar c cs) = in_constrs constr_occurrences k (variant_body bar c cs)
 body_occurrences k (type_body t) = in_texpr k false t
 
--- a declaration of this group that begins with lexeme k
+-- The occurrences of a declaration of this group that begins with lexeme `k`.
 abbrev pub decl_places : ℕ → ℕ → DeclTree → DeclPlaces
 decl_places group k d =
     let name = k + length (params_kinds d.params) in
@@ -109,7 +109,7 @@ group_places group k g =
     decl_places group (k + 1) g.first
     ∷ spread decl_size (λ j d. decl_places group j d ∷ []) (k + 1 + decl_size g.first) g.more
 
--- after so many declarations
+-- The occurrences of groups that come after `before` declarations.
 abbrev pub places_after : ℕ → ℕ → FileTree → List DeclPlaces
 places_after before k [] = []
 places_after before k (g ∷ groups) =

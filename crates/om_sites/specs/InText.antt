@@ -1,5 +1,5 @@
--- What stands where in the text of a type, by the tree of the grammar: names, variables and
--- brackets, each with the number of its lexeme.
+-- The occurrences in the text of a type, by the tree of the grammar: names, variables and brackets,
+-- each with the index of its lexeme.
 use Rattle.std.specs.Prelude.{ℕ, ◌+◌, Bool, true, List, [], ◌∷◌, ◌++◌, length}
 use Rattle.om_grammar.specs.Grammar.{Texpr, App, Simple, Texprs, Items, Item, texpr, app, texprs}
 use Rattle.om_grammar.specs.Grammar.{items, bar_if}
@@ -9,13 +9,13 @@ use Rattle.om_types.specs.Occurrence.{Occurrence, PlacedItem, use_of, variable_a
 use Rattle.om_parse.specs.Written.{type_of_texpr, type_of_app, with_item}
 use Rattle.om_parse.specs.TypeShown.{types_of_texprs}
 
--- the items, each with its first lexeme, where the first item begins with lexeme k
+-- The items, each with its first lexeme. The first item begins with lexeme `k`.
 abbrev pub placed_items : ℕ → Items → List PlacedItem
 placed_items k (trees.one i) = (k, with_item bracket i) ∷ []
 placed_items k (trees.more all i) =
     placed_items k all ++ (k + length (items all) + 1, with_item bracket i) ∷ []
 
--- what stands in a text that begins with lexeme k; a name comes before its arguments
+-- The occurrences in a text that begins with lexeme `k`. A name comes before its arguments.
 abbrev mutual
   pub in_texpr : ℕ → Bool → Texpr → List Occurrence
   in_texpr k in_tag (trees.single a) = in_app k in_tag a

@@ -1,4 +1,4 @@
--- Both ways of placing agree.
+-- The two ways to locate occurrences agree.
 use Rattle.std.specs.Prelude.{ℕ, ◌≡◌, Bool, false}
 use Rattle.om_grammar.specs.Grammar.{Texpr, texpr, FileTree, file_kinds}
 use Rattle.om_types.specs.Scope.{decls_of}
@@ -8,14 +8,14 @@ use Rattle.om_sites.specs.InFile.{file_places}
 use Rattle.om_sites.specs.CountedFile.{counted_file}
 use Rattle.om_sites.specs.Counted.{marks, in_type}
 
--- what stands in a type by its own tree is what stands in its text
+-- The occurrences in a type by its own tree are those in its text.
 abbrev pub TypesAreCounted : Type 0
 TypesAreCounted =
     (k : ℕ) (in_tag : Bool) (t : Texpr)
     → in_type (marks k false (texpr t)) in_tag (type_of_texpr t) ≡ in_texpr k in_tag t
 
--- What stands in declarations by themselves is what stands in their text; the declarations are
--- those that the text stands for.
+-- The occurrences in declarations by the declarations themselves are those in their text. The
+-- declarations are those of the text.
 pub record FilesAreCounted : Type 0 where
   pub declared : (tree : FileTree) → decls_of (file_places tree) ≡ declarations_of tree
   pub counted :

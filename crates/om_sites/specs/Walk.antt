@@ -1,4 +1,4 @@
--- Tasks of a walk along a type.
+-- The tasks of a traversal of a type.
 use Rattle.std.specs.Prelude.{ℕ, suc, ◌+◌, ◌<◌, Bool, true, false, List, [], ◌∷◌, ◌++◌, drop}
 use Rattle.std.specs.Prelude.{if◌then◌else◌}
 use Rattle.om_types.specs.Ty.{Ty, variable, named, tuple, bracket, part, tag, tag_of, including}
@@ -11,7 +11,7 @@ use Rattle.om_sites.specs.declared.fact.Facts.{Facts}
 use Rattle.om_sites.specs.Facts.{fact_at, capped}
 use Rattle.om_sites.specs.declared.walk.Task.{Task}
 
--- ---- the tasks of a node's parts, the first to be done last in the list
+-- ---- the tasks of a node's parts, with the first one to visit last in the list
 
 abbrev pub inner_task : Task → ℕ → Task
 inner_task task w = record { node = w; first = task.first; in_tag = task.in_tag; whole = false }
@@ -19,7 +19,7 @@ inner_task task w = record { node = w; first = task.first; in_tag = task.in_tag;
 abbrev pub whole_task : ℕ → ℕ → Bool → Task
 whole_task a first in_tag = record { node = a; first = first; in_tag = in_tag; whole = true }
 
--- behind the marks of a node's parts
+-- The index of the first mark after those of a node's parts.
 abbrev pub behind : List Facts → Task → ℕ → ℕ
 behind facts task w = capped (task.first + (fact_at facts w).inner)
 
@@ -33,9 +33,9 @@ tasks_of facts task (nodes.TagOf w x a) =
 tasks_of facts task (nodes.Tag w x) = inner_task task w ∷ []
 tasks_of facts task node = []
 
--- ---- what is still to be seen
+-- ---- the remaining occurrences
 
--- how often a walk takes a task of this type or of its parts
+-- The number of tasks in the traversal of this type or of its parts.
 abbrev pub weight : Ty → ℕ
 weight (variable x) = 1
 weight (named x) = 1
@@ -47,7 +47,7 @@ weight (tag_of whole x argument) = suc (weight whole + weight argument)
 weight (including whole included) = suc (weight whole + weight included)
 
 module _ (types : List Ty) (marks : List ℕ) where
-  -- what the task's type begins with, where this is asked for
+  -- The beginning of the task's type, if the task asks for it.
   abbrev pub task_own : Task → List Occurrence
   task_own task =
       if task.whole then own (drop task.first marks) task.in_tag (type_at types task.node) else []
@@ -58,7 +58,7 @@ module _ (types : List Ty) (marks : List ℕ) where
   abbrev pub task_seen : Task → List Occurrence
   task_seen task = task_own task ++ task_inner task
 
-  -- the last task is done first
+  -- The occurrences of a stack of tasks. The last task is visited first.
   abbrev pub stack_seen : List Task → List Occurrence
   stack_seen [] = []
   stack_seen (task ∷ tasks) = stack_seen tasks ++ task_seen task

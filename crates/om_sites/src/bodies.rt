@@ -1,4 +1,4 @@
-//! What stands where in what a name is declared to be.
+//! The occurrences in the body of a declaration.
 
 ghost use Rattle.std.specs.Prelude.{◌≡◌, ◌++◌, ◌∷◌, [], IfOk, OnOk, drop, false};
 ghost use Rattle.om_sites.specs.Counted.{in_type};
@@ -19,7 +19,7 @@ use om_types::decl::{Arguments, Body, Constructor, Field};
 use om_types::ty::Ty;
 use std::alloc::Global;
 
-/// Adds what stands in types, one after another.
+/// Adds the occurrences in a list of types.
 fn put_types<'m, 'a>(
     alloc: Global,
     found: &mut Found<'a>,
@@ -39,7 +39,7 @@ fn put_types<'m, 'a>(
     Ok(rest)
 }
 
-/// Adds what stands in the fields of a record, and the row of their names.
+/// Adds the occurrences in the fields of a record, and the row of the field names.
 fn put_fields<'m, 'a>(
     alloc: Global,
     found: &mut Found<'a>,
@@ -62,7 +62,7 @@ fn put_fields<'m, 'a>(
     Ok(rest)
 }
 
-/// Adds what stands in the arguments of a constructor.
+/// Adds the occurrences in the arguments of a constructor.
 fn put_arguments<'m, 'a>(
     alloc: Global,
     found: &mut Found<'a>,
@@ -81,7 +81,7 @@ fn put_arguments<'m, 'a>(
     }
 }
 
-/// Adds what stands in a constructor.
+/// Adds the occurrences in a constructor.
 fn put_constructor<'m, 'a>(
     alloc: Global,
     found: &mut Found<'a>,
@@ -98,7 +98,8 @@ fn put_constructor<'m, 'a>(
     put_arguments(alloc, found, skip(marks, 1), &constructor.arguments)
 }
 
-/// Adds what stands in constructors, and the row of their names.
+/// Adds the occurrences in a list of constructors, and the row of their names. Returns the
+/// remaining marks.
 fn put_constructors<'m, 'a>(
     alloc: Global,
     found: &mut Found<'a>,
@@ -124,7 +125,7 @@ fn put_constructors<'m, 'a>(
     Ok(rest)
 }
 
-/// Adds what stands in a body, and the row of its constructors' names.
+/// Adds the occurrences in a body, and the row of its constructor names.
 pub fn put_body<'m, 'a>(
     alloc: Global,
     found: &mut Found<'a>,

@@ -1,4 +1,4 @@
-//! What is known of each node of a type.
+//! Facts about each node of a type.
 
 ghost use Rattle.std.specs.Prelude.{◌≡◌, ◌&&◌, ◌||◌, not, length, IfOk};
 ghost use Rattle.om_types.specs.Nodes.{types_of, AreOrdered};
@@ -8,26 +8,26 @@ use om_model::Memory;
 use om_types::ty::Node;
 use std::alloc::Global;
 
-/// How many marks a node's type has, and what its parts hold.
+/// The number of marks of a node's type, and properties of its parts.
 #[derive(Clone, Copy)]
 pub struct Facts {
-    /// How many stand in the parts, at most `usize::MAX`.
+    /// The number of marks in the parts, at most `usize::MAX`.
     pub inner: usize,
-    /// 1 where the type is a variable or begins with a name, else 0.
+    /// 1 if the type is a variable or begins with a name, otherwise 0.
     pub own: usize,
-    /// How many arguments or components.
+    /// The number of arguments or components.
     pub arguments: usize,
-    /// Whether some of these holds a variable and is none.
+    /// True if one of these contains a variable without being one.
     pub grows: bool,
-    /// Whether a variable stands in the type.
+    /// True if the type contains a variable.
     pub holds: bool,
-    /// Whether the type is a variable.
+    /// True if the type is a variable.
     pub alone: bool,
-    /// The node of the variable, the name, the tuple or the bracket that the type begins with.
+    /// The node of the variable, name, tuple or bracket with which the type begins.
     pub base: usize,
 }
 
-/// The facts of a node.
+/// Returns the facts of a node.
 pub fn fact_at(facts: &[Facts], n: usize) -> Facts
     ensures { result ≡ fact_at facts.now n }
 {
@@ -45,21 +45,21 @@ pub fn fact_at(facts: &[Facts], n: usize) -> Facts
     }
 }
 
-/// Whether one of two holds.
+/// Returns true if one of the two is true.
 fn either(first: bool, second: bool) -> bool
     ensures { result ≡ (first || second) }
 {
     first || second
 }
 
-/// Whether the first holds alone.
+/// Returns true if the first is true and the second is false.
 fn but_not(first: bool, second: bool) -> bool
     ensures { result ≡ (first && not second) }
 {
     first && !second
 }
 
-/// The facts of a node that names no other.
+/// Returns the facts of a node that refers to no other node.
 fn leaf(own: usize, alone: bool, base: usize) -> Facts
     ensures { result ≡ leaf own alone base }
 {
@@ -74,7 +74,7 @@ fn leaf(own: usize, alone: bool, base: usize) -> Facts
     }
 }
 
-/// The facts of a node with a part more than another.
+/// Returns the facts of a node that extends the node with the facts `f` by one part.
 fn whole(f: Facts, inner: usize, arguments: usize, grows: bool, holds: bool) -> Facts
     ensures { result ≡ whole f inner arguments grows holds }
 {
@@ -89,14 +89,14 @@ fn whole(f: Facts, inner: usize, arguments: usize, grows: bool, holds: bool) -> 
     }
 }
 
-/// How many marks a type has.
+/// Returns the number of marks of a type, at most `usize::MAX`.
 pub fn total(g: Facts) -> usize
     ensures { result ≡ total_of g }
 {
     g.inner.saturating_add(g.own)
 }
 
-/// The facts of the next node.
+/// Returns the facts of the next node.
 fn facts_of(facts: &[Facts], node: &Node) -> Facts
     ensures { result ≡ facts_of facts.now node.now }
 {
@@ -136,7 +136,7 @@ fn facts_of(facts: &[Facts], node: &Node) -> Facts
     }
 }
 
-/// The facts of all nodes.
+/// Returns the facts of all nodes.
 pub fn all_facts(alloc: Global, nodes: &[Node]) -> Result<Vec<Facts>, Memory>
     requires { AreOrdered nodes.now }
     ensures { IfOk result (λ v. AreFacts (types_of nodes.now) (length nodes.now) v.items) }

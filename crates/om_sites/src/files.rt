@@ -1,4 +1,4 @@
-//! What stands where in the text of declarations.
+//! The occurrences in the text of declarations.
 
 ghost use Rattle.std.specs.Prelude.{◌≡◌, ◌+◌, IfOk, drop, length};
 ghost use Rattle.om_sites.specs.CountedFile.{parameters_in, counted_places, decl_count};
@@ -15,7 +15,7 @@ use om_scope::{Placed, Site, TypeBrackets};
 use om_types::decl::Decl;
 use std::alloc::Global;
 
-/// What stands where in declarations.
+/// The occurrences in declarations.
 #[derive(Drop)]
 pub struct FileSites<'a> {
     /// The declared names.
@@ -25,7 +25,7 @@ pub struct FileSites<'a> {
     pub brackets: List<List<TypeBrackets<'a>>>,
 }
 
-/// The row of a declaration's parameters.
+/// Returns the row of a declaration's parameters.
 fn parameters_row(
     alloc: Global,
     marks: &[usize],
@@ -42,7 +42,7 @@ fn parameters_row(
     Ok(row)
 }
 
-/// What stands where in a declaration, and the places that are left.
+/// Returns the occurrences in a declaration, and the remaining marks.
 fn decl_found<'m, 'a>(
     alloc: Global,
     marks: &'m [usize],
@@ -64,7 +64,7 @@ fn decl_found<'m, 'a>(
     Ok((found, rest))
 }
 
-/// What stands where in declarations with these marks.
+/// Returns the occurrences in declarations with these marks.
 pub fn file_sites<'a>(
     alloc: Global,
     marks: &[usize],

@@ -1,4 +1,4 @@
-//! What is found of declarations and types.
+//! The occurrences found in declarations and types.
 
 ghost use Rattle.std.specs.Prelude.{◌≡◌, ◌++◌, ◌∷◌, [], All, OnOk};
 ghost use Rattle.om_sites.specs.CountedFile.{carrying_in};
@@ -13,16 +13,16 @@ use om_types::decl::Arguments;
 use om_types::ty::Node;
 use std::alloc::Global;
 
-/// What is found so far.
+/// The occurrences found so far.
 #[derive(Drop)]
 pub struct Found<'a> {
-    /// What the rules on names ask.
+    /// The data for the rules on names.
     pub site: Site,
     /// The brackets, type by type.
     pub brackets: List<TypeBrackets<'a>>,
 }
 
-/// Nothing yet.
+/// Returns the empty result.
 pub fn nothing<'a>(alloc: Global) -> Found<'a>
     ensures { result
         ≡ record {
@@ -36,7 +36,7 @@ pub fn nothing<'a>(alloc: Global) -> Found<'a>
     }
 }
 
-/// Adds a row of names that have to differ.
+/// Appends a row of names that must be distinct.
 pub fn put_names<'a>(found: &mut Found<'a>, row: List<Placed>) -> Result<(), Memory>
     ensures { OnOk result
         (found.new
@@ -46,7 +46,7 @@ pub fn put_names<'a>(found: &mut Found<'a>, row: List<Placed>) -> Result<(), Mem
     put_row(&mut found.site, row)
 }
 
-/// Adds the lexeme of a constructor, if it has arguments.
+/// Appends the lexeme of a constructor, if the constructor has arguments.
 pub fn put_carrying<'a>(
     found: &mut Found<'a>,
     marks: &[usize],
@@ -67,7 +67,7 @@ pub fn put_carrying<'a>(
     }
 }
 
-/// Adds the brackets of a type, if there are any.
+/// Appends the brackets of a type, if there are any.
 pub fn put_brackets<'a>(
     found: &mut Found<'a>,
     nodes: &'a [Node],

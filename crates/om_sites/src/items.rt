@@ -15,7 +15,7 @@ use om_scope::BracketItem;
 use om_types::ty::Node;
 use std::alloc::Global;
 
-/// The bracket without its last item.
+/// Returns the node of the bracket without its last item, if there is an item.
 fn without_item(node: &Node) -> Option<usize>
     ensures { result ≡ without_item node.now }
 {
@@ -25,7 +25,7 @@ fn without_item(node: &Node) -> Option<usize>
     }
 }
 
-/// The items, the last one first.
+/// Returns the items in reverse order.
 fn reversed(alloc: Global, mut items: Vec<BracketItem>) -> Result<List<BracketItem>, Memory>
     ensures { IfOk result (λ all. all ≡ reverse items.items) }
 {
@@ -36,7 +36,7 @@ fn reversed(alloc: Global, mut items: Vec<BracketItem>) -> Result<List<BracketIt
     Ok(all)
 }
 
-/// Adds an item.
+/// Appends an item.
 fn put_item(items: &mut Vec<BracketItem>, place: usize, node: usize) -> Result<(), Memory>
     ensures { OnOk result
         (items.new.items ≡ items.old.items ++ record { place = place; node = node } ∷ []) }
@@ -44,7 +44,7 @@ fn put_item(items: &mut Vec<BracketItem>, place: usize, node: usize) -> Result<(
     Ok(items.push(BracketItem { place, node })?)
 }
 
-/// The items of the bracket of a node, where the marks of its parts begin with this one.
+/// Returns the items of a node's bracket. The marks of its parts begin with the mark `first`.
 pub fn items_of(
     alloc: Global,
     nodes: &[Node],

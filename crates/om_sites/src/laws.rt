@@ -1,14 +1,16 @@
-//! Occurrences by their numbers among the marks.
+//! Laws on occurrences by the indices of their marks. Each function is a lemma function: it has no
+//! effect and exists only for its contract.
 
 ghost use Rattle.om_sites.specs.Laws.{TypesAreCounted, FilesAreCounted};
 
-/// A type, as a tree of its own, tells which mark of its text each name, tag, variable and included
-/// type is. The function does nothing.
+/// The tree of a type determines which mark of its text belongs to each name, tag, variable and
+/// included type.
 pub fn types_are_counted()
     ensures { TypesAreCounted }
 {}
 
-/// And so do declarations. The function does nothing.
+/// Declarations determine which mark of their text belongs to each name, tag, variable and included
+/// type.
 pub fn files_are_counted()
     ensures { FilesAreCounted }
 {}

@@ -1,5 +1,5 @@
-//! The marks of lexemes: names, tags and variables, and where the types begin that brackets
-//! include.
+//! The marks of a list of lexemes: names, tags and variables, and the first lexemes of the types
+//! that brackets include.
 
 ghost use Rattle.std.specs.Prelude.{◌≡◌, ◌&&◌, ◌++◌, false, IfOk, OnOk};
 ghost use Rattle.om_grammar.specs.Lexemes.{kinds_of};
@@ -9,7 +9,7 @@ use om_lex::lexeme::{Lexeme, LexemeKind, Symbol};
 use om_model::Memory;
 use std::alloc::Global;
 
-/// Whether it is a name, a tag or a variable.
+/// Returns true if the lexeme is a name, a tag or a variable.
 fn is_marked(kind: &LexemeKind) -> bool
     ensures { result ≡ is_marked kind.now }
 {
@@ -22,7 +22,7 @@ fn is_marked(kind: &LexemeKind) -> bool
     }
 }
 
-/// Whether an item of a bracket may begin behind it.
+/// Returns true if an item of a bracket may begin after the lexeme.
 fn opens_item(kind: &LexemeKind) -> bool
     ensures { result ≡ opens_item kind.now }
 {
@@ -32,7 +32,8 @@ fn opens_item(kind: &LexemeKind) -> bool
     }
 }
 
-/// Whether an included type begins with it, where an item may begin.
+/// Returns true if an included type begins with the lexeme. `fresh` says whether an item may begin
+/// there.
 fn includes(kind: &LexemeKind, fresh: bool) -> bool
     ensures { result ≡ (begins_type kind.now && fresh) }
 {
@@ -44,7 +45,7 @@ fn includes(kind: &LexemeKind, fresh: bool) -> bool
     }
 }
 
-/// Adds the number where a test says so.
+/// Appends the number if the test is true.
 fn push_if(test: bool, marked: &mut Vec<usize>, number: usize) -> Result<(), Memory>
     ensures { OnOk result (marked.new.items ≡ marked.old.items ++ one_if test number) }
 {
@@ -54,8 +55,9 @@ fn push_if(test: bool, marked: &mut Vec<usize>, number: usize) -> Result<(), Mem
     Ok(())
 }
 
-/// The numbers of the lexemes that are names, tags or variables, and before these the number of the
-/// first lexeme of each type that a bracket includes.
+/// Returns the marks of the lexemes. The index of each name, tag or variable is a mark. If a type
+/// that a bracket includes begins at a lexeme, then the lexeme's index is also the mark of that
+/// type, before the lexeme's own mark.
 pub fn marks(alloc: Global, lexemes: &[Lexeme]) -> Result<Vec<usize>, Memory>
     ensures { IfOk result (λ v. v.items ≡ marks 0 false (kinds_of lexemes.now)) }
 {

@@ -1,4 +1,4 @@
-//! What a type begins with.
+//! The occurrence with which a type begins.
 
 ghost use Rattle.std.specs.Prelude.{◌≡◌, ◌<◌, ◌++◌, ◌∷◌, [], OnOk, length, drop};
 ghost use Rattle.std.specs.List.{filter_map};
@@ -21,7 +21,7 @@ use om_scope::{BracketItem, Placed, Site, Use};
 use om_types::ty::Node;
 use std::alloc::Global;
 
-/// Adds a variable.
+/// Appends a variable.
 fn put_variable(alloc: Global, site: &mut Site, place: usize, name: &List<u8>) -> Result<(), Memory>
     ensures { OnOk result
         (site.new ≡ record site.old { variables = site.old.variables ++ (place, name.now) ∷ [] }) }
@@ -30,14 +30,14 @@ fn put_variable(alloc: Global, site: &mut Site, place: usize, name: &List<u8>) -
         .push(Placed::new(place, copied(alloc, name)?))
 }
 
-/// Adds a use.
+/// Appends a use of a type name.
 fn put_use(site: &mut Site, used: Use) -> Result<(), Memory>
     ensures { OnOk result (site.new ≡ record site.old { uses = site.old.uses ++ used ∷ [] }) }
 {
     site.uses.push(used)
 }
 
-/// Adds the bracket of a task's type.
+/// Appends the bracket of a task's type.
 fn put_bracket(
     alloc: Global,
     site: &mut Site,
@@ -70,7 +70,7 @@ fn put_bracket(
     brackets.push(items)
 }
 
-/// Adds what a task's type begins with, where this is asked for.
+/// Appends the occurrence with which a task's type begins, if the task asks for it.
 pub fn put_own(
     alloc: Global,
     site: &mut Site,

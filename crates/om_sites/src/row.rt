@@ -1,4 +1,4 @@
-//! The tags that a bracket writes.
+//! The tags in the items of a bracket.
 
 ghost use Rattle.std.specs.Prelude.{◌≡◌, ◌<◌, ◌++◌, IfOk, OnOk};
 ghost use Rattle.std.specs.List.{filter_map};
@@ -14,7 +14,7 @@ use om_scope::{BracketItem, Placed};
 use om_types::ty::Node;
 use std::alloc::Global;
 
-/// Adds the tag that a node writes, if it writes one.
+/// Appends the tag of a node, if the node adds a tag.
 fn put_tag(alloc: Global, row: &mut List<Placed>, place: usize, node: &Node) -> Result<(), Memory>
     ensures { OnOk result (row.new ≡ row.old ++ tag_at place node.now) }
 {
@@ -26,7 +26,7 @@ fn put_tag(alloc: Global, row: &mut List<Placed>, place: usize, node: &Node) -> 
     }
 }
 
-/// Adds the tag that an item writes, if it writes one.
+/// Appends the tag of an item, if the item is a tag.
 fn put_written(
     alloc: Global,
     row: &mut List<Placed>,
@@ -41,7 +41,7 @@ fn put_written(
     }
 }
 
-/// The tags that a bracket of these items writes.
+/// Returns the tags among these items of a bracket.
 pub fn row_of(alloc: Global, nodes: &[Node], items: &[BracketItem]) -> Result<List<Placed>, Memory>
     requires { AreOrdered nodes.now }
     ensures { IfOk result

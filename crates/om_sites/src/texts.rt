@@ -1,4 +1,4 @@
-//! What stands where in a text whose tree is known.
+//! The occurrences in a text whose syntax tree is known.
 
 ghost use Rattle.std.specs.Prelude.{◌≡◌, IfOk, false};
 ghost use Rattle.om_grammar.specs.Grammar.{Texpr, texpr, FileTree, file_kinds};
@@ -18,7 +18,7 @@ use om_types::decl::Decl;
 use om_types::ty::Ty;
 use std::alloc::Global;
 
-/// What stands where in the text of a type.
+/// Returns the occurrences in the text of a type.
 pub fn type_text_site<'a>(
     alloc: Global,
     lexemes: &[Lexeme],
@@ -34,7 +34,7 @@ pub fn type_text_site<'a>(
     type_site(alloc, places.as_slice(), ty)
 }
 
-/// What stands where in the text of declarations.
+/// Returns the occurrences in the text of declarations.
 pub fn file_text_sites<'a>(
     alloc: Global,
     lexemes: &[Lexeme],

@@ -1,4 +1,4 @@
-//! What stands where in the text of a type.
+//! The occurrences in the text of a type.
 
 ghost use Rattle.std.specs.Prelude.{IfOk, false};
 ghost use Rattle.om_sites.specs.Counted.{in_type};
@@ -13,14 +13,14 @@ use om_scope::{Site, TypeBrackets, TypeSite};
 use om_types::ty::Ty;
 use std::alloc::Global;
 
-/// What stands where in a type.
+/// The occurrences in a type.
 #[derive(Drop)]
 pub struct TypeFound<'a> {
     pub site: TypeSite,
     pub brackets: List<TypeBrackets<'a>>,
 }
 
-/// What stands where in a type with these marks.
+/// Returns the occurrences in a type with these marks.
 pub fn type_site<'a>(alloc: Global, marks: &[usize], ty: &'a Ty) -> Result<TypeFound<'a>, Memory>
     ensures site { IfOk result (λ found. IsTypeSite found.site (in_type marks.now false ty.now)) }
     ensures brackets { IfOk result

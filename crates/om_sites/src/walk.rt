@@ -1,4 +1,4 @@
-//! A walk along a type.
+//! A traversal of a type.
 
 ghost use Rattle.std.specs.Prelude.{◌≡◌, ◌<◌, ◌++◌, ◌∷◌, [], IfOk, OnOk, length, drop, false};
 ghost use Rattle.om_types.specs.Nodes.{types_of, AreOrdered};
@@ -20,17 +20,18 @@ use om_scope::{BracketItem, Site};
 use om_types::ty::{Node, Ty};
 use std::alloc::Global;
 
-/// A node to go along: with the name that it begins with, or its parts alone.
+/// A node to visit: with the occurrence with which it begins if `whole` is true, otherwise its
+/// parts only.
 #[derive(Clone, Copy)]
 pub struct Task {
     pub node: usize,
-    /// The number of its first mark.
+    /// The index of its first mark.
     pub first: usize,
     pub in_tag: bool,
     pub whole: bool,
 }
 
-/// Adds a part's task, and below it that of the whole that it is added to.
+/// Pushes the task of a part, and below it the task of the whole that the part extends.
 fn push_both(tasks: &mut Vec<Task>, task: Task, w: usize, part: Task) -> Result<(), Memory>
     ensures { OnOk result
         (tasks.new.items
@@ -48,14 +49,14 @@ fn push_both(tasks: &mut Vec<Task>, task: Task, w: usize, part: Task) -> Result<
     Ok(())
 }
 
-/// The number of the first mark behind those of a node's parts.
+/// Returns the index of the first mark after those of the parts of node `w`.
 fn behind(facts: &[Facts], task: Task, w: usize) -> usize
     ensures { result ≡ behind facts.now task w }
 {
     task.first.saturating_add(fact_at(facts, w).inner)
 }
 
-/// Adds the tasks of a node's parts.
+/// Pushes the tasks of a node's parts.
 fn push_parts(tasks: &mut Vec<Task>, facts: &[Facts], task: Task, node: &Node) -> Result<(), Memory>
     ensures { OnOk result (tasks.new.items ≡ tasks.old.items ++ tasks_of facts.now task node.now) }
 {
@@ -101,7 +102,7 @@ fn push_parts(tasks: &mut Vec<Task>, facts: &[Facts], task: Task, node: &Node) -
     }
 }
 
-/// Adds what stands in a task's type.
+/// Adds the occurrences in a task's type.
 fn walk(
     alloc: Global,
     site: &mut Site,
@@ -130,7 +131,7 @@ fn walk(
     Ok(())
 }
 
-/// Adds what stands in a type, whose marks are the first of these. Gives those that are left.
+/// Adds the occurrences in a type, whose marks are the first of these. Returns the remaining marks.
 pub fn put_type<'m, 'a>(
     alloc: Global,
     found: &mut Found<'a>,

@@ -1,4 +1,4 @@
--- The line of a stop of a run that is not finished.
+-- The error line of an exit reason other than `Finished`.
 use Rattle.std.proofs.Common.{◌≡◌, Bool, refl}
 use Rattle.om_outcome.specs.Outcome.{stop_line, err_line, stop_text}
 use Rattle.om_outcome.specs.declared.stop.Stop.{Stop}

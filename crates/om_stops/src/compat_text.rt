@@ -1,4 +1,4 @@
-//! The text of what is too large for a reader on 32 bits.
+//! The text for an item that is too large for a 32-bit reader.
 
 ghost use Rattle.std.specs.Prelude.{◌≡◌, ◌++◌, codes, decimal, IfOk, string_bytes};
 ghost use Rattle.std.specs.Fmt.{signed_decimal};
@@ -8,7 +8,7 @@ use itoa::Buffer;
 use om_write::Compat;
 use std::alloc::{AllocError, Global};
 
-// What is too large for a reader on 32 bits, with the digits of its number.
+// Returns the text for an item of this kind, with the digits of its number.
 fn digits_compat(alloc: Global, kind: &str, digits: &str) -> Result<String, AllocError>
     ensures { IfOk result
         (λ text. string_bytes text
@@ -17,7 +17,7 @@ fn digits_compat(alloc: Global, kind: &str, digits: &str) -> Result<String, Allo
     format!(in alloc; "Compat({kind}, {digits})")
 }
 
-// The same with a signed number.
+// Returns the text for an item of this kind, with a signed number.
 fn signed_compat(alloc: Global, kind: &str, number: i64) -> Result<String, AllocError>
     ensures { IfOk result
         (λ text. string_bytes text
@@ -27,7 +27,7 @@ fn signed_compat(alloc: Global, kind: &str, number: i64) -> Result<String, Alloc
     digits_compat(alloc, kind, buffer.format(number))
 }
 
-// The same with a size.
+// Returns the text for an item of this kind, with a size.
 fn sized_compat(alloc: Global, kind: &str, number: u64) -> Result<String, AllocError>
     ensures { IfOk result
         (λ text. string_bytes text
@@ -36,7 +36,7 @@ fn sized_compat(alloc: Global, kind: &str, number: u64) -> Result<String, AllocE
     format!(in alloc; "Compat({kind}, {number})")
 }
 
-/// What is too large for a reader on 32 bits.
+/// Returns the text for an item that is too large for a 32-bit reader.
 pub fn compat_text(alloc: Global, compat: Compat) -> Result<String, AllocError>
     ensures { IfOk result (λ text. string_bytes text ≡ text_of_compat compat) }
 {

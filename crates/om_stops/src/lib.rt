@@ -1,4 +1,7 @@
-//! The stops that hold texts, made where they arise, and the line of a stop on err.
+//! Constructs the exit reasons that contain texts, and writes the error line of an exit reason to
+//! standard error. The constructors promise the exit reason with its text, or `Stop::Memory`.
+//! `report_stop` promises the line and the status that the specification of a run requires
+//! (`Reports`).
 #![tactic(auto)]
 
 mod compat_text;

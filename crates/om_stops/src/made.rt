@@ -1,5 +1,5 @@
-//! The stops that are made where they arise. Where memory runs out for the text that a stop holds,
-//! the run stops for that.
+//! Constructors for exit reasons that contain a text. If memory runs out for the text, the exit
+//! reason is `Stop::Memory`.
 
 ghost use Rattle.std.specs.Prelude.{◌≡◌, IfOk};
 ghost use Rattle.om_outcome.specs.declared.stop.Stop.TheVariants.{CannotOpen as cannot_open};
@@ -21,7 +21,7 @@ use om_outcome::stop::Stop;
 use om_write::Compat;
 use std::alloc::Global;
 
-// Bytes, copied.
+// Returns a copy of the bytes.
 fn copied(alloc: Global, bytes: &[u8]) -> Result<List<u8>, Memory>
     ensures { IfOk result (λ copy. copy ≡ bytes.now) }
 {
@@ -30,7 +30,7 @@ fn copied(alloc: Global, bytes: &[u8]) -> Result<List<u8>, Memory>
     Ok(List::of(copy))
 }
 
-// The text of a value's refusal, as bytes.
+// Returns the text of a value's refusal, as bytes.
 fn refusal_bytes(alloc: Global, refusal: ReadRefusal) -> Result<List<u8>, Memory>
     ensures { IfOk result (λ bytes. bytes ≡ text_of_refusal refusal) }
 {
@@ -38,7 +38,7 @@ fn refusal_bytes(alloc: Global, refusal: ReadRefusal) -> Result<List<u8>, Memory
     copied(alloc, text.as_bytes())
 }
 
-// That the input ends after so many bytes of a value, as bytes.
+// Returns the text for an input that ends after `taken` bytes of a value, as bytes.
 fn cut_bytes(alloc: Global, taken: u64) -> Result<List<u8>, Memory>
     ensures { IfOk result (λ bytes. bytes ≡ text_of_cut taken) }
 {
@@ -46,7 +46,7 @@ fn cut_bytes(alloc: Global, taken: u64) -> Result<List<u8>, Memory>
     copied(alloc, text.as_bytes())
 }
 
-// What is too large for a reader on 32 bits, as bytes.
+// Returns the text for an item that is too large for a 32-bit reader, as bytes.
 fn compat_bytes(alloc: Global, compat: Compat) -> Result<List<u8>, Memory>
     ensures { IfOk result (λ bytes. bytes ≡ text_of_compat compat) }
 {
@@ -54,7 +54,7 @@ fn compat_bytes(alloc: Global, compat: Compat) -> Result<List<u8>, Memory>
     copied(alloc, text.as_bytes())
 }
 
-/// The stop of a file that cannot be opened.
+/// Returns the exit reason for a file that cannot be opened.
 pub fn unopened_file(alloc: Global, name: &str) -> Stop
     ensures { IsOrMemory (cannot_open name.now) result }
 {
@@ -64,7 +64,7 @@ pub fn unopened_file(alloc: Global, name: &str) -> Stop
     }
 }
 
-/// The stop of a type that is refused, with this text.
+/// Returns the exit reason for a refused type, with this text.
 pub fn refused_type(alloc: Global, text: &[u8]) -> Stop
     ensures { IsOrMemory (requested_type text.now) result }
 {
@@ -74,7 +74,7 @@ pub fn refused_type(alloc: Global, text: &[u8]) -> Stop
     }
 }
 
-/// The stop of the line of a script of this number that is refused, with this text.
+/// Returns the exit reason for a refused script line, with its number and this text.
 pub fn refused_line(alloc: Global, number: usize, text: &[u8]) -> Stop
     ensures { IsOrMemory (script_line number text.now) result }
 {
@@ -84,7 +84,7 @@ pub fn refused_line(alloc: Global, number: usize, text: &[u8]) -> Stop
     }
 }
 
-/// The stop of the value of this number that is refused.
+/// Returns the exit reason for a refused value, with its number.
 pub fn refused_value(alloc: Global, number: u64, refusal: ReadRefusal) -> Stop
     ensures { IsStopOf number refusal result }
 {
@@ -97,7 +97,7 @@ pub fn refused_value(alloc: Global, number: u64, refusal: ReadRefusal) -> Stop
     }
 }
 
-/// The stop of the value of this number, of which the input ends after so many bytes.
+/// Returns the exit reason for an input that ends after `taken` bytes of value `number`.
 pub fn cut_value(alloc: Global, number: u64, taken: u64) -> Stop
     ensures { IsOrMemory (value number (text_of_cut taken)) result }
 {
@@ -107,7 +107,7 @@ pub fn cut_value(alloc: Global, number: u64, taken: u64) -> Stop
     }
 }
 
-/// The stop of the value of this number that is too large for a reader on 32 bits.
+/// Returns the exit reason for value `number`, which is too large for a 32-bit reader.
 pub fn too_large_value(alloc: Global, number: u64, compat: Compat) -> Stop
     ensures { IsOrMemory (large_value number (text_of_compat compat)) result }
 {

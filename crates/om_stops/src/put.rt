@@ -1,10 +1,10 @@
-//! Bytes, put at the end of others.
+//! Appending of bytes.
 
 ghost use Rattle.std.specs.Prelude.{◌≡◌, ◌++◌, OnOk};
 
 use om_model::Memory;
 
-/// Puts bytes at the end.
+/// Appends bytes.
 pub fn put(text: &mut Vec<u8>, bytes: &[u8]) -> Result<(), Memory>
     ensures { OnOk result (text.new.items ≡ text.old.items ++ bytes.now) }
 {

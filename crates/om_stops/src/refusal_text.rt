@@ -29,14 +29,14 @@ fn sum_text(which: WordSum) -> &'static str
     }
 }
 
-// A name and the place.
+// Returns a name and the offset.
 fn place_text(alloc: Global, name: &str, place: u64) -> Result<String, AllocError>
     ensures { IfOk result (λ text. string_bytes text ≡ name.now ++ codes " at " ++ decimal place) }
 {
     format!(in alloc; "{name} at {place}")
 }
 
-// A name, a number and the place.
+// Returns a name, a number and the offset.
 fn number_text(alloc: Global, name: &str, number: u64, place: u64) -> Result<String, AllocError>
     ensures { IfOk result
         (λ text. string_bytes text
@@ -45,7 +45,7 @@ fn number_text(alloc: Global, name: &str, number: u64, place: u64) -> Result<Str
     format!(in alloc; "{name}({number}) at {place}")
 }
 
-// A name, the digits of a number and the place.
+// Returns a name, the digits of a number and the offset.
 fn digits_text(alloc: Global, name: &str, digits: &str, place: u64) -> Result<String, AllocError>
     ensures { IfOk result
         (λ text. string_bytes text
@@ -54,7 +54,7 @@ fn digits_text(alloc: Global, name: &str, digits: &str, place: u64) -> Result<St
     format!(in alloc; "{name}({digits}) at {place}")
 }
 
-// A name, a code in hexadecimal and the place.
+// Returns a name, a code in hexadecimal and the offset.
 fn code_text(alloc: Global, name: &str, code: u8, place: u64) -> Result<String, AllocError>
     ensures { IfOk result
         (λ text. string_bytes text
@@ -64,7 +64,7 @@ fn code_text(alloc: Global, name: &str, code: u8, place: u64) -> Result<String, 
     digits_text(alloc, name, digits.as_str(), place)
 }
 
-// A name, two numbers and the place.
+// Returns a name, two numbers and the offset.
 fn numbers_text(
     alloc: Global,
     name: &str,
@@ -130,7 +130,7 @@ fn overlong_text(alloc: Global, need: u128, left: u64, place: u64) -> Result<Str
     format!(in alloc; "Overlong({need}, {left}) at {place}")
 }
 
-/// The text of a refusal.
+/// Returns the text of a refusal.
 #[tactic(auto, unfolding(om_outcome::specs::RefusalText::refusal_text))]
 pub fn refusal_text(alloc: Global, refusal: ReadRefusal) -> Result<String, AllocError>
     ensures { IfOk result (λ text. string_bytes text ≡ text_of refusal) }
@@ -168,7 +168,7 @@ pub fn refusal_text(alloc: Global, refusal: ReadRefusal) -> Result<String, Alloc
     }
 }
 
-/// The text of a value that is cut short after so many bytes.
+/// Returns the text for a value that is truncated after `taken` bytes.
 pub fn truncated_text(alloc: Global, taken: u64) -> Result<String, AllocError>
     ensures { IfOk result (λ text. string_bytes text ≡ text_of_cut taken) }
 {

@@ -1,4 +1,4 @@
-//! A halt of a run, and the line of a stop on err.
+//! The error line and the status of an exit reason.
 
 ghost use Rattle.std.specs.Prelude.{◌≡◌, ◌++◌, codes, decimal, IfOk, OnOk, string_bytes};
 ghost use Rattle.om_outcome.specs.Outcome.{status_of, stop_text, stop_line, err_line};
@@ -20,7 +20,8 @@ use om_outcome::status::Status;
 use om_outcome::stop::Stop;
 use std::alloc::{AllocError, Global};
 
-/// Why the values are read no further: the run stops, or out failed.
+/// The reason why no more values are read: an exit reason of the run, or a failed write to standard
+/// output.
 #[derive(Drop)]
 pub enum Halt {
     Stop(Stop),
@@ -48,7 +49,7 @@ impl From<Failed> for Halt {
     }
 }
 
-// The status of a run that is finished.
+// Returns the status of a run that ended with `Finished`.
 fn finished_status(well: bool) -> Status
     ensures { result ≡ status_of (finished well) }
 {
@@ -74,7 +75,7 @@ fn status(stop: &Stop) -> Status
     }
 }
 
-// What stands before the text of a value's fault, by its number.
+// Returns the text before a value's fault, with the value's number.
 fn value_front(alloc: Global, number: u64) -> Result<String, AllocError>
     ensures { IfOk result
         (λ text. string_bytes text ≡ codes "value " ++ decimal number ++ codes ": ") }
@@ -82,7 +83,7 @@ fn value_front(alloc: Global, number: u64) -> Result<String, AllocError>
     format!(in alloc; "value {number}: ")
 }
 
-// What stands before the text of a line's fault, by its number.
+// Returns the text before the fault of a script line, with the line's number.
 fn line_front(alloc: Global, number: usize) -> Result<String, AllocError>
     ensures { IfOk result
         (λ text. string_bytes text ≡ codes "script line " ++ decimal number ++ codes ": ") }
@@ -90,7 +91,7 @@ fn line_front(alloc: Global, number: usize) -> Result<String, AllocError>
     format!(in alloc; "script line {number}: ")
 }
 
-// What stands before the text of the fault of a line of the input, by its number.
+// Returns the text before the fault of an input line, with the line's number.
 fn text_front(alloc: Global, number: u64) -> Result<String, AllocError>
     ensures { IfOk result
         (λ text. string_bytes text ≡ codes "text line " ++ decimal number ++ codes ": ") }
@@ -98,7 +99,7 @@ fn text_front(alloc: Global, number: u64) -> Result<String, AllocError>
     format!(in alloc; "text line {number}: ")
 }
 
-// That a line is none of a certificate, by its number.
+// Returns the text for a certificate line that has a syntax error, with the line's number.
 fn certificate_text(alloc: Global, number: usize) -> Result<String, AllocError>
     ensures { IfOk result
         (λ text. string_bytes text
@@ -107,7 +108,7 @@ fn certificate_text(alloc: Global, number: usize) -> Result<String, AllocError>
     format!(in alloc; "certificate line {number}: Syntax")
 }
 
-// Puts what stands before a text, and the text, at the end.
+// Appends a prefix and a text.
 fn put_after(line: &mut Vec<u8>, front: &[u8], text: &[u8]) -> Result<(), Memory>
     ensures { OnOk result (line.new.items ≡ line.old.items ++ (front.now ++ text.now)) }
 {
@@ -115,7 +116,7 @@ fn put_after(line: &mut Vec<u8>, front: &[u8], text: &[u8]) -> Result<(), Memory
     put(line, text)
 }
 
-// Puts that the input ends within what is to be passed over at the end.
+// Appends the text for an input that ends within the bytes to skip.
 fn put_short(line: &mut Vec<u8>, alloc: Global, taken: u64) -> Result<(), Memory>
     ensures { OnOk result (line.new.items ≡ line.old.items ++ stop_text (short_input taken)) }
 {
@@ -124,7 +125,7 @@ fn put_short(line: &mut Vec<u8>, alloc: Global, taken: u64) -> Result<(), Memory
     put(line, cut.as_bytes())
 }
 
-// Puts the text of what is wrong with a value at the end.
+// Appends the text of a value's fault.
 fn put_value(line: &mut Vec<u8>, alloc: Global, number: u64, text: &[u8]) -> Result<(), Memory>
     ensures { OnOk result (line.new.items ≡ line.old.items ++ text_of_value number text.now) }
 {
@@ -133,7 +134,7 @@ fn put_value(line: &mut Vec<u8>, alloc: Global, number: u64, text: &[u8]) -> Res
     put(line, text)
 }
 
-// Puts the text of a fault of a script's line at the end.
+// Appends the text of the fault of a script line.
 fn put_script(line: &mut Vec<u8>, alloc: Global, number: usize, text: &[u8]) -> Result<(), Memory>
     ensures { OnOk result
         (line.new.items ≡ line.old.items ++ stop_text (script_line number text.now)) }
@@ -143,7 +144,7 @@ fn put_script(line: &mut Vec<u8>, alloc: Global, number: usize, text: &[u8]) -> 
     put(line, text)
 }
 
-// Puts the text of a fault of a line of the input at the end.
+// Appends the text of the fault of an input line.
 fn put_text_line(line: &mut Vec<u8>, alloc: Global, number: u64, text: &[u8]) -> Result<(), Memory>
     ensures { OnOk result
         (line.new.items ≡ line.old.items ++ stop_text (text_line number text.now)) }
@@ -153,7 +154,7 @@ fn put_text_line(line: &mut Vec<u8>, alloc: Global, number: u64, text: &[u8]) ->
     put(line, text)
 }
 
-// Puts that a line is none of a certificate at the end.
+// Appends the text for a certificate line that has a syntax error.
 fn put_certificate(line: &mut Vec<u8>, alloc: Global, number: usize) -> Result<(), Memory>
     ensures { OnOk result
         (line.new.items ≡ line.old.items ++ stop_text (certificate_line number)) }
@@ -162,7 +163,7 @@ fn put_certificate(line: &mut Vec<u8>, alloc: Global, number: usize) -> Result<(
     put(line, text.as_bytes())
 }
 
-// Puts the text of a stop at the end.
+// Appends the text of an exit reason.
 fn put_text(line: &mut Vec<u8>, alloc: Global, stop: &Stop) -> Result<(), Memory>
     ensures { OnOk result (line.new.items ≡ line.old.items ++ stop_text stop.now) }
 {
@@ -189,7 +190,7 @@ fn put_text(line: &mut Vec<u8>, alloc: Global, stop: &Stop) -> Result<(), Memory
     }
 }
 
-// The text of a stop, as a line.
+// Returns the text of an exit reason as a line.
 fn text_line_of(alloc: Global, stop: &Stop) -> Result<Vec<u8>, Memory>
     ensures { IfOk result (λ line. line.items ≡ err_line (stop_text stop.now)) }
 {
@@ -200,7 +201,7 @@ fn text_line_of(alloc: Global, stop: &Stop) -> Result<Vec<u8>, Memory>
     Ok(line)
 }
 
-// The line of a stop; a run that is finished has none.
+// Returns the error line of an exit reason. `Finished` has none.
 fn line(alloc: Global, stop: &Stop) -> Result<Vec<u8>, Memory>
     ensures { IfOk result (λ line. line.items ≡ stop_line stop.now) }
 {
@@ -210,8 +211,9 @@ fn line(alloc: Global, stop: &Stop) -> Result<Vec<u8>, Memory>
     }
 }
 
-/// Puts the line of a stop on err, if it has one, and answers its status. Where memory runs out for
-/// the line, this is told.
+/// Writes the error line of an exit reason to standard error, if it has one, and returns its
+/// status. If memory runs out for the line, writes `out of memory` and returns that status. If a
+/// write fails, returns `WriteFault`.
 pub fn report_stop<E: Sink>(alloc: Global, err: &mut E, stop: &Stop) -> Status
     ensures { Reports stop.now (change (E.state err.old) (E.state err.new)) result }
 {

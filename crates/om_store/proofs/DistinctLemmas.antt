@@ -1,4 +1,4 @@
--- Two numbers with one type are one number.
+-- Equal types have equal numbers.
 use Rattle.std.proofs.Common.{ℕ, ◌<◌, ◌≡◌, ◌∙◌, List, [], length, map, Some, refl, sym, ap, subst, arith}
 use Rattle.std.specs.Prelude.{slice_get}
 use Rattle.std.proofs.lemmas.Option.{same_Some, slice_get_within, slice_get-get_or}
@@ -17,7 +17,7 @@ module _ (names : List (List ℕ)) (all : List Node) (store : IsStore names all)
   abbrev types : List Ty
   types = types_in names all
 
-  -- the node stands for the type
+  -- The node represents the type.
   abbrev Says : Node → Ty → Type 0
   Says (nodes.Variable n) (variable x) = name_at names n ≡ x
   Says (nodes.Named n) (named x) = name_at names n ≡ x

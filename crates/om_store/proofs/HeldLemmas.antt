@@ -1,4 +1,4 @@
--- What stands once in a set, and where.
+-- Elements that occur once in a set, and their indices.
 use Rattle.std.proofs.Common.{ℕ, ◌+◌, ◌<◌, ◌≡◌, ◌∙◌, ◌⊎◌, inl, inr, Bool, true, false, cond, List, [], ◌∷◌, ◌++◌, length, map, Some, refl, sym, ap, true≢false, arith, length-append}
 use Rattle.std.specs.Prelude.{slice_get, position, option_map, nat_eq}
 use Rattle.std.specs.Global.{Vec}
@@ -14,7 +14,7 @@ use Rattle.indexmap.specs.IndexSet.{insert_key}
 use Rattle.om_store.specs.Held.{AreDistinct, Adds, Holds, Grows}
 use Rattle.om_store.specs.Texts.{texts_of}
 
--- ---- keys that are equal stand once
+-- ---- equal keys occur once
 
 module _ {K : Type 0} (eq : K → K → Bool) (ks : List K) (distinct : IsDistinct eq ks) where
   apart :
@@ -44,7 +44,7 @@ get-map f xs i x is = slice_get-map f xs i ∙ ap (option_map f) is
 
 -- ---- texts
 
--- texts of distinct vectors stand once
+-- If vectors are distinct, then their contents are distinct.
 pub AreDistinct-texts :
     (eq : Vec ℕ → Vec ℕ → Bool) → ((a b : Vec ℕ) → a.items ≡ b.items → eq a b ≡ true)
     → (ks : List (Vec ℕ)) → IsDistinct eq ks → AreDistinct (texts_of ks)
@@ -56,7 +56,7 @@ AreDistinct-texts eq alike ks distinct i j x at_i at_j =
 pub alike_texts : (a b : Vec ℕ) → a.items ≡ b.items → pointwise nat_eq a.items b.items ≡ true
 alike_texts a b same = (bytes_decides a.items b.items).1 same
 
--- the place of a text that is found
+-- If a text is found at an index within the list, then the text is at that index.
 pub text_found :
     (name : List ℕ) (ks : List (Vec ℕ)) (i : ℕ)
     → position (λ (k : Vec ℕ). pointwise nat_eq name k.items) ks ≡ Some i → i < length ks
@@ -68,7 +68,7 @@ text_found name ks i found below =
     let same = (bytes_decides name (k.0).items).0 (sym (ap (λ (v : Vec ℕ). pointwise nat_eq name v.items) here) ∙ passes.1) in
     get-map (λ (v : Vec ℕ). v.items) ks i k.0 k.1 ∙ ap Some (sym same)
 
--- a set after a text is put into it
+-- The set after a text is inserted.
 pub text_added :
     (eq : Vec ℕ → Vec ℕ → Bool) (old new : List (Vec ℕ)) (value k : Vec ℕ) (i : ℕ) (name : List ℕ)
     → new ≡ insert_key eq old value → slice_get new i ≡ Some k
@@ -89,11 +89,11 @@ text_added eq old new value k i name is stored same named =
           ∙ map-append (λ (v : Vec ℕ). v.items) old (value ∷ [])
           ∙ ap (λ (t : List ℕ). texts_of old ++ t ∷ []) named)
 
--- what is there needs no adding
+-- If an element is present, then nothing is added.
 pub adds_nothing : {T : Type 0} (old : List T) (x : T) (i : ℕ) → slice_get old i ≡ Some x → Adds old old x i
 adds_nothing old x i there = record { grown = inl refl; there = there }
 
--- what grew, and then was given an element, grew
+-- If a list grew and then received an element, then the result grew from the first list.
 pub Grows-held :
     {T : Type 0} (old now new : List T) (x : T) (i : ℕ) → Grows old now → Holds now new x i
     → Grows old new
@@ -114,7 +114,7 @@ Grows-then xs ys zs first second = record {
 pub Holds-grows : {T : Type 0} (xs ys : List T) (x : T) (i : ℕ) → Holds xs ys x i → Grows xs ys
 Holds-grows xs ys x i held = record { added = held.added; kept = held.kept }
 
--- what is there stays, where elements are added
+-- If elements are appended, then earlier elements keep their indices.
 pub there_kept :
     {T : Type 0} (xs ys : List T) (i : ℕ) (x : T) → Grows xs ys → slice_get xs i ≡ Some x → slice_get ys i ≡ Some x
 there_kept xs ys i x grown is =

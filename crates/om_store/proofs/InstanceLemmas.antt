@@ -1,4 +1,4 @@
--- Instances, node by node.
+-- Instances of types, computed node by node.
 use Rattle.std.proofs.Common.{ℕ, zero, suc, ◌+◌, ◌-◌, ◌<◌, ◌≤◌, ◌≡◌, ◌∙◌, List, [], ◌∷◌, ◌++◌, length, map, take, drop, Bool, false, cond, Some, None, refl, sym, ap, subst, length-append, All, Contains, min, Result, Ok, Err, IfOk, arith}
 use Rattle.std.specs.Prelude.{slice_get}
 use Rattle.std.specs.Str.{bytes_eq}
@@ -16,7 +16,7 @@ use Rattle.om_types.proofs.NodeLemmas.{types_of-push, types_of-length, at_kept}
 use Rattle.om_store.specs.Held.{Holds, Grows}
 use Rattle.om_store.specs.Instance.{instance_of_node, argument_at, AreInstances, HasNumbers, HoldsEach}
 
--- ---- types that stay
+-- ---- earlier types keep their numbers
 
 types_at-grown :
     (types added : List Ty) (numbers : List ℕ) → All (λ i. i < length types) numbers
@@ -106,7 +106,7 @@ module _ (old types : List Ty) (value : List ℕ → Ty) (all : List Node) (k : 
           ∙ ap (map (instance value)) (sym (types_of-push (take k all) node) ∙ ap types_of (sym (take-more all k node is)));
     }
 
--- the same, where the node's instance was made among more types
+-- The same step if the node's instance was made in an extended store.
 module _ (old types : List Ty) (parameters : List (List ℕ)) (arguments : List ℕ) (all : List Node) (k : ℕ) (numbers : List ℕ)
     (so_far : AreInstances old types (argument_at old parameters arguments) all k numbers)
     (among : All (λ i. i < length old) arguments) where
@@ -220,7 +220,7 @@ pub held_is :
 held_is (Ok i) types new t u same held = held.there ∙ ap Some same
 held_is (Err e) types new t u same held = tt
 
--- where variables stand for themselves, the instance is the type
+-- If `value` maps each variable to itself, then the instance of a type is the type.
 pub instance_itself :
     (value : List ℕ → Ty) → ((x : List ℕ) → value x ≡ variable x) → (t : Ty) → instance value t ≡ t
 instance_itself value same (variable x) = same x
@@ -249,7 +249,7 @@ each_there old types value all numbers same are = record {
   };
 }
 
--- a number of them
+-- The type with one of the numbers.
 pub number_there :
     (types all : List Ty) (numbers : List ℕ) (i n : ℕ) → HasNumbers types all numbers → slice_get numbers i ≡ Some n
     → type_at types n ≡ type_at all i
@@ -260,7 +260,7 @@ number_there types all numbers i n has is =
 pub numbers_many : (types all : List Ty) (numbers : List ℕ) → HasNumbers types all numbers → length numbers ≡ length all
 numbers_many types all numbers has = sym (length-map numbers (type_at types)) ∙ ap length has.are
 
--- numbers stay, where types are added
+-- If types are appended, then numbers keep their types.
 pub numbers_kept :
     (types new all : List Ty) (numbers : List ℕ) → HasNumbers types all numbers → Grows types new
     → HasNumbers new all numbers

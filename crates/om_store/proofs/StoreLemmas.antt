@@ -1,4 +1,4 @@
--- What a name more or a node more does to a store.
+-- The effect of one more name or node on a store.
 use Rattle.std.proofs.Common.{ℕ, zero, suc, ◌<◌, ◌≡◌, ◌∙◌, ⊎_elim, List, [], ◌∷◌, ◌++◌, length, map, Some, Result, Ok, Err, IfOk, OnErr, refl, sym, ap, subst, length-append, take, ◌≤◌, arith}
 use Rattle.std.specs.Prelude.{slice_get}
 use Rattle.std.proofs.lemmas.List.{map-append, length-map, append-nil, take-map}
@@ -20,7 +20,7 @@ types_in-none = refl
 pub types_in-length : (names : List (List ℕ)) (all : List Node) → length (types_in names all) ≡ length all
 types_in-length names all = types_of-length (map (spelled names) all) ∙ length-map all (spelled names)
 
--- ---- a name more
+-- ---- one more name
 
 name_kept : (names added : List (List ℕ)) (n : ℕ) → n < length names → name_at (names ++ added) n ≡ name_at names n
 name_kept [] added n below = absurd (omega arith)
@@ -57,7 +57,7 @@ map_same f g [] same = refl
 map_same f g (x ∷ xs) same =
     ap (λ y. y ∷ map f xs) (same 0 x refl) ∙ ap (λ ys. g x ∷ ys) (map_same f g xs (λ i. same (suc i)))
 
--- new names are old ones with some at their end
+-- The new names extend the old names.
 module _ (names new added : List (List ℕ)) (all : List Node) (kept : new ≡ names ++ added) (store : IsStore names all) where
   spelled_same : map (spelled new) all ≡ map (spelled names) all
   spelled_same =
@@ -75,14 +75,14 @@ module _ (names new added : List (List ℕ)) (all : List Node) (kept : new ≡ n
     own_nodes = store.own_nodes;
   }
 
--- what was added: nothing, or this
+-- The added elements: none, or the element itself.
 pub added_by : {T : Type 0} (old new : List T) (x : T) (i : ℕ) → Adds old new x i → (added : List T) × (new ≡ old ++ added)
 added_by old new x i adds = ⊎_elim
     (λ same. ([], same ∙ sym (append-nil old)))
     (λ more. (x ∷ [], more))
     adds.grown
 
--- ---- a node more
+-- ---- one more node
 
 module _ (names : List (List ℕ)) (all new : List Node) (node : Node) (i : ℕ) (store : IsStore names all)
     (adds : Adds all new node i) (distinct : AreDistinct new) (known : IsNamedBelow (length names) node)
@@ -140,7 +140,7 @@ module _ (names : List (List ℕ)) (all new : List Node) (node : Node) (i : ℕ)
 
 -- ---- after a call
 
--- a call that adds a name, or fails and adds nothing
+-- A call that adds a name, or fails and adds nothing.
 module _ {E : Type 0} (names new : List (List ℕ)) (name : List ℕ) (r : Result ℕ E) (ok : IfOk r (Adds names new name)) (err : OnErr r (new ≡ names)) where
   pub names_grown : (added : List (List ℕ)) × (new ≡ names ++ added)
   names_grown = by r ok err where
@@ -160,7 +160,7 @@ module _ {E : Type 0} (names new : List (List ℕ)) (name : List ℕ) (r : Resul
     by (Ok i) adds = get_or_from_slice_get new i name [] adds.there
     by (Err e) none = tt
 
--- a call that adds a node, or fails and adds nothing
+-- A call that adds a node, or fails and adds nothing.
 module _ {E : Type 0} (names : List (List ℕ)) (all new : List Node) (node : Node) (r : Result ℕ E) (ok : IfOk r (Adds all new node)) (err : OnErr r (new ≡ all))
     (store : IsStore names all) (distinct : AreDistinct new) (known : IsNamedBelow (length names) node)
     (below : IsBelow (length (types_in names all)) (spelled names node)) where
@@ -176,7 +176,7 @@ module _ {E : Type 0} (names : List (List ℕ)) (all new : List Node) (node : No
     by (Ok i) adds = holds_node names all new node i store adds distinct known below
     by (Err e) none = tt
 
--- the type of a number is that of its node
+-- The type with a number is the type of its node.
 pub node_at :
     (names : List (List ℕ)) (all : List Node) (i : ℕ) (node : Node) → IsStore names all
     → slice_get all i ≡ Some node

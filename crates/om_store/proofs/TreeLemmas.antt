@@ -1,4 +1,4 @@
--- The nodes of a store up to a number, as a type of their own.
+-- The first nodes of a store, as a separate type.
 use Rattle.std.proofs.Common.{ℕ, suc, ◌+◌, ◌<◌, ◌≤◌, ◌≡◌, ◌∙◌, List, [], ◌∷◌, ◌++◌, length, take, drop, Some, refl, sym, ap, subst, arith}
 use Rattle.std.specs.Prelude.{slice_get}
 use Rattle.std.proofs.Math.Seq.{take-suc}
@@ -9,7 +9,7 @@ use Rattle.om_types.specs.declared.ty.Node.{Node}
 use Rattle.om_types.specs.Nodes.{type_at, type_of_node, types_of, type_of, IsBelow, AreOrdered}
 use Rattle.om_types.proofs.NodeLemmas.{types_of-push, types_of-length, type_of-push, node_kept, AreOrdered-push}
 
--- the nodes are ordered, and their types are the first k
+-- The nodes are ordered, and their types are the first `k` types.
 pub record AreFirst (types : List Ty) (k : ℕ) (nodes : List Node) : Type 0 where
   pub ordered : AreOrdered nodes
   pub are : types_of nodes ≡ take k types

@@ -1,23 +1,23 @@
--- What the calls of a store do.
+-- The effect of calls that add elements to a store.
 use Rattle.std.specs.Prelude.{ℕ, ◌≡◌, ◌⊎◌, List, [], ◌∷◌, ◌++◌, slice_get, Some}
 
--- no element stands twice
+-- No element occurs twice.
 abbrev pub AreDistinct : {T : Type 0} → List T → Type 0
 AreDistinct {T} xs =
     (i j : ℕ) (x : T) → slice_get xs i ≡ Some x → slice_get xs j ≡ Some x → i ≡ j
 
--- new is old, or old with x at its end, and has x at this number
+-- `new` equals `old`, or is `old` followed by `x`. In `new`, `x` is at index `number`.
 pub record Adds {T : Type 0} (old new : List T) (x : T) (number : ℕ) : Type 0 where
   pub grown : (new ≡ old) ⊎ (new ≡ old ++ x ∷ [])
   pub there : slice_get new number ≡ Some x
 
--- new is old with elements at its end, or none, and has x at this number
+-- `new` is `old` followed by zero or more elements. In `new`, `x` is at index `number`.
 pub record Holds {T : Type 0} (old new : List T) (x : T) (number : ℕ) : Type 0 where
   pub added : List T
   pub kept : new ≡ old ++ added
   pub there : slice_get new number ≡ Some x
 
--- new is old with elements at its end, or none
+-- `new` is `old` followed by zero or more elements.
 pub record Grows {T : Type 0} (old new : List T) : Type 0 where
   pub added : List T
   pub kept : new ≡ old ++ added

@@ -1,4 +1,4 @@
--- A node that is lent, as a node that is written.
+-- Converts a node as callers read it (`TypeNode`) to a node of a type (`Node`).
 use Rattle.om_types.specs.declared.ty.Node.{Node as Written}
 use Rattle.om_types.specs.declared.ty.Node.TheVariants as written
 use Rattle.om_store.specs.declared.node.TypeNode.{TypeNode}

@@ -1,4 +1,4 @@
--- The texts in vectors.
+-- The contents of vectors of bytes.
 use Rattle.std.specs.Prelude.{ℕ, List, map}
 use Rattle.std.specs.Global.{Vec}
 

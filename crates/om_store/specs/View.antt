@@ -1,4 +1,4 @@
--- The types of nodes whose names are numbers.
+-- The types of stored nodes, whose names are numbers.
 use Rattle.std.specs.Prelude.{ℕ, ◌<◌, ◌≡◌, List, [], map, length, slice_get, slice_index_or, Some}
 use Rattle.om_types.specs.Ty.{Ty}
 use Rattle.om_types.specs.declared.ty.Node.{Node as Written}
@@ -11,7 +11,7 @@ use Rattle.om_store.specs.Held.{AreDistinct}
 abbrev pub name_at : List (List ℕ) → ℕ → List ℕ
 name_at names n = slice_index_or names n []
 
--- the node with its name
+-- The node with its name instead of the name's number.
 abbrev pub spelled : List (List ℕ) → Node → Written
 spelled names (nodes.Variable n) = written.Variable (name_at names n)
 spelled names (nodes.Named n) = written.Named (name_at names n)
@@ -22,11 +22,11 @@ spelled names (nodes.Tag whole n) = written.Tag whole (name_at names n)
 spelled names (nodes.TagOf whole n argument) = written.TagOf whole (name_at names n) argument
 spelled names (nodes.Including whole included) = written.Including whole included
 
--- the type of each node
+-- The type of each node.
 abbrev pub types_in : List (List ℕ) → List Node → List Ty
 types_in names all = types_of (map (spelled names) all)
 
--- its name, where it has one, is among the first n
+-- If the node has a name, the name's number is less than `n`.
 abbrev pub IsNamedBelow : ℕ → Node → Type 0
 IsNamedBelow n (nodes.Variable m) = m < n
 IsNamedBelow n (nodes.Named m) = m < n
@@ -34,7 +34,8 @@ IsNamedBelow n (nodes.Tag whole m) = m < n
 IsNamedBelow n (nodes.TagOf whole m argument) = m < n
 IsNamedBelow n node = Unit {0}
 
--- each node names earlier ones, each name is there, and nothing stands twice
+-- The invariant of a store: each node refers only to earlier nodes and to known names, and neither
+-- names nor nodes occur twice.
 pub record IsStore (names : List (List ℕ)) (all : List Node) : Type 0 where
   pub ordered : AreOrdered (map (spelled names) all)
   pub named : (i : ℕ) (node : Node) → slice_get all i ≡ Some node → IsNamedBelow (length names) node

@@ -1,4 +1,4 @@
-//! Types with their parameters replaced.
+//! Adds instances of types to a store: types whose parameters are replaced by arguments.
 
 ghost use Rattle.std.specs.Prelude.{◌≡◌, ◌<◌, List, Some, length, slice_get, map, All, Contains};
 ghost use Rattle.std.specs.Prelude.{IfOk, IfSome, OnErr};
@@ -15,9 +15,10 @@ use om_types::ty::{Node, Ty};
 use std::alloc::Global;
 
 impl Types {
-    /// The number of a type with each parameter replaced by its argument. Other variables stand for
-    /// themselves. It takes a step for each node of the type and each parameter before that of a
-    /// variable.
+    /// Returns the number of the instance of `t` in which each parameter is replaced by its
+    /// argument, and adds it if needed. Variables that are not parameters stay as they are. Takes
+    /// one step for each node of the type, and for each variable one step for each parameter before
+    /// its own. On `Memory` the store is unchanged.
     pub fn instance(
         &mut self,
         alloc: Global,
@@ -41,7 +42,8 @@ impl Types {
         }
     }
 
-    /// The number of each node's type.
+    /// Returns the number of the type of each node, and adds the types that are missing. On
+    /// `Memory` the store is unchanged.
     pub fn add_nodes(&mut self, alloc: Global, nodes: &[Node]) -> Result<Vec<usize>, Memory>
         requires { AreOrdered nodes.now }
         ensures ok { IfOk result
@@ -58,7 +60,8 @@ impl Types {
         }
     }
 
-    /// The number of a type.
+    /// Returns the number of the type `t`, and adds it if it is missing. On `Memory` the store is
+    /// unchanged.
     pub fn add(&mut self, alloc: Global, t: &Ty) -> Result<usize, Memory>
         ensures ok { IfOk result (Holds self.old self.new t.now) }
         ensures err { OnErr result (self.new ≡ self.old) }
@@ -69,7 +72,7 @@ impl Types {
 
 ghost use Rattle.om_types.specs.Nodes.{type_of};
 
-/// Adds the instances of these nodes, and answers the number of the last.
+/// Adds the instances of these nodes. Returns the number of the last one.
 fn grow(
     types: &mut Types,
     alloc: Global,
@@ -93,7 +96,7 @@ fn grow(
     }
 }
 
-/// Adds the instances of these nodes, and answers their numbers.
+/// Adds the instances of these nodes. Returns their numbers.
 fn numbers_of(
     types: &mut Types,
     alloc: Global,
@@ -117,7 +120,7 @@ fn numbers_of(
     Ok(numbers)
 }
 
-/// Adds the instance of a node over the instances of earlier ones.
+/// Adds the instance of one node. Its parts are the instances of earlier nodes.
 fn add_node(
     types: &mut Types,
     node: &Node,
@@ -153,7 +156,7 @@ fn add_node(
     }
 }
 
-/// The argument of the first parameter of this name.
+/// Returns the argument of the first parameter with this name, or `None` if no parameter has it.
 fn argument(parameters: &[List<u8>], arguments: &[usize], name: &[u8]) -> Option<usize>
     ensures stands { (types : List Ty)
         → argument_at types parameters.now arguments.now name.now

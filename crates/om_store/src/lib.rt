@@ -1,4 +1,7 @@
-//! Types by numbers: each type once, as a small node over the numbers of earlier types.
+//! A hash-consing store of types: `Types` keeps each type once and identifies it by a number. A
+//! type is a small node whose parts are the numbers of earlier types. Contracts see a store as the
+//! list of its types. The calls that add a type return its number and keep all earlier numbers
+//! (`Holds`).
 #![tactic(auto)]
 
 mod instance;

@@ -1,4 +1,4 @@
-//! Names by numbers.
+//! Interned names: each name has a number.
 
 ghost use Rattle.std.specs.Prelude.{◌≡◌, ◌<◌, [], Some, length, slice_get, IfOk, OnErr};
 ghost use Rattle.om_store.specs.Held.{Adds};
@@ -8,7 +8,8 @@ use om_model::Memory;
 use std::alloc::Global;
 use std::marker::Model;
 
-/// Names, each once. Contracts see them as a list.
+/// A set of names in which each name occurs once. Contracts see the list of the names in insertion
+/// order.
 #[derive(Drop)]
 pub struct Names {
     texts: IndexSet<Vec<u8>>,
@@ -30,7 +31,7 @@ impl Model for Names {
 impl Names {
     ghost use Rattle.om_store.specs.Held.{AreDistinct};
 
-    /// No names.
+    /// Returns an empty set.
     pub fn new(alloc: Global) -> Names
         ensures { result ≡ [] }
     {
@@ -39,8 +40,8 @@ impl Names {
         }
     }
 
-    /// The number of a name, which is added where it is not there. After `Memory` nothing has
-    /// changed.
+    /// Returns the number of a name, and adds the name if it is missing. On `Memory` the set is
+    /// unchanged.
     pub fn number(&mut self, name: &[u8]) -> Result<usize, Memory>
         ensures ok { IfOk result (Adds self.old self.new name.now) }
         ensures err { OnErr result (self.new ≡ self.old) }
@@ -56,7 +57,7 @@ impl Names {
         }
     }
 
-    /// The name of a number.
+    /// Returns the name with this number.
     pub fn name(&self, number: usize) -> &[u8]
         requires { number < length self.now }
         ensures { slice_get self.now number ≡ Some result.now }

@@ -1,6 +1,7 @@
-//! One type as a node over numbers: as it is stored, and as it is lent.
+//! The node of one type, in two forms: `Node` as the store keeps it, and `TypeNode` as callers read
+//! it.
 
-/// A node whose names and parts are numbers.
+/// A stored node: its name and its parts are numbers.
 #[derive(Clone, Copy, PartialEq, Eq, Hash)]
 pub enum Node {
     Variable(usize),
@@ -13,20 +14,21 @@ pub enum Node {
     Including(usize, usize),
 }
 
-/// What a type is made of: a name, or numbers of earlier types.
+/// The node of a type, as callers read it: the name is borrowed, and parts are numbers of earlier
+/// types.
 #[derive(Clone, Copy)]
 pub enum TypeNode<'a> {
-    /// A variable, without its quote.
+    /// A type variable, without its quote.
     Variable(&'a [u8]),
     Named(&'a [u8]),
     Tuple,
     Bracket,
-    /// An argument or a component more.
+    /// A type with one more argument or component.
     Part(usize, usize),
-    /// A tag more, without its backquote.
+    /// A polymorphic variant type with one more tag, without the tag's backquote.
     Tag(usize, &'a [u8]),
-    /// A tag with an argument more.
+    /// A polymorphic variant type with one more tag that has an argument.
     TagOf(usize, &'a [u8], usize),
-    /// An included type more.
+    /// A polymorphic variant type that includes one more type.
     Including(usize, usize),
 }

@@ -1,4 +1,4 @@
-//! Types of a store as types of their own.
+//! Copies a type out of the store.
 
 ghost use Rattle.std.specs.Prelude.{◌≡◌, ◌<◌, length, IfOk};
 ghost use Rattle.om_types.specs.Nodes.{type_at};
@@ -12,7 +12,8 @@ use om_types::ty::{Node, Ty};
 use std::alloc::Global;
 
 impl Types {
-    /// The type of a number. It takes a step for each number up to it.
+    /// Returns the type with this number as a separate tree. Takes one step for each number up to
+    /// `number`.
     pub fn tree(&self, alloc: Global, number: usize) -> Result<Ty, Memory>
         requires { number < length self.now }
         ensures { IfOk result (λ t. t ≡ type_at self.now number) }
@@ -28,7 +29,7 @@ impl Types {
     }
 }
 
-/// A node with its name as a text of its own.
+/// Returns a copy of the node that owns its name.
 fn written(alloc: Global, node: TypeNode<'_>) -> Result<Node, Memory>
     ensures { IfOk result (λ n. n ≡ written_of node.entry) }
 {
@@ -46,7 +47,7 @@ fn written(alloc: Global, node: TypeNode<'_>) -> Result<Node, Memory>
     }
 }
 
-/// The same bytes.
+/// Returns a copy of the bytes.
 fn text(alloc: Global, bytes: &[u8]) -> Result<List<u8>, Memory>
     ensures { IfOk result (λ l. l ≡ bytes.now) }
 {

@@ -13,8 +13,8 @@ use om_model::Memory;
 use std::alloc::Global;
 use std::marker::Model;
 
-/// Types by numbers, each once. Contracts see the list of their trees: type i is the i-th. After
-/// `Memory` a call has changed nothing that they see.
+/// A set of types in which each type occurs once. Contracts see the list of the types as trees:
+/// number `i` is the `i`-th type. If a call fails with `Memory`, that list is unchanged.
 #[derive(Drop)]
 pub struct Types {
     names: Names,
@@ -39,7 +39,7 @@ impl Model for Types {
 }
 
 impl Types {
-    /// No types.
+    /// Returns an empty store.
     pub fn new(alloc: Global) -> Types
         ensures { result ≡ [] }
     {
@@ -49,7 +49,7 @@ impl Types {
         }
     }
 
-    /// How many there are.
+    /// Returns the number of types in the store.
     pub fn len(&self) -> usize
         ensures many { result ≡ length self.now }
         ensures distinct { AreDistinct self.now }
@@ -57,7 +57,7 @@ impl Types {
         self.nodes.len()
     }
 
-    /// The number of a variable.
+    /// Returns the number of a type variable, and adds it if it is missing.
     pub fn add_variable(&mut self, name: &[u8]) -> Result<usize, Memory>
         ensures ok { IfOk result (Holds self.old self.new (variable name.now)) }
         ensures err { OnErr result (self.new ≡ self.old) }
@@ -66,7 +66,7 @@ impl Types {
         put(&self.names, &mut self.nodes, Node::Variable(name))
     }
 
-    /// The number of a name's type, before its arguments.
+    /// Returns the number of a named type without arguments, and adds it if it is missing.
     pub fn add_named(&mut self, name: &[u8]) -> Result<usize, Memory>
         ensures ok { IfOk result (Holds self.old self.new (named name.now)) }
         ensures err { OnErr result (self.new ≡ self.old) }
@@ -75,7 +75,7 @@ impl Types {
         put(&self.names, &mut self.nodes, Node::Named(name))
     }
 
-    /// The number of a tuple without components.
+    /// Returns the number of the tuple without components, and adds it if it is missing.
     pub fn add_tuple(&mut self) -> Result<usize, Memory>
         ensures ok { IfOk result (Holds self.old self.new tuple) }
         ensures err { OnErr result (self.new ≡ self.old) }
@@ -83,7 +83,8 @@ impl Types {
         put(&self.names, &mut self.nodes, Node::Tuple)
     }
 
-    /// The number of a bracket without tags.
+    /// Returns the number of the polymorphic variant type without tags, and adds it if it is
+    /// missing.
     pub fn add_bracket(&mut self) -> Result<usize, Memory>
         ensures ok { IfOk result (Holds self.old self.new bracket) }
         ensures err { OnErr result (self.new ≡ self.old) }
@@ -91,7 +92,8 @@ impl Types {
         put(&self.names, &mut self.nodes, Node::Bracket)
     }
 
-    /// The number of a type with an argument or a component more.
+    /// Returns the number of the type `whole` with `added` as one more argument or component, and
+    /// adds it if it is missing.
     pub fn add_part(&mut self, whole: usize, added: usize) -> Result<usize, Memory>
         requires whole { whole < length self.old }
         requires added { added < length self.old }
@@ -102,7 +104,8 @@ impl Types {
         put(&self.names, &mut self.nodes, Node::Part(whole, added))
     }
 
-    /// The number of a bracket with a tag more.
+    /// Returns the number of the polymorphic variant type `whole` with one more tag, and adds it if
+    /// it is missing.
     pub fn add_tag(&mut self, whole: usize, name: &[u8]) -> Result<usize, Memory>
         requires { whole < length self.old }
         ensures ok { IfOk result (Holds self.old self.new (tag (type_at self.old whole) name.now)) }
@@ -112,7 +115,8 @@ impl Types {
         put(&self.names, &mut self.nodes, Node::Tag(whole, name))
     }
 
-    /// The number of a bracket with a tag and its argument more.
+    /// Returns the number of the polymorphic variant type `whole` with one more tag and its
+    /// argument, and adds it if it is missing.
     pub fn add_tag_of(
         &mut self,
         whole: usize,
@@ -134,7 +138,8 @@ impl Types {
         )
     }
 
-    /// The number of a bracket with an included type more.
+    /// Returns the number of the polymorphic variant type `whole` that also includes `included`,
+    /// and adds it if it is missing.
     pub fn add_including(&mut self, whole: usize, included: usize) -> Result<usize, Memory>
         requires whole { whole < length self.old }
         requires included { included < length self.old }
@@ -150,7 +155,7 @@ impl Types {
         )
     }
 
-    /// What a type is made of, in numbers of earlier types.
+    /// Returns the node of a type. The node's parts are smaller numbers.
     pub fn node(&self, number: usize) -> TypeNode<'_>
         requires { number < length self.now }
         ensures is { slice_get self.now number ≡ Some (type_of_node self.now (written_of result)) }
@@ -159,7 +164,7 @@ impl Types {
         spelling(&self.names, stored(&self.nodes, number))
     }
 
-    /// Leaves the first types alone.
+    /// Keeps the first `count` types and removes the others.
     pub(crate) fn truncate(&mut self, count: usize)
         requires { count ≤ length self.old }
         ensures { self.new ≡ take count self.old }
@@ -170,7 +175,8 @@ impl Types {
 
 ghost use Rattle.om_store.specs.View.{types_in, spelled, name_at, IsNamedBelow, IsStore};
 
-/// The number of a name, for nodes over the names.
+/// Returns the number of a name, and adds the name if it is missing. The types of the nodes stay
+/// the same.
 fn known(names: &mut Names, nodes: &IndexSet<Node>, name: &[u8]) -> Result<usize, Memory>
     requires { IsStore names.old nodes.now.keys }
     ensures store { IsStore names.new nodes.now.keys }
@@ -181,7 +187,7 @@ fn known(names: &mut Names, nodes: &IndexSet<Node>, name: &[u8]) -> Result<usize
     names.number(name)
 }
 
-/// The number of a node.
+/// Returns the number of a node, and adds the node if it is missing.
 fn put(names: &Names, nodes: &mut IndexSet<Node>, node: Node) -> Result<usize, Memory>
     requires store { IsStore names.now nodes.old.keys }
     requires named { IsNamedBelow (length names.now) node }
@@ -196,7 +202,7 @@ fn put(names: &Names, nodes: &mut IndexSet<Node>, node: Node) -> Result<usize, M
     number_of(nodes, node)
 }
 
-/// The number of a node in a set.
+/// Returns the number of a node in a set, and adds the node if it is missing.
 fn number_of(nodes: &mut IndexSet<Node>, node: Node) -> Result<usize, Memory>
     ensures ok { IfOk result (Adds nodes.old.keys nodes.new.keys node) }
     ensures err { OnErr result (nodes.new.keys ≡ nodes.old.keys) }
@@ -206,7 +212,7 @@ fn number_of(nodes: &mut IndexSet<Node>, node: Node) -> Result<usize, Memory>
     Ok(number)
 }
 
-/// The node of a number.
+/// Returns the node with this number.
 fn stored(nodes: &IndexSet<Node>, number: usize) -> Node
     requires { number < length nodes.now.keys }
     ensures { slice_get nodes.now.keys number ≡ Some result }
@@ -214,7 +220,7 @@ fn stored(nodes: &IndexSet<Node>, number: usize) -> Node
     nodes.as_slice()[number]
 }
 
-/// A node with its name.
+/// Returns a stored node with its name instead of the name's number.
 fn spelling(names: &Names, node: Node) -> TypeNode<'_>
     requires { IsNamedBelow (length names.now) node }
     ensures { written_of result ≡ spelled names.now node }

@@ -1,4 +1,4 @@
--- A value has as many bytes as its header claims, and the words that it states.
+-- A value has the length and the number of words that its header states.
 use Rattle.std.proofs.Common.{◌≡◌, ℕ, ◌+◌, ◌-◌, ◌<◌, ◌≤◌, cond, List, ◌++◌, length, take, refl, sym, ap, ◌∙◌, append_assoc, length-append, take_at, arith}
 use Rattle.std.specs.Prelude.{IsTrue, nat_lt}
 use Rattle.std.proofs.lemmas.Bool.Decides.{Decides-ltb}
@@ -18,7 +18,7 @@ pub start_of :
 start_of bytes head start is e =
     e ∙ (ap (λ h. cond {A = ℕ} h.big 32 20) is ∙ start_length bytes)
 
--- a value at the front of bytes has the header that they begin with
+-- If bytes begin with a value, then the value's header is at their start.
 module _ (limit : ℕ) (bytes value rest : List ℕ) (tree : Tree) (e : bytes ≡ value ++ rest)
     (s : SpelledUnder limit value tree) where
   split : bytes ≡ s.header ++ (concat s.pieces ++ rest)
@@ -56,7 +56,7 @@ no_value limit bytes head is more value rest tree e s =
       ap length s.bytes_are ∙ length-append s.header pieces,
     )
 
--- so a header that claims more than the bytes after it begins no value
+-- If a header states more data than the bytes after it contain, then no value begins there.
 pub claims_none :
     (limit : ℕ) (bytes : List ℕ) (head : Head) (start : ℕ) → head ≡ head_of bytes
     → start ≡ header_length bytes → header_length bytes ≤ length bytes

@@ -1,4 +1,4 @@
--- What a reader tells of bytes is the next part.
+-- The result of a reader determines the next part.
 use Rattle.std.proofs.Common.{◌≡◌, ◌⊎◌, ℕ, ◌<◌, ◌≤◌, List, [], ◌∷◌, ◌++◌, length, map, take, drop, inl, inr, refl, sym, ap, ◌∙◌, subst, append-nil, take-append-drop, take_all, arith}
 use Rattle.std.specs.Prelude.{false, Result, Ok, Err}
 use Rattle.std.proofs.lemmas.List.{length-take-le}
@@ -24,7 +24,7 @@ use Rattle.om_sweep.specs.declared.next.Next.{Next}
 use Rattle.om_sweep.specs.Swept.{place_read, PassesOne, Takes, AreWaiting, IsNext}
 use Rattle.om_sweep.proofs.ClaimLemmas.{same_head}
 
--- the place of what was read is that of the value
+-- The place computed from the result is the place of the value.
 place_is :
     (limit at size : ℕ) (taken : List ℕ) (value : Value) → Finishes limit taken value
     → length taken ≡ size
@@ -56,7 +56,7 @@ place_is limit at size taken value f long = (
       ∙ s.spells.states.w64)
 
 module _ (limit at : ℕ) (bytes old new : List ℕ) where
-  -- a value
+  -- The next part is a value.
   pub value_next :
       (reader : Reader) (fed : Fed) (value : Value) → Feeds limit [] bytes reader fed
       → Finishes limit (take fed.taken bytes) value
@@ -84,7 +84,7 @@ module _ (limit at : ℕ) (bytes old new : List ℕ) where
         ),
       )
 
-  -- all wait
+  -- All bytes wait in the reader.
   pub waits_next :
       (reader : Reader) (fed : Fed) → Feeds limit [] bytes reader fed
       → fed.done ≡ false → new ≡ old → AreWaiting limit at bytes old new reader bytes × (new ≡ old)
@@ -100,7 +100,7 @@ module _ (limit at : ℕ) (bytes old new : List ℕ) where
       take_whole : (n : ℕ) (xs : List ℕ) → n ≡ length xs → take n xs ≡ xs
       take_whole n xs e = take_all n xs (omega (arith, e))
 
-  -- a byte is passed
+  -- One byte is skipped.
   one_passed :
       (bytes : List ℕ) → 0 < length bytes → AreRefused limit bytes → new ≡ old
       → (0 < 1) × (rest : List ℕ) × Takes limit at bytes old new (AreRefused limit) 1 rest

@@ -1,4 +1,4 @@
--- Part after part is taken.
+-- Parts are consumed one after another.
 use Rattle.std.proofs.Common.{◌≡◌, ℕ, ◌+◌, ◌<◌, ◌≤◌, List, [], ◌∷◌, ◌++◌, length, drop, refl, sym, ap, ◌∙◌, subst, append_assoc, append-nil, length-append, drop_at, arith}
 use Rattle.std.specs.Prelude.{Ok}
 use Rattle.std.proofs.lemmas.List.{nil_from_length}
@@ -16,7 +16,7 @@ use Rattle.om_sweep.specs.declared.next.Next.TheVariants.{Decided, Waits}
 use Rattle.om_sweep.specs.Swept.{PutsParts, Takes, IsNext, IsLast}
 
 module _ (limit at : ℕ) (bytes old : List ℕ) (None : List ℕ → Type 0) where
-  -- nothing is taken at first
+  -- Initially nothing is consumed.
   pub begins : Takes limit at bytes old old None 0 bytes
   begins =
       (record { parts = []; bytes_are = refl; are = tt; text_is = sym (append-nil old) }, refl)
@@ -29,7 +29,7 @@ module _ (limit at : ℕ) (bytes old : List ℕ) (None : List ℕ → Type 0) wh
       pub within : n + length rest ≡ length bytes
       within = omega (arith, t.1, ap length t.0.bytes_are, length-append (bytes_of t.0.parts) rest)
 
-      -- more parts are taken behind them
+      -- More parts are consumed after them.
       pub one_more :
           (new : List ℕ) (m : ℕ) (more : List ℕ) → Takes limit (at + n) rest mid new None m more
           → Takes limit at bytes old new None (n + m) more
@@ -63,7 +63,7 @@ module _ (limit at : ℕ) (bytes old : List ℕ) (None : List ℕ → Type 0) wh
               (ap (λ k. lines_of (places_of at t.0.parts) ++ lines_of (places_of (at + k) u.parts)) t.1
               ∙ sym (lines_of_parts at t.0.parts u.parts))))
 
--- what is told of bytes is so where nothing follows them
+-- If parts are determined by refusals, then they are parts if no more bytes follow.
 pub at_end :
     (limit at : ℕ) (bytes old new : List ℕ) (n : ℕ) (rest : List ℕ)
     → Takes limit at bytes old new (AreRefused limit) n rest
@@ -78,7 +78,7 @@ at_end limit at bytes old new n rest (p, size) = (
   size,
 )
 
--- the first byte is passed there, where no value begins
+-- If no value begins, then the first byte is skipped.
 pub none_passed :
     (limit at : ℕ) (bytes old new : List ℕ) → 0 < length bytes → BeginNoValue limit bytes
     → new ≡ old
@@ -98,7 +98,7 @@ none_passed limit at (b ∷ rest) old new some none same = (
   ),
 )
 
--- so the next part is the last of all
+-- Hence the next part is a part if no more bytes follow.
 pub last_of :
     (E : Type 0) (limit at : ℕ) (bytes old new : List ℕ) (next : Next) (n : ℕ) → 0 < length bytes
     → IsNext limit at bytes old new {E = E} (Ok next) → IsLast next n
@@ -115,7 +115,7 @@ last_of E limit at bytes old new (Waits reader) n bytes_some (waits, same) is =
 
 module _ (limit at : ℕ) (bytes old mid new : List ℕ) (n : ℕ) (slice : List ℕ)
     (slice_is : slice ≡ drop n bytes) where
-  -- parts are taken of a slice, and are some of all
+  -- Parts of a slice are parts of the whole.
   slice_more :
       (None : List ℕ → Type 0) (rest : List ℕ) → Takes limit at bytes old mid None n rest → (m : ℕ)
       → (more : List ℕ) × Takes limit (at + n) slice mid new None m more
@@ -133,14 +133,14 @@ module _ (limit at : ℕ) (bytes old mid new : List ℕ) (n : ℕ) (slice : List
       → (more : List ℕ) × Takes limit at bytes old new (AreRefused limit) (n + m) more
   decided_more = slice_more (AreRefused limit)
 
-  -- the same at the end
+  -- The same if no more bytes follow.
   pub ended_more :
       (rest : List ℕ) → Takes limit at bytes old mid (BeginNoValue limit) n rest → (m : ℕ)
       → (more : List ℕ) × Takes limit (at + n) slice mid new (BeginNoValue limit) m more
       → (more : List ℕ) × Takes limit at bytes old new (BeginNoValue limit) (n + m) more
   ended_more = slice_more (BeginNoValue limit)
 
-  -- the rest waits
+  -- The rest waits in the reader.
   pub rest_waits :
       (rest : List ℕ) → Takes limit at bytes old mid (AreRefused limit) n rest → (reader : Reader)
       → IsFront limit slice → Leads limit slice reader → new ≡ mid
@@ -153,14 +153,14 @@ module _ (limit at : ℕ) (bytes old mid new : List ℕ) (n : ℕ) (slice : List
         (subst (IsFront limit) is front, subst (λ b. Leads limit b reader) is leads),
       )
 
--- no byte is left
+-- No byte remains.
 none_left :
     (limit at : ℕ) (bytes old new : List ℕ) (None : List ℕ → Type 0) (n : ℕ) (rest : List ℕ)
     → Takes limit at bytes old new None n rest → length bytes ≤ n → rest ≡ []
 none_left limit at bytes old new None n rest t all =
     nil_from_length rest (omega (arith, within limit at bytes old None new n rest t, all))
 
--- a front without bytes waits
+-- An empty rest waits in the reader.
 pub nothing_waits :
     (limit at : ℕ) (bytes old new : List ℕ) (n : ℕ) (rest : List ℕ) (reader : Reader)
     → Takes limit at bytes old new (AreRefused limit) n rest → length bytes ≤ n
@@ -177,7 +177,7 @@ nothing_waits limit at bytes old new n rest reader t all leads =
       ),
     )
 
--- all are parts
+-- All bytes are parts.
 pub all_parts :
     (limit at : ℕ) (bytes old new : List ℕ) (n : ℕ) (rest : List ℕ)
     → Takes limit at bytes old new (BeginNoValue limit) n rest → length bytes ≤ n

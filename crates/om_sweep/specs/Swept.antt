@@ -1,5 +1,5 @@
--- What is made of bytes in hand: parts are taken, the lines of the values are put, and a front
--- waits.
+-- The processing of buffered bytes: parts are consumed, the lines of values are appended, and bytes
+-- that may still become a value wait in the reader.
 use Rattle.std.specs.Prelude.{ℕ, ◌<◌, ◌≡◌, ◌≢◌, List, [], ◌++◌, length, Result, Ok, Err}
 use Rattle.om_model.specs.declared.refusal.ReadRefusal.{ReadRefusal}
 use Rattle.om_model.specs.declared.refusal.ReadRefusal.TheVariants as refusals
@@ -16,7 +16,7 @@ use Rattle.om_sweep.specs.declared.next.Next.TheVariants as nexts
 use Rattle.om_sweep.specs.declared.next.Next.TheVariants.{Decided, Waits}
 use Rattle.om_sweep.specs.declared.parts.Swept.{Swept}
 
--- the place of a value that was read from so many bytes
+-- The place of a value that was read from `size` bytes.
 abbrev pub place_read : ℕ → ℕ → Value → Place
 place_read at size value = record {
   offset = at;
@@ -26,8 +26,8 @@ place_read at size value = record {
   kind = kind_text value.heap value.root;
 }
 
--- parts stand in front of the rest, and the lines of their places are put; so many bytes stand
--- before them
+-- The bytes consist of parts followed by `rest`, and the lines of the parts' places were appended.
+-- `at` is the offset of the bytes.
 pub record PutsParts (limit : ℕ) (None : List ℕ → Type 0) (at : ℕ) (bytes rest old new : List ℕ)
     : Type 0 where
   pub parts : List Part
@@ -35,44 +35,44 @@ pub record PutsParts (limit : ℕ) (None : List ℕ → Type 0) (at : ℕ) (byte
   pub are : AreParts limit None parts rest
   pub text_is : new ≡ old ++ lines_of (places_of at parts)
 
--- one byte is passed, or memory ran out
+-- One byte is skipped, or memory ran out.
 abbrev pub PassesOne : {E : Type 0} → ReadRefusal → Result Next E → Type 0
 PassesOne refusal (Ok next) = (next ≡ nexts.Decided 1) × (refusal ≢ refusals.Memory)
 PassesOne refusal (Err e) = Unit {0}
 
--- the bytes of the next part, where nothing follows
+-- The length of the next part, if no more bytes follow.
 abbrev pub IsLast : Next → ℕ → Type 0
 IsLast (Decided n) last = last ≡ n
 IsLast (Waits reader) last = last ≡ 1
 
 module _ (limit at : ℕ) (bytes old new : List ℕ) where
-  -- the parts have so many bytes
+  -- The parts have `n` bytes.
   abbrev pub Takes : (List ℕ → Type 0) → ℕ → List ℕ → Type 0
   Takes None n rest =
       (puts : PutsParts limit None at bytes rest old new) × (n ≡ length (bytes_of puts.parts))
 
-  -- the bytes are a front, and with the reader
+  -- The bytes may still become a value, and the reader has consumed them.
   abbrev pub AreWaiting : Reader → List ℕ → Type 0
   AreWaiting reader front = IsFront limit front × Leads limit front reader
 
-  -- parts that are decided are taken, or all the bytes wait; or memory ran out
+  -- Either determined parts are consumed, or all bytes wait in the reader, or memory ran out.
   abbrev pub IsNext : {E : Type 0} → Result Next E → Type 0
   IsNext (Ok (Decided n)) = (0 < n) × (rest : List ℕ) × Takes (AreRefused limit) n rest
   IsNext (Ok (Waits reader)) = AreWaiting reader bytes × (new ≡ old)
   IsNext (Err e) = Unit {0}
 
-  -- some of the bytes are parts, where nothing follows; or memory ran out
+  -- Either some of the bytes are parts, if no more bytes follow, or memory ran out.
   abbrev pub IsLastPart : {E : Type 0} → Result ℕ E → Type 0
   IsLastPart (Ok n) = (0 < n) × (rest : List ℕ) × Takes (BeginNoValue limit) n rest
   IsLastPart (Err e) = Unit {0}
 
-  -- parts that are decided are taken, until the rest waits; or memory ran out
+  -- Either determined parts are consumed and the rest waits in the reader, or memory ran out.
   abbrev pub Sweeps : {E : Type 0} → Result Swept E → Type 0
   Sweeps (Ok swept) =
       (rest : List ℕ) × Takes (AreRefused limit) swept.decided rest × AreWaiting swept.reader rest
   Sweeps (Err e) = Unit {0}
 
-  -- all bytes are parts, where nothing follows; or memory ran out
+  -- Either all bytes are parts, if no more bytes follow, or memory ran out.
   abbrev pub SweepsAll : {U E : Type 0} → Result U E → Type 0
   SweepsAll (Ok unit) = PutsParts limit (BeginNoValue limit) at bytes [] old new
   SweepsAll (Err e) = Unit {0}

@@ -1,18 +1,19 @@
-//! What a header claims.
+//! The data length that a header states.
 
 ghost use Rattle.std.specs.Prelude.{ℕ, ◌≡◌, IsTrue, if◌then◌else◌};
 ghost use Rattle.om_sighting.specs.Parts.{BeginNoValue};
 
 use om_headers::{Head, HeaderStep, parse};
 
-// How many bytes a header has.
+// Returns the length of a header in bytes.
 fn length_of(head: Head) -> u64
     ensures { result ≡ (if head.big then 32 else 20) }
 {
     if head.big { 32 } else { 20 }
 }
 
-/// A header claims more bytes than there are: where nothing follows them, no value begins them.
+/// Returns true if the bytes begin with a header that states more data than the bytes contain. In
+/// this case the bytes do not begin with a complete value.
 pub fn claims_more(bytes: &[u8]) -> bool
     ensures { IsTrue result → (limit : ℕ) → BeginNoValue limit bytes.now }
 {

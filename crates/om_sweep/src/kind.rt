@@ -1,4 +1,4 @@
-//! What a value is, put at the end of a text: as the text of a fault names what was found.
+//! The kind of a value as text, in the same words as the text of a fault.
 
 ghost use Rattle.std.specs.Prelude.{◌≡◌, ◌++◌, length, OnOk, decimal};
 ghost use Rattle.om_model.specs.Graph.{IsValue};
@@ -11,7 +11,7 @@ use om_model::Memory;
 use om_model::code::Custom;
 use om_model::value::Val;
 
-/// Puts what a value is.
+/// Appends the kind of a value.
 #[tactic(auto, using(om_fault::proofs::KindTexts::object_text_by_kind))]
 pub fn put_kind(text: &mut Vec<u8>, heap: &Heap, v: Val) -> Result<(), Memory>
     requires { IsValue (length heap.now) v }
@@ -30,7 +30,7 @@ pub fn put_kind(text: &mut Vec<u8>, heap: &Heap, v: Val) -> Result<(), Memory>
     }
 }
 
-// Puts what an object is.
+// Appends the kind of an object.
 fn put_object(text: &mut Vec<u8>, kind: Kind) -> Result<(), Memory>
     ensures { OnOk result (text.new.items ≡ text.old.items ++ text_of_kind kind) }
 {
@@ -53,14 +53,14 @@ fn put_object(text: &mut Vec<u8>, kind: Kind) -> Result<(), Memory>
     }
 }
 
-/// Puts a number.
+/// Appends a number in decimal.
 pub fn put_number(text: &mut Vec<u8>, n: u64) -> Result<(), Memory>
     ensures { OnOk result (text.new.items ≡ text.old.items ++ decimal n) }
 {
     put(text, Buffer::new().format(n).as_bytes())
 }
 
-/// Puts bytes.
+/// Appends bytes.
 pub fn put(text: &mut Vec<u8>, bytes: &[u8]) -> Result<(), Memory>
     ensures { OnOk result (text.new.items ≡ text.old.items ++ bytes.now) }
 {

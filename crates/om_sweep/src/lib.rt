@@ -1,5 +1,7 @@
-//! What stands where in bytes in hand: part after part, values are read, and each is told of in a
-//! line, and bytes that are passed.
+//! Searches buffered bytes for values: reads part after part, appends a line for each value, and
+//! skips bytes at which no value begins. `sweep` promises the parts that the bytes determine
+//! (`Sweeps`), and returns the reader for the rest. `sweep_all` promises all parts if no more bytes
+//! follow (`SweepsAll`). The definition of parts and lines is in `om_sighting`.
 #![tactic(auto)]
 
 mod claim;

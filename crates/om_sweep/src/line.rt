@@ -1,4 +1,4 @@
-//! The line of a value that stands somewhere.
+//! The line for a value that was found in the input.
 
 ghost use Rattle.std.specs.Prelude.{◌≡◌, ◌++◌, length, OnOk, codes, decimal};
 ghost use Rattle.om_model.specs.Graph.{IsValue};
@@ -9,7 +9,7 @@ use crate::kind::{put, put_kind, put_number};
 use om_model::Memory;
 use om_read::Value;
 
-// Puts a number and a blank.
+// Appends a number and a space.
 fn put_column(text: &mut Vec<u8>, n: u64) -> Result<(), Memory>
     ensures { OnOk result (text.new.items ≡ text.old.items ++ decimal n ++ codes " ") }
 {
@@ -17,7 +17,7 @@ fn put_column(text: &mut Vec<u8>, n: u64) -> Result<(), Memory>
     put(text, b" ")
 }
 
-/// Puts the line of a value that was read at a place, from so many bytes.
+/// Appends the line for a value that was read from `size` bytes at offset `at`.
 pub fn put_value(text: &mut Vec<u8>, at: u64, size: usize, value: &Value) -> Result<(), Memory>
     requires { IsValue (length value.now.heap) value.now.root }
     ensures { OnOk result

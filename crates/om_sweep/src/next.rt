@@ -1,4 +1,4 @@
-//! What the first of some bytes is.
+//! The next part at the start of some bytes.
 
 ghost use Rattle.std.specs.Prelude.{◌<◌, length};
 ghost use Rattle.om_sweep.specs.Swept.{PassesOne, IsNext, IsLastPart};
@@ -10,7 +10,8 @@ use om_model::refusal::ReadRefusal;
 use om_read::Reader;
 use std::alloc::Global;
 
-/// How many bytes the next part has, or the reader that has taken all, which are a front.
+/// The length of the next part in bytes, or the reader that has consumed all bytes because they may
+/// still become a value.
 #[derive(Drop)]
 pub enum Next {
     Decided(usize),
@@ -20,7 +21,8 @@ pub enum Next {
 impl Next {
     ghost use Rattle.om_sweep.specs.Swept.{IsLast};
 
-    // How many bytes it has, where nothing follows: a front is passed byte by byte.
+    // Returns the length of the next part if no more bytes follow. If the bytes may still become a
+    // value, one byte is skipped.
     fn last(self) -> usize
         ensures { IsLast self result }
     {
@@ -31,7 +33,8 @@ impl Next {
     }
 }
 
-// A byte is passed where the first ones are refused, unless that is for out of memory.
+// Skips one byte if the bytes are refused as a value. Returns an error if the refusal is out of
+// memory.
 fn pass(refusal: ReadRefusal) -> Result<Next, Memory>
     ensures { PassesOne refusal result }
 {
@@ -41,7 +44,7 @@ fn pass(refusal: ReadRefusal) -> Result<Next, Memory>
     }
 }
 
-/// The next part, as far as the bytes tell it. The line of a value is put.
+/// Returns the next part, as far as the bytes determine it. If it is a value, appends its line.
 pub fn next_part(
     alloc: Global,
     limit: u64,
@@ -66,8 +69,8 @@ pub fn next_part(
     }
 }
 
-/// How many of the bytes are parts, where nothing follows them: a value that is cut is none, and
-/// its first byte is passed.
+/// Returns how many bytes form the next part, if no more bytes follow. If a value is truncated, its
+/// first byte is skipped.
 pub fn last_part(
     alloc: Global,
     limit: u64,

@@ -1,4 +1,4 @@
-//! Part after part.
+//! Processing of bytes, part after part.
 
 ghost use Rattle.std.specs.Prelude.{◌<◌, ◌+◌, ◌^◌, length};
 ghost use Rattle.om_sweep.specs.Swept.{Sweeps, SweepsAll};
@@ -9,15 +9,16 @@ use om_model::bytes::skip;
 use om_read::Reader;
 use std::alloc::Global;
 
-/// How many bytes are parts, and the reader that has taken the others, which are a front.
+/// The length of the parts in bytes, and the reader that has consumed the other bytes because they
+/// may still become a value.
 #[derive(Drop)]
 pub struct Swept {
     pub decided: usize,
     pub reader: Reader,
 }
 
-/// Takes part after part, as far as the bytes tell them, where others may follow. So many bytes
-/// stand before them. The lines of values are put.
+/// Processes part after part, as far as the bytes determine them, if more bytes may follow. Appends
+/// the lines of values. `at` is the offset of the bytes in the input.
 pub fn sweep(
     alloc: Global,
     limit: u64,
@@ -42,7 +43,8 @@ pub fn sweep(
     })
 }
 
-/// Takes all bytes part after part, where nothing follows them.
+/// Processes all bytes, part after part, if no more bytes follow. Appends the lines of values. `at`
+/// is the offset of the bytes in the input.
 pub fn sweep_all(
     alloc: Global,
     limit: u64,

@@ -1,4 +1,4 @@
--- A value has a declared type exactly where it has the type's number in a table.
+-- A value has a declared type if and only if it has the type's number in a table.
 use Rattle.std.proofs.Common.{ℕ, zero, suc, ◌<◌, ◌≡◌, ◌⊎◌, ⊎_elim, inl, inr, List, [], ◌∷◌}
 use Rattle.std.proofs.Common.{length}
 use Rattle.std.proofs.Common.{true, false, Option, Some, None, refl, ap, subst, sym, arith}
@@ -33,7 +33,7 @@ use Rattle.om_types.proofs.ListLemmas.{Contains-filter_mapped, filter_mapped_is}
 use Rattle.om_table.specs.TableDecides.{TheRootIsFirst, IsMadeFor}
 use Rattle.om_table.proofs.FieldLemmas.{fields_there, fields_once}
 
--- ---- the first number
+-- ---- the number 0
 
 pub root_is_first : TheRootIsFirst
 root_is_first decls t types reached = ⊎_elim
@@ -41,7 +41,7 @@ root_is_first decls t types reached = ⊎_elim
     (λ new. ap (λ all. slice_get all 0) new.2)
     reached.in_order
 
--- ---- the shapes of a table can be decided
+-- ---- the shapes of a table are decidable
 
 some_or_none : {X : Type 0} (found : Option X) → IsSome found ⊎ (IsSome found → ⊥)
 some_or_none None = inr never where
@@ -79,7 +79,7 @@ tables_are_decidable table = record {
   once = λ graph v i k j l one other. fields_once (shape_at table i) graph v k j l
       (named graph v i k j one) (named graph v i k l other);
 } where
-  -- what is needed is a field that has a type
+  -- Each required field is a field with a type.
   named : (graph : List Obj) (v : Val) (i k j : ℕ)
       → Contains ((table_shapes table).needs graph v i) (k, j)
       → Contains (or_none (fields_of graph v (shape_at table i))) (k, j)
@@ -201,7 +201,7 @@ module _ (decls : List Decl) (types : List Ty) (table : Table) (made : IsTableOf
         typed = typed_forth v i u is has.typed;
       }
 
-  -- few numbers are reached
+  -- Each number of the table reaches finitely many numbers.
   few : (i : ℕ) (u : Ty) → Is i u → ReachesFew (table_shapes table) i
   few i u is = record {
     types = below (length types);

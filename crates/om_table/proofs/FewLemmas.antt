@@ -1,4 +1,4 @@
--- A type that reaches few types does not reach too many.
+-- If a type reaches few types, then it does not reach too many.
 use Rattle.std.proofs.Common.{ℕ, zero, suc, ◌<◌, ◌≤◌, ◌≡◌, ◌∙◌, ⊎_elim, List, [], ◌∷◌, length, Some, refl, sym, ap, subst, arith}
 use Rattle.std.specs.Prelude.{Contains, slice_get}
 use Rattle.om_types.specs.declared.decl.Decl.{Decl}
@@ -10,7 +10,7 @@ use Rattle.om_equal.proofs.ReachedLemmas.{root_listed, reached_listed}
 abbrev AreAll : List Ty → List Ty → Type 0
 AreAll xs ys = (k : ℕ) (x : Ty) → slice_get xs k ≡ Some x → Contains ys x
 
--- no more distinct types are in a list than it has
+-- A list has at most as many distinct types as its length.
 distinct_fit : (xs ys : List Ty) → AreDistinct xs → AreAll xs ys → length xs ≤ length ys
 distinct_fit [] ys distinct all = omega arith
 distinct_fit (x ∷ xs) ys distinct all =
@@ -24,7 +24,7 @@ distinct_fit (x ∷ xs) ys distinct all =
     (w.others y (all (suc k) y at))) in
     omega (arith, shorter, fewer)
 
--- each of many types that are reached is in the list
+-- If many types are reached, then each of them is in the list.
 all_listed : (decls : List Decl) (t : Ty) (types : List Ty) → IsReached decls t types → (many : ReachesTooMany decls t) → (n k : ℕ) (u : Ty) → k < n → slice_get many.types k ≡ Some u
     → Contains types u
 all_listed decls t types reached many zero k u less at = absurd (omega (arith, less))

@@ -1,4 +1,4 @@
--- The fields that a shape needs are there, each at one type.
+-- The fields that a shape requires exist, and each has one type.
 use Rattle.std.proofs.Common.{ℕ, zero, suc, ◌+◌, ◌≡◌, ◌∙◌, ⊎_elim, List, []}
 use Rattle.std.proofs.Common.{◌∷◌, length}
 use Rattle.std.proofs.Common.{Bool, true, false, Option, Some, None, refl, ap, sym, arith}
@@ -24,10 +24,10 @@ use Rattle.om_types.specs.Typing.{values_of}
 use Rattle.om_types.specs.Fault.{field_of}
 use Rattle.om_model.proofs.Options.{Contains-none, Contains-cases, slice_get_there}
 
--- ---- what is there
+-- ---- fields that exist
 
 module _ {T : Type 0} where
-  -- a need of the list is the type at its place
+  -- A numbered entry is the type at its index in the list.
   numbered_at : (k : ℕ) (ts : List T) (i : ℕ) (a : T) → Contains (numbered_from k ts) (i, a)
       → (j : ℕ) × (i ≡ k + j) × (slice_get ts j ≡ Some a)
   numbered_at k [] i a among = absurd (Contains-none (i, a) among)
@@ -45,7 +45,7 @@ module _ {T : Type 0} where
       let same : found.0 ≡ i = omega (arith, found.1) in
       ap (slice_get ts) (sym same) ∙ found.2
 
-  -- each need is of a value that is there
+  -- Each required field has a value.
   abbrev There : List Val → Option (List (ℕ × T)) → Type 0
   There values needs =
       (i : ℕ) (a : T) → Contains (or_none needs) (i, a) → (w : Val) × (slice_get values i ≡ Some w)
@@ -90,7 +90,7 @@ module _ {T : Type 0} where
   constr_once size (Some c) i a b one other =
       if_once (length c.fields == size) c.fields i a b one other
 
-  -- the argument's need is field 1
+  -- The argument of a tag is field 1.
   argument_is : (arg : Option T) (i : ℕ) (a : T) → Contains (or_none (argument_field arg)) (i, a)
       → (i ≡ 1) × (arg ≡ Some a)
   argument_is None i a among = absurd (Contains-none (i, a) among)
@@ -194,7 +194,7 @@ module _ {T : Type 0} where
   at_once s None i a b one other = absurd (Contains-none (i, a) one)
   at_once s (Some object) i a b one other = object_once s object i a b one other
 
-  -- a field that has a type is there
+  -- If a field has a type, then the field exists.
   pub fields_there :
       (s : ShapeOf T) (graph : List Obj) (v : Val) (i : ℕ) (a : T)
       → Contains (or_none (fields_of graph v s)) (i, a) → (w : Val) × (field_of graph v i ≡ Some w)
@@ -208,7 +208,7 @@ module _ {T : Type 0} where
     nothing false among = Contains-none (i, a) among
   fields_there s graph (vals.Ref o) i a among = at_there s (slice_get graph o) i a among
 
-  -- no field has two types
+  -- No field has two types.
   pub fields_once : (s : ShapeOf T) (graph : List Obj) (v : Val) → Once (fields_of graph v s)
   fields_once s graph (vals.Int z) i a b one other = none_once (fits_int s z) i a b one other
   fields_once s graph (vals.Atom tag) i a b one other = none_once (fits_atom s tag) i a b one other

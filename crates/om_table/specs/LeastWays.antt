@@ -1,4 +1,4 @@
--- By which paths least faults are told.
+-- The paths of least faults.
 use Rattle.std.specs.Prelude.{ℕ, List}
 use Rattle.om_model.specs.declared.value.Val.{Val}
 use Rattle.om_model.specs.declared.value.Obj.{Obj}
@@ -8,9 +8,9 @@ use Rattle.om_types.specs.LeastFault.{IsLeastFault}
 use Rattle.om_types.specs.Table.{Table, table_shapes}
 use Rattle.om_typing.specs.LeastWay.{AreLeastWays}
 
--- Without its last step each path of the least fault is the least one to its object and type, up to
--- equal types. So finitely many paths decide which fault is the least: one to each object at each
--- class, and a step more.
+-- Each path of the least fault, without its last step, is the least path to its object and type, up
+-- to equal types. Therefore finitely many paths decide which fault is the least: one path to each
+-- object at each class of equal types, and one more step.
 abbrev pub LeastFaultsHaveLeastWays : Type 0
 LeastFaultsHaveLeastWays =
     (table : Table) → AreLawful (table_shapes table) Everything

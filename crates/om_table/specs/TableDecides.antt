@@ -1,4 +1,4 @@
--- What a table of types says of a value is what its types say.
+-- A table of types agrees with the declared types from which it was made.
 use Rattle.std.specs.Prelude.{ℕ, ◌≡◌, ◌↔◌, ◌⊎◌, List, Some, slice_get}
 use Rattle.om_model.specs.declared.value.Val.{Val}
 use Rattle.om_model.specs.declared.value.Obj.{Obj}
@@ -12,27 +12,28 @@ use Rattle.om_types.specs.Reached.{IsReached}
 use Rattle.om_types.specs.Table.{Table, table_shapes, IsTableOf}
 use Rattle.om_types.specs.Typing.{HasType}
 
--- the table of the types that a sound type reaches, over well-formed declarations
+-- `table` is the table of the types that the sound type `t` reaches, over well-formed declarations.
 pub record IsMadeFor (decls : List Decl) (t : Ty) (types : List Ty) (table : Table) : Type 0 where
   pub well : AreWellFormed decls
   pub sound : IsSoundType decls t
   pub reached : IsReached decls t types
   pub made : IsTableOf decls types table
 
--- the type that was asked for has the number 0
+-- The type for which the list was made has the number 0.
 abbrev pub TheRootIsFirst : Type 0
 TheRootIsFirst =
     (decls : List Decl) (t : Ty) (types : List Ty) → IsReached decls t types
     → slice_get types 0 ≡ Some t
 
--- a value has a type exactly where it has the type's number
+-- A value has a type if and only if it has the type's number in the table.
 abbrev pub TablesDecide : Type 0
 TablesDecide =
     (decls : List Decl) (t : Ty) (types : List Ty) (table : Table) → IsMadeFor decls t types table
     → (graph : List Obj) (v : Val) (i : ℕ) (u : Ty) → slice_get types i ≡ Some u
     → HasType (table_shapes table) graph v i ↔ HasType (declared_shapes decls) graph v u
 
--- a value has a type or a fault there, and never both
+-- A value has each type of the table or a fault at it. The second definition says that it never has
+-- both.
 abbrev pub TypeOrFault : Type 0
 TypeOrFault =
     (decls : List Decl) (t : Ty) (types : List Ty) (table : Table) → IsMadeFor decls t types table

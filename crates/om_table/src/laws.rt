@@ -1,21 +1,24 @@
-//! The laws, as contracts.
+//! The theorems as contracts of lemma functions.
 
 ghost use Rattle.om_table.specs.LeastWays.{LeastFaultsHaveLeastWays};
 ghost use Rattle.om_table.specs.TableDecides.{TheRootIsFirst, TablesDecide, TypeOrFault, NeverBoth};
 
-/// A value has a declared type exactly where it has the type's number in a table.
+/// States that checking against a table is exact: a value has a declared type if and only if it has
+/// the type's number in the table. The type for which the table was made has the number 0.
 pub fn tables_decide()
     ensures root { TheRootIsFirst }
     ensures decide { TablesDecide }
 {}
 
-/// A value has a declared type or a fault there, and never both.
+/// States that a value either has a declared type of the table or has a fault at this type. It
+/// never has both.
 pub fn type_or_fault()
     ensures one { TypeOrFault }
     ensures never_both { NeverBoth }
 {}
 
-/// The steps before the last one of a least fault's paths are least paths.
+/// States that each path of the first (least) fault, without its last step, is the least path to
+/// its object and type.
 pub fn least_faults_have_least_ways()
     ensures { LeastFaultsHaveLeastWays }
 {}

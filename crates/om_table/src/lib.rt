@@ -1,5 +1,7 @@
-//! A table of types decides what values have its types. The functions do nothing: what each ensures
-//! is the law.
+//! Theorems about tables of types (`Table`): a table decides which values have its types
+//! (`tables_decide`), every value has a type or a fault (`type_or_fault`), and least faults have
+//! least paths (`least_faults_have_least_ways`). The functions are lemma functions: they do
+//! nothing, and their contracts state the theorems.
 #![tactic(auto)]
 
 mod laws;

@@ -1,4 +1,4 @@
-//! Tests of the side of bytes: codes, headers, customs, the heap and the reader.
+//! Tests of the byte format: codes, headers, custom values, the heap and the reader.
 
 mod codes;
 mod customs;

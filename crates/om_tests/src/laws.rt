@@ -1,4 +1,4 @@
-//! Laws, which do nothing: each can be called.
+//! Calls each lemma function once. Lemma functions do nothing.
 
 use om_accepted::{
     accepted_are_well_formed, accepted_types_are_sound, brackets_follow, names_follow, ranks_follow,

@@ -1,6 +1,6 @@
-//! Tests of the crates below, which have none of their own: a crate that has tests is proved once
-//! more for them. Each compares with vectors from outside, or calls once what no stored question of
-//! `om_conformance` reaches.
+//! Tests of the crates below this one. Those crates have no tests of their own, because a crate
+//! with tests is proved a second time for them. Each test compares with vectors from outside, or
+//! calls once what no stored question of `om_conformance` reaches.
 #![tactic(auto)]
 
 #[cfg(test)]

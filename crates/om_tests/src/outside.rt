@@ -1,5 +1,5 @@
-//! Tests of the outside and the writer: sources, sinks, files, values that are written to sinks
-//! that fail, and small commands that are run over them.
+//! Tests of the environment and the writer: sources, sinks, files, values that are written to
+//! failing sinks, and small commands that run over them.
 
 mod edge;
 mod works;

@@ -1,4 +1,4 @@
-//! Tests of what is said and done with values at types.
+//! Tests of the output and the operations for values at types.
 
 mod arrays;
 mod certificates;

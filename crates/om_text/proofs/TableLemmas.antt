@@ -1,4 +1,5 @@
--- What is read at a type is read at its number in a table: so the text of a value is read back there.
+-- If a literal is read at a type, then it is read at the index of the type in a table. Therefore
+-- the text of a value is read back there.
 use Rattle.std.proofs.Common.{ℕ, ◌≡◌, ◌∙◌, List, [], Some, Result, Ok, Err, refl, ap}
 use Rattle.std.specs.Prelude.{slice_get}
 use Rattle.om_types.specs.declared.decl.Decl.{Decl}
@@ -20,7 +21,7 @@ module _ (decls : List Decl) (t : Ty) (table : Tabled) (is : IsTypeTable decls t
   abbrev Is : ℕ → Ty → Type 0
   Is i u = slice_get (types_of table) i ≡ Some u
 
-  -- a value at the type is one at its number
+  -- If a literal has a value at the type, then it has this value at the index.
   number_too : (a : Result Reading (Refusal ℕ)) (b : Result Reading (Refusal Ty)) (r : Reading) → ReadAgree Is a b → b ≡ Ok r → a ≡ Ok r
   number_too (Ok s) (Ok s') r same is = ap Ok (same ∙ same_reading s' r is) where
     same_reading : (s r : Reading) → ◌≡◌ {A = Result Reading (Refusal Ty)} (Ok s) (Ok r) → s ≡ r

@@ -1,4 +1,4 @@
--- A line has one answer; and the text of a tree's value has the value.
+-- A line has exactly one answer, and the answer for the text of the value of a tree is this value.
 use Rattle.std.proofs.Common.{◌≡◌, ◌≢◌, ℕ, List, [], ◌∷◌, length, Option, Some, None, Result, Ok, Err, refl, sym, ap, subst, ◌∙◌, arith}
 use Rattle.std.specs.Prelude.{map}
 use Rattle.om_model.specs.declared.value.Val.{Val}
@@ -30,7 +30,7 @@ lexed_same line l m one other = let o = has_one_outcome line in let e = o.2 (Ok 
 lexed_or_fault : {A : Type 0} (line : List ℕ) (l : List Lexeme) (f : LexFault) → Lexes line l → Faults line f → A
 lexed_or_fault line l f one other = let o = has_one_outcome line in let g : Ok l ≡ Err f = o.2 (Ok l) one ∙ sym (o.2 (Err f) other) in absurd cc
 
--- two answers of lexemes of one line are one
+-- Two answers for the lexemes of one line are equal.
 literals_same : (table : Tabled) (line : List ℕ) (l m : List Lexeme) (x y : Result (List Obj × Val) LiteralFault) → Lexes line l → Lexes line m
     → IsAnswer table 0 l (length line) [] x → IsAnswer table 0 m (length line) [] y → x ≡ y
 literals_same table line l m x y one other at_x at_y =
@@ -64,7 +64,7 @@ same_answer table line (Err (faults.Literal f)) (Err (faults.Literal g)) one oth
 same_answer table line (Err (faults.Literal f)) (Err faults.Memory) one other = absurd other
 same_answer table line (Err faults.Memory) other one both = absurd one
 
--- some answer there is
+-- There is an answer.
 answer_of_literal : (table : Tabled) (line : List ℕ) (l : Lexeme) (ls : List Lexeme) → Lexes line (l ∷ ls)
     → (r : Result (List Obj × Val) LiteralFault) → IsAnswer table 0 (l ∷ ls) (length line) [] r → (answer : TextAnswer) × IsTextAnswer table line answer
 answer_of_literal table line l ls lexes (Ok built) is = (Ok (Some built), (l ∷ ls, lexes, (λ e. absurd cc), is))
@@ -81,7 +81,7 @@ one_text_answer table line =
     let a = answer_of table line o.0 o.1 in
     (a.0, a.1, λ other is. same_answer table line other a.0 is a.1)
 
--- a literal has lexemes
+-- A literal has at least one lexeme.
 head_some : (h : Head) → head_kinds h ≡ [] → ⊥
 head_some (upper_head x) e = absurd cc
 head_some (tag_head x) e = absurd cc
@@ -109,14 +109,14 @@ spelled_some (again k) e = absurd cc
 spelled_some (labelled None p) e = plain_some p e
 spelled_some (labelled (Some k) p) e = absurd cc
 
--- so lexemes with an answer are some
+-- If lexemes have a value as answer, then they are not empty.
 some_lexemes : (table : Tabled) (line : List ℕ) (lexemes : List Lexeme) (answer : List Obj × Val) → IsAnswer table 0 lexemes (length line) [] (Ok answer) → lexemes ≢ []
 some_lexemes table line lexemes answer is none = spelled_some is.literal (is.spelled ∙ ap (λ (ls : List Lexeme). map (λ (l : Lexeme). l.kind) ls) none)
 
 tree_some : (lexemes : List Lexeme) (nodes : List Node) → IsTreeOf lexemes nodes → lexemes ≢ []
 tree_some lexemes nodes is none = spelled_some is.0 (is.1 ∙ ap (λ (ls : List Lexeme). map (λ (l : Lexeme). l.kind) ls) none)
 
--- a value or a fault over no objects is one of the line
+-- If there are no old objects, then a value or a fault of the lexemes is the answer of the line.
 module _ (table : Tabled) (line : List ℕ) (lexemes : List Lexeme) (nodes : List Node) (old new : List Obj) (empty : old ≡ []) (lexes : Lexes line lexemes) (tree : IsTreeOf lexemes nodes) where
   refused : (fault : LiteralFault) → IsAnswer table 0 lexemes (length line) old (Err fault)
       → (xs : List Lexeme) × Lexes line xs × (xs ≢ []) × IsAnswer table 0 xs (length line) [] (Err fault)
@@ -132,13 +132,13 @@ module _ (table : Tabled) (line : List ℕ) (lexemes : List Lexeme) (nodes : Lis
 read_back_answer : (table : Tabled) (tree : Tree) (line : List ℕ) → ReadsAgain table tree line → IsTextAnswer table line (Ok (Some (objects_of tree 0, root tree 0)))
 read_back_answer table tree line r = (r.lexemes, r.lexes, some_lexemes table line r.lexemes (objects_of tree 0, root tree 0) (r.answer (length line)), r.answer (length line))
 
--- so it is the line's answer
+-- The value of the tree is the answer of the line.
 is_back : (table : Tabled) (tree : Tree) (line : List ℕ) (a : TextAnswer) → ReadsAgain table tree line → IsTextAnswer table line a → a ≡ Ok (Some (objects_of tree 0, root tree 0))
 is_back table tree line a back is = same_answer table line a (Ok (Some (objects_of tree 0, root tree 0))) is (read_back_answer table tree line back)
 
--- ---- what a call gives
+-- ---- results of a call
 
--- the one answer
+-- The result is the one answer.
 pub gives_answer : (table : Tabled) (line : List ℕ) (new : List Obj) (r : Result (Option Val) TextFault) → ReadsText table line new r
     → (answer : TextAnswer) → IsTextAnswer table line answer → Gives answer new r
 gives_answer table line new (Ok None) reads answer is = same_answer table line answer (Ok None) is reads.1
@@ -156,7 +156,7 @@ none_back graph v e = absurd cc
 fault_back : {A : Type 0} (fault : TextFault) (graph : List Obj) (v : Val) → ◌≡◌ {A = TextAnswer} (Err fault) (Ok (Some (graph, v))) → A
 fault_back fault graph v e = absurd cc
 
--- the value of a tree
+-- The result is the value of a tree.
 pub gives_back : (table : Tabled) (line : List ℕ) (new : List Obj) (r : Result (Option Val) TextFault) → ReadsText table line new r
     → (tree : Tree) → ReadsAgain table tree line → GivesTree tree new r
 gives_back table line new (Ok None) reads tree back = none_back (objects_of tree 0) (root tree 0) (is_back table tree line (Ok None) back reads.1)

@@ -1,4 +1,4 @@
--- What a line is at the type of number 0 of a table: nothing, a value, or why it is none.
+-- The answer for a line at type 0 of a table: nothing, a value, or a fault.
 use Rattle.std.specs.Prelude.{ℕ, ◌≡◌, ◌≢◌, Option, Some, None, Result, Ok, Err, List, [], length, ⊤}
 use Rattle.om_model.specs.declared.value.Val.{Val}
 use Rattle.om_model.specs.declared.value.Obj.{Obj}
@@ -14,12 +14,13 @@ use Rattle.om_text.specs.Laws.{ReadsAgain}
 use Rattle.om_text.specs.declared.text.TextFault.{TextFault}
 use Rattle.om_text.specs.declared.text.TextFault.TheVariants as faults
 
--- nothing, or objects and a value; or why not
+-- Nothing, or objects with a value, or a fault.
 abbrev pub TextAnswer : Type 0
 TextAnswer = Result (Option (List Obj × Val)) TextFault
 
--- A line without lexemes is blank. Else they are a literal of a value and its objects, or have the
--- fault of a literal, over no objects and with the line's end as the end.
+-- A line without lexemes is blank. Otherwise the lexemes are a literal with a value and its
+-- objects, or they have the fault of a literal. There are no old objects, and the end is the end of
+-- the line.
 abbrev pub IsTextAnswer : Tabled → List ℕ → TextAnswer → Type 0
 IsTextAnswer table line (Ok None) = Lexes line []
 IsTextAnswer table line (Ok (Some built)) =
@@ -31,20 +32,20 @@ IsTextAnswer table line (Err (faults.Literal fault)) =
     × IsAnswer table 0 lexemes (length line) [] (Err fault)
 IsTextAnswer table line (Err faults.Memory) = ⊥
 
--- a literal's fault as the line's
+-- Converts the fault of a literal to the fault of a line.
 abbrev pub text_fault : LiteralFault → TextFault
 text_fault literal.Memory = faults.Memory
 text_fault fault = faults.Literal fault
 
--- a line has one answer, and no other
+-- A line has exactly one answer.
 abbrev pub HasOneTextAnswer : Tabled → List ℕ → Type 0
 HasOneTextAnswer table line =
     (answer : TextAnswer) × IsTextAnswer table line answer
     × ((other : TextAnswer) → IsTextAnswer table line other → other ≡ answer)
 
--- ---- what a call gives, with the heap that is left
+-- ---- results of a call, with the heap afterwards
 
--- the objects of a value are those of the heap; else it has none
+-- If the result is a value, its objects are those of the heap. Otherwise the heap is empty.
 abbrev pub ReadsText : Tabled → List ℕ → List Obj → Result (Option Val) TextFault → Type 0
 ReadsText table line new (Ok None) = (new ≡ []) × IsTextAnswer table line (Ok None)
 ReadsText table line new (Ok (Some value)) =
@@ -52,26 +53,26 @@ ReadsText table line new (Ok (Some value)) =
 ReadsText table line new (Err faults.Memory) = new ≡ []
 ReadsText table line new (Err fault) = (new ≡ []) × IsTextAnswer table line (Err fault)
 
--- this answer is given, unless memory runs out
+-- The result is this answer, unless memory runs out.
 abbrev pub Gives : TextAnswer → List Obj → Result (Option Val) TextFault → Type 0
 Gives answer new (Ok None) = answer ≡ Ok None
 Gives answer new (Ok (Some value)) = answer ≡ Ok (Some (new, value))
 Gives answer new (Err faults.Memory) = ⊤
 Gives answer new (Err fault) = answer ≡ Err fault
 
--- whatever the line's answer is
+-- The result is the answer for the line, unless memory runs out.
 abbrev pub GivesAnswer : Tabled → List ℕ → List Obj → Result (Option Val) TextFault → Type 0
 GivesAnswer table line new result =
     (answer : TextAnswer) → IsTextAnswer table line answer → Gives answer new result
 
--- the value of this tree is given, with its objects in their order, unless memory runs out
+-- The result is the value of this tree, with its objects in order, unless memory runs out.
 abbrev pub GivesTree : Tree → List Obj → Result (Option Val) TextFault → Type 0
 GivesTree tree new (Ok (Some value)) = (new ≡ objects_of tree 0) × (value ≡ root tree 0)
 GivesTree tree new (Ok None) = ⊥
 GivesTree tree new (Err faults.Memory) = ⊤
 GivesTree tree new (Err fault) = ⊥
 
--- whatever tree's value the line is the text of
+-- If the line is the text of the value of a tree, then the result is this value.
 abbrev pub GivesBack : Tabled → List ℕ → List Obj → Result (Option Val) TextFault → Type 0
 GivesBack table line new result =
     (tree : Tree) → ReadsAgain table tree line → GivesTree tree new result

@@ -1,17 +1,19 @@
-//! Laws over the definitions. The functions do nothing: what each ensures is the law.
+//! Laws about the definitions. Each function here is a lemma function: it does nothing, and its
+//! contract is the law.
 
 ghost use Rattle.std.specs.Prelude.{ℕ, List};
 ghost use Rattle.om_type_table.specs.declared.tabled.Tabled.{Tabled};
 ghost use Rattle.om_text.specs.Laws.{TextsAreReadAgain};
 ghost use Rattle.om_text.specs.Text.{HasOneTextAnswer};
 
-/// A line is blank, a value with its objects, or has a fault, and this in one way.
+/// Each line has exactly one answer: it is blank, it is a value with its objects, or it has a
+/// fault.
 pub fn one_text_answer()
     ensures { (table : Tabled) (line : List ℕ) → HasOneTextAnswer table line }
 {}
 
-/// What is read from the text of a value, at the number 0 of the table of its type, is the value,
-/// where the names of the table's types are read back.
+/// The text of a value at type 0 of a table is read as the value. This law requires that the names
+/// of all types of the table can be read back.
 pub fn texts_are_read_again()
     ensures { TextsAreReadAgain }
 {}

@@ -1,5 +1,6 @@
-//! Lines of text as values of a type: what a line is, and the law that what is read from the text
-//! of a value is the value.
+//! Reads lines of text as values of a type. The law `one_text_answer` says that each line has
+//! exactly one answer. The law `texts_are_read_again` says that the text of a value is read as the
+//! value.
 #![tactic(auto)]
 
 mod laws;

@@ -1,4 +1,4 @@
-//! Lines of text as values.
+//! Reads lines of text as values.
 
 ghost use Rattle.std.specs.Prelude.{◌≡◌, []};
 ghost use Rattle.om_literal_grammar.specs.Placed.{IsPlaced};
@@ -13,20 +13,20 @@ use om_model::value::Val;
 use om_type_table::TypeTable;
 use std::alloc::Global;
 
-/// Why a line is no value of a type. Places are bytes of the line.
+/// The reason why a line is not a value of a type. Positions are byte offsets in the line.
 #[derive(Clone, Copy)]
 pub enum TextFault {
-    /// It has no lexemes.
+    /// The line has a lexical error.
     Lex(LexFault),
-    /// They are no literal, or none of the type.
+    /// The lexemes are not a literal, or the literal does not have the type.
     Literal(LiteralFault),
-    /// Out of memory.
+    /// Memory ran out.
     Memory,
 }
 
-/// Reads a line as a value of the type of number 0, whose objects are then those of the heap; a
-/// blank line is none. The objects that the heap had are dropped, and their memory serves the new
-/// ones.
+/// Reads a line as a value of type 0 of the table. Returns `None` for a blank line. First drops the
+/// objects of the heap and reuses their memory; afterwards the heap contains the objects of the
+/// value.
 pub fn read_text(
     alloc: Global,
     heap: &mut Heap,
@@ -34,20 +34,19 @@ pub fn read_text(
     line: &[u8],
 ) -> Result<Option<Val>, TextFault>
 
-    // What the line is, or why it is no value, and then the heap is empty. So it is out of memory
-    // too.
+    // Returns the answer for the line. After a fault, or if memory runs out, the heap is empty.
     ensures reads { ReadsText table.now line.now heap.new result }
 
-    // The one answer is given, unless memory runs out.
+    // The result is the one answer, unless memory runs out.
     ensures only { GivesAnswer table.now line.now heap.new result }
 
-    // The text of a tree's value is read as the value, with its objects in their order.
+    // The text of the value of a tree is read as this value, with its objects in order.
     ensures back { GivesBack table.now line.now heap.new result }
 {
     read(alloc, heap, table, line)
 }
 
-/// A literal's fault as the line's.
+/// Converts the fault of a literal to the fault of a line.
 fn text_fault(fault: LiteralFault) -> TextFault
     ensures { result ≡ text_fault fault }
 {
@@ -57,7 +56,7 @@ fn text_fault(fault: LiteralFault) -> TextFault
     }
 }
 
-/// Reads a line, of which these are the nodes, as a value of the type of number 0.
+/// Reads a line with these nodes as a value of type 0.
 fn read_nodes(
     alloc: Global,
     heap: &mut Heap,
@@ -75,7 +74,7 @@ fn read_nodes(
     }
 }
 
-/// Reads a line of 2^32 bytes or more as a value of the type of number 0. It keeps all lexemes.
+/// Reads a line of 2^32 bytes or more as a value of type 0. Keeps all lexemes in memory.
 fn read_long(
     alloc: Global,
     heap: &mut Heap,
@@ -100,7 +99,7 @@ fn read_long(
     }
 }
 
-/// Reads a line as a value of the type of number 0.
+/// Reads a line as a value of type 0.
 fn read(
     alloc: Global,
     heap: &mut Heap,

@@ -1,4 +1,4 @@
--- The command on texts is idle at each other request, and the commands on values are at its own.
+-- The command on texts ignores each other request, and the commands on values ignore its requests.
 use Rattle.std.proofs.Common.{◌≡◌, ◌∙◌, ℕ, List, Some, None, Result, inl, inr, refl, sym}
 use Rattle.om_outcome.specs.Outcome.{Request, AskedType, tell, get, edit, dump, compare, own, OwnRequest, Language, Task}
 use Rattle.om_outcome.specs.declared.stop.Stop.{Stop}
@@ -7,7 +7,7 @@ use Rattle.om_choice.specs.Choice.{IsIdleAt, AreApart}
 use Rattle.om_commands.specs.Tasks.{Wants, Finds, commands}
 use Rattle.om_texts.specs.Texts.{Built, built_by, building}
 
--- the commands on values are idle at each request that is of a set of its own
+-- The commands on values ignore each request of other command sets.
 module _ {D T E : Type 0} (language : Language D T E) where
   pub values_idle : (request : OwnRequest) → IsIdleAt (commands language) (own request)
   values_idle request = record {

@@ -1,4 +1,5 @@
--- The command on texts is lawful, where the language is and a line is read in one way.
+-- If the language is lawful and each line has at most one reading, then the command on texts is
+-- lawful.
 use Rattle.std.proofs.Common.{◌≡◌, ◌⊎◌, ◌+◌, ℕ, List, [], ◌∷◌, ◌++◌, Some, Result, Ok, Err, inl, inr, refl, sym, ap, ◌∙◌, subst}
 use Rattle.om_outcome.specs.Outcome.{opened, whole, Request, AskedType, Said, says, stops, Language, ReadsFile, ReadsTypeOf}
 use Rattle.om_outcome.specs.declared.stop.Stop.{Stop}
@@ -14,7 +15,7 @@ use Rattle.om_texts.specs.Texts.{Built, blank, made, refused, untyped, counted, 
 use Rattle.om_promises.proofs.LengthLemmas.{some_line}
 use Rattle.om_texts.proofs.LineLemmas.{line_once, line_front, line_stays, same_text}
 
--- ---- what is said of a line
+-- ---- the output for a line
 
 module _ {T : Type 0} (TextOf : T → List ℕ → Built → Type 0) (type : T)
     (once : (line : List ℕ) → IsOnce (TextOf type line)) where
@@ -41,7 +42,7 @@ module _ {T : Type 0} (TextOf : T → List ℕ → Built → Type 0) (type : T)
         untyped_stop : ℕ → Stop
         untyped_stop n = untyped_value n fault
 
-  -- of no line something is said where the run stops
+  -- Where the run ends, no line has an output.
   pub said_or_stopped :
       (items : List Item) (built : Built) (said : Said) (stop : Stop)
       → IsSaidOf built said → StopsBy TextOf type items built stop → ⊥
@@ -83,7 +84,7 @@ module _ {T : Type 0} (TextOf : T → List ℕ → Built → Type 0) (type : T)
       let same = once bytes built built' of of' in
       reply_once items built' last other (subst (λ b. IsReplyTo TextOf type items b last) same h) k
 
-  -- what is said of the line, and a stop at it, are apart
+  -- A line does not both have an output and end the run.
   pub line_apart :
       (items : List Item) (bytes : List ℕ) (item : Item) (more : List ℕ) (said : Said) (stop : Stop)
       → IsFirstLine bytes item more → SaysLine TextOf type item said
@@ -121,7 +122,7 @@ module _ {D T E : Type 0} (language : Language D T E) (TextOf : T → List ℕ �
     same_typed : (x y : List ℕ × AskedType) → Some x ≡ Some y → x ≡ y
     same_typed x y e = cc e
 
-    -- FILE of the words is the one that is wanted
+    -- FILE of the arguments is the requested file.
     file_is :
         (request : Request) (typed : List ℕ × AskedType) (name : List ℕ) (type : AskedType)
         → built_by request ≡ Some typed → built_by request ≡ Some (name, type) → typed.0 ≡ name
@@ -152,7 +153,7 @@ module _ {D T E : Type 0} (language : Language D T E) (TextOf : T → List ℕ �
           (same 0 typed.0 (wants_typed request typed files is)) reads,
     )
 
-    -- the file is read, or it stops the run
+    -- The file is read, or it ends the run.
     abbrev IsRead : Fetches → Result T Stop → ℕ → List ℕ → Type 0
     IsRead files result turn name = ((bytes : List ℕ) × (files turn name ≡ opened (whole bytes)))
         ⊎ ((stop : Stop) × ReadsFile name (files turn name) (Err stop) × (result ≡ Err stop))
@@ -185,7 +186,7 @@ module _ {D T E : Type 0} (language : Language D T E) (TextOf : T → List ℕ �
             is = refl;
           })
 
-    -- the type was read
+    -- The type was read.
     given :
         (request : Request) (files : Fetches) (type : T) → Finds language TextOf request files (Ok type)
         → IsGiven language type

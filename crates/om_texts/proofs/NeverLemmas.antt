@@ -1,4 +1,4 @@
--- The command on texts never ends with 4 or 11.
+-- The command on texts never returns status 4 or 11.
 use Rattle.std.proofs.Common.{◌≡◌, ◌⊎◌, ℕ, List, inl, inr}
 use Rattle.om_outcome.specs.declared.status.Status.{Status}
 use Rattle.om_outcome.specs.declared.status.Status.TheVariants.{Well, Value, Compat}

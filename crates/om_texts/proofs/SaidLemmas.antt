@@ -1,4 +1,4 @@
--- What is said of lines, by the tables: from it what they are, and back.
+-- Outputs for lines, by the tables: what follows for the lines, and the converse.
 use Rattle.std.proofs.Common.{◌≡◌, ◌⊎◌, ℕ, ◌+◌, Bool, true, false, List, [], ◌∷◌, ◌++◌, inl, inr, refl, ap, ◌∙◌, subst}
 use Rattle.std.specs.Prelude.{◌&&◌, ◌≢◌, ◌==◌}
 use Rattle.std.specs.Bool.{Decides}
@@ -10,12 +10,12 @@ use Rattle.om_texts.specs.Texts.{Built, blank, made, refused, untyped, counted, 
 use Rattle.om_texts.specs.Meanings.{AreLines, IsFine}
 use Rattle.om_texts.proofs.LineLemmas.{same_text}
 
--- the lines as items
+-- The lines as items.
 abbrev pub texts : List (List ℕ) → List Item
 texts [] = []
 texts (line ∷ lines) = text line ∷ texts lines
 
--- there is a line feed, or there is none
+-- Either there is a line feed, or there is none.
 pub line_or_rest :
     (bytes : List ℕ) → IsUnbroken bytes ⊎ ((line : List ℕ) × (more : List ℕ) × IsLine bytes line more)
 line_or_rest [] = inl tt
@@ -39,7 +39,7 @@ line_or_rest (b ∷ bytes) = by (nat_or b) (line_or_rest bytes) where
   )
 
 module _ {T : Type 0} (TextOf : T → List ℕ → Built → Type 0) (type : T) where
-  -- what is said of a line shows that it is fine, and nothing is wrong with it
+  -- If a line has an output, then it satisfies `IsFine`, and the output is without errors.
   pub fine_of :
       (line : List ℕ) (built : Built) (said : Said) → TextOf type line built → IsSaidOf built said
       → IsFine TextOf type line × (said.well ≡ true)
@@ -48,14 +48,14 @@ module _ {T : Type 0} (TextOf : T → List ℕ → Built → Type 0) (type : T) 
   fine_of line (refused refusal) said of h = absurd h
   fine_of line (untyped fault) said of h = absurd h
 
-  -- of a line that is fine something is said
+  -- If a line satisfies `IsFine`, then it has an output.
   pub said_of_fine :
       (line : List ℕ) → IsFine TextOf type line
       → (built : Built) × TextOf type line built × (said : Said) × IsSaidOf built said
   said_of_fine line (inl of) = (blank, of, nothing_said, refl)
   said_of_fine line (inr (bytes, of)) = (made bytes, of, put_bytes bytes, refl)
 
-  -- and they can be counted
+  -- The texts among lines that satisfy `IsFine` can be counted.
   pub counts_of :
       (lines : List (List ℕ)) → AllByRecursion (IsFine TextOf type) lines
       → (n : ℕ) × AreTexts TextOf type (texts lines) n
@@ -67,7 +67,7 @@ module _ {T : Type 0} (TextOf : T → List ℕ → Built → Type 0) (type : T) 
 
 module _ {D T E : Type 0} (language : Language D T E) (TextOf : T → List ℕ → Built → Type 0) (type : T)
   where
-    -- items of which something is said are lines that are fine
+    -- If items have an output, then they are lines that satisfy `IsFine`.
     pub lines_said :
         (before : List Item) (bytes : List ℕ) (items : List Item) (said : List Said) (rest : List ℕ)
         → Cut (building language TextOf) type before bytes items rest
@@ -87,7 +87,7 @@ module _ {D T E : Type 0} (language : Language D T E) (TextOf : T → List ℕ �
           ap (λ w. w && all_well said) f.1 ∙ next.3,
         )
 
-    -- and of lines that are fine something is said
+    -- If lines satisfy `IsFine`, then they have an output.
     pub said_of_lines :
         (before : List Item) (bytes : List ℕ) (lines : List (List ℕ)) (rest : List ℕ)
         → AreLines bytes lines rest → AllByRecursion (IsFine TextOf type) lines

@@ -18,7 +18,7 @@ use Rattle.om_texts.proofs.LineLemmas.{unbroken_is_no_line}
 use Rattle.om_texts.proofs.SaidLemmas.{texts, line_or_rest, fine_of, said_of_fine, counts_of, lines_said, said_of_lines}
 
 module _ {T : Type 0} (TextOf : T → List ℕ → Built → Type 0) (type : T) where
-  -- a line that stops the run is one of the table
+  -- If a line ends the run, then this is a row of the table.
   break_of :
       (items : List Item) (line : List ℕ) (built : Built) (stop : Stop) → TextOf type line built
       → StopsBy TextOf type items built stop → Break TextOf type line (status_of stop)
@@ -29,7 +29,7 @@ module _ {T : Type 0} (TextOf : T → List ℕ → Built → Type 0) (type : T) 
   break_of items line (untyped fault) stop of (n, counts, e) =
       subst (λ s. Break TextOf type line (status_of s)) (sym e) (fault, of)
 
-  -- and back
+  -- If a row of the table applies to a line, then the line ends the run.
   stop_of :
       (lines : List (List ℕ)) (line : List ℕ) (status : Status)
       → AllByRecursion (IsFine TextOf type) lines → Break TextOf type line status
@@ -44,7 +44,7 @@ module _ {T : Type 0} (TextOf : T → List ℕ → Built → Type 0) (type : T) 
       (stop, refl, refused refusal, of, refl)
   stop_of lines line status fine h = absurd h
 
-  -- the reply to a last line shows its status
+  -- The reply to the last line determines its status.
   end_of :
       (items : List Item) (line : List ℕ) (built : Built) (said : List Said) (last : Reply)
       → all_well said ≡ true → TextOf type line built → IsReplyTo TextOf type items built last
@@ -133,7 +133,7 @@ module _ {D T E : Type 0} (language : Language D T E) (TextOf : T → List ℕ �
     }
     by ends (inr (line, more, is)) = absurd (h.goes_on.no_item (text_item line) more (line, is, refl))
 
-  -- a rest without a line feed is no line
+  -- If the rest has no line feed, then the run continues.
   pub goes_on :
       (type : T) (items : List Item) (rest : List ℕ) → IsUnbroken rest
       → GoesOn (building language TextOf) type items rest
@@ -218,7 +218,7 @@ module _ {D T E : Type 0} (language : Language D T E) (TextOf : T → List ℕ �
     bar_of : (stop : Stop) → Finds language TextOf request files (Err stop) → BarBy stop
     bar_of stop (typed, is, reads) = type_bar typed.0 typed.1 is stop reads
 
-    -- a stop of this status comes before the input
+    -- An exit reason with this status comes before the input is read.
     abbrev HasStopBefore : Status → Type 0
     HasStopBefore status =
         (stop : Stop) × (status_of stop ≡ status) × Finds language TextOf request files (Err stop)

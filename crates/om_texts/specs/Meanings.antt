@@ -1,16 +1,17 @@
--- What each status means at the command on texts:
+-- Exit status specification of the command on texts:
 --
---   0   each text of the input is made: it is accepted, and its value has the type (`AreEnded`)
---   1   the value of a text has not the type, and all lines before it are blank or made (`Break`)
---   2   the words ask for nothing
---   3   what FILE holds is refused, or TYPE (`Bar`)
---   5   a text is refused, and all lines before it are blank or made (`Break`)
---   6   FILE is not read to its end (`Bar`)
---   8   FILE could not be opened (`Bar`)
---   10  FILE has 2^48 bytes or more (`Bar`)
+--     0   each text of the input is accepted, and its value has the type (`AreEnded`)
+--     1   the value of a text does not have the type, and all lines before are blank or accepted
+--         (`Break`)
+--     2   the arguments are no request
+--     3   the contents of FILE or TYPE are refused (`Bar`)
+--     5   a text is refused, and all lines before are blank or accepted (`Break`)
+--     6   FILE is not read to its end (`Bar`)
+--     8   FILE could not be opened (`Bar`)
+--     10  FILE has 2^48 bytes or more (`Bar`)
 --
--- Neither the texts nor the files cause another. What 6, 7, 9 and 10 mean of the input, of out and
--- of memory is the same for all commands: it stands in om_promises.
+-- The texts and the file cause no other status. The statuses 6, 7, 9 and 10 that the input, `out`,
+-- `err` or memory cause have the same meaning for all commands. `om_promises` defines them.
 use Rattle.std.specs.Prelude.{ℕ, ◌≡◌, ◌≢◌, ◌⊎◌, List, [], ◌∷◌, Some, Err}
 use Rattle.std.specs.List.{AllByRecursion}
 use Rattle.om_outcome.specs.declared.status.Status.{Status}
@@ -26,24 +27,25 @@ use Rattle.om_causes.specs.Causes.{Tables}
 use Rattle.om_meanings.specs.Stages.{IsRefusedType}
 use Rattle.om_texts.specs.Texts.{Built, blank, made, refused, untyped, IsUnbroken, IsLine, built_by}
 
--- the bytes are these lines, each with its line feed, and then the rest
+-- The bytes are these lines, each with its line feed, followed by the rest.
 abbrev pub AreLines : List ℕ → List (List ℕ) → List ℕ → Type 0
 AreLines bytes [] rest = bytes ≡ rest
 AreLines bytes (line ∷ lines) rest =
     (more : List ℕ) × IsLine bytes line more × AreLines more lines rest
 
 module _ {T : Type 0} (TextOf : T → List ℕ → Built → Type 0) (type : T) where
-  -- the line is blank, or a text that is made
+  -- The line is blank, or a text that becomes bytes.
   abbrev pub IsFine : List ℕ → Type 0
   IsFine line = TextOf type line blank ⊎ ((bytes : List ℕ) × TextOf type line (made bytes))
 
-  -- after lines that are fine this one stops the run with this status
+  -- After lines that satisfy `IsFine`, this line ends the run with this status.
   abbrev pub Break : List ℕ → Status → Type 0
   Break line No = (fault : List ℕ) × TextOf type line (untyped fault)
   Break line Script = (refusal : ℕ → List ℕ) × TextOf type line (refused refusal)
   Break line status = ⊥
 
-  -- the bytes begin with lines that are fine, and the next one stops the run with this status
+  -- The bytes begin with lines that satisfy `IsFine`, and the next line ends the run with this
+  -- status.
   pub record HoldBreak (bytes : List ℕ) (status : Status) : Type 0 where
     pub lines : List (List ℕ)
     pub rest : List ℕ
@@ -54,8 +56,8 @@ module _ {T : Type 0} (TextOf : T → List ℕ → Built → Type 0) (type : T) 
     pub is : IsLine rest line more
     pub breaks : Break line status
 
-  -- the bytes are lines that are fine, and a last one without a line feed, which is fine too, or
-  -- stops the run with this status
+  -- The bytes are lines that satisfy `IsFine`, and a last line without a line feed. The last line
+  -- satisfies `IsFine` too, or it ends the run with this status.
   pub record AreEnded (bytes : List ℕ) (status : Status) : Type 0 where
     pub lines : List (List ℕ)
     pub last : List ℕ
@@ -65,7 +67,7 @@ module _ {T : Type 0} (TextOf : T → List ℕ → Built → Type 0) (type : T) 
     pub ends : (IsFine last × (status ≡ Well)) ⊎ Break last status
 
 module _ {D T E : Type 0} (language : Language D T E) (TextOf : T → List ℕ → Built → Type 0) where
-  -- FILE is read, and what it holds is refused, or TYPE
+  -- FILE is read, and its contents or TYPE are refused.
   pub record RefusesTypes (request : Request) (files : Fetches) : Type 0 where
     pub name : List ℕ
     pub type : AskedType
@@ -74,7 +76,7 @@ module _ {D T E : Type 0} (language : Language D T E) (TextOf : T → List ℕ �
     pub read : files 0 name ≡ opened (whole text)
     pub is_refused : IsRefusedType language text type
 
-  -- FILE is not read to its end, and the stop has this status
+  -- FILE is not read to its end, and the exit reason has this status.
   pub record IsUnread (request : Request) (files : Fetches) (status : Status) : Type 0 where
     pub name : List ℕ
     pub type : AskedType
@@ -83,7 +85,7 @@ module _ {D T E : Type 0} (language : Language D T E) (TextOf : T → List ℕ �
     pub fault : ReadsFile name (files 0 name) (Err stop)
     pub is : status_of stop ≡ status
 
-  -- the request and what came of its file stop the run before the input, with this status
+  -- The request and its fetched file end the run before the input is read, with this status.
   abbrev pub Bar : Request → Fetches → Status → Type 0
   Bar request files Types = RefusesTypes request files
   Bar request files ReadFault = IsUnread request files ReadFault
@@ -99,6 +101,6 @@ module _ {D T E : Type 0} (language : Language D T E) (TextOf : T → List ℕ �
     EndWith = AreEnded TextOf;
   }
 
--- 4 and 11 never come
+-- The statuses 4 and 11 are never returned.
 abbrev pub IsNeverRefused : Call → Type 0
 IsNeverRefused call = (call.status ≢ Value) × (call.status ≢ Compat)

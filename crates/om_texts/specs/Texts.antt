@@ -1,5 +1,5 @@
--- The command on the texts of the input, in the general form: an item is a line, and the line feed
--- behind it. A line is blank, or a text, which becomes bytes.
+-- The command on the texts of the input, in the general form: an item is a line with its line feed.
+-- A line is blank, or it is a text, which becomes bytes.
 use Rattle.std.specs.Prelude.{ℕ, suc, ◌+◌, ◌≡◌, ◌≢◌, true, List, [], ◌∷◌, ◌++◌, length, Option}
 use Rattle.std.specs.Prelude.{Some, None, Result}
 use Rattle.std.specs.List.{AllByRecursion}
@@ -12,9 +12,12 @@ use Rattle.om_promises.specs.Commands.{Item, value, text, Fetches, Commands}
 use Rattle.om_promises.specs.Lawful.{IsOnce}
 use Rattle.om_promises.specs.LawfulLanguage.{IsGiven}
 
--- What a line is at a type: blank; a text of a value that has the type, with its bytes; a text that
--- is refused, with why, by the number of the line; or one of a value that has not the type, with
--- the line that tells it.
+-- The result of reading a line at a type:
+--
+-- - a blank line,
+-- - a text of a value that has the type, with its bytes,
+-- - a text that is refused, with the reason, which depends on the line number,
+-- - a text of a value that does not have the type, with the line that reports it.
 pub data Built : Type 0 where
   blank : Built
   made : (bytes : List ℕ) → Built
@@ -23,11 +26,11 @@ pub data Built : Type 0 where
 
 -- ---- lines
 
--- there is no line feed
+-- There is no line feed in the bytes.
 abbrev pub IsUnbroken : List ℕ → Type 0
 IsUnbroken bytes = AllByRecursion (λ b. b ≢ 10) bytes
 
--- the bytes are a line, its line feed, and then the rest
+-- The bytes are a line, its line feed, and the rest.
 pub record IsLine (bytes line more : List ℕ) : Type 0 where
   pub unbroken : IsUnbroken line
   pub bytes_are : bytes ≡ line ++ 10 ∷ more
@@ -35,20 +38,20 @@ pub record IsLine (bytes line more : List ℕ) : Type 0 where
 abbrev pub IsFirstLine : List ℕ → Item → List ℕ → Type 0
 IsFirstLine bytes item more = (line : List ℕ) × IsLine bytes line more × (item ≡ text line)
 
--- ---- what is said of a line
+-- ---- the output for a line
 
--- a blank line is no text
+-- The number of texts in a line: a blank line is no text.
 abbrev pub counted : Built → ℕ
 counted blank = 0
 counted (made bytes) = 1
 counted (refused refusal) = 1
 counted (untyped fault) = 1
 
--- the bytes are put, and nothing is wrong
+-- The output that consists of these bytes and has no error.
 abbrev pub put_bytes : List ℕ → Said
 put_bytes bytes = record { text = bytes; well = true }
 
--- nothing is said of a blank line, and of a text its bytes
+-- A blank line has an empty output, and a text has its bytes as output.
 abbrev pub IsSaidOf : Built → Said → Type 0
 IsSaidOf blank said = said ≡ nothing_said
 IsSaidOf (made bytes) said = said ≡ put_bytes bytes
@@ -56,7 +59,7 @@ IsSaidOf (refused refusal) said = ⊥
 IsSaidOf (untyped fault) said = ⊥
 
 module _ {T : Type 0} (TextOf : T → List ℕ → Built → Type 0) (type : T) where
-  -- so many of the lines are texts
+  -- Exactly `n` of the lines are texts.
   abbrev pub AreTexts : List Item → ℕ → Type 0
   AreTexts [] n = n ≡ 0
   AreTexts (value tree ∷ items) n = ⊥
@@ -64,7 +67,8 @@ module _ {T : Type 0} (TextOf : T → List ℕ → Built → Type 0) (type : T) 
       (built : Built) × TextOf type line built × (more : ℕ) × AreTexts items more
       × (n ≡ counted built + more)
 
-  -- after these lines the next one stops the run so: lines are counted from 1, and texts from 0
+  -- After these lines, the next one ends the run with this exit reason. Lines are counted from 1,
+  -- and texts from 0.
   abbrev pub StopsBy : List Item → Built → Stop → Type 0
   StopsBy items blank stop = ⊥
   StopsBy items (made bytes) stop = ⊥
@@ -73,42 +77,42 @@ module _ {T : Type 0} (TextOf : T → List ℕ → Built → Type 0) (type : T) 
   StopsBy items (untyped fault) stop =
       (n : ℕ) × AreTexts items n × (stop ≡ untyped_value n fault)
 
-  -- this is said of the next line
+  -- The output for the next line.
   abbrev pub SaysLine : Item → Said → Type 0
   SaysLine item said =
       (line : List ℕ) × (item ≡ text line) × (built : Built) × TextOf type line built
       × IsSaidOf built said
 
-  -- the bytes are a line that stops the run, its line feed, and anything behind it
+  -- The bytes begin with a line that ends the run, and its line feed.
   abbrev pub StopsAtLine : List Item → List ℕ → Stop → Type 0
   StopsAtLine items bytes stop =
       (line : List ℕ) × (more : List ℕ) × IsLine bytes line more
       × (built : Built) × TextOf type line built × StopsBy items built stop
 
-  -- the reply to a line
+  -- The reply to a line.
   abbrev pub IsReplyTo : List Item → Built → Reply → Type 0
   IsReplyTo items built (says said) = IsSaidOf built said
   IsReplyTo items built (stops stop) = StopsBy items built stop
 
-  -- a last line needs no line feed
+  -- The last line needs no line feed.
   abbrev pub EndsWithLine : List Item → List ℕ → Reply → Type 0
   EndsWithLine items bytes last =
       (built : Built) × TextOf type bytes built × IsReplyTo items built last
 
 -- ---- the command
 
--- FILE and TYPE, where texts are to become bytes
+-- FILE and TYPE, if the request is to convert texts to bytes.
 abbrev pub built_by : Request → Option (List ℕ × AskedType)
 built_by (own (build file type lines decimal)) = Some (file, asked_with type lines decimal)
 built_by request = None
 
 module _ {D T E : Type 0} (language : Language D T E) (TextOf : T → List ℕ → Built → Type 0) where
-  -- FILE is wanted, in the first turn
+  -- FILE is requested in the first turn.
   abbrev pub Wants : Request → Fetches → ℕ → List ℕ → Type 0
   Wants request files turn name =
       (turn ≡ 0) × (type : AskedType) × (built_by request ≡ Some (name, type))
 
-  -- TYPE is found as it is for all commands
+  -- TYPE is found in the same way as for all commands.
   abbrev pub Finds : Request → Fetches → Result T Stop → Type 0
   Finds request files result =
       (typed : List ℕ × AskedType) × (built_by request ≡ Some typed)
@@ -125,6 +129,6 @@ module _ {D T E : Type 0} (language : Language D T E) (TextOf : T → List ℕ �
     Ends = λ type. EndsWithLine TextOf type;
   }
 
-  -- a line is read in one way, at each type that some texts are read as
+  -- At each type that is read from texts, each line has at most one reading.
   abbrev pub IsReadOnce : Type 0
   IsReadOnce = (type : T) → IsGiven language type → (line : List ℕ) → IsOnce (TextOf type line)

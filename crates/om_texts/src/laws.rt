@@ -1,4 +1,4 @@
-//! The laws. Each function does nothing: what it ensures is the law.
+//! The theorems as contracts of lemma functions, which do nothing themselves.
 
 ghost use Rattle.std.specs.Prelude.{ℕ, List};
 ghost use Rattle.om_outcome.specs.Outcome.{Language};
@@ -23,8 +23,8 @@ use om_causes::laws::{Meant, causes_of_tables};
 use om_promises::laws::{Act, files_in_turns, lawful_commands, promised, promises_of_commands};
 use std::marker::PhantomData;
 
-/// What texts are read as: declarations, types, and lines of scripts; and what a line of the input
-/// is at a type.
+/// How texts are read: as declarations, types and lines of scripts, and lines of the input at a
+/// type.
 pub trait Builds {
     ghost declarations: { Type 0 };
 
@@ -37,7 +37,7 @@ pub trait Builds {
     ghost TextOf: { types → List ℕ → Built → Type 0 };
 }
 
-/// The command on texts, and what each status means at it.
+/// The command on texts, with its exit status specification.
 pub struct OnTexts<B>(PhantomData<B>);
 
 impl<B: Builds> Act for OnTexts<B> {
@@ -54,21 +54,22 @@ impl<B: Builds> Meant for OnTexts<B> {
     ghost tables = { texts_tables B.language B.TextOf };
 }
 
-/// The command on texts is lawful, where the language is and a line is read in one way.
+/// States that the command on texts is lawful, if the language is and each line has at most one
+/// reading.
 pub fn building_is_lawful<B: Builds>()
     requires language { IsLawful B.language }
     requires once { IsReadOnce B.language B.TextOf }
     ensures { AreLawful (building B.language B.TextOf) }
 {}
 
-/// It takes its file in one turn.
+/// States that the command requests its file in one turn.
 pub fn building_takes_turns<B: Builds>()
     requires { IsLawful B.language }
     ensures { AreInTurns (building B.language B.TextOf) }
 {}
 
-/// So words, a file and an input have one outcome, and the input holds one stop at most, which
-/// stays and comes last.
+/// States that arguments, a file and an input have at most one outcome. The input contains at most
+/// one exit reason. It remains if more bytes follow, and it comes last.
 pub fn building_answers_once<B: Builds>()
     requires language { IsLawful B.language }
     requires once { IsReadOnce B.language B.TextOf }
@@ -81,7 +82,8 @@ pub fn building_answers_once<B: Builds>()
     lawful_commands::<OnTexts<B>>();
 }
 
-/// What is promised of a call follows from its account, and from that all else.
+/// States that the specification of a run follows from its account, and all other properties follow
+/// from the specification.
 pub fn building_keeps_promises<B: Builds>()
     requires language { IsLawful B.language }
     requires once { IsReadOnce B.language B.TextOf }
@@ -114,21 +116,21 @@ pub fn building_keeps_promises<B: Builds>()
     files_in_turns::<OnTexts<B>>();
 }
 
-/// No request is for the commands on values and for the one on texts, which is idle at each request
-/// that is not its own.
+/// States that the commands on values and the command on texts are disjoint: no request belongs to
+/// both. The command on texts ignores each request that is not its own.
 pub fn building_stands_apart<B: Builds>()
     ensures idle { IsIdleElsewhere B.language B.TextOf }
     ensures apart { AreApart (commands B.language) (building B.language B.TextOf) }
 {}
 
-/// The tables are exact: what stops a run, and how an input ends, by its lines; and what the words
-/// and the file do.
+/// States that the tables are exact. They describe how lines end a run, how an input ends, and how
+/// the arguments and the file end a run.
 pub fn texts_have_meanings<B: Builds>()
     ensures { AreExact (building B.language B.TextOf) (texts_tables B.language B.TextOf) }
 {}
 
-/// What is promised of a call gives each status its cause, and to each cause its status; and 4 and
-/// 11 never come.
+/// States that each returned status has its cause, and that each cause leads to its status. The
+/// statuses 4 and 11 are never returned.
 pub fn causes_of_texts<B: Builds>()
     requires language { IsLawful B.language }
     requires once { IsReadOnce B.language B.TextOf }

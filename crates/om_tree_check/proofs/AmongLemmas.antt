@@ -1,4 +1,4 @@
--- What is said of the nodes among all that is met of a value is the verdict on the value.
+-- The verdict on the nodes among the visits is the verdict on the value.
 use Rattle.std.proofs.Common.{ℕ, ◌<◌, ◌≤◌, ◌≡◌, ◌∙◌, inl, inr, ⊎_elim, ◌++◌, List, [], ◌∷◌, length, map, get_or, Option, Some, None, refl, sym, ap, subst, arith}
 use Rattle.std.specs.Prelude.{slice_get, All, option_map}
 use Rattle.std.proofs.lemmas.Bool.{cases_lt}
@@ -41,7 +41,7 @@ pub all_are : {X : Type 0} (P : X → Type 0) (xs : List X)
     → ((i : ℕ) (x : X) → slice_get xs i ≡ Some x → P x) → All P xs
 all_are P xs each k d below = each k (get_or xs k d) (slice_get-get_or xs k d below)
 
--- the object of an entry at its type
+-- The object of an entry, with its type.
 abbrev pair_of : Option (Entry ℕ) → ℕ × ℕ
 pair_of None = (0, 0)
 pair_of (Some e) = (e.object, e.type)
@@ -106,7 +106,7 @@ module _ (table : Tabled) (graph : List Obj) (root : Val)
     tree = n.tree;
   }
 
-  -- the node that stands for a path to a node
+  -- The visited node for a path to a node.
   record IsMetAt (path : List ℕ) (o u : ℕ) : Type 0 where
     place : ℕ
     node : IsNodeAt place o
@@ -148,7 +148,7 @@ module _ (table : Tabled) (graph : List Obj) (root : Val)
         not_later = entered.4;
       }
 
-  -- ---- the nodes are closed
+  -- ---- the nodes contain their parts
 
   part_among : (v : Val) (path : List ℕ) (u : ℕ) → Leads path v u → IsTreeNumber table u → IsAmong
       objects v
@@ -199,7 +199,7 @@ module _ (table : Tabled) (graph : List Obj) (root : Val)
 
   -- ---- faults
 
-  -- such a node is met where one stands at a path, and back
+  -- A node with the property is visited if and only if there is one at some path.
   has_at : (Has : List Obj → ℕ → Type 0) (path : List ℕ) → HasNodeWith Has path → (i : ℕ) × HasAt
       (Has graph) objects i
   has_at Has path (o, u, node, wrong) =
@@ -221,7 +221,7 @@ module _ (table : Tabled) (graph : List Obj) (root : Val)
       (path : List ℕ) → ¬ HasNodeWith Has path
   no_node Has none path node = let at = has_at Has path node in none at.0 at.1
 
-  -- a fault at a path is one of the node that stands for it
+  -- A fault at a path is a fault of the visited node for this path.
   record IsFaultMet (kind : TreeKind) (path : List ℕ) : Type 0 where
     place : ℕ
     object : ℕ
@@ -264,7 +264,7 @@ module _ (table : Tabled) (graph : List Obj) (root : Val)
         not_later = at.not_later;
       }
 
-  -- the fault of a node is one at its path
+  -- A fault of a node is a fault at its path.
   record IsFaultTold (kind : TreeKind) (i : ℕ) : Type 0 where
     object : ℕ
     node : IsNodeAt i object
@@ -288,7 +288,7 @@ module _ (table : Tabled) (graph : List Obj) (root : Val)
         fault = ((o.0, n.entry.type, leads_there i o.0 n, o.2), no_node IsMiscounted none);
       }
 
-  -- ---- how many nodes
+  -- ---- the number of nodes
 
   abbrev pairs : List (ℕ × ℕ)
   pairs = map (λ k. pair_of (slice_get met.told k)) nodes.visits.items
@@ -403,7 +403,7 @@ module _ (table : Tabled) (graph : List Obj) (root : Val)
     path_is = is_path met.told told.node.entry met.are_told
         (subst (λ m. slice_get met.told m ≡ Some told.node.entry) number_is told.node.told)
 
-    -- a node that is not earlier has no lesser path
+    -- If a node is not earlier, then its path is not less.
     not_before : (second : List ℕ) (j o : ℕ) (n : IsNodeAt j o) → i ≤ j → IsBefore second path →
         (¬ IsBefore second n.entry.path) → ⊥
     not_before second j o n later before not_later =
@@ -464,7 +464,7 @@ module _ (table : Tabled) (graph : List Obj) (root : Val)
 
 -- ---- what the code reads
 
--- a node with a fault is among the nodes
+-- A node with a fault is among the nodes.
 pub fault_inside :
     (graph : List Obj) (objects : List ℕ) (kind : TreeKind) (i : ℕ) → IsFaultAt graph objects kind
     i → i < length objects

@@ -1,5 +1,5 @@
--- The pairs of a check at types of sets and maps are the nodes, and what is said of their objects
--- is the verdict, where that asks for no path but the root's.
+-- The pairs of a check at types of sets and maps are the nodes. If the verdict needs no path except
+-- that of the root, then it follows from their objects.
 use Rattle.std.proofs.Common.{ℕ, zero, suc, ◌<◌, ◌≡◌, ◌∙◌, ◌⊎◌, inl, ⊎_elim, ◌++◌, Bool, true, false, ◌+◌, List, [], ◌∷◌, cond, get_or, length, map, take, Option, Some, refl, sym, ap, subst}
 use Rattle.std.specs.Prelude.{slice_get, slice_index_or, Contains, filter, option_map}
 use Rattle.std.proofs.lemmas.List.Elements.{filter_more}
@@ -38,9 +38,9 @@ use Rattle.om_tree_check.specs.NodePairs.{is_node_pair, objects_of, marked_objec
 use Rattle.om_tree_check.specs.TreeTable.{IsTreeTable, AreMarked, IsTableVerdict}
 use Rattle.om_tree_check.proofs.AmongLemmas.{all_are}
 
--- ---- what a filter keeps
+-- ---- filters
 
--- ---- elements that are apart
+-- ---- distinct elements
 
 apart_again : {X : Type 0} (xs : List X) → Distinct xs → AreApart xs
 apart_again [] distinct j k y at_j at_k = absurd (none-some y at_j)
@@ -204,7 +204,7 @@ module _ (table : Tabled) (graph : List Obj) (root : Val)
         → (path : List ℕ) → ¬ HasNodeWith Has path
     no_node Has none path node = let at = has_at Has path node in none at.0 at.1
 
-    -- a fault at a path is one of some object
+    -- A fault at a path is a fault of some object.
     fault_at : (kind : TreeKind) (path : List ℕ) → IsFaultHere kind path
         → (i : ℕ) × IsFaultAt graph objects kind i
     fault_at kinds.Height path fault = has_at IsMiscounted path fault
@@ -213,7 +213,7 @@ module _ (table : Tabled) (graph : List Obj) (root : Val)
         let at = has_at IsDisordered path fault.0 in
         (at.0, (at.1, none_at IsMiscounted fault.1))
 
-    -- an object with a fault has it wherever it is a node
+    -- An object with a fault has this fault at each type at which it is a node.
     own : (Has : ℕ → Type 0) (i o : ℕ) → slice_get objects i ≡ Some o → HasAt Has objects i → Has o
     own Has i o at wrong =
         let some = IsSomeAnd-some (slice_get objects i) Has wrong in
@@ -263,7 +263,7 @@ get_or-at [] i d x is = absurd (none-some x is)
 get_or-at (y ∷ xs) zero d x is = same_Some y x is
 get_or-at (y ∷ xs) (suc i) d x is = get_or-at xs i d x is
 
--- one pair more
+-- One more pair.
 pub marked_more : (found : List Bool) (pairs : List (ℕ × ℕ)) (k o t : ℕ)
     → slice_get pairs k ≡ Some (o, t)
     → marked_objects found (take (k + 1) pairs)

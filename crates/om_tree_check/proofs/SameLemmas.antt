@@ -1,5 +1,5 @@
--- Where the types of two tables or declarations say the same of values and of trees, values have
--- the same verdicts.
+-- If the types of two tables or declarations agree about values and trees, then values have the
+-- same verdicts.
 use Rattle.std.proofs.Common.{ℕ, zero, suc, ◌≡◌, ◌∙◌, List, [], ◌∷◌, length, Option, Some, None, refl, sym, ap, subst}
 use Rattle.std.specs.Prelude.{slice_get, Contains}
 use Rattle.std.proofs.lemmas.Option.{same_Some, none-some}
@@ -29,7 +29,7 @@ module _ {T U : Type 0} (shape : T → ShapeOf T) (names : T → Names) (Equal :
   abbrev Same : Option (Val × T) → Option (Val × U) → Type 0
   Same p q = SamePlace (shaped shape Equal) (shaped shape' Equal') Of graph p q
 
-  -- where the ones lead, the others do
+  -- If a path leads to a value with the first types, then it does so with the others.
   there : (p : Option (Val × T)) (q : Option (Val × U)) → Same p q → (w : Val) (i : T)
       → p ≡ Some (w, i) → (t : U) × (q ≡ Some (w, t)) × Of i t
   there None q places w i at = absurd (none-some (w, i) at)
@@ -41,7 +41,7 @@ module _ {T U : Type 0} (shape : T → ShapeOf T) (names : T → Names) (Equal :
         subst (λ j. Of j q.1) (ap (λ (x : Val × T). x.1) pair) places.1,
       )
 
-  -- a node of the ones is a node of the others
+  -- A node with the first types is a node with the others.
   abbrev pub NodesGo : Val → T → U → Type 0
   NodesGo root r s =
       (path : List ℕ) (o : ℕ) (i : T) → IsNode shape names Equal graph root r path o i
@@ -61,7 +61,7 @@ module _ {T U : Type 0} (shape : T → ShapeOf T) (names : T → Names) (Equal :
 
 -- ---- lists of nodes
 
--- the same objects at such types
+-- The same objects at corresponding types.
 record ArePaired {T U : Type 0} (Goes : ℕ → T → U → Type 0) (xs : List (ℕ × T))
     (ys : List (ℕ × U)) : Type 0 where
   many : length xs ≡ length ys
@@ -166,7 +166,7 @@ module _ {T U : Type 0} (shape : T → ShapeOf T) (names : T → Names) (Equal :
     λ other wrong. fault.1 other (node_with IsMiscounted other wrong),
   )
 
-  -- an object at a type, and at the other's type at the end of some path
+  -- Some path leads to the object at both types.
   abbrev Goes : ℕ → T → U → Type 0
   Goes o i t = Of i t × (path : List ℕ) × IsOtherNode path o t
 

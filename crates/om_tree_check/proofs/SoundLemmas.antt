@@ -1,4 +1,4 @@
--- What a verdict says that is `sound`.
+-- The meaning of the verdict `sound`.
 use Rattle.std.proofs.Common.{List, refl}
 use Rattle.std.specs.Prelude.{◌↔◌, IsTrue}
 use Rattle.std.proofs.lemmas.Bool.{false≢true}

@@ -1,4 +1,4 @@
--- A table says of trees what the types say that it is of.
+-- A table and the types of which it was made agree about trees.
 use Rattle.std.proofs.Common.{ℕ, ◌≡◌, ◌∙◌, ◌⊎◌, inl, inr, Bool, false, List, [], ◌∷◌, length, map, Option, Some, None, refl, sym, ap, arith}
 use Rattle.std.specs.Prelude.{slice_get, option_map}
 use Rattle.std.proofs.lemmas.List.{length-map}
@@ -28,7 +28,7 @@ use Rattle.om_trees.proofs.AlikeLemmas.{tree_too}
 use Rattle.om_tree_check.specs.TreeTable.{IsTreeTable, IsTableVerdict}
 use Rattle.om_tree_check.proofs.SameLemmas.{nodes_go, verdict_on}
 
--- ---- shapes that are the same but for their parts
+-- ---- shapes that are equal except for their parts
 
 module _ {T U V : Type 0} (f : T → V) (g : U → V) where
   any_int_of : (s : ShapeOf U) → shapes.AnyInt ≡ with_parts g s → s ≡ shapes.AnyInt
@@ -39,7 +39,7 @@ module _ {T U V : Type 0} (f : T → V) (g : U → V) where
   bytes_of (shapes.Bytes c) b is = let same : b ≡ c = cc in ap shapes.Bytes (sym same)
   bytes_of s b is = absurd (cc)
 
-  -- the fields of a node with other parts
+  -- The fields of a node with other parts.
   record AreFields (fields : List U) (l e : T) (d : Option T) (r h : T) : Type 0 where
     left : U
     element : U
@@ -136,7 +136,7 @@ module _ (decls : List Decl) (t : Ty) (table : Tabled) (is : IsTypeTable decls t
   abbrev Is : ℕ → Ty → Type 0
   Is i u = slice_get (types_of table) i ≡ Some u
 
-  -- the shape at a number is the type's, but for numbers in the place of types
+  -- The shape at an index is the shape of the type, with indices instead of types.
   shape_is : (i : ℕ) (u : Ty) → Is i u
       → with_parts (slice_get (types_of table)) (shape_in table i) ≡ with_parts Some (shape decls u)
   shape_is i u at =
@@ -227,7 +227,7 @@ module _ (decls : List Decl) (t : Ty) (table : Tabled) (is : IsTypeTable decls t
             (shape_is own.height tree.height (sym own.height_at)));
       }
 
-  -- ---- a table by which trees can be judged
+  -- ---- a table with which trees can be checked
 
   as_many : length table.nodes ≡ length (types_of table)
   as_many =
@@ -235,7 +235,7 @@ module _ (decls : List Decl) (t : Ty) (table : Tabled) (is : IsTypeTable decls t
       is.made.nodes
       ∙ length-map (types_of table) (λ u. with_parts Some (shape decls u))
 
-  -- a number that is the type of a tree is some type's
+  -- If an index is the type of a tree, then it is the index of some type.
   number_known : (i : ℕ) → IsTreeNumber table i → (u : Ty) × Is i u
   number_known i tree = by_node (none_or_some (slice_get table.nodes i)) where
     by_node : (slice_get table.nodes i ≡ None) ⊎
@@ -249,7 +249,7 @@ module _ (decls : List Decl) (t : Ty) (table : Tabled) (is : IsTypeTable decls t
         let many = as_many in
         slice_get_there (types_of table) i (omega (arith, within, many))
 
-  -- what has the class of a type's number is some type's
+  -- If an index is in the class of the index of a type, then it is the index of some type.
   class_known : (i j : ℕ) (u : Ty) → SameClass table i j → Is j u → (w : Ty) × Is i w
   class_known i j u same at =
       let within = slice_get_within (types_of table) j u at in

@@ -11,7 +11,7 @@ use Rattle.om_tree_check.specs.declared.nodes.Nodes.{Nodes}
 use Rattle.om_tree_check.specs.NodeVisits.{IsVisitAt, AreNodeVisits}
 
 module _ (IsTree : ℕ → Type 0) (all : List Visit) where
-  -- no visit, no node
+  -- If there are no visits, then there are no nodes.
   pub none_yet :
       (nodes : Nodes) → nodes.objects.items ≡ [] → nodes.visits.items ≡ []
       → AreNodeVisits IsTree all 0 nodes
@@ -25,7 +25,7 @@ module _ (IsTree : ℕ → Type 0) (all : List Visit) where
     nowhere : (i k : ℕ) → slice_get nodes.visits.items i ≡ Some k → ⊥
     nowhere i k at_i = none-some k (subst (λ xs. slice_get xs i ≡ Some k) no_visits at_i)
 
-  -- a visit at another type
+  -- A visit at another type.
   pub not_taken :
       (nodes : Nodes) (n : ℕ) (v : Visit) → slice_get all n ≡ Some v → (¬ IsTree v.ty)
       → AreNodeVisits IsTree all n nodes → AreNodeVisits IsTree all (n + 1) nodes
@@ -43,7 +43,7 @@ module _ (IsTree : ℕ → Type 0) (all : List Visit) where
     rising = so_far.rising;
   }
 
-  -- a visit at such a type
+  -- A visit at a marked type.
   pub taken :
       (old new : Nodes) (n : ℕ) (v : Visit) → slice_get all n ≡ Some v → IsTree v.ty
       → new.objects.items ≡ old.objects.items ++ v.object ∷ []
@@ -142,7 +142,7 @@ module _ (IsTree : ℕ → Type 0) (all : List Visit) where
           let there' = again.0 in
           absurd (omega (arith, here, there', less))
 
--- the same of types that are the same
+-- The nodes are the same for equivalent sets of types.
 pub same_visits :
     (P Q : ℕ → Type 0) (all : List Visit) (n : ℕ) (nodes : Nodes) → ((t : ℕ) → P t ↔ Q t)
     → AreNodeVisits P all n nodes → AreNodeVisits Q all n nodes
@@ -161,7 +161,7 @@ same_visits P Q all n nodes same are = record {
   rising = are.rising;
 }
 
--- the visit that was read
+-- The visit that was read.
 pub visit_read :
     (all : List Visit) (k o t : ℕ) → k < length all
     → IfSome (slice_get all k) (λ (v : Visit). (o ≡ v.object) × (t ≡ v.ty))

@@ -6,18 +6,19 @@ use Rattle.om_type_table.specs.declared.tabled.Tabled.{Tabled}
 use Rattle.om_trees.specs.TreeType.{shape_in, names_in, SameClass}
 use Rattle.om_trees.specs.Verdict.{AreNodes}
 
--- whether the type of a pair is marked
+-- The type of the pair is marked.
 abbrev pub is_node_pair : List Bool → ℕ × ℕ → Bool
 is_node_pair found pair = slice_index_or found pair.1 false
 
 abbrev pub objects_of : List (ℕ × ℕ) → List ℕ
 objects_of pairs = map (λ (pair : ℕ × ℕ). pair.0) pairs
 
--- the objects of the pairs at marked types
+-- The objects of the pairs at marked types.
 abbrev pub marked_objects : List Bool → List (ℕ × ℕ) → List ℕ
 marked_objects found pairs = objects_of (filter (is_node_pair found) pairs)
 
--- these are the objects of the nodes, each as often as there are classes at which it is one
+-- These are the objects of the nodes. Each occurs once for each class of types at which it is a
+-- node.
 pub record AreNodeObjects (table : Tabled) (graph : List Obj) (root : Val) (objects : List ℕ)
     : Type 0 where
   pub pairs : List (ℕ × ℕ)

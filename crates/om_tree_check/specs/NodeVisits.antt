@@ -1,4 +1,4 @@
--- The nodes among all that is met of a value, and what is said of them.
+-- The nodes among the visits of a value, and the verdict on them.
 use Rattle.std.specs.Prelude.{ℕ, ◌≡◌, ◌<◌, Bool, false, List, length, IsTrue, Some, slice_get}
 use Rattle.std.specs.Prelude.{slice_index_or}
 use Rattle.om_model.specs.declared.value.Obj.{Obj}
@@ -20,14 +20,14 @@ NoneMarked found = (t : ℕ) → ¬ IsMarked found t
 
 -- ---- nodes
 
--- visit k is of the object, at such a type
+-- Visit k is of the object o, at the type of a tree.
 pub record IsVisitAt (IsTree : ℕ → Type 0) (all : List Visit) (k o : ℕ) : Type 0 where
   pub visit : Visit
   pub at : slice_get all k ≡ Some visit
   pub object : visit.object ≡ o
   pub tree : IsTree visit.ty
 
--- Of the first n visits these are all that are at such a type, in their order.
+-- The nodes are all visits at the types of trees among the first n visits, in order.
 pub record AreNodeVisits (IsTree : ℕ → Type 0) (all : List Visit) (n : ℕ) (nodes : Nodes)
     : Type 0 where
   pub many : length nodes.visits.items ≡ length nodes.objects.items
@@ -39,9 +39,9 @@ pub record AreNodeVisits (IsTree : ℕ → Type 0) (all : List Visit) (n : ℕ) 
   pub rising : (i j k m : ℕ) → i < j → slice_get nodes.visits.items i ≡ Some k
       → slice_get nodes.visits.items j ≡ Some m → k < m
 
--- ---- what is said
+-- ---- the verdict
 
--- no fault and so many nodes; or the first of the gravest faults, and the path to its visit
+-- No fault and the number of nodes, or the first fault and the path to its visit.
 abbrev pub IsVerdictAmong : List Obj → List Visit → Nodes → TreeVerdict → Type 0
 IsVerdictAmong graph all nodes (Sound n) =
     IsJudgement graph nodes.objects.items judgements.Sound × (n ≡ length nodes.objects.items)

@@ -1,4 +1,4 @@
--- Tables by which the sets and maps in a value can be judged.
+-- Tables with which the sets and maps in a value can be checked.
 use Rattle.std.specs.Prelude.{ℕ, ◌↔◌, Bool, false, List, IsTrue, slice_index_or}
 use Rattle.om_model.specs.declared.value.Val.{Val}
 use Rattle.om_model.specs.declared.value.Obj.{Obj}
@@ -7,17 +7,17 @@ use Rattle.om_trees.specs.declared.verdict.TreeVerdict.{TreeVerdict}
 use Rattle.om_trees.specs.TreeType.{shape_in, names_in, SameClass, IsTreeNumber}
 use Rattle.om_trees.specs.Verdict.{IsTreeVerdict}
 
--- A type that is equal to that of a set or a map is one too.
+-- If a type is equal to the type of a set or a map, then it is one too.
 abbrev pub IsTreeTable : Tabled → Type 0
 IsTreeTable table =
     (i j : ℕ) → SameClass table i j → IsTreeNumber table j → IsTreeNumber table i
 
--- the types of sets and maps are marked, and no others
+-- Exactly the types of sets and maps are marked.
 abbrev pub AreMarked : Tabled → List Bool → Type 0
 AreMarked table found =
     (t : ℕ) → IsTrue (slice_index_or found t false) ↔ IsTreeNumber table t
 
--- the verdict on the value at the type that is number 0
+-- The verdict on the value at type 0.
 abbrev pub IsTableVerdict : Tabled → List Obj → Val → TreeVerdict → Type 0
 IsTableVerdict table graph root verdict =
     IsTreeVerdict (shape_in table) (names_in table) (SameClass table) graph root 0 verdict

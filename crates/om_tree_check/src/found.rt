@@ -1,4 +1,4 @@
-//! The nodes as a check found them, without paths.
+//! Collects the nodes of sets and maps from a check, without paths.
 
 ghost use Rattle.std.specs.Prelude.{◌≡◌, ◌+◌, ◌<◌, length, take, IfOk, OnOk, slice_index_or, false};
 ghost use Rattle.om_types.specs.Table.{table_shapes};
@@ -13,7 +13,8 @@ use om_model::Memory;
 use om_type_table::TypeTable;
 use std::alloc::Global;
 
-/// The objects of the nodes in a value that has its type, each once at each class.
+/// Returns the objects of the nodes in a value that has its type. Each object occurs once for each
+/// class of equal types.
 pub fn nodes_found(
     alloc: Global,
     value: &Rooted<'_>,
@@ -34,7 +35,7 @@ pub fn nodes_found(
     }
 }
 
-/// The objects at marked types.
+/// Returns the objects of the pairs at marked types.
 fn objects_at(alloc: Global, typing: &Typing, found: &[bool]) -> Result<Vec<usize>, Memory>
     ensures { IfOk result (λ nodes. nodes.items ≡ marked_objects found.now typing.now) }
 {
@@ -45,7 +46,7 @@ fn objects_at(alloc: Global, typing: &Typing, found: &[bool]) -> Result<Vec<usiz
     Ok(nodes)
 }
 
-/// Takes the object of pair k, where it is at a marked type.
+/// Appends the object of pair `k` if the pair is at a marked type.
 #[inline(always)]
 fn take_pair(
     nodes: &mut Vec<usize>,
@@ -64,7 +65,7 @@ fn take_pair(
     Ok(())
 }
 
-/// Whether a type is marked.
+/// Returns true if a type is marked.
 #[inline(always)]
 pub fn is_marked(found: &[bool], ty: usize) -> bool
     ensures { result ≡ slice_index_or found.now ty false }

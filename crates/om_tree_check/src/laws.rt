@@ -1,4 +1,4 @@
-//! The laws, as contracts.
+//! The laws, stated as contracts.
 
 ghost use Rattle.om_tree_check.specs.Laws.{TablesJudgeTrees, TablesHaveTheVerdict};
 ghost use Rattle.om_tree_check.specs.Laws.{SoundVerdictsTellSearchTrees};
@@ -6,19 +6,20 @@ ghost use Rattle.om_tree_check.specs.Laws.{SoundTableVerdictsTellSearchTrees};
 
 use om_trees::sound_trees_are_search_trees;
 
-/// Sets and maps can be judged by the table of a sound type over well-formed declarations.
+/// Sets and maps can be checked with the table of a sound type over well-formed declarations.
 pub fn tables_judge_trees()
     ensures { TablesJudgeTrees }
 {}
 
-/// The verdict by a table is that by the types which the table is of.
+/// A verdict with a table is the verdict with the types of which the table was made.
 pub fn tables_have_the_verdict()
     ensures { TablesHaveTheVerdict }
 {}
 
-/// Of a value that has its type the verdict is `sound` exactly where each set and each map in it is
-/// a finite balanced tree whose elements increase and whose nodes state their heights: the verdict
-/// by the type, and so that by its table, which `trees` answers.
+/// If a value has its type, then its verdict is `sound` if and only if each set and each map in it
+/// is a search tree. A search tree is finite and balanced, its elements are strictly increasing,
+/// and each node stores its correct height. This holds for the verdict with the type, and for the
+/// verdict with its table, which `trees` returns.
 pub fn sound_verdicts_tell_search_trees()
     ensures types { SoundVerdictsTellSearchTrees }
     ensures table { SoundTableVerdictsTellSearchTrees }

@@ -1,5 +1,6 @@
-//! What is said of the sets and maps in a value that has its type: that none has a fault, or the
-//! least fault.
+//! Computes the verdict on the sets and maps in a value that has its type: no fault, or the first
+//! fault with its path. The law `sound_verdicts_tell_search_trees` says that the verdict is `sound`
+//! if and only if all sets and maps are search trees.
 #![tactic(auto)]
 
 mod found;

@@ -1,4 +1,4 @@
-//! The nodes among all that is met of a value.
+//! Collects the nodes of sets and maps among the visits of a value.
 
 ghost use Rattle.std.specs.Prelude.{◌+◌, ◌<◌, length, IfOk, OnOk};
 ghost use Rattle.om_tree_check.specs.NodeVisits.{AreNodeVisits, IsMarked};
@@ -8,14 +8,14 @@ use om_check::AllMet;
 use om_model::Memory;
 use std::alloc::Global;
 
-/// The nodes of sets and maps: their objects, and the numbers of the visits to them.
+/// The nodes of sets and maps: their objects, and the indices of their visits.
 #[derive(Drop)]
 pub struct Nodes {
     pub objects: Vec<usize>,
     pub visits: Vec<usize>,
 }
 
-/// The visits at marked types, in their order.
+/// Returns the visits at marked types, in order.
 pub fn nodes_among(alloc: Global, all: &AllMet, found: &[bool]) -> Result<Nodes, Memory>
     ensures { IfOk result (AreNodeVisits (IsMarked found.now) all.now (length all.now)) }
 {
@@ -29,7 +29,7 @@ pub fn nodes_among(alloc: Global, all: &AllMet, found: &[bool]) -> Result<Nodes,
     Ok(nodes)
 }
 
-/// Takes visit k, where it is at a marked type.
+/// Appends visit `k` if it is at a marked type.
 fn take_visit(nodes: &mut Nodes, all: &AllMet, found: &[bool], k: usize) -> Result<(), Memory>
     requires in_range { k < length all.now }
     requires so_far { AreNodeVisits (IsMarked found.now) all.now k nodes.old }

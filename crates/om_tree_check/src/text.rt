@@ -9,8 +9,7 @@ use om_model::Memory;
 use om_trees::{TreeKind, TreeVerdict};
 use std::alloc::Global;
 
-/// Puts a verdict at the end of a text: `sound` and the number of nodes, or `fault`, its kind and
-/// its path.
+/// Appends a verdict to a text: `sound` and the number of nodes, or `fault`, its kind and its path.
 pub fn put_verdict(text: &mut Vec<u8>, alloc: Global, verdict: &TreeVerdict) -> Result<(), Memory>
     ensures { OnOk result (text.new.items ≡ text.old.items ++ verdict_text verdict.now) }
 {
@@ -29,7 +28,7 @@ pub fn put_verdict(text: &mut Vec<u8>, alloc: Global, verdict: &TreeVerdict) -> 
     }
 }
 
-/// The word for a kind of fault.
+/// Returns the word for a kind of fault.
 fn kind_word(kind: TreeKind) -> &'static [u8]
     ensures { result.now ≡ texts.kind_word kind }
 {
@@ -40,7 +39,7 @@ fn kind_word(kind: TreeKind) -> &'static [u8]
     }
 }
 
-/// Puts bytes at the end.
+/// Appends bytes.
 fn put(text: &mut Vec<u8>, bytes: &[u8]) -> Result<(), Memory>
     ensures { OnOk result (text.new.items ≡ text.old.items ++ bytes.now) }
 {

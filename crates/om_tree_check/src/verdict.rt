@@ -1,4 +1,4 @@
-//! The verdict on the sets and maps in a value.
+//! Computes the verdict on the sets and maps in a value.
 
 ghost use Rattle.std.specs.Prelude.{◌≡◌, ◌<◌, ◌↔◌, length, All, IfOk, IfSome, IsTrue};
 ghost use Rattle.om_model.specs.declared.value.Val.TheVariants as vals;
@@ -21,9 +21,9 @@ use om_trees::{Judgement, TreeVerdict, judge, tree_types};
 use om_type_table::TypeTable;
 use std::alloc::Global;
 
-/// What is said of the sets and maps in a value that has the type that is number 0: the least
-/// fault, or how many nodes there are, each object once at each class of types. Where the table
-/// has no such type, the value is not looked at.
+/// Returns the verdict on the sets and maps in a value of type 0: the first fault, or the number of
+/// nodes. Each object counts once for each class of equal types. If the table has no type of a set
+/// or a map, the value is not inspected.
 pub fn trees(alloc: Global, value: &Rooted<'_>, table: &TypeTable) -> Result<TreeVerdict, Memory>
     requires table { IsTreeTable table.now }
     requires has { HasType (table_shapes (table_of table.now)) value.now.heap.now value.now.root 0 }
@@ -39,7 +39,7 @@ pub fn trees(alloc: Global, value: &Rooted<'_>, table: &TypeTable) -> Result<Tre
     }
 }
 
-/// Whether no type is marked.
+/// Returns true if no type is marked.
 fn has_none(found: &[bool]) -> bool
     ensures { IsTrue result ↔ NoneMarked found.now }
 {
@@ -51,7 +51,8 @@ fn has_none(found: &[bool]) -> bool
     true
 }
 
-/// The verdict, where it asks for no path but that of the root.
+/// Returns the verdict if no path is needed, or if the fault is at the root. Otherwise returns
+/// `None`.
 fn verdict_found(
     alloc: Global,
     value: &Rooted<'_>,
@@ -77,7 +78,7 @@ fn verdict_found(
     }
 }
 
-/// Whether a value is a reference to an object.
+/// Returns true if a value is a reference to object `o`.
 fn is_object(v: Val, o: usize) -> bool
     ensures { IsTrue result ↔ (v ≡ vals.Ref o) }
 {
@@ -87,7 +88,7 @@ fn is_object(v: Val, o: usize) -> bool
     }
 }
 
-/// The verdict by the types of sets and maps.
+/// Returns the verdict, given the marked types of sets and maps.
 fn verdict_by(
     alloc: Global,
     value: &Rooted<'_>,
@@ -105,7 +106,7 @@ fn verdict_by(
     verdict_among(alloc, value.heap, &all, &nodes)
 }
 
-/// The verdict on nodes among what is met.
+/// Returns the verdict on the nodes among the visits.
 fn verdict_among(
     alloc: Global,
     heap: &Heap,

@@ -1,4 +1,4 @@
--- A type that is equal to the type of a tree is one too.
+-- If a type is equal to the type of a tree, then it is one too.
 use Rattle.std.proofs.Common.{ℕ, ◌≡◌, ◌∙◌, ◌⊎◌, inl, inr, Bool, false, List, [], ◌∷◌, Option, Some, None, refl, sym, ap, subst}
 use Rattle.std.specs.Prelude.{Contains, codes}
 use Rattle.om_model.proofs.Options.{Contains-first, Contains-later}
@@ -68,7 +68,7 @@ module _ {T : Type 0} (Likes : T → T → Type 0) where
   bytes_too same_anything b is = is
   bytes_too (same_array_of_anything t u alike) b is = cc
 
-  -- a sum with blocks that agree
+  -- A sum with blocks that agree.
   record IsSum (s : ShapeOf T) (k : ℕ) (cs : List (Constr T)) : Type 0 where
     blocks : List (Constr T)
     is : s ≡ shapes.Sum k blocks
@@ -96,7 +96,7 @@ module _ {T : Type 0} (Likes : T → T → Type 0) where
   sum_too same_anything k cs is = absurd (cc)
   sum_too (same_array_of_anything t u alike) k cs is = absurd (cc)
 
-  -- the fields of a node, with parts that are alike
+  -- The fields of a node, with equal types of parts.
   record AreFields (fields : List T) (l e : T) (d : Option T) (r h : T) : Type 0 where
     left : T
     element : T
@@ -171,7 +171,7 @@ module _ {T : Type 0} (Likes : T → T → Type 0) where
   }
   one_block s wanted (b ∷ c ∷ bs) is agree = absurd agree.2
 
--- the parts of a node are named
+-- The types of the parts of a node.
 module _ {T : Type 0} (l e : T) where
   names_left : (d : Option T) (r h : T) → Contains (named_in (tree_shape l e d r h)) l
   names_left None r h = Contains-first l (e ∷ r ∷ h ∷ [])

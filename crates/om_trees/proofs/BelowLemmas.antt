@@ -1,4 +1,4 @@
--- What lies below a value: the first step, and what comes of it.
+-- The nodes below a value: the first step, and the rest of the path.
 use Rattle.std.proofs.Common.{ℕ, ◌≡◌, List, [], ◌∷◌, refl}
 use Rattle.std.specs.Prelude.{ℤ}
 use Rattle.om_model.specs.declared.value.Val.TheVariants as vals
@@ -15,7 +15,7 @@ module _ (graph : List Obj) where
   pub below_right : (o p : ℕ) → IsAtOrBelow graph (node_at graph o).right p → IsAtOrBelow graph (vals.Ref o) p
   below_right o p below = (to_right ∷ below.0, below.1)
 
-  -- nothing lies below `Empty`
+  -- There are no nodes below `Empty`.
   nowhere : (sides : List Side) (p : ℕ) → led_to graph empty_value sides ≡ vals.Ref p → ⊥
   nowhere [] p is = cc
   nowhere (side ∷ sides) p is = nowhere sides p is
@@ -28,7 +28,7 @@ module _ (graph : List Obj) where
   none_below_atom tag p ([], is) = cc
   none_below_atom tag p (side ∷ sides, is) = nowhere sides p is
 
-  -- at a node there is the node, what is on its left, and what is on its right
+  -- At or below a node there are the node itself, its left subtree and its right subtree.
   pub data AtNode (o p : ℕ) : Type 0 where
     itself : o ≡ p → AtNode o p
     on_left : IsAtOrBelow graph (node_at graph o).left p → AtNode o p

@@ -1,4 +1,4 @@
--- How many of some heights are smaller than a number.
+-- The number of heights that are less than a given number.
 use Rattle.std.proofs.Common.{ℕ, zero, suc, ◌≡◌, ◌<◌, ◌≤◌, ◌+◌, Bool, true, false, List, [], ◌∷◌, Some, refl, sym, ap, subst, arith}
 use Rattle.std.specs.Prelude.{slice_get, ℤ, int_lt, ◌<ℤ◌, ◌≤ℤ◌}
 use Rattle.std.proofs.lemmas.Int.{ints}
@@ -8,7 +8,7 @@ abbrev pub one_if : Bool → ℕ
 one_if true = 1
 one_if false = 0
 
--- how many are less
+-- The number of lesser heights.
 abbrev pub lower : List ℤ → ℤ → ℕ
 lower [] z = 0
 lower (y ∷ heights) z = one_if (int_lt y z) + lower heights z
@@ -40,7 +40,7 @@ is_under y z less = grind (arith, ints)
 under_at_most : (y z : ℤ) → y <ℤ z → y ≤ℤ z
 under_at_most y z less = omega (arith, ints)
 
--- fewer are less than one of them that is less itself
+-- If x is one of the heights and less than z, then fewer heights are less than x than z.
 pub lower_less : (heights : List ℤ) (i : ℕ) (x z : ℤ) → slice_get heights i ≡ Some x → x <ℤ z → lower heights x < lower heights z
 lower_less [] i x z at less = absurd (none-some x at)
 lower_less (y ∷ heights) zero x z at less =

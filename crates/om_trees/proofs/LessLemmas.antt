@@ -1,4 +1,4 @@
--- The order of elements, and lists that increase.
+-- The order of elements, and increasing lists.
 use Rattle.std.proofs.Common.{ℕ, ◌≡◌, ◌<◌, ◌==◌, ◌∙◌, ◌⊎◌, ⊎_elim, inl, inr, Bool, true, false, List, [], ◌∷◌, ◌++◌, refl, sym, subst, arith, zero, suc, length, drop, min, ap}
 use Rattle.std.specs.Prelude.{Contains, IsTrue, ℤ, ◌<ℤ◌, ◌≤ℤ◌, int_lt, nat_lt, ◌&&◌}
 use Rattle.std.proofs.lemmas.Int.{ints, by_lt_z}
@@ -13,7 +13,7 @@ use Rattle.om_trees.specs.SearchTree.{AreIncreasing}
 
 -- ---- texts
 
--- the first bytes are the same, and the rest comes before; or the first byte is smaller
+-- The first bytes are equal and the rest comes before, or the first byte is less.
 abbrev FirstBefore : ℕ → ℕ → List ℕ → List ℕ → Type 0
 FirstBefore a b bytes others = (a < b) ⊎ ((a ≡ b) × IsTrue (are_before bytes others))
 
@@ -58,7 +58,7 @@ is_false false never = refl
 pub same_not_before : (bytes others : List ℕ) → bytes ≡ others → false ≡ are_before bytes others
 same_not_before bytes others same = subst (λ x. false ≡ are_before bytes x) same (is_false (are_before bytes bytes) (before_itself bytes))
 
--- ---- texts with one front
+-- ---- texts with a common prefix
 
 not_under : (n : ℕ) → nat_lt n 0 ≡ false
 not_under n = sym (is_false (nat_lt n 0) (λ is. let less = ltb-true n 0 is in omega (arith, less)))
@@ -77,7 +77,7 @@ at_end [] (y ∷ ys) i end =
 at_end (x ∷ xs) (y ∷ ys) zero end = absurd (omega (arith, end))
 at_end (x ∷ xs) (y ∷ ys) (suc i) end = at_end xs ys i (omega (arith, end)) ∙ sym (lengths xs ys x y)
 
--- the rest of two texts decides, as far as they are the same
+-- After a common prefix, the rest of the two texts decides.
 abbrev pub DecidesFrom : List ℕ → List ℕ → ℕ → Type 0
 DecidesFrom xs ys i = are_before xs ys ≡ are_before (drop i xs) (drop i ys)
 
@@ -167,7 +167,7 @@ module _ (graph : List Obj) where
 
 -- ---- lists
 
--- each of the list is less than the value, or the other way round
+-- Each element of the list is less than the value, or the other way round.
 abbrev pub AllLess : List Obj → List Val → Val → Type 0
 AllLess graph xs v = (x : Val) → Contains xs x → IsTrue (is_less graph x v)
 
@@ -192,7 +192,7 @@ increasing_joined graph (x ∷ xs) v ys one less two more =
           (Contains-cases v ys w right))
           (Contains-append_cases xs (v ∷ ys) w among)
 
--- and back: in a list that increases what is in front of a value is less, and what is behind more
+-- In an increasing list, the elements before a value are less and those after it are greater.
 pub increasing_less :
     (graph : List Obj) (xs : List Val) (v : Val) (ys : List Val) → AreIncreasing graph (xs ++ v ∷ ys) → AllLess graph xs v
 increasing_less graph [] v ys all x among = absurd (Contains-none x among)

@@ -5,11 +5,11 @@ use Rattle.std.specs.Str.{bytes_eq}
 use Rattle.std.proofs.lemmas.List.{length-map, drop_all, get_or_default}
 use Rattle.std.proofs.lemmas.Slice.Eq.{bytes_eq-Decides}
 
--- lists are the same where they are so from some place on
+-- The lists are equal if they agree from this index on.
 abbrev pub SameFrom : List (List ℕ) → List (List ℕ) → ℕ → Type 0
 SameFrom xs ys i = drop i xs ≡ drop i ys → xs ≡ ys
 
--- a list, seen from a place
+-- A list as its element at an index and the rest.
 one_before :
     (xs ys : List (List ℕ)) (i : ℕ) → i < length xs → i < length ys → get_or xs i [] ≡ get_or ys i [] → drop (suc i) xs ≡ drop (suc i) ys → drop i xs ≡ drop i ys
 one_before [] ys i below under same rest = absurd (omega (arith, below))

@@ -1,4 +1,4 @@
--- What a value at the type of a tree is.
+-- The values at the type of a tree.
 use Rattle.std.proofs.Common.{ℕ, zero, suc, ◌≡◌, ◌==◌, ◌∙◌, ◌⊎◌, inl, inr, Bool, true, false, cond, List, [], ◌∷◌, length, Option, Some, None, refl, sym, ap, subst, arith}
 use Rattle.std.specs.Prelude.{slice_get, nat_lt, find, IsSome, IsTrue, option_and_then, option_map, pos, negsuc}
 use Rattle.std.proofs.lemmas.Bool.{false≢true, ltb-true, eq-eqb}
@@ -19,17 +19,17 @@ use Rattle.om_trees.specs.TreeType.{IsTreeType, tree_shape}
 use Rattle.om_heap.specs.Heap.{fields_of as block_fields}
 use Rattle.om_trees.specs.Parts.{empty_value, node_of, node_at, number_in}
 
--- the values of a node, as its type has them
+-- The values of a node, by its type.
 abbrev pub node_values : {T : Type 0} → Option T → Val → Val → Val → Val → Val → List Val
 node_values None l e d r h = l ∷ e ∷ r ∷ h ∷ []
 node_values (Some t) l e d r h = l ∷ e ∷ d ∷ r ∷ h ∷ []
 
--- the place of the right part
+-- The field of the right subtree.
 abbrev pub place_of_right : {T : Type 0} → Option T → ℕ
 place_of_right None = 2
 place_of_right (Some t) = 3
 
--- the object of a node
+-- The object of a node.
 pub record IsBlock {T : Type 0} (kept : Option T) (object : Obj) : Type 0 where
   pub l : Val
   pub e : Val
@@ -81,19 +81,19 @@ module _ {T : Type 0} (left element : T) where
   fitting_block kept right height (objects.I64 z) fits = absurd (false≢true fits)
   fitting_block kept right height (objects.Native z) fits = absurd (false≢true fits)
 
--- the object of a value at the type of a tree
+-- The object of a value at the type of a tree.
 pub record IsNodeObject {T : Type 0} (kept : Option T) (graph : List Obj) (o : ℕ) : Type 0 where
   pub object : Obj
   pub at : slice_get graph o ≡ Some object
   pub block : IsBlock kept object
 
--- where a step leads, by the shape and the object
+-- The target of a step, by the shape and the object.
 abbrev step_by : {T : Type 0} → (T → ShapeOf T) → ShapeOf T → Option Obj → ℕ → Option (Val × T)
 step_by shape s found i =
     option_and_then (λ w. option_map (λ u. (w, u)) (type_of_field (asked_of shape (or_none (option_and_then (object_fields s) found))) i))
     (option_and_then (λ object. slice_get (values_of object) i) found)
 
--- of the fields that are needed, the first one where it is asked, and one after another
+-- The first required field, and the remaining ones.
 module _ {T : Type 0} (shape : T → ShapeOf T) (k : ℕ) (u : T) (fields : List (ℕ × T)) where
   first_type : IsTrue (is_asked (shape u)) → type_of_field (asked_of shape ((k, u) ∷ fields)) k ≡ Some u
   first_type asked =
@@ -147,7 +147,7 @@ module _ {T : Type 0} (shape : T → ShapeOf T) (names : T → Names) (Equal : T
           (subst (λ found. IsSome (option_and_then (object_fields (tree_shape tree.left tree.element tree.kept tree.right tree.height)) found)) at fits_own);
     }
 
-  -- a tree is no hidden part
+  -- The type of a tree is not a wildcard.
   pub tree_asked : (u : T) → IsTreeType shape names Equal u → IsTrue (is_asked (shape u))
   tree_asked u tree = ap is_asked tree.shaped
 
@@ -187,7 +187,7 @@ module _ {T : Type 0} (shape : T → ShapeOf T) (names : T → Names) (Equal : T
 
   -- ---- values
 
-  -- `Empty` or a node
+  -- A value at the type of a tree is `Empty` or a node.
   pub tree_value : (v : Val) (u : T) → IsTreeType shape names Equal u → IsSome (fields_of graph v (shape u)) → (v ≡ empty_value) ⊎ ((o : ℕ) × (v ≡ vals.Ref o))
   tree_value v u tree fits = by_value v (subst (λ s. IsSome (fields_of graph v s)) tree.shaped fits) where
     by_value :

@@ -10,9 +10,9 @@ use Rattle.om_model.proofs.Lists.{slice_get-append_left, slice_get-set_other, sl
 use Rattle.om_trees.specs.Parts.{node_at}
 use Rattle.om_trees.specs.Levels.{Has, HasRooms, IsPut, AreLevels}
 
--- ---- levels with nothing
+-- ---- empty levels
 
--- an element of a list with one more at its end
+-- An element of a list with one more element at its end.
 pushed_cases : {X : Type 0} (xs : List X) (y : X) (i : ℕ) (x : X) → slice_get (xs ++ y ∷ []) i ≡ Some x
     → (slice_get xs i ≡ Some x) ⊎ (y ≡ x)
 pushed_cases [] y zero x is = inr (same_Some y x is)
@@ -80,7 +80,7 @@ rooms_put old rooms new many at o made put = record {
   back = λ h p has. ⊎_elim (λ before. inl (made.back h p before)) (λ last. inr last) (put.back h p has);
 }
 
--- levels of the first nodes, and one node more
+-- The levels of the first nodes, and one more node.
 pub levels_more :
     (graph : List Obj) (nodes : List ℕ) (o : ℕ) (old new : List (Vec ℕ)) (h : ℕ) → AreLevels graph nodes old
     → (node_at graph o).height ≡ pos h → IsPut old h o new → AreLevels graph (nodes ++ o ∷ []) new

@@ -1,4 +1,4 @@
--- Search trees have no faults: the heights that are stated, and what lies below.
+-- Search trees have no faults: the stored heights, and the nodes below.
 use Rattle.std.proofs.Common.{ℕ, suc, ◌≡◌, ◌<◌, ◌≤◌, ◌+◌, ◌∙◌, ⊎_elim, inl, inr, List, ◌∷◌, ◌++◌, max, sym, ap, subst, arith}
 use Rattle.std.specs.Prelude.{Contains, ℤ, pos, ◌+ℤ◌, ◌<ℤ◌}
 use Rattle.std.specs.Int.{int_max}
@@ -40,7 +40,7 @@ module _ (graph : List Obj) where
   height_is v empty is stated = ap (height_of graph) is
   height_is v (node left o right) is stated = ap (height_of graph) is.0 ∙ stated.0
 
-  -- the elements of a tree are those of the objects at and below it
+  -- The elements of a tree are those of the objects at and below it.
   pub below_listed : (v : Val) (tree : Tree) → IsTree graph v tree → (p : ℕ) → IsAtOrBelow graph v p → Contains (elements graph tree) (node_at graph p).element
   below_listed v empty is p below = absurd (none_below_int graph (pos 0) p (subst (λ w. IsAtOrBelow graph w p) is below))
   below_listed v (node left o right) is p below =

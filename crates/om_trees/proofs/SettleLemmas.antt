@@ -17,7 +17,7 @@ use Rattle.om_trees.specs.Parts.{node_at}
 use Rattle.om_trees.specs.Span.{IsSettledAs, IsSettled, IsPartSettled, IsReady}
 use Rattle.om_trees.specs.Levels.{Has, IsEarlier, AreRising}
 
--- the first nodes are settled, and so is what was settled before
+-- The first nodes are settled, and so are those that were settled before.
 pub record AreSettledSoFar (graph : List Obj) (nodes : List ℕ) (old new : List Settled) : Type 0 where
   pub many : length new ≡ length old
   pub settled : (o : ℕ) → Contains nodes o → IsSettled graph new o
@@ -27,7 +27,7 @@ module _ (graph : List Obj) where
   pub none_yet : (old : List Settled) → AreSettledSoFar graph [] old old
   none_yet old = record { many = refl; settled = λ o among. absurd (Contains-none o among); kept = λ o known. known }
 
-  -- one more is settled
+  -- One more node is settled.
   with_one : (all : List Settled) (o : ℕ) (s : Settled) → o < length all → IsSettledAs graph o s → (p : ℕ) → (o ≡ p) ⊎ IsSettled graph all p → IsSettled graph (set all o s) p
   with_one all o s below known p (inl same) = subst (λ q. IsSettled graph (set all o s) q) same (s, slice_get-set_here all o s below, known)
   with_one all o s below known p (inr before) = ⊎_elim

@@ -1,4 +1,4 @@
--- Where no tree in a value has a fault, each is a search tree, and back.
+-- No tree in a value has a fault if and only if each is a search tree.
 use Rattle.std.proofs.Common.{ℕ, zero, suc, ◌≡◌, ◌<◌, ◌∙◌, ⊎_elim, inl, inr, List, [], ◌∷◌, ◌++◌, map, Option, Some, refl, sym, ap, subst, arith}
 use Rattle.std.specs.Prelude.{Contains, IsTrue, option_map, slice_get, ℤ, pos, ◌+ℤ◌, ◌<ℤ◌, ◌≤ℤ◌}
 use Rattle.std.specs.Int.{int_max}
@@ -33,7 +33,7 @@ use Rattle.om_trees.proofs.SearchTreeLemmas.{counted_up, near, height_is, sound_
 
 -- ---- numbers
 
--- two numbers are the same where they cannot differ
+-- If two numbers cannot differ, then they are equal.
 pub same_number : (x y : ℤ) → (¬ ¬ (x ≡ y)) → x ≡ y
 same_number x y never = by_lt_z x y
     (λ less. absurd (never (λ same. not_less x y same less)))
@@ -50,7 +50,7 @@ left_is_lower h l r is = omega (arith, ints, clamps, is)
 pub right_is_lower : (h l r : ℤ) → h ≡ pos 1 +ℤ int_max l r → r <ℤ h
 right_is_lower h l r is = omega (arith, ints, clamps, is)
 
--- ---- the heights that objects state
+-- ---- the stored heights of objects
 
 abbrev stated : Obj → ℤ
 stated object = (node_of (fields_of object)).height
@@ -65,7 +65,7 @@ stated_at graph kept o its =
 
 -- ---- the tree of a value
 
--- the value is a search tree, and each element of it is that of an object at or below the value
+-- The value is a search tree, and each of its elements is that of an object at or below the value.
 record IsUnfolded (graph : List Obj) (v : Val) : Type 0 where
   tree : Tree
   is : IsTree graph v tree
@@ -96,7 +96,7 @@ module _ {T : Type 0} (shape : T → ShapeOf T) (names : T → Names) (Equal : T
     by_kind kinds.Order fault = (sound_node graph fault.0.0 (each path (vals.Ref fault.0.0) fault.0.1 fault.0.2.leads fault.0.2.tree)).2 fault.0.3
 
   module _ (has : HasType (shaped shape Equal) graph root t) where
-    -- what a path leads to is in question, and fits
+    -- The target of a path is at a type in question, and fits it.
     pub placed : (path : List ℕ) (v : Val) (u : T) → Leads path v u → InQuestion u × (shaped shape Equal).fits graph v u
     placed path v u leads =
         let held =
@@ -198,7 +198,7 @@ module _ {T : Type 0} (shape : T → ShapeOf T) (names : T → Names) (Equal : T
             (Contains-cases (node_at graph o).element (elements graph right.tree) x rest))
             (Contains-append_cases (elements graph left.tree) ((node_at graph o).element ∷ elements graph right.tree) x among)
 
-      -- a value below a height unfolds where each node does
+      -- If each node below a height is a search tree, then so is a value below it.
       part :
           (z : ℤ) → ((path : List ℕ) (o : ℕ) (u : T) → Leads path (vals.Ref o) u → IsTreeHere u → height_of graph (vals.Ref o) <ℤ z → IsUnfolded graph (vals.Ref o))
           → (path : List ℕ) (v : Val) (u : T) → Leads path v u → IsTreeHere u → height_of graph v <ℤ z → IsUnfolded graph v

@@ -1,4 +1,4 @@
--- The least and the greatest elements of nodes, and what they say of order.
+-- The least and the greatest elements of nodes, and their consequences for the order.
 use Rattle.std.proofs.Common.{ℕ, ◌≡◌, ◌<◌, ◌⊎◌, ⊎_elim, inl, inr, List, length, get_or, refl, sym, subst}
 use Rattle.std.proofs.lemmas.Option.{get_or_from_slice_get}
 use Rattle.std.specs.Prelude.{◌↔◌}
@@ -24,7 +24,8 @@ module _ (graph : List Obj) where
   between : (o p q : ℕ) → IsElementLess graph o q → IsElementLess graph o p ⊎ IsElementLess graph p q
   between o p q is = less_between graph (node_at graph o).element (node_at graph p).element (node_at graph q).element is
 
-  -- what is not less than one that is not less is not less
+  -- If one element is not less than a second, and the second is not less than a third, then the
+  -- first is not less than the third.
   not_less : (o p q : ℕ) → (¬ IsElementLess graph o p) → (¬ IsElementLess graph p q) → ¬ IsElementLess graph o q
   not_less o p q first second is = ⊎_elim first second (between o p q is)
 
@@ -98,7 +99,7 @@ module _ (graph : List Obj) where
         has;
   }
 
-  -- all of the one span is less than all of the other
+  -- All of the first span is less than all of the second.
   all_apart : (Has Others : ℕ → Type 0) (first second : Span) → IsSpan graph Has first → IsSpan graph Others second
       → IsElementLess graph first.greatest second.least → (p q : ℕ) → Has p → Others q → IsElementLess graph p q
   all_apart Has Others first second one two apart p q has other =
@@ -130,7 +131,7 @@ module _ (graph : List Obj) where
     greatest = λ p same is. never_itself o (subst (λ q. IsElementLess graph o q) (sym same) is);
   }
 
-  -- below a value that is no reference there is nothing
+  -- There are no nodes below a value that is not a reference.
   pub none_below : (v : Val) → ((o : ℕ) → v ≡ vals.Ref o → ⊥) → (p : ℕ) → IsAtOrBelow graph v p → ⊥
   none_below (vals.Int z) other p below = none_below_int graph z p below
   none_below (vals.Atom tag) other p below = none_below_atom graph tag p below
@@ -209,8 +210,8 @@ module _ (graph : List Obj) where
         (λ p has. joined_whole p (inl has))
         (λ p has. ⊎_elim (λ left. left) (λ right. absurd (none p right)) (whole_joined p (at_node graph o p has)))
 
-    -- a node is out of order where something on its left is not less, or something on its right is
-    -- not greater
+    -- A node is out of order if some element in its left subtree is not less, or some element in
+    -- its right subtree is not greater.
     from_right : (p q : ℕ) → IsOnLeftOrAt graph o p → Right q → (¬ IsElementLess graph p q) → IsDisordered graph o
     from_right p q (inl left) right wrong = ⊎_elim
         (λ less. inr (q, right, λ more. wrong (transitive p o q less more)))

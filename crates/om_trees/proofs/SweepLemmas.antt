@@ -1,4 +1,4 @@
--- A sweep over nodes, and the words of their fields.
+-- A sweep over nodes, and the 64-bit words of their fields.
 use Rattle.std.proofs.Common.{ℕ, zero, suc, ◌≡◌, ◌<◌, ◌≤◌, ◌+◌, ◌∙◌, ◌⊎◌, ⊎_elim, inl, inr, Bool, true, false, ◌-◌, ◌^◌, List, [], ◌∷◌, get_or, length, set, replicate, Option, Some, None, refl, sym, ap, subst, arith}
 use Rattle.std.specs.Prelude.{slice_get, slice_index, map, pos, nat_lt, if◌then◌else◌}
 use Rattle.std.proofs.lemmas.Bool.{cases_lt, ltb-true, ltb-false}
@@ -40,7 +40,7 @@ module _ (graph : List Obj) (o i : ℕ) (inside : o < length graph)
       (subst (IsObject (length graph)) (sym is) valid)
       (slice_get-get_or (fields_of (object_at graph o)) i (vals.Int (pos 0)) short)
 
-  -- the value of the word of a field is the field
+  -- The value of the word of a field is the field.
   pub value_is_field :
       (words : List ℕ) (word : ℕ) (v : Val) → IsGraph graph
       → words ≡ map (word_of graph) (fields_of (object_at graph o)) → word ≡ slice_index words i
@@ -50,7 +50,7 @@ module _ (graph : List Obj) (o i : ℕ) (inside : o < length graph)
       (sym named ∙ is ∙ ap (λ ws. slice_index ws i) are
       ∙ field_word-at graph (fields_of (object_at graph o)) i (vals.Int (pos 0)) short)
 
--- the height of a node is in the field after its right part
+-- The height of a node is in the field after its right subtree.
 pub height_read : (values : List Val) (right : ℕ) → (right ≡ 2) ⊎ (right ≡ 3)
     → right + 2 ≡ length values
     → (node_of values).height ≡ number_in (get_or values (right + 1) (vals.Int (pos 0)))
@@ -71,7 +71,7 @@ height_read (a ∷ b ∷ c ∷ d ∷ x ∷ []) right place size =
 height_read (a ∷ b ∷ c ∷ d ∷ x ∷ y ∷ more) right place size =
     absurd (⊎_elim (λ two. omega (arith, size, two)) (λ three. omega (arith, size, three)) place)
 
--- ---- what is settled
+-- ---- settled nodes
 
 all_alike : {X : Type 0} (n : ℕ) (x : X) (i : ℕ) (y : X) → slice_get (replicate n x) i ≡ Some y
     → x ≡ y
@@ -96,10 +96,10 @@ one_more_known graph all o new below known is p settled at clear = ⊎_elim
     (λ other. known p settled (sym (slice_get-set_other all o p new other) ∙ at) clear)
     (same_or_not p o)
 
--- ---- the gravest so far
+-- ---- the first fault so far
 
 module _ (graph : List Obj) (nodes : List ℕ) (i o : ℕ) (at : slice_get nodes i ≡ Some o) where
-  -- a node from i on is node i or a later one
+  -- A node from i on is node i or a later one.
   here_or_later : (P : ℕ → ℕ → Type 0) → P i o
       → ((j p : ℕ) → i + 1 ≤ j → slice_get nodes j ≡ Some p → P j p)
       → (j p : ℕ) → i ≤ j → slice_get nodes j ≡ Some p → P j p
@@ -112,7 +112,7 @@ module _ (graph : List Obj) (nodes : List ℕ) (i o : ℕ) (at : slice_get nodes
       (λ not_less. later j p (omega (arith, not_less)) at_j)
       (cases_lt j (i + 1))
 
-  -- this kind of node i, where nothing later is graver
+  -- The fault of node i is the first, if no later fault has a lower rank.
   put_here : (kind : TreeKind) → IsGravest graph o (Some kind)
       → ((other : TreeKind) (j p : ℕ) → i + 1 ≤ j → slice_get nodes j ≡ Some p
       → HasKind graph other p → ¬ (rank_of other < rank_of kind))
@@ -131,7 +131,7 @@ module _ (graph : List Obj) (nodes : List ℕ) (i o : ℕ) (at : slice_get nodes
     by_order other k (inl less) never not_less = never less
     by_order other k (inr same) never not_less = not_less same.1
 
-  -- the fault so far, where node i has none that is as grave
+  -- The fault so far stays first, if node i has no fault of the same or a lower rank.
   keep : (kind : TreeKind) (n : ℕ) → IsGravestFrom graph nodes (i + 1) (Faulty kind n)
       → ((other : TreeKind) → HasKind graph other o → rank_of kind < rank_of other)
       → IsGravestFrom graph nodes i (Faulty kind n)

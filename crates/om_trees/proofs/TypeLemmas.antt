@@ -53,7 +53,7 @@ module _ (table : Tabled) (t : ℕ) (constr : Constr ℕ) where
     by_kept left element None right height is named parts = absurd (let four = ap length is in omega (arith, many, four))
     by_kept left element (Some d) right height is named parts = (named, subst (λ xs. AreParts table t (get_or xs 0 0) (get_or xs 1 0) (get_or xs 3 0) (get_or xs 4 0)) (sym is) parts)
 
--- ---- the shape of a tree's type
+-- ---- the shape of the type of a tree
 
 module _ (table : Tabled) (t : ℕ) where
   shape_is : (s : ShapeOf ℕ) → slice_get table.nodes t ≡ Some s → shape_in table t ≡ s
@@ -118,7 +118,7 @@ pub sum_at : (nodes : List (ShapeOf ℕ)) (t constants : ℕ) (blocks : List (Co
     → constr ≡ get_or blocks 0 constr → slice_get nodes t ≡ Some (shapes.Sum constants (constr ∷ []))
 sum_at nodes t constants blocks constr at many is = at ∙ ap (λ bs. Some (shapes.Sum constants bs)) (alone blocks constr many is)
 
--- ---- one type after the other
+-- ---- types in order
 
 at_front : (xs : List Bool) (y : Bool) (t : ℕ) → t < length xs → get_or (xs ++ y ∷ []) t false ≡ get_or xs t false
 at_front [] y t below = absurd (omega (arith, below))

@@ -1,4 +1,4 @@
--- Of a value there is one verdict.
+-- Each value has one verdict.
 use Rattle.std.proofs.Common.{ℕ, suc, ◌≡◌, ◌<◌, ◌≤◌, ◌∙◌, ◌⊎◌, ⊎_elim, inl, inr, List, [], ◌∷◌, length, Some, refl, sym, ap, subst, arith}
 use Rattle.std.specs.Prelude.{Contains, slice_get}
 use Rattle.om_model.proofs.Options.{slice_get-Contains}
@@ -16,7 +16,7 @@ use Rattle.om_trees.specs.declared.verdict.TreeVerdict.TheVariants.{Sound, Fault
 use Rattle.om_trees.specs.Judgement.{rank_of}
 use Rattle.om_trees.specs.Verdict.{IsLessFault, AreNodes, IsTreeVerdict}
 
--- ---- faults in their order
+-- ---- the order of faults
 
 abbrev KindsCompare : TreeKind → TreeKind → Type 0
 KindsCompare kind other = (rank_of kind < rank_of other) ⊎ ((kind ≡ other) ⊎ (rank_of other < rank_of kind))
@@ -32,7 +32,7 @@ kinds_compare kinds.Order kinds.Height = inr (inr (omega arith))
 kinds_compare kinds.Order kinds.Balance = inr (inr (omega arith))
 kinds_compare kinds.Order kinds.Order = inr (inl refl)
 
--- of two faults one is less, or they are the same
+-- If neither of two faults is less than the other, then they are equal.
 same_fault :
     (kind other : TreeKind) (path second : List ℕ) → (¬ IsLessFault kind path other second) → (¬ IsLessFault other second kind path)
     → (kind ≡ other) × (path ≡ second)
@@ -47,16 +47,16 @@ same_fault kind other path second not_less not_more = by_kinds (kinds_compare ki
   by_kinds (inr (inl same)) = by_paths same (paths_compare path second)
   by_kinds (inr (inr more)) = absurd (not_more (inl more))
 
--- ---- as many nodes
+-- ---- equal numbers of nodes
 
 module _ {T : Type 0} (Equal : T → T → Type 0) (symmetric : (t u : T) → Equal t u → Equal u t)
     (transitive : (t u w : T) → Equal t u → Equal u w → Equal t w) where
-  -- each object once at equal types
+  -- Each object occurs once for each class of equal types.
   abbrev AreApart : List (ℕ × T) → Type 0
   AreApart nodes =
       (j k o : ℕ) (u w : T) → slice_get nodes j ≡ Some (o, u) → slice_get nodes k ≡ Some (o, w) → Equal u w → j ≡ k
 
-  -- each is among the others at an equal type
+  -- Each object is among the others at an equal type.
   abbrev AreAmong : List (ℕ × T) → List (ℕ × T) → Type 0
   AreAmong xs ys = (j o : ℕ) (u : T) → slice_get xs j ≡ Some (o, u) → (w : T) × Contains ys (o, w) × Equal w u
 

@@ -1,5 +1,4 @@
--- What is said of a list of nodes: the first of the gravest faults among them, or that there is
--- none.
+-- The result for a list of nodes: the first fault of the lowest rank among them, or no fault.
 use Rattle.std.specs.Prelude.{ℕ, ◌<◌, ◌≡◌, ◌⊎◌, List, length, Option, Some, None, slice_get, All}
 use Rattle.std.specs.Prelude.{Contains, IsSomeAnd}
 use Rattle.om_model.specs.declared.value.Val.{Val}
@@ -12,45 +11,46 @@ use Rattle.om_trees.specs.declared.judging.Judgement.TheVariants.{Sound, Faulty}
 use Rattle.om_trees.specs.Parts.{node_at}
 use Rattle.om_trees.specs.TreeFault.{IsMiscounted, IsUnbalanced, IsDisordered}
 
--- ---- the nodes
+-- ---- nodes
 
--- where the value is a reference, its object is among these
+-- If the value is a reference, then its object is among the nodes.
 abbrev pub IsAmong : List ℕ → Val → Type 0
 IsAmong nodes (vals.Int z) = Unit {0}
 IsAmong nodes (vals.Atom tag) = Unit {0}
 IsAmong nodes (vals.Ref o) = Contains nodes o
 
--- Objects of the graph, among which are the parts of each.
+-- The nodes are objects of the graph, and contain the parts of each node.
 pub record AreClosed (graph : List Obj) (nodes : List ℕ) : Type 0 where
   pub inside : All (λ o. o < length graph) nodes
   pub left : (o : ℕ) → Contains nodes o → IsAmong nodes (node_at graph o).left
   pub right : (o : ℕ) → Contains nodes o → IsAmong nodes (node_at graph o).right
 
--- ---- their faults
+-- ---- faults of nodes
 
--- node i of these is such an object
+-- The node at index i has the property.
 abbrev pub HasAt : (ℕ → Type 0) → List ℕ → ℕ → Type 0
 HasAt Has nodes i = IsSomeAnd (slice_get nodes i) Has
 
--- Order is looked at where no height is wrong.
+-- An order fault counts only if no node has a wrong height.
 abbrev pub IsFaultAt : List Obj → List ℕ → TreeKind → ℕ → Type 0
 IsFaultAt graph nodes kinds.Height i = HasAt (IsMiscounted graph) nodes i
 IsFaultAt graph nodes kinds.Balance i = HasAt (IsUnbalanced graph) nodes i
 IsFaultAt graph nodes kinds.Order i =
     HasAt (IsDisordered graph) nodes i × ((j : ℕ) → ¬ HasAt (IsMiscounted graph) nodes j)
 
--- ---- what is told
+-- ---- order of faults
 
 abbrev pub rank_of : TreeKind → ℕ
 rank_of kinds.Height = 0
 rank_of kinds.Balance = 1
 rank_of kinds.Order = 2
 
--- heights first, then balance, then order; of one kind the earlier node
+-- Heights come first, then balance, then order. Among faults of one kind, the earlier node comes
+-- first.
 abbrev pub IsToldBefore : TreeKind → ℕ → TreeKind → ℕ → Type 0
 IsToldBefore kind i other j = (rank_of kind < rank_of other) ⊎ ((kind ≡ other) × (i < j))
 
--- no node has a fault; or this one is a fault, and no other is told before it
+-- No node has a fault, or this is a fault and no other fault comes before it.
 abbrev pub IsJudgement : List Obj → List ℕ → Judgement → Type 0
 IsJudgement graph nodes Sound = (kind : TreeKind) (i : ℕ) → ¬ IsFaultAt graph nodes kind i
 IsJudgement graph nodes (Faulty kind i) =
@@ -58,7 +58,7 @@ IsJudgement graph nodes (Faulty kind i) =
     × ((other : TreeKind) (j : ℕ) → IsFaultAt graph nodes other j
     → ¬ IsToldBefore other j kind i)
 
--- the first of these that is such an object, if any is
+-- The index of the first node with the property. `None` means that no node has it.
 abbrev pub IsFirst : (ℕ → Type 0) → List ℕ → Option ℕ → Type 0
 IsFirst Has nodes None = (j : ℕ) → ¬ HasAt Has nodes j
 IsFirst Has nodes (Some i) = HasAt Has nodes i × ((j : ℕ) → j < i → ¬ HasAt Has nodes j)

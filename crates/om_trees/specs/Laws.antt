@@ -1,4 +1,4 @@
--- What trees without faults are, and that of each value there is one verdict.
+-- The meaning of trees without faults, and the uniqueness of verdicts.
 use Rattle.std.specs.Prelude.{ℕ, ◌≡◌, ◌↔◌, List, Some}
 use Rattle.om_model.specs.declared.value.Val.{Val}
 use Rattle.om_model.specs.declared.value.Obj.{Obj}
@@ -17,14 +17,14 @@ use Rattle.om_trees.specs.TreeFault.{HasNoTreeFault}
 use Rattle.om_trees.specs.Verdict.{IsTreeVerdict}
 use Rattle.om_trees.specs.declared.verdict.TreeVerdict.{TreeVerdict}
 
--- each value that a path leads to at the type of a tree is a search tree
+-- If a path leads to a value at the type of a tree, then the value is a search tree.
 abbrev pub HasSearchTrees : List Decl → List Obj → Val → Ty → Type 0
 HasSearchTrees decls graph root t =
     (path : List ℕ) (v : Val) (u : Ty)
     → value_at (declared_shapes decls) graph root t path ≡ Some (v, u)
     → IsTreeType (shape decls) (names_of decls) (Equal decls) u → IsSearchTree graph v
 
--- Where a value has its type, no node in it has a fault exactly where the trees in it are search
+-- If a value has its type, then no node in it has a fault if and only if the trees in it are search
 -- trees.
 abbrev pub SoundTreesAreSearchTrees : Type 0
 SoundTreesAreSearchTrees =
@@ -34,12 +34,12 @@ SoundTreesAreSearchTrees =
     → HasNoTreeFault (shape decls) (names_of decls) (Equal decls) graph root t
     ↔ HasSearchTrees decls graph root t
 
--- the verdict is that of the value over these declarations
+-- The verdict is that of the value over these declarations.
 abbrev pub IsVerdictOf : List Decl → List Obj → Val → Ty → TreeVerdict → Type 0
 IsVerdictOf decls graph root t verdict =
     IsTreeVerdict (shape decls) (names_of decls) (Equal decls) graph root t verdict
 
--- Of each value there is one verdict.
+-- Each value has at most one verdict.
 abbrev pub TreeVerdictsAreOne : Type 0
 TreeVerdictsAreOne =
     (decls : List Decl) (graph : List Obj) (root : Val) (t : Ty) (one other : TreeVerdict)

@@ -7,7 +7,7 @@ use Rattle.om_trees.specs.declared.types.Layout.{Layout}
 use Rattle.om_trees.specs.TreeType.{layout_of, field_names, names_with, fields_in, shape_in}
 use Rattle.om_trees.specs.TreeType.{names_in, SameClass}
 
--- the types of a node's parts: two of the tree itself, an element, and a number
+-- The types of the parts of a node: two of the tree itself, an element, and an integer.
 pub record AreParts (table : Tabled) (t left element right height : ℕ) : Type 0 where
   pub left_same : SameClass table left t
   pub right_same : SameClass table right t
@@ -15,11 +15,11 @@ pub record AreParts (table : Tabled) (t left element right height : ℕ) : Type 
       (shape_in table element ≡ shapes.AnyInt) ⊎ (shape_in table element ≡ shapes.Bytes false)
   pub counted : shape_in table height ≡ shapes.AnyInt
 
--- the type has the names of such a tree
+-- The type has the names of such a tree.
 abbrev pub IsNamed : Tabled → ℕ → Layout → Type 0
 IsNamed table t layout = names_in table t ≡ names_with (field_names layout)
 
--- this is the constructor of the nodes of a set or of a map
+-- This is the constructor of the nodes of a set or of a map.
 pub record IsNodeType (table : Tabled) (t : ℕ) (constr : Constr ℕ) : Type 0 where
   pub left : ℕ
   pub element : ℕ

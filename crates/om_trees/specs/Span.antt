@@ -20,15 +20,15 @@ pub record IsGreater (graph : List Obj) (o p greater : ℕ) : Type 0 where
   pub first : ¬ IsElementLess graph greater o
   pub second : ¬ IsElementLess graph greater p
 
--- two objects of the graph, of which the second is not less
+-- Two objects of the graph. The element of the second is not less than that of the first.
 pub record IsSpread (graph : List Obj) (span : Span) : Type 0 where
   pub least_inside : span.least < length graph
   pub greatest_inside : span.greatest < length graph
   pub rising : ¬ IsElementLess graph span.greatest span.least
 
--- ---- of many nodes
+-- ---- the least and the greatest of many nodes
 
--- of all such nodes these have the least and the greatest element
+-- Among all nodes with the property, the nodes of the span have the least and the greatest element.
 pub record IsSpan (graph : List Obj) (Has : ℕ → Type 0) (span : Span) : Type 0 where
   pub least_inside : span.least < length graph
   pub greatest_inside : span.greatest < length graph
@@ -37,24 +37,25 @@ pub record IsSpan (graph : List Obj) (Has : ℕ → Type 0) (span : Span) : Type
   pub least : (p : ℕ) → Has p → ¬ IsElementLess graph p span.least
   pub greatest : (p : ℕ) → Has p → ¬ IsElementLess graph span.greatest p
 
--- the node, and what is on its left
+-- The node itself, or a node in its left subtree.
 abbrev pub IsOnLeftOrAt : List Obj → ℕ → ℕ → Type 0
 IsOnLeftOrAt graph o p = IsAtOrBelow graph (node_at graph o).left p ⊎ (o ≡ p)
 
--- something on the left is not less than the node
+-- Some element in the left subtree is not less than that of the node.
 abbrev pub IsLeftOver : List Obj → ℕ → Type 0
 IsLeftOver graph o =
     (p : ℕ) × IsAtOrBelow graph (node_at graph o).left p × (¬ IsElementLess graph p o)
 
--- something on the right is not greater than the node and all on its left
+-- Some element in the right subtree is not greater than that of the node or of a node in its left
+-- subtree.
 abbrev pub IsRightUnder : List Obj → ℕ → Type 0
 IsRightUnder graph o =
     (p : ℕ) × (q : ℕ) × IsOnLeftOrAt graph o p
     × IsAtOrBelow graph (node_at graph o).right q × (¬ IsElementLess graph p q)
 
--- ---- what is known of a node
+-- ---- settled nodes
 
--- the span of what is at and below the node, and whether it is out of order
+-- The span of all nodes at and below the node, and whether the node is out of order.
 pub record IsSettledAs (graph : List Obj) (o : ℕ) (settled : Settled) : Type 0 where
   pub span : IsSpan graph (IsAtOrBelow graph (vals.Ref o)) settled.span
   pub disordered : IsTrue settled.disordered ↔ IsDisordered graph o
@@ -63,19 +64,19 @@ abbrev pub IsSettled : List Obj → List Settled → ℕ → Type 0
 IsSettled graph all o =
     (settled : Settled) × (slice_get all o ≡ Some settled) × IsSettledAs graph o settled
 
--- the same of the object of a reference
+-- If the value is a reference, then its object is settled.
 abbrev pub IsPartSettled : List Obj → List Settled → Val → Type 0
 IsPartSettled graph all (vals.Int z) = Unit {0}
 IsPartSettled graph all (vals.Atom tag) = Unit {0}
 IsPartSettled graph all (vals.Ref o) = IsSettled graph all o
 
--- both parts of the node are settled
+-- Both parts of the node are settled.
 pub record IsReady (graph : List Obj) (all : List Settled) (o : ℕ) : Type 0 where
   pub inside : o < length graph
   pub left : IsPartSettled graph all (node_at graph o).left
   pub right : IsPartSettled graph all (node_at graph o).right
 
--- the node is marked as out of order
+-- The node is marked as out of order.
 abbrev pub IsMarked : List Settled → ℕ → Type 0
 IsMarked all o =
     (settled : Settled) × (slice_get all o ≡ Some settled) × IsTrue settled.disordered

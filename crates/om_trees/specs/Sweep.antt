@@ -1,4 +1,4 @@
--- A sweep over nodes, from the last to the first: what is settled, and the gravest fault so far.
+-- A sweep over nodes from the last to the first: the settled nodes, and the first fault so far.
 use Rattle.std.specs.Prelude.{ℕ, ◌≡◌, ◌≢◌, ◌<◌, ◌≤◌, ◌-◌, ◌^◌, nat_lt, if◌then◌else◌, List, Option}
 use Rattle.std.specs.Prelude.{Some, None, slice_get}
 use Rattle.om_model.specs.declared.value.Obj.{Obj}
@@ -11,41 +11,42 @@ use Rattle.om_trees.specs.Judgement.{rank_of, IsToldBefore}
 use Rattle.om_trees.specs.Span.{IsSettledAs}
 use Rattle.om_trees.specs.TreeFault.{IsMiscounted, IsUnbalanced, IsDisordered}
 
--- ---- what is settled
+-- ---- settled nodes
 
--- what is settled has a least element that some object is
+-- A node counts as settled if the least object of its span is not 2^64 - 1. Each such entry is
+-- correct.
 abbrev pub AreKnown : List Obj → List Settled → Type 0
 AreKnown graph all =
     (o : ℕ) (settled : Settled) → slice_get all o ≡ Some settled
     → settled.span.least ≢ 2 ^ 64 - 1 → IsSettledAs graph o settled
 
--- ---- what is wrong with one node
+-- ---- the faults of one node
 
 abbrev pub HasKind : List Obj → TreeKind → ℕ → Type 0
 HasKind graph kinds.Height o = IsMiscounted graph o
 HasKind graph kinds.Balance o = IsUnbalanced graph o
 HasKind graph kinds.Order o = IsDisordered graph o
 
--- nothing, or the gravest that is
+-- The fault of the node with the lowest rank. `None` means that the node has no fault.
 abbrev pub IsGravest : List Obj → ℕ → Option TreeKind → Type 0
 IsGravest graph o None = (kind : TreeKind) → ¬ HasKind graph kind o
 IsGravest graph o (Some kind) =
     HasKind graph kind o
     × ((other : TreeKind) → HasKind graph other o → ¬ (rank_of other < rank_of kind))
 
--- ---- the gravest so far
+-- ---- the first fault so far
 
 abbrev pub replaced : Judgement → TreeKind → ℕ → Judgement
 replaced Sound kind i = Faulty kind i
 replaced (Faulty other j) kind i =
     if nat_lt (rank_of other) (rank_of kind) then Faulty other j else Faulty kind i
 
--- after node i, which comes before all so far
+-- The first fault after node i is added before the nodes so far.
 abbrev pub graver : Judgement → Option TreeKind → ℕ → Judgement
 graver gravest None i = gravest
 graver gravest (Some kind) i = replaced gravest kind i
 
--- of the nodes from this one on none has anything wrong; or this is the first of the gravest
+-- No node from this index on has a fault, or this is the first fault of the lowest rank.
 abbrev pub IsGravestFrom : List Obj → List ℕ → ℕ → Judgement → Type 0
 IsGravestFrom graph nodes from Sound =
     (j o : ℕ) → from ≤ j → slice_get nodes j ≡ Some o → (kind : TreeKind) → ¬ HasKind graph kind o

@@ -1,7 +1,8 @@
--- Which types are those of sets and maps: variants as in `set.ml` and `map.ml` of OCaml's standard
--- library,
---   type t = Empty | Node of {l: t; v: elt; r: t; h: int}
---   type t = Empty | Node of {l: t; v: key; d: data; r: t; h: int}
+-- The types of sets and maps. They are variants as in `set.ml` and `map.ml` of OCaml's standard
+-- library:
+--
+--     type t = Empty | Node of {l: t; v: elt; r: t; h: int}
+--     type t = Empty | Node of {l: t; v: key; d: data; r: t; h: int}
 use Rattle.std.specs.Prelude.{ℕ, ◌≡◌, ◌⊎◌, false, List, [], ◌∷◌, Option, Some, None, slice_get}
 use Rattle.std.specs.Prelude.{codes}
 use Rattle.om_types.specs.declared.names.ConstrNames.{ConstrNames}
@@ -14,14 +15,14 @@ use Rattle.om_type_table.specs.declared.tabled.Tabled.{Tabled}
 use Rattle.om_trees.specs.declared.types.Layout.{Layout}
 use Rattle.om_trees.specs.declared.types.Layout.TheVariants as layouts
 
--- a map keeps something with each element
+-- A node of a map has a datum for its element.
 abbrev pub layout_of : {T : Type 0} → Option T → Layout
 layout_of None = layouts.Set
 layout_of (Some carried) = layouts.Map
 
 -- ---- names
 
--- the fields of a node
+-- The fields of a node.
 abbrev pub field_names : Layout → List (List ℕ)
 field_names layouts.Set = codes "l" ∷ codes "v" ∷ codes "r" ∷ codes "h" ∷ []
 field_names layouts.Map = codes "l" ∷ codes "v" ∷ codes "d" ∷ codes "r" ∷ codes "h" ∷ []
@@ -29,7 +30,7 @@ field_names layouts.Map = codes "l" ∷ codes "v" ∷ codes "d" ∷ codes "r" �
 abbrev pub node_with : List (List ℕ) → ConstrNames
 node_with fields = record { name = codes "Node"; fields = fields }
 
--- `Empty`, and `Node` with these fields
+-- The constructor `Empty`, and `Node` with these fields.
 abbrev pub names_with : List (List ℕ) → Names
 names_with fields = record no_names {
   constants = codes "Empty" ∷ [];
@@ -42,14 +43,14 @@ abbrev pub fields_in : {T : Type 0} → T → T → Option T → T → T → Lis
 fields_in left element None right height = left ∷ element ∷ right ∷ height ∷ []
 fields_in left element (Some carried) right height = left ∷ element ∷ carried ∷ right ∷ height ∷ []
 
--- the shape of a tree's type: nothing changes a node
+-- The shape of the type of a tree, whose nodes are immutable.
 abbrev pub tree_shape : {T : Type 0} → T → T → Option T → T → T → ShapeOf T
 tree_shape left element kept right height = shapes.Sum 1
     (record { mutable = false; fields = fields_in left element kept right height } ∷ [])
 
 module _ {T : Type 0} (shape : T → ShapeOf T) (names : T → Names) (Equal : T → T → Type 0) where
-  -- `Empty`, and `Node` with two parts of the type itself, an element, and a number. No type but
-  -- `int` has the shape of all integers, and none but `string` that of bytes which nothing changes.
+  -- The type has `Empty`, and `Node` with two parts of the type itself, an element, and an integer.
+  -- Only `int` has the shape of all integers, and only `string` has the shape of immutable bytes.
   pub record IsTreeType (t : T) : Type 0 where
     pub left : T
     pub element : T
@@ -63,7 +64,7 @@ module _ {T : Type 0} (shape : T → ShapeOf T) (names : T → Names) (Equal : T
     pub ordered : (shape element ≡ shapes.AnyInt) ⊎ (shape element ≡ shapes.Bytes false)
     pub counted : shape height ≡ shapes.AnyInt
 
--- ---- the types of a table, by their numbers
+-- ---- the types of a table, by index
 
 abbrev pub shape_in : Tabled → ℕ → ShapeOf ℕ
 shape_in table i = node_or_none (slice_get table.nodes i)

@@ -1,9 +1,9 @@
--- Which nodes those of a graph are.
+-- Nodes of a graph.
 use Rattle.std.specs.Prelude.{ℕ}
 use Rattle.om_model.specs.Graph.{IsValue, IsInteger}
 use Rattle.om_trees.specs.declared.node.Node.{Node}
 
--- values among n objects, and a height of 63 bits
+-- The values are among n objects, and the height has 63 bits.
 pub record IsValid (n : ℕ) (node : Node) : Type 0 where
   pub left : IsValue n node.left
   pub element : IsValue n node.element

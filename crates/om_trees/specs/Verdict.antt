@@ -1,4 +1,4 @@
--- What is said of the sets and maps in a value.
+-- The verdict on the sets and maps in a value.
 use Rattle.std.specs.Prelude.{ℕ, ◌≡◌, ◌⊎◌, ◌<◌, List, length, Some, slice_get, Contains}
 use Rattle.om_model.specs.declared.value.Val.{Val}
 use Rattle.om_model.specs.declared.value.Obj.{Obj}
@@ -11,14 +11,15 @@ use Rattle.om_trees.specs.declared.verdict.TreeVerdict.TheVariants.{Sound, Fault
 use Rattle.om_trees.specs.Judgement.{rank_of}
 use Rattle.om_trees.specs.TreeFault.{IsNode, IsTreeFault, HasNoTreeFault}
 
--- heights first, then balance, then order; of one kind the lesser path
+-- Heights come first, then balance, then order. Among faults of one kind, the lesser path comes
+-- first.
 abbrev pub IsLessFault : TreeKind → List ℕ → TreeKind → List ℕ → Type 0
 IsLessFault kind path other second =
     (rank_of kind < rank_of other) ⊎ ((kind ≡ other) × IsBefore path second)
 
 module _ {T : Type 0} (shape : T → ShapeOf T) (names : T → Names) (Equal : T → T → Type 0)
     (graph : List Obj) (root : Val) (t : T) where
-  -- The nodes, each object once at equal types.
+  -- The nodes, each object once for each class of equal types.
   pub record AreNodes (nodes : List (ℕ × T)) : Type 0 where
     pub led :
         (o : ℕ) (u : T) → Contains nodes (o, u)
@@ -30,7 +31,7 @@ module _ {T : Type 0} (shape : T → ShapeOf T) (names : T → Names) (Equal : T
         (j k o : ℕ) (u w : T) → slice_get nodes j ≡ Some (o, u) → slice_get nodes k ≡ Some (o, w)
         → Equal u w → j ≡ k
 
-  -- no fault and so many nodes, or the least fault
+  -- No fault and the number of nodes, or the first fault.
   abbrev pub IsTreeVerdict : TreeVerdict → Type 0
   IsTreeVerdict (Sound n) =
       HasNoTreeFault shape names Equal graph root t

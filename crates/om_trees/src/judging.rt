@@ -1,4 +1,4 @@
-//! What is wrong with some nodes.
+//! Finds the first fault among the nodes of search trees.
 
 ghost use Rattle.std.specs.Prelude.{ℕ, ◌<◌, length, All, IfOk};
 ghost use Rattle.om_trees.specs.TreeFault.{IsMiscounted, IsUnbalanced, IsDisordered};
@@ -13,16 +13,17 @@ use om_heap::{Heap, Placed};
 use om_model::Memory;
 use std::alloc::Global;
 
-/// What is said of some nodes: that none has a fault, or the first fault, with its node's place.
+/// The result for a list of nodes: no node has a fault, or the first fault with the position of its
+/// node in the list.
 #[derive(Clone, Copy)]
 pub enum Judgement {
     Sound,
     Faulty(TreeKind, usize),
 }
 
-/// What is wrong with nodes, among which are the parts of each: the first one whose height is
-/// wrong; where there is none, the first whose parts differ too much; where there is none either,
-/// the first that is out of order.
+/// Returns the first fault among the nodes, which must contain the parts of each node. Wrong
+/// heights come first. If there are none, nodes whose parts differ too much in height come next. If
+/// there are none of these either, nodes out of order come last.
 pub fn judge(alloc: Global, heap: &Heap, nodes: &[usize]) -> Result<Judgement, Memory>
     requires { AreClosed heap.now nodes.now }
     ensures { IfOk result (IsJudgement heap.now nodes.now) }
@@ -33,7 +34,7 @@ pub fn judge(alloc: Global, heap: &Heap, nodes: &[usize]) -> Result<Judgement, M
     }
 }
 
-/// The same of nodes in any order.
+/// Returns the same result as `judge`, for nodes in any order.
 fn judge_by_height(alloc: Global, heap: &Heap, nodes: &[usize]) -> Result<Judgement, Memory>
     requires { AreClosed heap.now nodes.now }
     ensures { IfOk result (IsJudgement heap.now nodes.now) }
@@ -50,7 +51,7 @@ fn judge_by_height(alloc: Global, heap: &Heap, nodes: &[usize]) -> Result<Judgem
     }
 }
 
-/// The first node whose height is wrong.
+/// Returns the first node with a wrong height.
 fn first_miscounted(heap: &Heap, nodes: &[usize]) -> Option<usize>
     requires { All (λ o. o < length heap.now) nodes.now }
     ensures { IsFirst (IsMiscounted heap.now) nodes.now result }
@@ -66,7 +67,7 @@ fn first_miscounted(heap: &Heap, nodes: &[usize]) -> Option<usize>
     None
 }
 
-/// The first node whose parts differ too much in height.
+/// Returns the first node whose parts differ too much in height.
 fn first_unbalanced(heap: &Heap, nodes: &[usize]) -> Option<usize>
     requires { All (λ o. o < length heap.now) nodes.now }
     ensures { IsFirst (IsUnbalanced heap.now) nodes.now result }
@@ -82,7 +83,7 @@ fn first_unbalanced(heap: &Heap, nodes: &[usize]) -> Option<usize>
     None
 }
 
-/// The first node that is out of order, where no height is wrong.
+/// Returns the first node that is out of order. No node may have a wrong height.
 fn first_disordered(alloc: Global, heap: &Heap, nodes: &[usize]) -> Result<Option<usize>, Memory>
     requires closed { AreClosed heap.now nodes.now }
     requires counted { (i : ℕ) → ¬ HasAt (IsMiscounted heap.now) nodes.now i }
@@ -93,7 +94,7 @@ fn first_disordered(alloc: Global, heap: &Heap, nodes: &[usize]) -> Result<Optio
     Ok(first_marked(nodes, all.as_slice()))
 }
 
-/// The first node that is marked as out of order.
+/// Returns the first node that is marked as out of order.
 fn first_marked(nodes: &[usize], all: &[Settled]) -> Option<usize>
     requires { All (λ o. o < length all.now) nodes.now }
     ensures { IsFirst (IsMarked all.now) nodes.now result }

@@ -1,14 +1,15 @@
-//! The laws, as contracts.
+//! The laws, stated as contracts.
 
 ghost use Rattle.om_trees.specs.Laws.{SoundTreesAreSearchTrees, TreeVerdictsAreOne};
 
-/// Where a value has its type, no node in it has a fault exactly where each set and each map in it
-/// is a finite balanced tree whose elements increase and whose nodes state their heights.
+/// If a value has its type, then its nodes have no fault if and only if each set and each map in it
+/// is a search tree. A search tree is finite and balanced, its elements are strictly increasing,
+/// and each node stores its correct height.
 pub fn sound_trees_are_search_trees()
     ensures { SoundTreesAreSearchTrees }
 {}
 
-/// Of each value there is one verdict: the least fault, or the number of nodes.
+/// Each value has exactly one verdict: the first fault, or the number of nodes.
 pub fn tree_verdicts_are_one()
     ensures { TreeVerdictsAreOne }
 {}

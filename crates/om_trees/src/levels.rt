@@ -1,4 +1,4 @@
-//! Nodes by their heights.
+//! Groups nodes by height.
 
 ghost use Rattle.std.specs.Prelude.{ℕ, ◌≡◌, ◌<◌, ◌^◌, length, All, Contains, IfOk, OnOk, vec_len};
 ghost use Rattle.std.specs.Prelude.{pos};
@@ -12,7 +12,7 @@ use om_heap::{Heap, Placed};
 use om_model::Memory;
 use std::alloc::Global;
 
-/// The nodes of each height.
+/// Returns the nodes of each height, indexed by height.
 pub fn by_height(alloc: Global, heap: &Heap, nodes: &[usize]) -> Result<Vec<Vec<usize>>, Memory>
     requires inside { All (λ o. o < length heap.now) nodes.now }
     requires level { (o : ℕ) → Contains nodes.now o → HasLevel heap.now o }
@@ -33,7 +33,7 @@ pub fn by_height(alloc: Global, heap: &Heap, nodes: &[usize]) -> Result<Vec<Vec<
     Ok(levels)
 }
 
-/// The height of a node, which is not negative.
+/// Returns the height of a node. The height must not be negative.
 fn level_of(node: &Placed<'_>) -> usize
     requires { HasLevel node.now.heap.now node.now.object }
     ensures level { (parts.node_at node.now.heap.now node.now.object).height ≡ pos result }
@@ -42,7 +42,7 @@ fn level_of(node: &Placed<'_>) -> usize
     node_at(node).height.unsigned_abs() as usize
 }
 
-/// Puts a node into a level.
+/// Adds a node to a level.
 fn put(alloc: Global, levels: &mut Vec<Vec<usize>>, at: usize, o: usize) -> Result<(), Memory>
     requires { at < 2 ^ 62 }
     ensures { OnOk result (IsPut levels.old.items at o levels.new.items) }
@@ -52,7 +52,7 @@ fn put(alloc: Global, levels: &mut Vec<Vec<usize>>, at: usize, o: usize) -> Resu
     Ok(())
 }
 
-/// Adds levels with nothing in them, until there are so many.
+/// Appends empty levels until there are `many` levels.
 fn make_rooms(alloc: Global, levels: &mut Vec<Vec<usize>>, many: usize) -> Result<(), Memory>
     ensures { OnOk result (HasRooms levels.old.items many levels.new.items) }
 {

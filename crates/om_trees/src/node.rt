@@ -1,4 +1,4 @@
-//! A node of a search tree, and what may be wrong with it.
+//! A node of a search tree, and the faults that it can have.
 
 ghost use Rattle.std.specs.Prelude.{◌≡◌, ◌+◌, ◌<◌, ◌↔◌, ◌⊎◌, ◌+ℤ◌, ◌<ℤ◌, length, map, pos, All};
 ghost use Rattle.std.specs.Prelude.{IsTrue};
@@ -12,7 +12,7 @@ ghost use Rattle.om_trees.specs.TreeFault.{IsMiscounted, IsUnbalanced};
 use om_heap::{Heap, Kind, Placed, Rooted};
 use om_model::value::Val;
 
-/// The parts of a node: two trees, the element between them, and the height that it states.
+/// The parts of a node: two subtrees, the element between them, and the stored height.
 #[derive(Clone, Copy)]
 pub struct Node {
     pub left: Val,
@@ -21,18 +21,19 @@ pub struct Node {
     pub height: i64,
 }
 
-/// What is wrong with a node.
+/// The kind of a fault of a node.
 #[derive(Clone, Copy)]
 pub enum TreeKind {
-    /// The height that it states is not one more than that of its higher part.
+    /// The stored height is not one more than the height of the higher subtree.
     Height,
-    /// The heights of its parts differ by more than two.
+    /// The heights of the subtrees differ by more than two.
     Balance,
-    /// An element on its left is not less than its own, or one on its right is not greater.
+    /// An element in the left subtree is not less than that of the node, or one in the right
+    /// subtree is not greater.
     Order,
 }
 
-/// The node that an object is.
+/// Returns the node that is stored in an object.
 #[inline(always)]
 pub fn node_at(placed: &Placed<'_>) -> Node
     ensures node { result ≡ parts.node_at placed.now.heap.now placed.now.object }
@@ -50,7 +51,8 @@ pub fn node_at(placed: &Placed<'_>) -> Node
     }
 }
 
-/// The node of a block whose right part is in this field, and the height in the next one.
+/// Returns the node of a block. Field `right` has the right subtree, and the next field has the
+/// height.
 #[inline(always)]
 fn with_right_at(block: &Placed<'_>, right: u64) -> Node
     requires place { (right ≡ 2) ⊎ (right ≡ 3) }
@@ -68,7 +70,7 @@ fn with_right_at(block: &Placed<'_>, right: u64) -> Node
     }
 }
 
-/// The element of the node that an object is.
+/// Returns the element of the node that is stored in an object.
 #[inline(always)]
 pub fn element_at(placed: &Placed<'_>) -> Val
     ensures element { result ≡ (parts.node_at placed.now.heap.now placed.now.object).element }
@@ -81,7 +83,8 @@ pub fn element_at(placed: &Placed<'_>) -> Val
     }
 }
 
-/// The element of a block whose right part is in this field, and the height in the next one.
+/// Returns the element of a block. Field `_right` has the right subtree, and the next field has the
+/// height.
 #[inline(always)]
 fn element_in(block: &Placed<'_>, _right: u64) -> Val
     requires place { (_right ≡ 2) ⊎ (_right ≡ 3) }
@@ -95,7 +98,7 @@ fn element_in(block: &Placed<'_>, _right: u64) -> Val
     value_at(block, words, 1)
 }
 
-/// The value that the node that an object is has for its height.
+/// Returns the value in the height field of the node that is stored in an object.
 #[inline(always)]
 fn height_at(placed: &Placed<'_>) -> Val
     ensures height { parts.number_in result
@@ -109,7 +112,8 @@ fn height_at(placed: &Placed<'_>) -> Val
     }
 }
 
-/// The same of a block whose right part is in this field, and the height in the next one.
+/// Returns the value in the height field of a block. Field `right` has the right subtree, and the
+/// next field has the height.
 #[inline(always)]
 fn height_in(block: &Placed<'_>, right: u64) -> Val
     requires place { (right ≡ 2) ⊎ (right ≡ 3) }
@@ -123,7 +127,7 @@ fn height_in(block: &Placed<'_>, right: u64) -> Val
     value_at(block, words, right as usize + 1)
 }
 
-/// Field i of a block whose fields have these words.
+/// Returns field `i` of a block whose fields are these 64-bit words.
 #[inline(always)]
 fn value_at(block: &Placed<'_>, words: &[u64], i: usize) -> Val
     requires field { i < length (fields_of (object_at block.now.heap.now block.now.object)) }
@@ -137,7 +141,7 @@ fn value_at(block: &Placed<'_>, words: &[u64], i: usize) -> Val
     block.heap.value_of(words[i])
 }
 
-/// The number that a value is, and 0 where it is none.
+/// Returns the integer of a value, or 0 if the value is not an integer.
 pub fn number_in(v: Val) -> i64
     ensures { result ≡ parts.number_in v }
 {
@@ -147,7 +151,7 @@ pub fn number_in(v: Val) -> i64
     }
 }
 
-/// The height of a value.
+/// Returns the height of a value.
 #[inline(always)]
 pub fn height_of(value: &Rooted<'_>) -> i64
     ensures height { result ≡ parts.height_of value.now.heap.now value.now.root }
@@ -160,7 +164,7 @@ pub fn height_of(value: &Rooted<'_>) -> i64
     }
 }
 
-/// Whether a node's height is not one more than that of its higher part.
+/// Returns true if the height of a node is not one more than the height of its higher subtree.
 pub fn is_miscounted(placed: &Placed<'_>) -> bool
     ensures { IsTrue result ↔ IsMiscounted placed.now.heap.now placed.now.object }
 {
@@ -177,7 +181,7 @@ pub fn is_miscounted(placed: &Placed<'_>) -> bool
     is_count_wrong(heap, placed.object as usize, node, left, right)
 }
 
-/// Whether the heights of a node's parts differ by more than two.
+/// Returns true if the heights of the subtrees of a node differ by more than two.
 pub fn is_unbalanced(placed: &Placed<'_>) -> bool
     ensures { IsTrue result ↔ IsUnbalanced placed.now.heap.now placed.now.object }
 {
@@ -194,7 +198,8 @@ pub fn is_unbalanced(placed: &Placed<'_>) -> bool
     is_lopsided(heap, placed.object as usize, node, left, right)
 }
 
-/// Whether the height of a node is not one more than the greater of these, which its parts have.
+/// Returns true if the height of a node is not one more than the greater of `left` and `right`, the
+/// heights of its subtrees.
 #[inline(always)]
 pub fn is_count_wrong(_heap: &Heap, _o: usize, node: Node, left: i64, right: i64) -> bool
     requires node { node ≡ parts.node_at _heap.now _o }
@@ -208,7 +213,8 @@ pub fn is_count_wrong(_heap: &Heap, _o: usize, node: Node, left: i64, right: i64
     node.height != 1 + left.max(right)
 }
 
-/// Whether these heights, which the parts of a node have, differ by more than two.
+/// Returns true if `left` and `right`, the heights of the subtrees of a node, differ by more than
+/// two.
 #[inline(always)]
 pub fn is_lopsided(_heap: &Heap, _o: usize, _node: Node, left: i64, right: i64) -> bool
     requires node { _node ≡ parts.node_at _heap.now _o }
@@ -221,7 +227,7 @@ pub fn is_lopsided(_heap: &Heap, _o: usize, _node: Node, left: i64, right: i64) 
     is_far(left, right) || is_far(right, left)
 }
 
-/// Whether the second height is more than two above the first.
+/// Returns true if `high` is more than two above `low`.
 fn is_far(low: i64, high: i64) -> bool
     requires { IsInteger low }
     ensures { IsTrue result ↔ ((low +ℤ pos 2) <ℤ high) }

@@ -33,7 +33,7 @@ struct Values<'a> {
     ghost second_in: { IsValue (length heap.now) second } by { IsValue-prop (length heap.now) second },
 }
 
-/// Whether the element of the first node is less than that of the second.
+/// Returns true if the element of the first node is less than that of the second.
 pub fn is_element_less(nodes: &Objects<'_>) -> bool
     ensures { IsTrue result
         ↔ IsElementLess nodes.now.heap.now nodes.now.first nodes.now.second }
@@ -54,7 +54,7 @@ pub fn is_element_less(nodes: &Objects<'_>) -> bool
     })
 }
 
-/// Whether the first value is less than the second.
+/// Returns true if the first value is less than the second.
 fn is_less(values: &Values<'_>) -> bool
     ensures { result ≡ parts.is_less values.now.heap.now values.now.first values.now.second }
 {
@@ -71,7 +71,7 @@ fn is_less(values: &Values<'_>) -> bool
     }
 }
 
-/// Whether a number is less than a value.
+/// Returns true if the number is less than the value.
 fn is_number_less(z: i64, w: Val) -> bool
     ensures { (graph : List Obj) → result ≡ is_key_less (number z) (key_of graph w) }
 {
@@ -81,7 +81,7 @@ fn is_number_less(z: i64, w: Val) -> bool
     }
 }
 
-/// Whether the bytes of the first string come before those of the second.
+/// Returns true if the bytes of the first string precede those of the second.
 fn is_before(strings: &Objects<'_>) -> bool
     ensures { result ≡ are_before (bytes_of (object_at strings.now.heap.now strings.now.first))
         (bytes_of (object_at strings.now.heap.now strings.now.second)) }
@@ -103,7 +103,7 @@ fn is_before(strings: &Objects<'_>) -> bool
     first < second
 }
 
-/// How many bytes a string has; no other object has any.
+/// Returns the length of a string in bytes, or 0 if the object is not a string.
 fn len_of(placed: &Placed<'_>) -> u64
     ensures { result ≡ length (bytes_of (object_at placed.now.heap.now placed.now.object)) }
 {

@@ -15,21 +15,23 @@ use crate::order::{Objects, is_element_less};
 use om_heap::{Heap, Placed};
 use om_model::value::Val;
 
-/// Of some nodes the one with the least element and the one with the greatest.
+/// Among some nodes, the one with the least element and the one with the greatest.
 #[derive(Clone, Copy)]
 pub struct Span {
     pub least: usize,
     pub greatest: usize,
 }
 
-/// The span of what is at and below a node, and whether the node is out of order.
+/// The span of all nodes at and below a node, and whether the node is out of order. A node is
+/// settled if both are known.
 #[derive(Clone, Copy)]
 pub struct Settled {
     pub span: Span,
     pub disordered: bool,
 }
 
-/// The span of two spans, and whether they overlap: the first is not less as a whole.
+/// Returns the span of two spans, and true if they overlap: not all of the first is less than all
+/// of the second.
 fn joined(heap: &Heap, first: Span, second: Span) -> (Span, bool)
     requires first { IsSpread heap.now first }
     requires second { IsSpread heap.now second }
@@ -49,7 +51,7 @@ fn joined(heap: &Heap, first: Span, second: Span) -> (Span, bool)
     }
 }
 
-/// The span from the first to the second.
+/// Returns the span from the first to the second, which must not overlap.
 fn apart(first: Span, second: Span) -> Span
     ensures least { result.least ≡ first.least }
     ensures greatest { result.greatest ≡ second.greatest }
@@ -60,7 +62,7 @@ fn apart(first: Span, second: Span) -> Span
     }
 }
 
-/// The span of two spans.
+/// Returns the span of two spans that may overlap.
 fn across(heap: &Heap, first: Span, second: Span) -> Span
     requires first { IsSpread heap.now first }
     requires second { IsSpread heap.now second }
@@ -83,7 +85,7 @@ fn across(heap: &Heap, first: Span, second: Span) -> Span
     }
 }
 
-/// The one of two nodes whose element is not greater.
+/// Returns one of two nodes whose element is not greater than the other's.
 fn lesser(nodes: &Objects<'_>) -> usize
     ensures { IsLesser nodes.now.heap.now nodes.now.first nodes.now.second result }
 {
@@ -99,7 +101,7 @@ fn lesser(nodes: &Objects<'_>) -> usize
     }
 }
 
-/// The one of two nodes whose element is not less.
+/// Returns one of two nodes whose element is not less than the other's.
 fn greater(nodes: &Objects<'_>) -> usize
     ensures { IsGreater nodes.now.heap.now nodes.now.first nodes.now.second result }
 {
@@ -110,7 +112,8 @@ fn greater(nodes: &Objects<'_>) -> usize
     }
 }
 
-/// The span of a node and what is on its left, and whether something there is not less.
+/// Returns the span of a node and its left subtree, and true if an element there is not less than
+/// that of the node.
 fn with_left(placed: &Placed<'_>, all: &[Settled], node: Node) -> (Span, bool)
     requires node { node ≡ parts.node_at placed.now.heap.now placed.now.object }
     requires valid { IsValid (length placed.now.heap.now) node }
@@ -130,7 +133,8 @@ fn with_left(placed: &Placed<'_>, all: &[Settled], node: Node) -> (Span, bool)
     }
 }
 
-/// The span of a node and all below it, and whether something on the right is not greater.
+/// Returns the span of a node and all nodes below it, and true if an element in the right subtree
+/// is not greater than those of `span`.
 fn with_right(placed: &Placed<'_>, all: &[Settled], node: Node, span: Span) -> (Span, bool)
     requires node { node ≡ parts.node_at placed.now.heap.now placed.now.object }
     requires valid { IsValid (length placed.now.heap.now) node }
@@ -148,7 +152,7 @@ fn with_right(placed: &Placed<'_>, all: &[Settled], node: Node, span: Span) -> (
     }
 }
 
-/// What is known of a node, from its parts.
+/// Settles a node from its parts.
 #[inline(always)]
 pub fn settle_node(heap: &Heap, all: &[Settled], o: usize, node: Node) -> Settled
     requires ready { IsReady heap.now all.now o }

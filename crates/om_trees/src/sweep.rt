@@ -1,4 +1,4 @@
-//! What is wrong with nodes, each of which comes before its parts.
+//! Finds the first fault among nodes in one sweep, if each node comes before its parts.
 
 ghost use Rattle.std.specs.Prelude.{◌≡◌, ◌↔◌, List, length, Some, IfOk, IfSome, IsTrue};
 ghost use Rattle.std.specs.Prelude.{vec_len};
@@ -22,8 +22,8 @@ use om_model::Memory;
 use om_model::value::Val;
 use std::alloc::Global;
 
-/// What is wrong with nodes, among which are the parts of each, as far as one sweep from the last
-/// to the first tells it: nothing is told where a node does not come before each of its parts.
+/// Finds the first fault among nodes, which must contain the parts of each node, in one sweep from
+/// the last to the first. Returns `None` if some node does not come before each of its parts.
 pub fn sweep(alloc: Global, heap: &Heap, nodes: &[usize]) -> Result<Option<Judgement>, Memory>
     requires { AreClosed heap.now nodes.now }
     ensures { IfOk result (λ told. IfSome told (IsJudgement heap.now nodes.now)) }
@@ -54,7 +54,8 @@ pub fn sweep(alloc: Global, heap: &Heap, nodes: &[usize]) -> Result<Option<Judge
     Ok(Some(gravest))
 }
 
-/// Settles a node whose parts are settled, and answers what is wrong with it.
+/// Settles a node whose parts are settled, and returns its fault. Returns `None` if a part is not
+/// settled.
 #[inline(always)]
 fn sweep_node(placed: &Placed<'_>, all: &mut Vec<Settled>) -> Option<Option<TreeKind>>
     requires many { vec_len all.old ≡ length placed.now.heap.now }
@@ -73,7 +74,7 @@ fn sweep_node(placed: &Placed<'_>, all: &mut Vec<Settled>) -> Option<Option<Tree
     Some(fault_of(placed.heap, o, node, settled.disordered))
 }
 
-/// Whether a part of a node is settled.
+/// Returns true if a part of a node is settled.
 #[inline(always)]
 fn is_part_known(all: &[Settled], part: Val) -> bool
     requires { IsValue (length all.now) part }
@@ -86,7 +87,7 @@ fn is_part_known(all: &[Settled], part: Val) -> bool
     }
 }
 
-/// What is wrong with an object, which is this node: the gravest.
+/// Returns the fault with the lowest rank of the object `o`, whose node is `node`.
 #[inline(always)]
 fn fault_of(heap: &Heap, o: usize, node: Node, disordered: bool) -> Option<TreeKind>
     requires node { node ≡ parts.node_at heap.now o }
@@ -114,7 +115,7 @@ fn fault_of(heap: &Heap, o: usize, node: Node, disordered: bool) -> Option<TreeK
     None
 }
 
-/// The gravest fault after node i, which comes before all so far.
+/// Returns the first fault after node `i` is added before the nodes so far.
 #[inline(always)]
 fn graver(gravest: Judgement, fault: Option<TreeKind>, i: usize) -> Judgement
     ensures { result ≡ sweeps.graver gravest fault i }
@@ -125,7 +126,7 @@ fn graver(gravest: Judgement, fault: Option<TreeKind>, i: usize) -> Judgement
     }
 }
 
-/// This fault of node i, or that one where it is graver.
+/// Returns the fault `kind` of node `i`, or the given one if its rank is lower.
 fn replaced(gravest: Judgement, kind: TreeKind, i: usize) -> Judgement
     ensures { result ≡ sweeps.replaced gravest kind i }
 {
@@ -141,7 +142,7 @@ fn replaced(gravest: Judgement, kind: TreeKind, i: usize) -> Judgement
     }
 }
 
-/// The lesser, the graver.
+/// Returns the rank of a fault. A fault with a lower rank is reported first.
 fn rank_of(kind: TreeKind) -> u8
     ensures { result ≡ judgements.rank_of kind }
 {

@@ -1,4 +1,4 @@
-//! Which types are those of sets and maps.
+//! Recognizes the types of sets and maps.
 
 ghost use Rattle.std.specs.Prelude.{ℕ, ◌≡◌, ◌<◌, ◌⊎◌, ◌↔◌, false, [], ◌∷◌, length, map};
 ghost use Rattle.std.specs.Prelude.{slice_index, slice_index_or, slice_get, Some, All, IsTrue};
@@ -16,14 +16,14 @@ use om_types::names::{ConstrNames, Names};
 use om_types::shape::{Constr, ShapeOf};
 use std::alloc::Global;
 
-/// How a node is laid out: in a map something is kept with each element.
+/// The representation of a node. A node of a map also has a datum for its element.
 #[derive(Clone, Copy)]
 pub enum Layout {
     Set,
     Map,
 }
 
-/// For each type of a table, whether it is the type of a set or of a map.
+/// Returns, for each type of a table, true if it is the type of a set or of a map.
 pub fn tree_types(alloc: Global, table: &TypeTable) -> Result<Vec<bool>, Memory>
     ensures { IfOk result (λ found. (t : ℕ)
         → IsTrue (slice_index_or found.items t false) ↔ IsTreeNumber table.now t) }
@@ -35,7 +35,7 @@ pub fn tree_types(alloc: Global, table: &TypeTable) -> Result<Vec<bool>, Memory>
     Ok(found)
 }
 
-/// Whether a type is that of a set or of a map.
+/// Returns true if a type is that of a set or of a map.
 fn is_tree_type(table: &TypeTable, number: usize) -> bool
     requires inside { number < length table.now.nodes }
     ensures { IsTrue result ↔ IsTreeNumber table.now number }
@@ -48,7 +48,7 @@ fn is_tree_type(table: &TypeTable, number: usize) -> bool
     }
 }
 
-/// Whether a type is that of a set or of a map, by its constructors.
+/// Returns true if a type with these constructors is that of a set or of a map.
 fn is_tree_sum(table: &TypeTable, number: usize, constants: u64, blocks: &[Constr<usize>]) -> bool
     requires shape { slice_get table.now.nodes number ≡ Some (shapes.Sum constants blocks.now) }
     ensures { IsTrue result ↔ IsTreeNumber table.now number }
@@ -60,7 +60,7 @@ fn is_tree_sum(table: &TypeTable, number: usize, constants: u64, blocks: &[Const
     is_node_type(table, number, &blocks[0])
 }
 
-/// Whether the one constructor with fields is that of a set's or a map's nodes.
+/// Returns true if the one constructor with fields is that of the nodes of a set or of a map.
 fn is_node_type(table: &TypeTable, number: usize, constr: &Constr<usize>) -> bool
     requires inside { number < length table.now.nodes }
     requires closed { All (λ i. i < length table.now.nodes) constr.now.fields }
@@ -77,7 +77,7 @@ fn is_node_type(table: &TypeTable, number: usize, constr: &Constr<usize>) -> boo
     }
 }
 
-/// Whether names and fields are those of a set's nodes.
+/// Returns true if the names and fields are those of the nodes of a set.
 fn is_set_type(table: &TypeTable, number: usize, fields: &[usize]) -> bool
     requires inside { number < length table.now.nodes }
     requires closed { All (λ i. i < length table.now.nodes) fields.now }
@@ -92,7 +92,7 @@ fn is_set_type(table: &TypeTable, number: usize, fields: &[usize]) -> bool
     named && parts
 }
 
-/// Whether names and fields are those of a map's nodes.
+/// Returns true if the names and fields are those of the nodes of a map.
 fn is_map_type(table: &TypeTable, number: usize, fields: &[usize]) -> bool
     requires inside { number < length table.now.nodes }
     requires closed { All (λ i. i < length table.now.nodes) fields.now }
@@ -107,7 +107,8 @@ fn is_map_type(table: &TypeTable, number: usize, fields: &[usize]) -> bool
     named && parts
 }
 
-/// Whether types are those of a node's parts: two of the tree itself, an element, and a number.
+/// Returns true if the types are those of the parts of a node: two of the tree itself, an element,
+/// and an integer.
 fn are_parts(
     table: &TypeTable,
     number: usize,
@@ -130,7 +131,7 @@ fn are_parts(
     left_same && right_same && ordered && counted
 }
 
-/// Whether two types are equal.
+/// Returns true if two types are equal.
 fn is_same(table: &TypeTable, first: usize, second: usize) -> bool
     requires first { first < length table.now.nodes }
     requires second { second < length table.now.nodes }
@@ -140,7 +141,7 @@ fn is_same(table: &TypeTable, first: usize, second: usize) -> bool
     table.class(first) == table.class(second)
 }
 
-/// Whether elements may have the shape: that of integers or of strings.
+/// Returns true if elements may have this shape, which is that of integers or of strings.
 fn is_element(shape: &ShapeOf<usize>) -> bool
     ensures { IsTrue result ↔ ((shape.now ≡ shapes.AnyInt) ⊎ (shape.now ≡ shapes.Bytes false)) }
 {
@@ -151,14 +152,14 @@ fn is_element(shape: &ShapeOf<usize>) -> bool
     }
 }
 
-/// Whether it is the shape of integers.
+/// Returns true if this is the shape of integers.
 fn is_number(shape: &ShapeOf<usize>) -> bool
     ensures { IsTrue result ↔ (shape.now ≡ shapes.AnyInt) }
 {
     matches!(shape, ShapeOf::AnyInt)
 }
 
-/// Whether the names are those of a set.
+/// Returns true if the names are those of a set.
 fn is_set_named(names: &Names) -> bool
     ensures { IsTrue result ↔ (names.now ≡ names_with (field_names layouts.Set)) }
 {
@@ -171,7 +172,7 @@ fn is_set_named(names: &Names) -> bool
     is_tree_named(names, &fields)
 }
 
-/// Whether the names are those of a map.
+/// Returns true if the names are those of a map.
 fn is_map_named(names: &Names) -> bool
     ensures { IsTrue result ↔ (names.now ≡ names_with (field_names layouts.Map)) }
 {
@@ -185,7 +186,7 @@ fn is_map_named(names: &Names) -> bool
     is_tree_named(names, &fields)
 }
 
-/// Whether the names are `Empty`, and `Node` with these fields.
+/// Returns true if the names are `Empty`, and `Node` with these fields.
 fn is_tree_named(names: &Names, fields: &[&[u8]]) -> bool
     ensures { IsTrue result ↔ (names.now ≡ names_with (map (λ name. name.now) fields.now)) }
 {
@@ -194,7 +195,7 @@ fn is_tree_named(names: &Names, fields: &[&[u8]]) -> bool
     empty && node && names.fields.len() == 0 && names.tags.len() == 0
 }
 
-/// Whether the one constructor is `Node` with these fields.
+/// Returns true if the one constructor is `Node` with these fields.
 fn is_node_named(constructors: &[ConstrNames], fields: &[&[u8]]) -> bool
     ensures { IsTrue result
         ↔ (constructors.now ≡ node_with (map (λ name. name.now) fields.now) ∷ []) }
@@ -207,14 +208,14 @@ fn is_node_named(constructors: &[ConstrNames], fields: &[&[u8]]) -> bool
     named && same
 }
 
-/// Whether a name is this one.
+/// Returns true if a name equals this one.
 fn is_name(own: &List<u8>, wanted: &[u8]) -> bool
     ensures { IsTrue result ↔ (own.now ≡ wanted.now) }
 {
     own.as_slice() == wanted
 }
 
-/// Whether names are these.
+/// Returns true if the names equal these.
 fn same_names(own: &[List<u8>], wanted: &[&[u8]]) -> bool
     ensures { IsTrue result ↔ (own.now ≡ map (λ name. name.now) wanted.now) }
 {

@@ -1,4 +1,4 @@
--- A table of types is over numbers of its own.
+-- Shapes of a table refer only to numbers of the table.
 use Rattle.std.proofs.Common.{ℕ, ◌<◌, ◌≡◌, ◌∙◌, ⊎_elim, List, length, Option, Some}
 use Rattle.std.proofs.Common.{ap, subst, sym, get_or, All, arith}
 use Rattle.std.specs.Prelude.{Contains, slice_get, option_map}
@@ -30,7 +30,7 @@ module _ (decls : List Decl) (types : List Ty) (table : Table) (made : IsTableOf
         sym (length-map table.nodes (with_parts (slice_get types))) ∙ ap length made.nodes
         ∙ length-map types (λ t. with_parts Some (shape decls t))
 
-    -- what a shape names is some type's number
+    -- Each part of a shape is the number of a type.
     named_below : (k : ℕ) (s : ShapeOf ℕ) (i : ℕ) → slice_get table.nodes k ≡ Some s
         → Contains (named_in s) i → i < length types
     named_below k s i is among =
@@ -67,7 +67,7 @@ made_is_lawful decls t table well sound is = record {
   closed = closed decls (types_of table) (table_of table) is.made;
   classed = is.made.many ∙ sym (many decls (types_of table) (table_of table) is.made);
 } where
-  -- the type itself has a number
+  -- The table has at least one type, because the type itself has a number.
   some_type : 0 < length (types_of table)
   some_type = ⊎_elim
       (λ seen. absurd (Contains-none t seen.0))

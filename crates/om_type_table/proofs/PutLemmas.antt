@@ -1,4 +1,4 @@
--- What is put and what waits, step by step.
+-- The text written and the texts that wait, step by step.
 use Rattle.std.proofs.Common.{ℕ, ◌≡◌, ◌∙◌, List, [], ◌∷◌, ◌++◌, Bool, false}
 use Rattle.std.proofs.Common.{Some, None, refl, ap, sym, Bor}
 use Rattle.std.specs.Prelude.{codes, slice_get}
@@ -17,7 +17,7 @@ use Rattle.om_type_table.proofs.TextLemmas.{waiting_text-push}
 -- ---- one step after another
 
 module _ (types : List Ty) where
-  -- bytes are put before
+  -- Bytes are written first.
   pub put_first :
       (old mid new : List ℕ) (w w' : List Waiting) (before text : List ℕ) → mid ≡ old ++ before
       → IsPut types mid new w w' text → IsPut types old new w w' (before ++ text)
@@ -25,7 +25,7 @@ module _ (types : List Ty) where
       then ∙ ap (λ front. front ++ text ++ waiting_text types w) first
       ∙ ap (λ front. front ++ waiting_text types w) (append_assoc old before text)
 
-  -- a text waits after it
+  -- A text waits after it.
   pub wait_first :
       (old new : List ℕ) (w mid w' : List Waiting) (text after : List ℕ)
       → waiting_text types mid ≡ after ++ waiting_text types w → IsPut types old new mid w' text
@@ -35,14 +35,14 @@ module _ (types : List Ty) where
       ∙ sym (append_assoc (old ++ text) after (waiting_text types w))
       ∙ ap (λ front. front ++ waiting_text types w) (append_assoc old text after)
 
-  -- only what waits is more
+  -- Nothing is written, and one more text waits.
   pub only_wait :
       (old : List ℕ) (w w' : List Waiting) (text : List ℕ)
       → waiting_text types w' ≡ text ++ waiting_text types w → IsPut types old old w w' text
   only_wait old w w' text is =
       ap (λ rest. old ++ rest) is ∙ sym (append_assoc old text (waiting_text types w))
 
-  -- nothing is put
+  -- Nothing is written.
   pub put_nothing : (old : List ℕ) (w : List Waiting) → IsPut types old old w w []
   put_nothing old w = ap (λ front. front ++ waiting_text types w) (sym (append-nil old))
 
@@ -52,7 +52,7 @@ module _ (types : List Ty) where
   put_is old new w w' text other same put =
       put ∙ ap (λ t. old ++ t ++ waiting_text types w) same
 
-  -- what came first is put
+  -- The item at the top of the stack is written.
   pub put_next :
       (old new : List ℕ) (all w w' : List Waiting) (next : Waiting) (text : List ℕ)
       → all ≡ w ++ next ∷ [] → IsPut types old new w w' (text_of_waiting types next)
@@ -70,7 +70,7 @@ module _ (types : List Ty) where
       → stem (type_at types number) ≡ stem t
   stem_is at number t is same = sym same ∙ ap stem (get_or_from_slice_get types at t tuple is)
 
-  -- a type without parts is one of four
+  -- A type without parts has one of four nodes.
   pub no_other :
       (at : ℕ) (node : TypeNode) → slice_get types at ≡ Some (type_of_node types (written_of node))
       → whole_of (type_at types at) ≡ None
@@ -97,7 +97,7 @@ module _ (types : List Ty) where
         other (lent.Including whole included) none as_variable as_named as_tuple as_bracket =
             none-some (type_at types whole) (sym none)
 
-  -- what begins otherwise is no tuple
+  -- If a type begins with another node, then it is no tuple.
   pub no_tuple :
       (at number : ℕ) (node : TypeNode)
       → slice_get types at ≡ Some (type_of_node types (written_of node))
@@ -140,7 +140,7 @@ pub stem-bracket : stem bracket ≡ brackets
 unfolding stem
 stem-bracket = refl
 
--- a node that adds nothing
+-- If a node adds nothing, then its text is empty.
 pub added_text-none :
     (types : List Ty) (asked : Bool) (node : TypeNode)
     → ((whole added : ℕ) → node ≡ lent.Part whole added → ⊥)

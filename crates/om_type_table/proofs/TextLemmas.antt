@@ -1,4 +1,4 @@
--- The text of a type from its parts.
+-- The text of a type, from the texts of its parts.
 use Rattle.std.proofs.Common.{ℕ, ◌≡◌, ◌∙◌, List, [], ◌∷◌, ◌++◌, Bool, true, false, Option, Some}
 use Rattle.std.proofs.Common.{None, refl, ap, sym}
 use Rattle.std.specs.Prelude.{codes, map}
@@ -13,7 +13,7 @@ use Rattle.om_type_table.specs.Texts.{whole_of, stem, is_tuple, in_parentheses, 
 use Rattle.om_type_table.specs.Texts.{parts_text, some_arguments, arguments_after, arguments_text}
 use Rattle.om_type_table.specs.Texts.{text_of_waiting, waiting_text}
 
--- ---- what waits
+-- ---- waiting items
 
 pub waiting_text-push :
     (types : List Ty) (all : List Waiting) (next : Waiting)
@@ -25,7 +25,7 @@ waiting_text-push types (first ∷ all) next =
     ∙ append_assoc (text_of_waiting types next) (waiting_text types all)
     (text_of_waiting types first)
 
--- ---- a part less
+-- ---- one part fewer
 
 pub stem-whole : (t u : Ty) → Some u ≡ whole_of t → stem u ≡ stem t
 unfolding stem
@@ -74,7 +74,7 @@ joined-more between x first (next ∷ xs) =
     ∙ ap (λ text. text ++ x)
     (sym (append_assoc (first ++ between) (joined_by between (next ∷ xs)) between))
 
--- these with a text between each two, and one after the last
+-- The texts with `between` between any two of them and `end` after the last one.
 abbrev ended_by : List ℕ → List ℕ → List (List ℕ) → List ℕ
 ended_by between end [] = []
 ended_by between end (text ∷ texts) = joined_by between (text ∷ texts) ++ end
@@ -106,7 +106,7 @@ shown-plain : (asked : Bool) (text : List ℕ)
 shown-plain true text = refl
 shown-plain false text = refl
 
--- a part more
+-- One more part.
 parts-more : (asked : Bool) (between end text added : List ℕ) (ps : List Piece) (p : Piece)
     → text ≡ ended_by between between (map (shown asked) ps) → added ≡ shown asked p
     → text ++ added ++ end ≡ ended_by between end (map (shown asked) (ps ++ p ∷ []))
@@ -178,7 +178,7 @@ spelled-many name [] p q = refl
 spelled-many name (first ∷ []) p q = refl
 spelled-many name (first ∷ next ∷ ps) p q = refl
 
--- what a type with a part more has
+-- The parts of a type with one more part.
 pieces-part : (t u : Ty) → whole_of t ≡ Some u
     → (p : Piece) × ((pieces_of t).parts ≡ (pieces_of u).parts ++ p ∷ [])
     × (added_text true t ≡ enclosed p)
@@ -252,7 +252,7 @@ name_text name t is =
 
 -- ---- the steps of the code
 
--- a part and the text after it wait now
+-- A part and the text after it wait now.
 pub part_waits :
     (whole added end w0 w1 w2 text all : List ℕ) → text ≡ whole ++ added ++ end → w1 ≡ end ++ w0
     → w2 ≡ added ++ w1 → text ++ w0 ≡ all → whole ++ w2 ≡ all

@@ -1,4 +1,4 @@
--- What a table of types is made of.
+-- The contents and the invariants of a table of types.
 use Rattle.std.specs.Prelude.{◌<◌, ◌≤◌, ◌≡◌, List, length, map, All}
 use Rattle.om_types.specs.declared.decl.Decl.{Decl}
 use Rattle.om_types.specs.Ty.{Ty}
@@ -9,15 +9,16 @@ use Rattle.om_types.specs.Reached.{IsReached, named_in}
 use Rattle.om_types.specs.Table.{Table, table_shapes, IsTableOf}
 use Rattle.om_type_table.specs.declared.tabled.Tabled.{Tabled}
 
--- the types, by their numbers
+-- The types, in the order of their numbers.
 abbrev pub types_of : Tabled → List Ty
 types_of t = map (type_at t.store) t.stored
 
--- the shapes and the classes
+-- The shapes and the classes.
 abbrev pub table_of : Tabled → Table
 table_of t = record { nodes = t.nodes; classes = t.classes }
 
--- The table of the types that t reaches over the declarations, at most 65,536.
+-- `table` is the table of the types that `t` reaches over the declarations. There are at most
+-- 65,536.
 pub record IsTypeTable (decls : List Decl) (t : Ty) (table : Tabled) : Type 0 where
   pub within : All (λ i. i < length table.store) table.stored
   pub reached : IsReached decls t (types_of table)
@@ -25,16 +26,16 @@ pub record IsTypeTable (decls : List Decl) (t : Ty) (table : Tabled) : Type 0 wh
   pub named : table.names ≡ map (names_of decls) (types_of table)
   pub few : length table.stored ≤ 65536
 
--- A table that values can be checked by: numbers of one class mean the same, and each shape is over
--- numbers of the table.
+-- A table against which values can be checked: types of one class have the same meaning, and each
+-- shape refers only to numbers of the table.
 pub record IsLawful (table : Table) : Type 0 where
   pub lawful : AreLawful (table_shapes table) Everything
   pub rooted : 0 < length table.nodes
   pub closed : All (λ node. All (λ i. i < length table.nodes) (named_in node)) table.nodes
   pub classed : length table.classes ≡ length table.nodes
 
--- What holds of each table of types: values can be checked by it, each type has names and a number,
--- and the numbers are of the store.
+-- The invariant of each `TypeTable`: values can be checked against it, and each type has names and
+-- a number of the store.
 pub record IsCheckable (table : Tabled) : Type 0 where
   pub lawful : IsLawful (table_of table)
   pub named : length table.names ≡ length table.nodes

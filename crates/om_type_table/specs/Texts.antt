@@ -1,4 +1,4 @@
--- The text of a type, piece by piece from the last one.
+-- The text of a type, computed part by part from the last part.
 use Rattle.std.specs.Prelude.{ℕ, ◌<◌, ◌≡◌, Bool, true, false, List, [], ◌∷◌, ◌++◌, length}
 use Rattle.std.specs.Prelude.{Option, Some, None, codes}
 use Rattle.om_types.specs.Ty.{Ty, part, tag, tag_of, including}
@@ -9,7 +9,7 @@ use Rattle.om_type_table.specs.declared.waiting.Waiting.TheVariants as waiting
 
 -- ---- parts
 
--- the type before its last part
+-- The type without its last part.
 abbrev pub whole_of : Ty → Option Ty
 whole_of (part whole added) = Some whole
 whole_of (tag whole name) = Some whole
@@ -17,19 +17,19 @@ whole_of (tag_of whole name argument) = Some whole
 whole_of (including whole included) = Some whole
 whole_of t = None
 
--- what a type begins with
+-- The beginning of a type: the type without any of its parts.
 unfoldable pub stem : Ty → Stem
 stem t = (pieces_of t).stem
 
 abbrev pub is_tuple : Ty → Bool
 is_tuple t = is_product (stem t)
 
--- in parentheses where both say so
+-- The text in parentheses if both flags are set.
 abbrev pub in_parentheses : Bool → Bool → List ℕ → List ℕ
 in_parentheses true true text = codes "(" ++ text ++ codes ")"
 in_parentheses asked is_tuple text = text
 
--- the text of a type's last part; of a tuple in parentheses where they are asked for
+-- The text of a type's last part. If the flag is set, a tuple is written in parentheses.
 abbrev pub added_text : Bool → Ty → List ℕ
 added_text asked (part whole added) = in_parentheses asked (is_tuple added) (type_text added)
 added_text asked (tag whole name) = codes "`" ++ name
@@ -39,7 +39,7 @@ added_text asked (including whole included) =
     in_parentheses asked (is_tuple included) (type_text included)
 added_text asked t = []
 
--- the parts' texts with a text between each two, and one after the last
+-- The texts of the parts with `between` between any two of them and `end` after the last one.
 abbrev pub parts_text : Bool → List ℕ → List ℕ → Ty → List ℕ
 parts_text asked between end (part whole added) =
     parts_text asked between between whole ++ added_text asked (part whole added) ++ end
@@ -51,7 +51,7 @@ parts_text asked between end (including whole included) =
     parts_text asked between between whole ++ added_text asked (including whole included) ++ end
 parts_text asked between end t = []
 
--- the text of a name's arguments, before the name
+-- The text of a name's arguments, which precede the name.
 abbrev pub some_arguments : Option Ty → Ty → List ℕ
 some_arguments None t = added_text true t ++ codes " "
 some_arguments (Some first) t = codes "(" ++ parts_text false (codes ", ") [] t ++ codes ") "
@@ -63,23 +63,23 @@ arguments_after (Some whole) t = some_arguments (whole_of whole) t
 abbrev pub arguments_text : Ty → List ℕ
 arguments_text t = arguments_after (whole_of t) t
 
--- ---- what waits
+-- ---- waiting items
 
 abbrev pub text_of_waiting : List Ty → Waiting → List ℕ
 text_of_waiting types (waiting.Text bytes) = bytes.now
 text_of_waiting types (waiting.Added number asked) = added_text asked (type_at types number)
 
--- the last one comes first
+-- The text of all waiting items. The last item of the list is written first.
 abbrev pub waiting_text : List Ty → List Waiting → List ℕ
 waiting_text types [] = []
 waiting_text types (next ∷ later) = waiting_text types later ++ text_of_waiting types next
 
--- it names types
+-- The item refers to a type of the list.
 abbrev pub IsWithin : List Ty → Waiting → Type 0
 IsWithin types (waiting.Text bytes) = Unit {0}
 IsWithin types (waiting.Added number asked) = number < length types
 
--- what is put and what waits, before and after: the text more
+-- The text written and the texts that wait have grown by `text`, which precedes what waited before.
 abbrev pub IsPut : List Ty → List ℕ → List ℕ → List Waiting → List Waiting → List ℕ → Type 0
 IsPut types old new old_waiting new_waiting text =
     new ++ waiting_text types new_waiting ≡ old ++ text ++ waiting_text types old_waiting

@@ -1,8 +1,9 @@
-//! What tables of types are good for.
+//! The theorem about tables of types, as the contract of a lemma function.
 
 ghost use Rattle.om_type_table.specs.Laws.{MadeAreLawful};
 
-/// Values can be checked by the table of a sound type over well-formed declarations.
+/// States that the table of a sound type over well-formed declarations is lawful: values can be
+/// checked against it.
 pub fn tables_are_lawful()
     ensures { MadeAreLawful }
 {}

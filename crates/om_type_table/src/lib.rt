@@ -1,5 +1,6 @@
-//! The table of the types that a type reaches: for each number a shape over numbers, a class, names
-//! and a text.
+//! Tables of the types that a type reaches. For each number a table has a shape whose parts are
+//! numbers of the table, a class of equal types, names, and the type's text. `TypeTable` guarantees
+//! `IsCheckable`: values can be checked against it. `om_typeintern` makes tables from declarations.
 #![tactic(auto)]
 
 pub mod laws;

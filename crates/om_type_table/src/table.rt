@@ -1,4 +1,4 @@
-//! The table.
+//! The table of types with its invariant.
 
 ghost use Rattle.std.specs.Prelude.{◌≡◌, ◌<◌, length, Some, slice_get, IfOk, IfSome};
 ghost use Rattle.om_types.specs.TypeText.{type_text};
@@ -13,7 +13,7 @@ use om_types::shape::ShapeOf;
 use std::alloc::Global;
 use std::marker::Model;
 
-/// A table of types that values can be checked by. Contracts see what it is made of.
+/// A table of types against which values can be checked. Contracts see its contents, a `Tabled`.
 #[derive(Drop)]
 pub struct TypeTable {
     of: Tabled,
@@ -38,7 +38,7 @@ impl Model for TypeTable {
 impl TypeTable {
     ghost use Rattle.om_type_table.specs.Made.{types_of, IsCheckable};
 
-    /// The table that is made of this.
+    /// Makes a table of these contents, which must be checkable.
     pub fn new(of: Tabled) -> TypeTable
         requires { IsCheckable of }
         ensures { result ≡ of }
@@ -46,7 +46,7 @@ impl TypeTable {
         TypeTable { of }
     }
 
-    /// What always holds of it. It does nothing.
+    /// States the invariant of the table. This is a lemma function.
     #[inline(always)]
     pub fn holds(&self)
         ensures { IsCheckable self.now }
@@ -54,21 +54,21 @@ impl TypeTable {
         let _ = &self.of;
     }
 
-    /// The number of the type that was asked for.
+    /// Returns the number of the type for which the table was made. It is always 0.
     pub fn root(&self) -> usize
         ensures { result ≡ 0 }
     {
         0
     }
 
-    /// How many types there are.
+    /// Returns the number of types in the table.
     pub fn len(&self) -> usize
         ensures { result ≡ length self.now.stored }
     {
         self.of.stored.len()
     }
 
-    /// How many shapes there are, and classes.
+    /// Returns the number of shapes, which is also the number of entries in the list of classes.
     #[inline(always)]
     pub fn count(&self) -> usize
         ensures nodes { result ≡ length self.now.nodes }
@@ -77,7 +77,7 @@ impl TypeTable {
         self.of.nodes.len()
     }
 
-    /// The store that has the types.
+    /// Returns the store that holds the types.
     #[inline(always)]
     pub fn store(&self) -> &Types
         ensures { result.now ≡ self.now.store }
@@ -85,7 +85,7 @@ impl TypeTable {
         &self.of.store
     }
 
-    /// The number of each type in the store.
+    /// Returns the number of each type in the store.
     #[inline(always)]
     pub fn stored(&self) -> &[usize]
         ensures { result.now ≡ self.now.stored }
@@ -93,7 +93,7 @@ impl TypeTable {
         self.of.stored.as_slice()
     }
 
-    /// The shapes of all types.
+    /// Returns the shapes of all types.
     #[inline(always)]
     pub fn nodes(&self) -> &[ShapeOf<usize>]
         ensures { result.now ≡ self.now.nodes }
@@ -101,7 +101,7 @@ impl TypeTable {
         self.of.nodes.as_slice()
     }
 
-    /// The shape of a type.
+    /// Returns the shape of a type.
     #[inline(always)]
     pub fn shape(&self, number: usize) -> &ShapeOf<usize>
         requires { number < length self.now.nodes }
@@ -110,7 +110,7 @@ impl TypeTable {
         &self.of.nodes.as_slice()[number]
     }
 
-    /// The class of a type.
+    /// Returns the class of a type. Equal types have the same class.
     #[inline(always)]
     pub fn class(&self, number: usize) -> usize
         requires { number < length self.now.classes }
@@ -119,7 +119,7 @@ impl TypeTable {
         self.of.classes.as_slice()[number]
     }
 
-    /// The names of a type.
+    /// Returns the names in the declaration or variant of a type.
     #[inline(always)]
     pub fn names(&self, number: usize) -> &Names
         requires { number < length self.now.nodes }
@@ -128,7 +128,7 @@ impl TypeTable {
         &self.of.names.as_slice()[number]
     }
 
-    /// The text of a type.
+    /// Returns the text of a type in OCaml's syntax.
     pub fn text(&self, alloc: Global, number: usize) -> Result<List<u8>, Memory>
         requires { number < length self.now.stored }
         ensures { IfOk result

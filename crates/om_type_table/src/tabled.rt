@@ -1,22 +1,22 @@
-//! What a table of types is made of.
+//! The contents of a table of types.
 
 use om_model::list::List;
 use om_store::Types;
 use om_types::names::Names;
 use om_types::shape::ShapeOf;
 
-/// Types by their numbers, in the order in which they are met. The type that was asked for has the
-/// number 0.
+/// The types that a type reaches, numbered in the order in which they are met. The type for which
+/// the table was made has the number 0.
 #[derive(Drop)]
 pub struct Tabled {
-    /// A store that has the types.
+    /// The store that holds the types.
     pub store: Types,
     /// The number of each type in the store.
     pub stored: List<usize>,
-    /// The shapes, whose parts are numbers of the table.
+    /// The shape of each type. Its parts are numbers of this table.
     pub nodes: List<ShapeOf<usize>>,
-    /// Two types have one class exactly where they are equal.
+    /// The class of each type: two types have the same class if and only if they are equal.
     pub classes: List<usize>,
-    /// What their declarations or variants name.
+    /// The names in the declaration or variant of each type.
     pub names: List<Names>,
 }

@@ -1,4 +1,4 @@
-//! The text of a type.
+//! Writes the text of a type without recursion. Parts that are still to be written wait on a stack.
 
 ghost use Rattle.std.specs.Prelude.{◌≡◌, ◌<◌, ◌++◌, length, All, IfOk, OnOk, codes};
 ghost use Rattle.om_types.specs.Nodes.{type_at};
@@ -12,7 +12,7 @@ use om_model::list::List;
 use om_store::{TypeNode, Types};
 use std::alloc::Global;
 
-/// The text of a type of a store.
+/// Returns the text of a type of a store.
 pub(crate) fn text_in(alloc: Global, types: &Types, number: usize) -> Result<List<u8>, Memory>
     requires { number < length types.now }
     ensures { IfOk result (λ text. text ≡ type_text (type_at types.now number)) }
@@ -20,7 +20,7 @@ pub(crate) fn text_in(alloc: Global, types: &Types, number: usize) -> Result<Lis
     let mut text = Vec::new(alloc);
     let mut waiting = Vec::new(alloc);
     put_type(&mut text, &mut waiting, types, number)?;
-    // Each turn puts a part of the text, so this ends long before.
+    // Each turn appends a part of the text, so the loop ends long before this bound.
     for _turn in 0..u64::MAX {
         match waiting.pop() {
             Some(next) => put_next(&mut text, &mut waiting, types, next)?,
@@ -30,7 +30,7 @@ pub(crate) fn text_in(alloc: Global, types: &Types, number: usize) -> Result<Lis
     Err(Memory)
 }
 
-/// Puts what comes next.
+/// Appends the next waiting item.
 fn put_next<'a>(
     text: &mut Vec<u8>,
     waiting: &mut Vec<Waiting<'a>>,
@@ -50,7 +50,7 @@ fn put_next<'a>(
     }
 }
 
-/// Puts the last part of a type.
+/// Appends the last part of a type.
 fn put_added<'a>(
     text: &mut Vec<u8>,
     waiting: &mut Vec<Waiting<'a>>,
@@ -78,7 +78,7 @@ fn put_added<'a>(
     }
 }
 
-/// Puts a type that is a part of another one.
+/// Appends a type that is a part of another type.
 fn put_part<'a>(
     text: &mut Vec<u8>,
     waiting: &mut Vec<Waiting<'a>>,
@@ -103,7 +103,7 @@ fn put_part<'a>(
     }
 }
 
-/// Whether a type is a tuple.
+/// Returns true if a type is a tuple.
 fn is_tuple(types: &Types, number: usize) -> bool
     requires { number < length types.now }
     ensures { result ≡ is_tuple (type_at types.now number) }
@@ -114,7 +114,7 @@ fn is_tuple(types: &Types, number: usize) -> bool
     }
 }
 
-/// Puts what a type begins with, and has the rest wait.
+/// Appends the beginning of a type, and pushes the rest on the stack.
 fn put_type<'a>(
     text: &mut Vec<u8>,
     waiting: &mut Vec<Waiting<'a>>,
@@ -148,7 +148,7 @@ fn put_type<'a>(
     }
 }
 
-/// Puts what the arguments of a name begin with, and has the rest of them wait.
+/// Appends the beginning of the arguments of a name, and pushes the other arguments on the stack.
 fn put_arguments<'a>(
     text: &mut Vec<u8>,
     waiting: &mut Vec<Waiting<'a>>,
@@ -175,7 +175,7 @@ fn put_arguments<'a>(
     }
 }
 
-/// Puts a tag with its backquote.
+/// Appends a tag with its backquote.
 fn put_tag(text: &mut Vec<u8>, name: &[u8]) -> Result<(), Memory>
     ensures { OnOk result (text.new.items ≡ text.old.items ++ (codes "`" ++ name.now)) }
 {
@@ -183,7 +183,7 @@ fn put_tag(text: &mut Vec<u8>, name: &[u8]) -> Result<(), Memory>
     put(text, name)
 }
 
-/// Puts bytes at the end.
+/// Appends bytes.
 fn put(text: &mut Vec<u8>, bytes: &[u8]) -> Result<(), Memory>
     ensures { OnOk result (text.new.items ≡ text.old.items ++ bytes.now) }
 {

@@ -1,4 +1,4 @@
-//! What is still to be put of a type's text.
+//! The stack of items of a type's text that are still to be written.
 
 ghost use Rattle.std.specs.Prelude.{◌≡◌, ◌<◌, ◌++◌, [], List, None, length, IfSome, OnOk, All};
 ghost use Rattle.std.specs.Prelude.{option_map};
@@ -10,14 +10,15 @@ ghost use Rattle.om_type_table.specs.Texts.{waiting_text, IsWithin};
 use om_model::Memory;
 use om_store::{TypeNode, Types};
 
-/// Bytes, or the last part of a type: of a tuple in parentheses, where the bool asks for them.
+/// A waiting item: bytes, or the last part of the type with this number. If the flag is set, a
+/// tuple is written in parentheses.
 #[derive(Clone, Copy)]
 pub(crate) enum Waiting<'a> {
     Text(&'a [u8]),
     Added(usize, bool),
 }
 
-/// Has one more wait: it comes first.
+/// Pushes an item. It is written before all items that wait already.
 pub(crate) fn wait<'a>(waiting: &mut Vec<Waiting<'a>>, next: Waiting<'a>) -> Result<(), Memory>
     ensures within { OnOk result
         ((types : List Ty) → IsWithin types next.entry → All (IsWithin types) waiting.old.items
@@ -31,7 +32,7 @@ pub(crate) fn wait<'a>(waiting: &mut Vec<Waiting<'a>>, next: Waiting<'a>) -> Res
     Ok(())
 }
 
-/// Has the parts of a type wait, with a text between each two.
+/// Pushes the parts of a type, with the bytes `between` between any two of them.
 pub(crate) fn push_parts<'a>(
     waiting: &mut Vec<Waiting<'a>>,
     types: &Types,
@@ -58,7 +59,7 @@ pub(crate) fn push_parts<'a>(
     Ok(())
 }
 
-/// What a type begins with, by its number.
+/// Returns the number of the type's stem: the type without any of its parts.
 pub(crate) fn stem_of(types: &Types, number: usize) -> usize
     requires { number < length types.now }
     ensures below { result < length types.now }
@@ -72,7 +73,7 @@ pub(crate) fn stem_of(types: &Types, number: usize) -> usize
     at
 }
 
-/// The type before its last part.
+/// Returns the number of the type without its last part, or `None` if it has no parts.
 pub(crate) fn before_part(types: &Types, number: usize) -> Option<usize>
     requires { number < length types.now }
     ensures is { option_map (type_at types.now) result ≡ whole_of (type_at types.now number) }

@@ -1,4 +1,4 @@
--- Types are met one after the other.
+-- Types are discovered one after the other.
 use Rattle.std.proofs.Common.{ℕ, zero, suc, true, ◌+◌, ◌<◌, ◌≤◌, ◌≡◌, ◌∙◌, ◌⊎◌, ⊎_elim, inl, inr, List, [], ◌∷◌, ◌++◌, length, map, take, Option, Some, refl, sym, ap, subst, nat_eq, length-append, arith}
 use Rattle.std.specs.Prelude.{slice_get}
 use Rattle.std.specs.List.{flat_map}
@@ -35,7 +35,7 @@ use Rattle.om_typeintern.proofs.RepeatLemmas.{repeats_then, repeats_among, repea
 use Rattle.om_typeintern.proofs.MetLemmas.{MetAfter, met_after}
 use Rattle.om_typeintern.proofs.PartLemmas.{AreNumbers, shape_numbers, head_numbers}
 
--- ---- where the store grows
+-- ---- growth of the store
 
 module _ (old new : List Ty) (grown : Grows old new) where
   not_fewer : length old ≤ length new
@@ -58,7 +58,7 @@ module _ (old new : List Ty) (grown : Grows old new) where
 
 -- ---- one type
 
--- places say of later types what numbers say of the store
+-- The type of each index among later types equals the type of the number there in the store.
 says_types :
     (types : List Ty) (met : List ℕ) (all : List Ty) → AreWithin types met → Grows (types_at types met) all
     → SayTheSame met (slice_get all) (slice_get types)
@@ -69,7 +69,7 @@ says_types types met all within grown = record {
       ∙ sym (slice_get-get_or types number tuple below);
 }
 
--- a type's entry, from what it looks like
+-- The entry of a type, derived from its representation.
 pub record IsMet (decls : List Decl) (t : Ty) (old new : List Ty) (before after : List ℕ) (entry : Entry) : Type 0 where
   pub within : AreWithin new after
   pub is : IsEntry decls t (types_at old before) (types_at new after) entry
@@ -143,7 +143,7 @@ pub placed_is_met :
 placed_is_met decls t old new distinct grown before after within layout is entry placed =
     is_met decls t old new distinct grown before placed.middle after within layout is entry placed.shape placed.head placed.names
 
--- ---- one type more
+-- ---- one more type
 
 module _ (decls : List Decl) (t : Ty) (k : ℕ) (met : List Ty) (nodes : List (ShapeOf ℕ)) (tops : List (HeadOf ℕ)) (names : List Names)
     (was : IsListing decls t k met nodes tops names) (u : Ty) (next : slice_get met k ≡ Some u)
@@ -162,7 +162,7 @@ module _ (decls : List Decl) (t : Ty) (k : ℕ) (met : List Ty) (nodes : List (S
       ∙ ap (λ (ts : List Ty). take k ts ++ u ∷ []) is.kept
       ∙ ap (λ (ts : List Ty). ts ++ u ∷ []) (take-append-le k met is.added (omega (arith, within_met)))
 
-  -- a map over one more
+  -- Mapping over a prefix with one more element.
   mapped : {X : Type 0} (f : Ty → X) → map f (take (k + 1) more) ≡ map f (take k met) ++ f u ∷ []
   mapped f = ap (map f) front ∙ map-append f (take k met) (u ∷ [])
 
@@ -210,7 +210,7 @@ module _ (decls : List Decl) (t : Ty) (k : ℕ) (met : List Ty) (nodes : List (S
         ∙ sym (mapped (names_of decls));
   }
 
--- the same, with the lists after one more was put at the end of each
+-- The invariant after one more element was appended to each list.
 pub next_listed :
     (decls : List Decl) (t : Ty) (met : List Ty) (nodes : List (ShapeOf ℕ)) (tops : List (HeadOf ℕ)) (names : List Names)
     → IsListing decls t (length nodes) met nodes tops names
@@ -229,7 +229,7 @@ next_listed decls t met nodes tops names was u next more entry is shapes' tops' 
 
 -- ---- heads of the first types
 
--- what stands among the first of a list stands in it
+-- If an element is in a prefix of a list, then it is in the list at the same index.
 in_front : {X : Type 0} (xs : List X) (k i : ℕ) (x : X) → slice_get (take k xs) i ≡ Some x → slice_get xs i ≡ Some x
 in_front xs zero i x is = absurd (none-some x is)
 in_front [] (suc k) i x is = absurd (none-some x is)
@@ -289,7 +289,7 @@ too_many decls t k met nodes tops names is many = record {
   by zero u here = inl (same_Some u t (sym here ∙ first))
   by (suc j) u there = inr (is.from_earlier (suc j) u (omega arith) there)
 
--- one number is one type
+-- A single number denotes a single type.
 pub first_types :
     (decls : List Decl) (t : Ty) (types : List Ty) (number : ℕ) (met : List ℕ) (nodes : List (ShapeOf ℕ)) (tops : List (HeadOf ℕ)) (names : List Names)
     → slice_get types number ≡ Some t → met ≡ number ∷ [] → nodes ≡ [] → tops ≡ [] → names ≡ []

@@ -1,4 +1,4 @@
--- Numbers that were met, and what was made of them.
+-- Discovered numbers, and the results that refer to them by index.
 use Rattle.std.proofs.Common.{ℕ, ◌+◌, ◌<◌, ◌≤◌, ◌≡◌, ◌∙◌, Bool, true, false, cond, List, [], ◌∷◌, ◌++◌, Option, refl, sym, ap, subst, length, take, get_or}
 use Rattle.std.specs.Prelude.{map, nat_eq}
 use Rattle.std.specs.List.{flat_map, list_any}
@@ -14,7 +14,7 @@ use Rattle.om_types.specs.declared.shape.Constr.{Constr}
 use Rattle.om_types.specs.Table.{constr_with, tag_with_part}
 use Rattle.om_typeintern.specs.Placed.{SayTheSame, IsPlaced, AreNumbersPlaced, IsOptionPlaced, fields_in, argument_of}
 
--- ---- numbers are added at the end
+-- ---- numbers are appended
 
 insert_key-grows : (met : List ℕ) (n : ℕ) → Grows met (insert_key nat_eq met n)
 insert_key-grows met n = by (list_any (nat_eq n) met) where
@@ -28,7 +28,7 @@ insert_all-grows met (n ∷ numbers) =
     Grows-then met (insert_key nat_eq met n) (insert_all nat_eq (insert_key nat_eq met n) numbers)
     (insert_key-grows met n) (insert_all-grows (insert_key nat_eq met n) numbers)
 
--- what is said of all places is said of the first ones
+-- If two functions agree on all indices, then they agree on the first ones.
 pub SayTheSame-before :
     (before after : List ℕ) (f g : ℕ → Option Ty) → Grows before after → SayTheSame after f g
     → SayTheSame before f g
@@ -89,12 +89,12 @@ module _ {A B : Type 0} (numbers : A → List ℕ) (saying : (ℕ → Option Ty)
     placed_all first after given made k past placed =
         subst (λ (xs : List A). Placed first after xs made) (take_all k given past) placed
 
--- the front of a list with one more
+-- A prefix of a list with one more element.
 pub one_longer : {A : Type 0} (xs : List A) (k : ℕ) (x : A) → k < length xs → x ≡ get_or xs k x → take (k + 1) xs ≡ take k xs ++ x ∷ []
 one_longer xs k x below is =
     take_more xs k x below ∙ ap (λ y. take k xs ++ y ∷ []) (sym is)
 
--- what is in one more
+-- The numbers of a list with one more element.
 pub one_more :
     {A B : Type 0} (numbers : A → List B) (given : List A) (a : A)
     → flat_map numbers (given ++ a ∷ []) ≡ flat_map numbers given ++ numbers a

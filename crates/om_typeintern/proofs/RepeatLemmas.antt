@@ -1,4 +1,4 @@
--- Lists without what comes again.
+-- Lists without repeats.
 use Rattle.std.proofs.Common.{ℕ, zero, suc, ◌≡◌, ◌⊎◌, inl, inr, List, [], ◌∷◌, ◌++◌, Some, refl, sym, ap, subst, arith, ◌≤◌, ⊎_elim, length}
 use Rattle.std.specs.Prelude.{Contains, slice_get}
 use Rattle.std.proofs.lemmas.List.{append_assoc, append-nil}
@@ -8,7 +8,7 @@ use Rattle.om_model.proofs.Options.{Contains-first, Contains-later, Contains-cas
 use Rattle.om_types.specs.Ty.{Ty}
 use Rattle.om_types.specs.Reached.{IsWithoutRepeats, AreDistinct}
 
--- what comes after is listed after
+-- Removing repeats from two lists in sequence removes them from the concatenation.
 pub repeats_then :
     (seen ts others us more : List Ty) → IsWithoutRepeats seen ts others
     → IsWithoutRepeats (seen ++ others) us more → IsWithoutRepeats seen (ts ++ us) (others ++ more)
@@ -31,7 +31,7 @@ repeats_then seen (t ∷ ts) others us more (inr new) second =
       repeats_then (seen ++ t ∷ []) ts rest us more new.3 moved,
     )
 
--- none of the list was seen before
+-- No element of the result was seen before.
 none_seen :
     (ts seen others : List Ty) → IsWithoutRepeats seen ts others → (i : ℕ) (u : Ty)
     → slice_get others i ≡ Some u → Contains seen u → ⊥
@@ -70,7 +70,7 @@ repeats_distinct (t ∷ ts) seen others (inr new) i j u at_i at_j =
       by later (suc k) zero here there = absurd (first_again k there here)
       by later (suc k) (suc l) here there = ap (λ (n : ℕ). suc n) (later k l u here there)
 
--- nothing is listed that does not come
+-- Each element of the result is in the original list.
 pub repeats_among :
     (ts seen others : List Ty) → IsWithoutRepeats seen ts others → (u : Ty) → Contains others u → Contains ts u
 repeats_among [] seen others without u among = subst (λ (os : List Ty). Contains os u) without among
@@ -81,7 +81,7 @@ repeats_among (t ∷ ts) seen others (inr new) u among = ⊎_elim
     (λ later. Contains-later t ts u (repeats_among ts (seen ++ t ∷ []) new.1 new.3 u later))
     (Contains-cases t new.1 u (subst (λ (os : List Ty). Contains os u) new.2 among))
 
--- an element of a list that grew is an old one or an added one
+-- If a list grew, then each element is an old one or an added one.
 pub old_or_added :
     {X : Type 0} (xs ys : List X) (j : ℕ) (x : X) → slice_get (xs ++ ys) j ≡ Some x
     → (slice_get xs j ≡ Some x) ⊎ ((length xs ≤ j) × Contains ys x)

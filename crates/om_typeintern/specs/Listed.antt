@@ -1,4 +1,4 @@
--- Types in the order in which they are met, and what is known of the first of them.
+-- Types in the order of discovery, and the entries of the first of them.
 use Rattle.std.specs.Prelude.{ℕ, ◌<◌, ◌≤◌, ◌≡◌, List, [], ◌∷◌, ◌++◌, length, map, take, Some, All}
 use Rattle.std.specs.Prelude.{slice_get}
 use Rattle.std.specs.List.{flat_map}
@@ -22,17 +22,17 @@ use Rattle.om_typeintern.specs.declared.entry.Entry.{Entry}
 use Rattle.om_typeintern.specs.declared.listing.Listing.{Listing}
 use Rattle.om_typeintern.specs.Placed.{IsShapePlaced, IsHeadPlaced}
 
--- the types of these numbers
+-- The types with these numbers.
 abbrev pub types_at : List Ty → List ℕ → List Ty
 types_at types numbers = map (type_at types) numbers
 
--- the numbers are those of types
+-- The numbers are numbers of types in the store.
 abbrev pub AreWithin : List Ty → List ℕ → Type 0
 AreWithin types numbers = All (λ i. i < length types) numbers
 
 -- ---- one type
 
--- The entry is the layout by places, with the names of its head.
+-- The entry is the representation with indices, together with the names of its head.
 pub record IsPlacedEntry (decls : List Decl) (before after : List ℕ) (layout : Layout)
     (entry : Entry) : Type 0 where
   pub middle : List ℕ
@@ -40,8 +40,8 @@ pub record IsPlacedEntry (decls : List Decl) (before after : List ℕ) (layout :
   pub head : IsHeadPlaced middle after layout.head entry.head
   pub names : AreNamesAt decls layout.head entry.names
 
--- What a type names is met after the types that were met before. By places its entry is right, also
--- where more types are met later.
+-- The entry of a type. The types that it names are discovered after the earlier types. The head and
+-- the shape with indices are correct, even if more types are discovered later.
 pub record IsEntry (decls : List Decl) (t : Ty) (before after : List Ty) (entry : Entry)
     : Type 0 where
   pub added : List Ty
@@ -55,9 +55,10 @@ pub record IsEntry (decls : List Decl) (t : Ty) (before after : List Ty) (entry 
       → with_parts (slice_get all) entry.shape ≡ with_parts Some (shape decls t)
   pub names : entry.names ≡ names_of decls t
 
--- ---- all that were met
+-- ---- all discovered types
 
--- The types that were met are t and what the first k of them reach, and there are entries of these.
+-- The discovered types are `t` and the types that the first `k` of them reach. The first `k` have
+-- entries.
 pub record IsListing (decls : List Decl) (t : Ty) (k : ℕ) (met : List Ty)
     (shapes : List (ShapeOf ℕ)) (tops : List (HeadOf ℕ)) (words : List Names) : Type 0 where
   pub in_order : IsWithoutRepeats [] (t ∷ flat_map (reached_from decls) (take k met)) met
@@ -81,7 +82,7 @@ IsListingOf decls t listing =
     IsListing decls t (length listing.nodes.items) (met_types listing) listing.nodes.items
     listing.heads.items listing.names.items
 
--- all types that are reached have entries, and they are not too many
+-- All reached types have entries, and there are at most 65,536 of them.
 pub record IsWhole (decls : List Decl) (t : Ty) (listing : Listing) : Type 0 where
   pub within : AreWithin listing.types listing.met.keys
   pub listed : IsListingOf decls t listing
@@ -90,7 +91,7 @@ pub record IsWhole (decls : List Decl) (t : Ty) (listing : Listing) : Type 0 whe
 
 -- ---- the table
 
--- the table has what was listed, and the classes of the heads
+-- The table consists of the listing and the classes of the heads.
 pub record IsTableOfListing (listing : Listing) (table : Tabled) : Type 0 where
   pub store : table.store ≡ listing.types
   pub stored : table.stored ≡ listing.met.keys

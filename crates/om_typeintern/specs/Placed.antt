@@ -1,4 +1,4 @@
--- Types that were met, by their numbers in a store: each once, at a place of its own.
+-- Discovered types, by their numbers in a store. Each has its own index.
 use Rattle.std.specs.Prelude.{ℕ, ◌≡◌, List, map, option_map, Option, Some, nat_eq, slice_get}
 use Rattle.std.specs.List.{flat_map}
 use Rattle.indexmap.specs.IndexSet.{insert_all}
@@ -12,13 +12,14 @@ use Rattle.om_types.specs.Reached.{listed_if, named_in, parts_of}
 use Rattle.om_types.specs.Table.{with_parts, head_with_parts, constr_with, tag_with_parts}
 use Rattle.om_types.specs.Table.{tag_with_part}
 
--- what the one says of each place, the other says of the number there
+-- The type of each index equals the type of the number at that index.
 pub record SayTheSame (met : List ℕ) (of_place of_number : ℕ → Option Ty) : Type 0 where
   pub at : (place number : ℕ) → slice_get met place ≡ Some number
       → of_place place ≡ of_number number
 
--- The numbers in what was given are met after those that were met before, each where it is new.
--- What was made says of their places what was given says of them.
+-- `made` is `given` with indices instead of numbers. The numbers in `given` are inserted after the
+-- earlier ones, each if it is new. The types in `made`, by index, are the types in `given`, by
+-- number.
 pub record IsPlaced {A B : Type 0} (numbers : A → List ℕ) (saying : (ℕ → Option Ty) → A → B)
     (before after : List ℕ) (given made : A) : Type 0 where
   pub met : after ≡ insert_all nat_eq before (numbers given)
@@ -26,7 +27,7 @@ pub record IsPlaced {A B : Type 0} (numbers : A → List ℕ) (saying : (ℕ →
       (of_place of_number : ℕ → Option Ty) → SayTheSame after of_place of_number
       → saying of_place made ≡ saying of_number given
 
--- ---- lists from the first element on, and what they are in
+-- ---- lists, shapes and heads with indices
 abbrev pub AreNumbersPlaced : List ℕ → List ℕ → List ℕ → List ℕ → Type 0
 AreNumbersPlaced =
     IsPlaced {A = List ℕ} {B = List (Option Ty)} (λ ns. ns) (λ says ns. map says ns)

@@ -1,4 +1,4 @@
-//! What a table says of one type.
+//! The table entry of one type.
 
 ghost use Rattle.std.specs.Prelude.{◌<◌, true, List, length, IfOk, OnOk};
 ghost use Rattle.om_types.specs.declared.decl.Decl.{Decl as Declaration};
@@ -20,7 +20,8 @@ use om_types::names::Names;
 use om_types::shape::ShapeOf;
 use std::alloc::Global;
 
-/// The head and the shape of a type, by places, and its names.
+/// The head and the shape of a type, with types as indices into the list of discovered types, and
+/// the names of its head.
 #[derive(Drop)]
 pub(crate) struct Entry {
     pub(crate) head: HeadOf<usize>,
@@ -28,8 +29,8 @@ pub(crate) struct Entry {
     pub(crate) names: Names,
 }
 
-/// The entry of a type, where the first that were met have these heads. What the type names
-/// is met: first what its shape names, then the parts of its head.
+/// Returns the entry of a type. `heads` holds the heads of the first discovered types. Adds the
+/// types that this type names to `met`: first those of its shape, then the parts of its head.
 pub(crate) fn entry_of(
     alloc: Global,
     types: &mut Types,
@@ -56,7 +57,7 @@ pub(crate) fn entry_of(
     placed_entry(alloc, met, decls, &layout)
 }
 
-/// The entry of what a type looks like.
+/// Returns the entry for the representation of a type.
 fn placed_entry(
     alloc: Global,
     met: &mut Met,
@@ -69,7 +70,7 @@ fn placed_entry(
     placed(alloc, met, layout, names)
 }
 
-/// The entry of what a type looks like, with these names.
+/// Returns the entry for the representation of a type, with these names.
 fn placed(alloc: Global, met: &mut Met, layout: &Layout, names: Names) -> Result<Entry, Memory>
     ensures { IfOk result
         (λ entry. (decls : List Declaration) → AreNamesAt decls layout.now.head names
@@ -80,7 +81,7 @@ fn placed(alloc: Global, met: &mut Met, layout: &Layout, names: Names) -> Result
     Ok(Entry { head, shape, names })
 }
 
-/// The types of a store stand in it once.
+/// Lemma function: the types of a store are distinct.
 fn stand_once(types: &Types)
     ensures { AreDistinct types.now }
 {

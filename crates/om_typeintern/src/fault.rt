@@ -1,8 +1,8 @@
-//! Why there is no table of types.
+//! Errors of building a table of types.
 
 use om_model::Memory;
 
-/// More than 65,536 types are reached, or out of memory.
+/// Error of `build`: the type reaches more than 65,536 types, or memory ran out.
 #[derive(Clone, Copy)]
 pub enum TypeFault {
     TooManyTypes,

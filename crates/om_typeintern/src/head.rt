@@ -1,4 +1,4 @@
-//! Heads by places.
+//! Heads with indices as parts.
 
 ghost use Rattle.std.specs.Prelude.{◌≡◌, IfOk};
 ghost use Rattle.om_typeintern.specs.Placed.{AreHeadTagsPlaced, IsHeadPlaced};
@@ -9,7 +9,7 @@ use om_model::list::List;
 use om_types::head::{HeadOf, TagOf};
 use std::alloc::Global;
 
-/// A head by the places of its parts, which are met in their order.
+/// Replaces the parts of a head by their indices. Adds new parts to `met` in order.
 pub(crate) fn placed_head(
     alloc: Global,
     met: &mut Met,
@@ -34,7 +34,7 @@ pub(crate) fn placed_head(
     }
 }
 
-/// Tags by names, with the places of their arguments.
+/// Replaces the arguments of tags by their indices. The tags keep their names.
 fn placed_tags(
     alloc: Global,
     met: &mut Met,
@@ -51,7 +51,7 @@ fn placed_tags(
     Ok(List::of(found))
 }
 
-/// The same bytes.
+/// Returns a copy of the bytes.
 fn copied(alloc: Global, name: &[u8]) -> Result<List<u8>, Memory>
     ensures { IfOk result (λ l. l ≡ name.now) }
 {

@@ -1,4 +1,6 @@
-//! The table of the types that a type reaches.
+//! Builds the table of the types that a type reaches: their shapes, heads, names and equivalence
+//! classes. `build` promises that the table represents exactly these types (`IsTypeTable`), or that
+//! there are more than 65,536 of them.
 #![tactic(auto)]
 
 mod entry;

@@ -1,4 +1,4 @@
-//! Types in the order in which they are met.
+//! Types in the order of their discovery.
 
 ghost use Rattle.std.specs.Prelude.{◌≡◌, ◌<◌, ◌+◌, ◌++◌, ◌∷◌, [], List, length, IfOk, OnOk};
 ghost use Rattle.om_types.specs.declared.decl.Decl.{Decl as Declaration};
@@ -17,8 +17,8 @@ use om_types::shape::ShapeOf;
 use om_types::ty::Ty;
 use std::alloc::Global;
 
-/// A store of types, the numbers in it of those that were met, and the shapes, heads and names of
-/// the first of these.
+/// A store of types, the numbers of the discovered types in that store, and the shapes, heads and
+/// names of the first of them.
 #[derive(Drop)]
 pub(crate) struct Listing {
     pub(crate) types: Types,
@@ -28,7 +28,7 @@ pub(crate) struct Listing {
     pub(crate) names: Vec<Names>,
 }
 
-/// One type is met.
+/// Starts a listing: one type is discovered.
 pub(crate) fn started(alloc: Global, ty: &Ty) -> Result<Listing, Memory>
     ensures within { IfOk result (λ l. AreWithin l.types l.met.keys) }
     ensures one { IfOk result (λ l. length l.met.keys ≡ 1) }
@@ -47,7 +47,8 @@ pub(crate) fn started(alloc: Global, ty: &Ty) -> Result<Listing, Memory>
     })
 }
 
-/// Adds the entry of the first type that has none, and meets what that type reaches.
+/// Adds the entry of the first type without an entry, and discovers the types that this type
+/// reaches.
 pub(crate) fn go_on(
     alloc: Global,
     listing: &mut Listing,
@@ -75,7 +76,7 @@ pub(crate) fn go_on(
     Ok(())
 }
 
-/// Adds an entry.
+/// Appends an entry.
 fn put(listing: &mut Listing, entry: Entry) -> Result<(), Memory>
     ensures types { listing.new.types ≡ listing.old.types }
     ensures met { listing.new.met ≡ listing.old.met }

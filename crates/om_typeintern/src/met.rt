@@ -1,4 +1,4 @@
-//! Types that were met, each at a place of its own.
+//! Discovered types, each with its own index.
 
 ghost use Rattle.std.specs.Prelude.{◌≡◌, Some, nat_eq, slice_get, IfOk, OnOk};
 ghost use Rattle.indexmap.specs.IndexSet.{insert_key};
@@ -9,10 +9,10 @@ use om_model::Memory;
 use om_model::list::List;
 use std::alloc::Global;
 
-/// The numbers of types in a store, each once, in the order in which they were met.
+/// The numbers of the discovered types in a store, each once, in the order of discovery.
 pub(crate) type Met = IndexSet<usize>;
 
-/// The place of a number, at the end where it is new.
+/// Returns the index of a number. Appends the number if it is new.
 pub(crate) fn place(met: &mut Met, number: usize) -> Result<usize, Memory>
     ensures met { OnOk result (met.new.keys ≡ insert_key nat_eq met.old.keys number) }
     ensures there { IfOk result (λ place. slice_get met.new.keys place ≡ Some number) }
@@ -21,7 +21,7 @@ pub(crate) fn place(met: &mut Met, number: usize) -> Result<usize, Memory>
     Ok(place)
 }
 
-/// The places of numbers.
+/// Returns the indices of numbers. Appends the new ones.
 pub(crate) fn places(alloc: Global, met: &mut Met, numbers: &[usize]) -> Result<List<usize>, Memory>
     ensures { IfOk result (AreNumbersPlaced met.old.keys met.new.keys numbers.now) }
 {
@@ -33,7 +33,7 @@ pub(crate) fn places(alloc: Global, met: &mut Met, numbers: &[usize]) -> Result<
     Ok(List::of(found))
 }
 
-/// The place of a number, where there is one.
+/// Returns the index of a number, if there is a number.
 pub(crate) fn place_if(met: &mut Met, number: Option<usize>) -> Result<Option<usize>, Memory>
     ensures { IfOk result (IsOptionPlaced met.old.keys met.new.keys number) }
 {

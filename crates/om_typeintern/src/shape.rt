@@ -1,4 +1,4 @@
-//! Shapes by places.
+//! Shapes with indices as parts.
 
 ghost use Rattle.std.specs.Prelude.{IfOk};
 ghost use Rattle.om_typeintern.specs.Placed.{AreBlocksPlaced, IsTagPlaced, AreTagsPlaced};
@@ -10,8 +10,8 @@ use om_model::list::List;
 use om_types::shape::{Constr, PolyTag, ShapeOf};
 use std::alloc::Global;
 
-/// A shape by the places of the numbers in it. They are met constructor by constructor and field by
-/// field, and tags in their order.
+/// Replaces the type numbers in a shape by their indices. Adds new numbers constructor by
+/// constructor and field by field, and for tags in their order.
 pub(crate) fn placed_shape(
     alloc: Global,
     met: &mut Met,
@@ -46,7 +46,7 @@ pub(crate) fn placed_shape(
     }
 }
 
-/// Constructors with arguments, by places.
+/// Replaces the field types of constructors with arguments by their indices.
 fn placed_blocks(
     alloc: Global,
     met: &mut Met,
@@ -63,7 +63,7 @@ fn placed_blocks(
     Ok(List::of(found))
 }
 
-/// Tags by hashes, with the places of their arguments.
+/// Replaces the arguments of tags by their indices. The tags keep their hashes.
 fn placed_tags(
     alloc: Global,
     met: &mut Met,
@@ -78,7 +78,7 @@ fn placed_tags(
     Ok(List::of(found))
 }
 
-/// A tag by its hash, with the place of its argument.
+/// Replaces the argument of a tag by its index. The tag keeps its hash.
 fn placed_tag(met: &mut Met, tag: &PolyTag<usize>) -> Result<PolyTag<usize>, Memory>
     ensures { IfOk result (IsTagPlaced met.old.keys met.new.keys tag.now) }
 {

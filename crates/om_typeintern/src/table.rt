@@ -19,11 +19,12 @@ use om_types::decl::Decl;
 use om_types::ty::Ty;
 use std::alloc::Global;
 
-/// How many types a table has at most.
+/// The maximum number of types in a table.
 const MOST: usize = 65536;
 
-/// The table of the types that a type reaches, in the order in which they are met: the type, and
-/// then for each in turn what its shape names and the parts of its head.
+/// Builds the table of the types that a type reaches, in the order of discovery: the type itself,
+/// and then for each type in turn the types that its shape names and the parts of its head. Returns
+/// `TooManyTypes` if there are more than 65,536 of them, and `Memory` if memory runs out.
 pub fn build(alloc: Global, decls: &[Decl], ty: &Ty) -> Result<TypeTable, TypeFault>
     requires well { AreWellFormed decls.now }
     requires sound { IsSoundType decls.now ty.now }
@@ -35,7 +36,7 @@ pub fn build(alloc: Global, decls: &[Decl], ty: &Ty) -> Result<TypeTable, TypeFa
     Ok(TypeTable::new(of))
 }
 
-/// All types that a type reaches.
+/// Returns the listing of all types that a type reaches.
 fn listed(alloc: Global, decls: &[Decl], ty: &Ty) -> Result<Listing, TypeFault>
     requires { AreSound decls.now }
     ensures ok { IfOk result (IsWhole decls.now ty.now) }
@@ -45,7 +46,7 @@ fn listed(alloc: Global, decls: &[Decl], ty: &Ty) -> Result<Listing, TypeFault>
     listed_by(alloc, &environment, ty)
 }
 
-/// The same, with the places of declared names.
+/// Returns the same listing, for declarations whose names are indexed.
 fn listed_by(alloc: Global, decls: &SoundEnvironment<'_>, ty: &Ty) -> Result<Listing, TypeFault>
     ensures ok { IfOk result (IsWhole decls.now ty.now) }
     ensures err { IfErr result (IsTypeFault decls.now ty.now) }
@@ -60,7 +61,7 @@ fn listed_by(alloc: Global, decls: &SoundEnvironment<'_>, ty: &Ty) -> Result<Lis
     Ok(listing)
 }
 
-/// What the table of a listing is made of.
+/// Builds the table from a complete listing, and computes the classes of the heads.
 fn finished(alloc: Global, listing: Listing) -> Result<Tabled, Memory>
     requires { PartsBelow (length listing.heads.items) (head_at listing.heads.items) }
     ensures { IfOk result (IsTableOfListing listing) }

@@ -1,4 +1,4 @@
--- Of the fields of a value those are needed of whose values something is asked.
+-- The required fields of a value are those whose types restrict their values.
 use Rattle.std.proofs.Common.{ℕ, ◌≡◌, ◌∙◌, ◌≤◌, ◌==◌, List, [], ◌∷◌, length, Bool, true, false, cond}
 use Rattle.std.proofs.Common.{Option, Some, None, refl, sym, ap, subst, arith, ◌⊎◌, ⊎_elim, inl, inr}
 use Rattle.std.specs.Prelude.{Contains, IsTrue, find, option_map, option_and_then, if◌then◌else◌}
@@ -20,7 +20,7 @@ use Rattle.om_types.specs.Table.{Table, node_or_none, table_shapes, typed_fields
 use Rattle.om_types.proofs.FaultLemmas.{named_is_needed}
 use Rattle.om_types.proofs.ListLemmas.{filtered-Contains}
 
--- no number has two types
+-- No index has two types.
 abbrev pub AreOnce : {T : Type 0} → List (ℕ × T) → Type 0
 AreOnce {T} fields =
     (i : ℕ) (a b : T) → Contains fields (i, a) → Contains fields (i, b) → a ≡ b
@@ -39,7 +39,7 @@ module _ {T : Type 0} (shape : T → ShapeOf T) where
   is_needed fields i a among asked =
       Contains-filter (λ (field : ℕ × T). is_asked (shape field.1)) fields (i, a) among asked
 
-  -- not more is needed than there is
+  -- There are at most as many required fields as fields.
   pub few_asked : (fields : List (ℕ × T)) → length (asked_of shape fields) ≤ length fields
   few_asked [] = omega arith
   few_asked (field ∷ fields) = by (is_asked (shape field.1)) (few_asked fields) where
@@ -49,12 +49,12 @@ module _ {T : Type 0} (shape : T → ShapeOf T) where
     by true rest = omega (arith, rest)
     by false rest = omega (arith, rest)
 
-  -- the type, where something is asked of its values
+  -- The type, if it restricts its values.
   abbrev pub if_asked : T → Option T
   if_asked a = if is_asked (shape a) then Some a else None
 
-  -- where no number has two types, the type that is needed at a number is the field's, if it is
-  -- asked
+  -- If no index has two types, then the required type at an index is the field's type, if that type
+  -- restricts its values.
   pub asked_type : (fields : List (ℕ × T)) (i : ℕ) → AreOnce fields
       → type_of_field (asked_of shape fields) i
       ≡ option_and_then if_asked (type_of_field fields i)
@@ -63,7 +63,7 @@ module _ {T : Type 0} (shape : T → ShapeOf T) where
       at (k == i) (is_asked (shape t)) refl refl (asked_type fields i (λ j a b first second. once j a b
       (Contains-later (k, t) fields (j, a) first)
       (Contains-later (k, t) fields (j, b) second))) where
-        -- a field after one of its number is that one's type
+        -- If two fields have the same index, then they have the same type.
         same_after : (found : Option T) → ((a : T) → found ≡ Some a → t ≡ a)
             → is_asked (shape t) ≡ false → option_and_then if_asked found ≡ None
         same_after None same is = refl
@@ -101,7 +101,7 @@ no_fields : (T : Type 0) → IsSome {T = List (ℕ × T)} None → ⊥
 no_fields T some = false≢true some
 
 module _ {T : Type 0} where
-  -- where something is asked, a double does not fit, or an integer does not
+  -- If a representation restricts its values, then a double or an integer does not match it.
   misses : (s : ShapeOf T) → IsTrue (is_asked s)
       → (¬ IsSome (fields_of (objects.Double 0 ∷ []) (vals.Ref 0) s))
       ⊎ (¬ IsSome (fields_of [] (vals.Int (pos 0)) s))
@@ -109,7 +109,7 @@ module _ {T : Type 0} where
   misses shapes.Anything asked = absurd (false≢true asked)
   misses s asked = inl (no_fields T)
 
-  -- where nothing is asked, both fit
+  -- If a representation restricts nothing, then a double and an integer match it.
   double_fits : (s : ShapeOf T) → is_asked s ≡ false
       → IsSome (fields_of (objects.Double 0 ∷ []) (vals.Ref 0) s)
   double_fits shapes.Anything hidden = refl
@@ -120,7 +120,8 @@ module _ {T : Type 0} where
   integer_fits shapes.Anything hidden = refl
   integer_fits s hidden = absurd (false≢true (sym hidden))
 
-  -- so equal types of lawful shapes are asked of alike
+  -- If representations are lawful, then of two equal types both restrict their values, or neither
+  -- does.
   pub equal_asked : (shape : T → ShapeOf T) (Equal : T → T → Type 0) (InQuestion : T → Type 0)
       → AreLawful (shaped shape Equal) InQuestion → (t u : T) → InQuestion t ⊎ InQuestion u
       → Equal t u → IsTrue (is_asked (shape t)) → IsTrue (is_asked (shape u))

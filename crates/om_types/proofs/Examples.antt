@@ -1,5 +1,5 @@
--- Worked examples of the definitions. What is expected was computed by hand and by a program that
--- shares nothing with the definitions.
+-- Worked examples of the definitions. The expected results were computed by hand and by a program
+-- that shares no code with the definitions.
 use Rattle.std.proofs.Common.{ℕ, ◌≡◌, List, [], ◌∷◌, true, false, Some, None, refl, ap}
 use Rattle.std.proofs.Common.{arith}
 use Rattle.std.specs.Prelude.{codes, pos, negsuc}
@@ -38,7 +38,7 @@ float = named (codes "float")
 abbrev string : Ty
 string = named (codes "string")
 
--- an argument before a name
+-- A name with one argument.
 abbrev of_one : Ty → List ℕ → Ty
 of_one t name = part (named name) t
 
@@ -63,7 +63,8 @@ a = variable (codes "a")
 
 -- ---- flat floats
 
--- type 'a p = {x: 'a; y: 'a} and f = float and g = {a: f; mutable b: float} and e = C of {x: float}
+-- `type 'a p = {x: 'a; y: 'a} and f = float and g = {a: f; mutable b: float} and e = C of {x:
+-- float}`
 abbrev floats : List Decl
 floats =
     declares (codes "p") (codes "a" ∷ [])
@@ -76,24 +77,24 @@ floats =
     (arguments.Inline (has (codes "x") float ∷ [])) ∷ []))
     ∷ []
 
--- a record lies flat where each declared type expands to `float`
+-- A record is flat if each declared type expands to `float`.
 flat_record : shape floats (named (codes "g")) ≡ shapes.FlatFloats true 2
 unfolding head predeclared
 flat_record = refl
 
--- so one with a parameter for the fields' type does not, even at `float`
+-- A record with a parameter as its field type is not flat, even at `float`.
 parametric_record :
     shape floats (of_one float (codes "p")) ≡ shapes.Product false (float ∷ float ∷ [])
 unfolding head predeclared
 parametric_record = refl
 
--- an inline record never does
+-- An inline record is never flat.
 inline_record : shape floats (named (codes "e")) ≡ shapes.Sum 0
     (record { mutable = false; fields = float ∷ [] } ∷ [])
 unfolding head predeclared
 inline_record = refl
 
--- an array does where its elements expand to `float`, after substitution too
+-- An array is flat if its element type expands to `float`, after substitution too.
 array_of_floats : shape floats (of_one (named (codes "f")) (codes "array")) ≡ shapes.FloatArray
 unfolding head predeclared
 array_of_floats = refl
@@ -113,7 +114,7 @@ array_of_variables : shape [] (of_one a (codes "array")) ≡ shapes.ArrayOfVaria
 unfolding head predeclared
 array_of_variables = refl
 
--- an array of a variable may be empty, and a list of it too; a variable has no values
+-- An array or a list of a variable may be empty. A variable itself has no values.
 empty_array : fields_of [] (vals.Atom 0) (shape [] (of_one a (codes "array"))) ≡ Some []
 unfolding head predeclared
 empty_array = refl
@@ -132,12 +133,12 @@ no_value : fields_of [] (vals.Int (pos 0)) (shape [] a) ≡ None
 unfolding head predeclared
 no_value = refl
 
--- ---- what is hidden
+-- ---- wildcards
 
 abbrev any : Ty
 any = named (codes "_")
 
--- each value fits the type `_`
+-- Each value matches the type `_`.
 any_object : fields_of (objects.Block 7 (vals.Int (pos 1) ∷ []) ∷ []) (vals.Ref 0) (shape [] any)
     ≡ Some []
 unfolding head predeclared
@@ -147,7 +148,8 @@ any_atom : fields_of [] (vals.Atom 3) (shape [] any) ≡ Some []
 unfolding head predeclared
 any_atom = refl
 
--- ((ref 1), the same) at `int ref * _`: the second field has a type and is not needed
+-- A pair whose two fields are the same `ref 1`, at `int ref * _`: the second field has a type and
+-- is not required.
 abbrev shared : List Obj
 shared =
     objects.Block 0 (vals.Int (pos 1) ∷ []) ∷ objects.Block 0 (vals.Ref 0 ∷ vals.Ref 0 ∷ []) ∷ []
@@ -165,18 +167,18 @@ not_needed : (declared_shapes []).needs shared (vals.Ref 1) hidden_pair
 unfolding head predeclared
 not_needed = refl
 
--- an array of such values may be of doubles
+-- An array of wildcards may be an array of doubles.
 hidden_doubles : fields_of (objects.Doubles (0 ∷ 0 ∷ []) ∷ []) (vals.Ref 0)
     (shape [] (of_one any (codes "array"))) ≡ Some []
 unfolding head predeclared
 hidden_doubles = refl
 
--- and has no integer in its place, unlike `_`
+-- An array of wildcards is not an integer, although `_` allows integers.
 no_integer : fields_of [] (vals.Int (pos 0)) (shape [] (of_one any (codes "array"))) ≡ None
 unfolding head predeclared
 no_integer = refl
 
--- a record of such fields does not lie flat
+-- A record of wildcard fields is not flat.
 hidden_record : shape (declares (codes "r") [] (bodies.Record (has (codes "x") any ∷ [])) ∷ [])
     (named (codes "r")) ≡ shapes.Product false (any ∷ [])
 unfolding head predeclared
@@ -184,7 +186,7 @@ hidden_record = refl
 
 -- ---- constructors
 
--- type 'a c = A | B of 'a | C of {mutable k: 'a; l: int} | D
+-- `type 'a c = A | B of 'a | C of {mutable k: 'a; l: int} | D`
 abbrev constructors : List Decl
 constructors =
     declares (codes "c") (codes "a" ∷ []) (bodies.Variant (
@@ -197,7 +199,7 @@ constructors =
 abbrev string_c : Ty
 string_c = of_one string (codes "c")
 
--- constants and the other constructors are numbered each among themselves
+-- Constant constructors and constructors with arguments are numbered separately.
 numbered : shape constructors string_c ≡ shapes.Sum 2
     (record { mutable = false; fields = string ∷ [] } ∷ record {
       mutable = true;
@@ -206,7 +208,7 @@ numbered : shape constructors string_c ≡ shapes.Sum 2
 unfolding head predeclared
 numbered = refl
 
--- the last constant is 1
+-- The last constant is 1.
 last_constant : fields_of [] (vals.Int (pos 1)) (shape constructors string_c) ≡ Some []
 unfolding head predeclared
 last_constant = refl
@@ -215,7 +217,7 @@ past_constants : fields_of [] (vals.Int (pos 2)) (shape constructors string_c) �
 unfolding head predeclared
 past_constants = refl
 
--- a block is mutable where its own constructor has a mutable field
+-- A block is mutable if its own constructor has a mutable field.
 own_block : is_mutable (shape constructors string_c)
     (Some (objects.Block 0 (vals.Int (pos 1) ∷ []))) ≡ false
 unfolding head predeclared
@@ -235,7 +237,7 @@ its_names = refl
 
 -- ---- polymorphic variants
 
--- type t = [ `A of t | `B ] and w = [ `D | t | `A of t ]
+-- ``type t = [ `A of t | `B ] and w = [ `D | t | `A of t ]``
 abbrev variants : List Decl
 variants =
     declares (codes "t") []
@@ -245,7 +247,8 @@ variants =
     (codes "A") (named (codes "t"))))
     ∷ []
 
--- the tags of an included type stand in its place, and of a tag that comes twice the first stays
+-- The tags of an included type replace the inclusion. If a tag occurs twice, the first occurrence
+-- stays.
 included : head variants (named (codes "w")) ≡ heads.Variants (
     record { name = codes "D"; argument = None }
     ∷ record { name = codes "A"; argument = Some (named (codes "t")) }
@@ -253,26 +256,26 @@ included : head variants (named (codes "w")) ≡ heads.Variants (
 unfolding head predeclared
 included = refl
 
--- the hash of a tag is a signed number
+-- The hash of a tag is a signed number.
 signed_hash : shape [] (tag (tag bracket (codes "On")) (codes "some")) ≡ shapes.Poly (
     record { hash = pos 17727; arg = None } ∷ record { hash = negsuc 866639115; arg = None } ∷ [])
 unfolding head predeclared
 signed_hash = refl
 
--- field 1 of a block is the argument of the tag whose hash is field 0
+-- Field 1 of a block is the argument of the tag whose hash is field 0.
 argument : fields_of (objects.Block 0 (vals.Int (pos 65) ∷ vals.Int (pos 66) ∷ []) ∷ [])
     (vals.Ref 0) (shape variants (named (codes "w"))) ≡ Some ((1, named (codes "t")) ∷ [])
 unfolding head predeclared
 argument = refl
 
--- a tag with an argument is no integer
+-- A tag with an argument is not an integer.
 without_argument : fields_of [] (vals.Int (pos 65)) (shape variants (named (codes "w"))) ≡ None
 unfolding head predeclared
 without_argument = refl
 
--- ---- what is reached
+-- ---- reached types
 
--- type i = int and 'a ph = P and 'a drop = int
+-- `type i = int and 'a ph = P and 'a drop = int`
 abbrev dropping : List Decl
 dropping =
     declares (codes "i") [] (bodies.Abbreviation int)
@@ -281,17 +284,17 @@ dropping =
     ∷ declares (codes "drop") (codes "a" ∷ []) (bodies.Abbreviation int)
     ∷ []
 
--- not the head itself, nor an argument that an abbreviation drops
+-- A type does not directly reach its own head, or an argument that an abbreviation drops.
 nothing : reached_from dropping (of_one string (codes "drop")) ≡ []
 unfolding head predeclared
 nothing = refl
 
--- an argument that no field has is a part
+-- A phantom argument, which no field has, is a part.
 phantom : reached_from dropping (of_one (named (codes "i")) (codes "ph")) ≡ named (codes "i") ∷ []
 unfolding head predeclared
 phantom = refl
 
--- first what the shape names, and after it the parts of the head
+-- The types of the representation come first, and then the parts of the head.
 in_order : reached_from [] (of_one int (codes "list")) ≡ int ∷ of_one int (codes "list") ∷ int ∷ []
 unfolding head predeclared
 in_order = refl
@@ -302,12 +305,12 @@ module _ (pairs : List (Ty × Ty)) where
   abbrev Agree : List Decl → Ty → Ty → Type 0
   Agree decls t u = HeadsAgree (Holds pairs) (head decls t) (head decls u)
 
-  -- an argument that is dropped does not count
+  -- A dropped argument does not count for equality.
   dropped : Agree dropping (of_one string (codes "drop")) int
   unfolding head predeclared
   dropped = (refl, tt)
 
-  -- one that no field has does
+  -- A phantom argument counts for equality.
   phantoms_agree :
       Agree dropping (of_one string (codes "ph")) (of_one int (codes "ph")) → Holds pairs string int
   unfolding head predeclared
@@ -323,7 +326,7 @@ module _ (pairs : List (Ty × Ty)) where
   unfolding head predeclared number
   differ agree = let e : 1 ≡ 0 = ap number agree.0 in omega (arith, e)
 
-  -- two variables are equal exactly where they are the same one
+  -- Two variables are equal if and only if they have the same name.
   variables : Agree [] a (variable (codes "b")) → codes "a" ≡ codes "b"
   unfolding head predeclared
   variables agree = agree
@@ -335,13 +338,13 @@ phantoms_are_unequal equal =
 
 -- ---- texts
 
--- parentheses stand round a tuple that is a component or a single argument
+-- Parentheses surround a tuple that is a component or a single argument.
 text_of_tuple : type_text (pair (pair int string) (of_one (pair int int) (codes "list"))) ≡ codes
     "(int * string) * (int * int) list"
 unfolding type_text
 text_of_tuple = refl
 
--- and round no tuple among several arguments
+-- Parentheses do not surround a tuple among several arguments.
 text_of_arguments :
     type_text (part (part (named (codes "t")) (pair int int)) a) ≡ codes "(int * int, 'a) t"
 unfolding type_text

@@ -1,5 +1,5 @@
--- A value with a fault does not have the type, where the shapes are lawful at types that hold the
--- requested one.
+-- If representations are lawful at types that include the requested one, then a value with a fault
+-- does not have the type.
 use Rattle.std.proofs.Common.{ℕ, ◌≡◌, ◌==◌, ⊎_elim, inl, inr, List, [], ◌∷◌, Bool, true, false}
 use Rattle.std.proofs.Common.{cond, Option, Some, None, refl, ap, subst}
 use Rattle.std.specs.Prelude.{option_map, find, Contains}
@@ -16,7 +16,7 @@ use Rattle.om_types.specs.Lawful.{AreLawful}
 use Rattle.om_types.specs.Typing.{field_at, IsHeld, IsTyping, HasType}
 use Rattle.om_types.specs.Fault.{type_of_field, step, value_at, IsFault}
 
--- ---- needs
+-- ---- required fields
 
 named_at_first :
     {T : Type 0} (test : Bool) (k i : ℕ) (u t : T) (needs : List (ℕ × T)) → (test ≡ true → k ≡ i)
@@ -32,7 +32,7 @@ named_at_first {T} true k i u t needs same later named =
 named_at_first false k i u t needs same later named =
     Contains-later (k, u) needs (i, t) (later named)
 
--- what is named for a field is needed there
+-- If a type is found for a field, then the field is required at this type.
 pub named_is_needed :
     {T : Type 0} (needs : List (ℕ × T)) (i : ℕ) (t : T) → type_of_field needs i ≡ Some t
     → Contains needs (i, t)
@@ -53,7 +53,7 @@ paired w (Some u) next same =
 module _ {T : Type 0} (shapes : Shapes T) (InQuestion : T → Type 0)
     (lawful : AreLawful shapes InQuestion) (graph : List Obj) (pairs : List (ℕ × T))
     (typing : IsTyping shapes graph pairs) where
-  -- a held value is held at each equal type
+  -- If a value is held at a type, then it is held at each equal type.
   held_at_equal : (v : Val) (t u : T) → InQuestion u → shapes.equal t u
       → IsHeld shapes graph pairs v t → IsHeld shapes graph pairs v u
   held_at_equal (vals.Int z) t u in_question same held =
@@ -100,7 +100,7 @@ module _ {T : Type 0} (shapes : Shapes T) (InQuestion : T → Type 0)
             next.1 in_question held (subst (λ x. field_at graph o i ≡ Some x) parts.1 field) need,
       ))
 
-  -- where a held value leads is held
+  -- If a value is held, then the value at the end of a path from it is held.
   pub place_is_held :
       (path : List ℕ) (v : Val) (t : T) (w : Val) (u : T) → InQuestion t
       → IsHeld shapes graph pairs v t → value_at shapes graph v t path ≡ Some (w, u) → InQuestion u
@@ -114,7 +114,7 @@ module _ {T : Type 0} (shapes : Shapes T) (InQuestion : T → Type 0)
       let after = step_is_held v t i next in_question held stepped in
       place_is_held path next.0 next.1 w u after.0 after.1 rest)
 
-  -- one object at two types, at one of which it is mutable, has equal types
+  -- If an object is held at two types and is mutable at one of them, then the types are equal.
   equal_where_mutable :
       (o : ℕ) (one other : T) → InQuestion one → IsHeld shapes graph pairs (vals.Ref o) one
       → IsHeld shapes graph pairs (vals.Ref o) other → shapes.mutable graph o one
@@ -138,7 +138,7 @@ module _ {T : Type 0} (shapes : Shapes T) (InQuestion : T → Type 0)
     one_type = λ o t u among. absurd (Contains-none (o, t) among);
   }
 
-  -- a value that has a type is held by some typing
+  -- If a value has a type, then some typing holds it.
   pub held_by_some : (v : Val) (t : T) → InQuestion t → HasType shapes graph v t
       → (pairs : List (ℕ × T)) × IsTyping shapes graph pairs × IsHeld shapes graph pairs v t
   held_by_some (vals.Int z) t in_question has =
@@ -155,7 +155,7 @@ module _ {T : Type 0} (shapes : Shapes T) (InQuestion : T → Type 0)
     },
   )
 
-  -- a value with a fault does not have the type
+  -- If a value has a fault, then it does not have the type.
   pub fault_excludes_type :
       (v : Val) (t : T) (fault : Fault) → InQuestion t → IsFault shapes graph v t fault
       → HasType shapes graph v t → ⊥

@@ -1,4 +1,4 @@
--- Each value has a type of which nothing is asked.
+-- Each value has a type that restricts nothing.
 use Rattle.std.proofs.Common.{ℕ, ◌≡◌, ◌∙◌, ⊎_elim, List, [], ◌∷◌, true, false, Some, refl, sym, ap, subst}
 use Rattle.std.specs.Prelude.{Contains, IsSome, IsSomeAnd, slice_get, option_and_then}
 use Rattle.std.proofs.lemmas.Bool.{false≢true}
@@ -24,7 +24,7 @@ any_object (objects.I32 z) = refl
 any_object (objects.I64 z) = refl
 any_object (objects.Native z) = refl
 
--- what holds of the one pair holds of each
+-- If a predicate holds for the only pair of a list, then it holds for each pair.
 at_pair : {T : Type 0} (o : ℕ) (u : T) (P : ℕ → T → Type 0) → P o u → (p : ℕ) (t : T)
     → Contains {X = ℕ × T} ((o, u) ∷ []) (p, t) → P p t
 at_pair {T} o u P here p t among = ⊎_elim
@@ -50,7 +50,7 @@ module _ {T : Type 0} (shape : T → ShapeOf T) (Equal : T → T → Type 0) (gr
     pub object_fits : IsSome (fields_of graph (vals.Ref o) (shape u))
     object_fits = subst IsSome (sym no_fields_there) refl
 
-    -- an object alone justifies its own type
+    -- A single object at a type that restricts nothing is a typing.
     pub pair_typing : IsTyping (shaped shape Equal) graph ((o, u) ∷ [])
     pair_typing = record {
       fits = at_pair o u (λ p t. (shaped shape Equal).fits graph (vals.Ref p) t) object_fits;

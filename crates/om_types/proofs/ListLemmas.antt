@@ -1,4 +1,4 @@
--- What a filter gives of lists.
+-- Lemmas on filters of lists.
 use Rattle.std.proofs.Common.{◌≡◌, ◌⊎◌, ⊎_elim, inl, inr, List, [], ◌∷◌, Bool, true, false}
 use Rattle.std.proofs.Common.{Option, Some, None, refl, ap, subst, ◌∙◌}
 use Rattle.std.specs.Prelude.{Contains, filter, cond}
@@ -6,7 +6,7 @@ use Rattle.std.specs.List.{filter_map, cons_option}
 use Rattle.std.proofs.lemmas.Option.{same_Some, none-some}
 use Rattle.om_model.proofs.Options.{Contains-first, Contains-later, Contains-none, Contains-cases}
 
--- ---- what a filter gives of items
+-- ---- filters that select items
 
 put_has : {Y : Type 0} (found : Option Y) (rest : List Y) (y : Y) → (found ≡ Some y)
     ⊎ Contains rest y → Contains (cons_option found rest) y
@@ -42,7 +42,7 @@ module _ {X Y : Type 0} where
       (found.0, Contains-later z xs found.0 found.1, found.2))
       (put_is (h z) (filter_map h xs) y among)
 
--- ---- a filtered list, by a test
+-- ---- filters by a test
 
 kept_is : {X : Type 0} (test : Bool) (x : X) (xs : List X) (y : X)
     → Contains (cond test (x ∷ xs) xs) y → ((test ≡ true) × (x ≡ y)) ⊎ Contains xs y

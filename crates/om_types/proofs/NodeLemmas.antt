@@ -1,4 +1,4 @@
--- The types of nodes, one after the other.
+-- Lemmas on the types of a list of nodes.
 use Rattle.std.proofs.Common.{ℕ, zero, suc, ◌+◌, ◌-◌, ◌<◌, ◌≡◌, ◌∙◌, ⊎_elim, List, [], ◌∷◌, ◌++◌}
 use Rattle.std.proofs.Common.{length, Some, ◌≤◌, take, drop}
 use Rattle.std.proofs.Common.{refl, sym, ap, subst, arith}
@@ -47,7 +47,7 @@ with_none : (types : List Ty) → types ++ [] ≡ types
 with_none [] = refl
 with_none (t ∷ types) = ap (λ ts. t ∷ ts) (with_none types)
 
--- what is there stays
+-- Further nodes only append types.
 grown_keeps : (types : List Ty) (all : List Node) → (added : List Ty)
     × (grown types all ≡ types ++ added)
 grown_keeps types [] = ([], sym (with_none types))
@@ -58,7 +58,7 @@ grown_keeps types (node ∷ all) =
           more.0,
     )
 
--- what is there stays at its number
+-- Further nodes keep the type at each index.
 pub at_kept : (types added : List Ty) (i : ℕ) → i < length types → type_at (types ++ added) i ≡ type_at
     types i
 at_kept [] added i below = absurd (omega arith)
@@ -74,7 +74,7 @@ at_end : (types : List Ty) (t : Ty) (more : List Ty) → slice_get (types ++ t �
 at_end [] t more = refl
 at_end (u ∷ types) t more = at_end types t more
 
--- and a node that names it stands for the same
+-- A node that refers to earlier types denotes the same type after more are appended.
 pub node_kept : (types added : List Ty) (node : Node) → IsBelow (length types) node
     → type_of_node (types ++ added) node ≡ type_of_node types node
 node_kept types added (nodes.Variable x) below = refl
@@ -118,7 +118,7 @@ grown_at types (first ∷ all) (suc i) node is below =
     ∙ grown_at (types ++ type_of_node types first ∷ []) all i node is
     (subst (λ n. IsBelow n node) (sym here) below)
 
--- the type of a number is that of its node
+-- The type at an index is that of the node at the index.
 pub types_of-at :
     (all : List Node) (i : ℕ) (node : Node) → AreOrdered all → slice_get all i ≡ Some node
     → slice_get (types_of all) i ≡ Some (type_of_node (types_of all) node)
@@ -128,7 +128,7 @@ types_of-at all i node ordered is =
     ap (slice_get (types_of all)) here
     ∙ grown_at [] all i node is (subst (λ n. IsBelow n node) here (ordered i node is))
 
--- ---- one node more
+-- ---- one more node
 
 length-node : (all : List Node) (node : Node) → length (all ++ node ∷ []) ≡ suc (length all)
 length-node [] node = refl
@@ -144,7 +144,7 @@ pub AreOrdered-none : AreOrdered []
 AreOrdered-none zero node is = absurd (none-some node is)
 AreOrdered-none (suc i) node is = absurd (none-some node is)
 
--- a node that names earlier ones may be added
+-- If a node refers to earlier nodes only, then appending it keeps the order.
 pub AreOrdered-push :
     (all : List Node) (node : Node) → AreOrdered all → IsBelow (length all) node
     → AreOrdered (all ++ node ∷ [])
@@ -164,7 +164,7 @@ AreOrdered-push all node ordered below i other is = ⊎_elim
                 node,
           )
 
--- more nodes change no type
+-- Further nodes change no type.
 pub type_at-more :
     (all more : List Node) (i : ℕ) → i < length all
     → type_at (types_of (all ++ more)) i ≡ type_at (types_of all) i
@@ -174,7 +174,7 @@ type_at-more all more i below =
     ap (λ types. type_at types i) (grown_append [] all more ∙ kept.1)
     ∙ at_kept (grown [] all) kept.0 i (omega (arith, below, types_of-length all))
 
--- the type of one node more
+-- The type of an appended node.
 pub type_at-last :
     (all : List Node) (node : Node)
     → type_at (types_of (all ++ node ∷ [])) (length all) ≡ type_of_node (types_of all) node
@@ -184,7 +184,7 @@ type_at-last all node =
     (ap (λ types. type_at types (length (types_of all))) (types_of-push all node)
     ∙ at_last (types_of all) (type_of_node (types_of all) node))
 
--- the type of nodes is that of the last one
+-- The type of a list of nodes is that of the last node.
 pub type_of-push :
     (all : List Node) (node : Node) → type_of (all ++ node ∷ []) ≡ type_of_node (types_of all) node
 unfolding type_of
@@ -197,7 +197,7 @@ type_of-push all node =
 
 -- ---- the first nodes
 
--- the types of the first nodes are the first types
+-- The types of the first nodes are the first types.
 pub types_of-take :
     (n : ℕ) (all : List Node) → n ≤ length all → types_of (take n all) ≡ take n (types_of all)
 unfolding types_of
@@ -211,7 +211,7 @@ types_of-take n all within =
     sym (ap (take n) whole ∙ ap (λ k. take k (front ++ kept.0)) (sym many)
     ∙ take-append_seam front kept.0)
 
--- what is among the first elements
+-- An element among the first elements is an element at the same index.
 pub from_front :
     {A : Type 0} (n : ℕ) (xs : List A) (i : ℕ) (x : A) → slice_get (take n xs) i ≡ Some x
     → slice_get xs i ≡ Some x
@@ -220,6 +220,6 @@ from_front (suc n) [] i x is = is
 from_front (suc n) (y ∷ xs) zero x is = is
 from_front (suc n) (y ∷ xs) (suc i) x is = from_front n xs i x is
 
--- the first nodes name earlier ones
+-- The first nodes refer to earlier nodes only.
 pub AreOrdered-take : (n : ℕ) (all : List Node) → AreOrdered all → AreOrdered (take n all)
 AreOrdered-take n all ordered i node is = ordered i node (from_front n all i node is)

@@ -1,5 +1,5 @@
--- Rules of scope that are broken, in small files. Lexemes are numbered from 0; a name stands before
--- its arguments, and a bracket before its items.
+-- Small files that break scope rules. Lexemes are numbered from 0. A name comes before its
+-- arguments, and a bracket before its items.
 use Rattle.std.proofs.Common.{ℕ, ◌≡◌, ⊎_elim, inr, List, [], ◌∷◌, length, true, false, Option}
 use Rattle.std.proofs.Common.{Some, None}
 use Rattle.std.proofs.Common.{refl, ap, subst, arith}
@@ -42,7 +42,7 @@ places decl place parameters occurrences = record {
 abbrev int : Ty
 int = named (codes "int")
 
--- ---- type t = t list
+-- ---- `type t = t list`
 
 abbrev list_of_t : Ty
 list_of_t = part (named (codes "list")) (named (codes "t"))
@@ -67,11 +67,11 @@ step = record {
       (Contains-first (use_of 3 (codes "t") [] false) []);
 }
 
--- Cyclic at the declared name
+-- The rule `cyclic` is broken at the declared name.
 is_cyclic : BreaksInFile (looped ∷ []) cyclic 1
 is_cyclic = inr (looped, Contains-first looped [], (refl, [], step))
 
--- ---- type 'a t = N | C of 'a list t
+-- ---- `type 'a t = N | C of 'a list t`
 
 abbrev a : Ty
 a = variable (codes "a")
@@ -99,7 +99,7 @@ growing = record (places growing_decl 2 ((1, codes "a") ∷ []) (own_use ∷ inn
   carrying = 6 ∷ [];
 }
 
--- Irregular at the use of the name
+-- The rule `irregular` is broken at the use of the name.
 is_irregular : BreaksInFile (growing ∷ []) irregular 10
 is_irregular = inr (
   growing,
@@ -122,7 +122,7 @@ is_irregular = inr (
   ),
 )
 
--- ---- type r = {x: f} and f = float
+-- ---- `type r = {x: f} and f = float`
 
 abbrev x : Field
 x = record { name = codes "x"; mutable = false; ty = named (codes "f") }
@@ -166,7 +166,7 @@ all_expand field among = ⊎_elim
     (λ never. absurd (Contains-none field never))
     (Contains-cases x [] field among)
 
--- FloatInGroup at the record's name
+-- The rule `float_in_group` is broken at the record's name.
 is_float_in_group : BreaksInFile both float_in_group 1
 is_float_in_group =
     inr (
@@ -220,7 +220,7 @@ has_tags = record {
 names_differ : codes "azdwbie" ≡ codes "c7diagq" → ⊥
 names_differ same = let e : 97 ≡ 99 = ap (λ name. slice_index name 0) same in omega (arith, e)
 
--- HashClash at the later tag
+-- The rule `hash_clash` is broken at the later tag.
 is_hash_clash : BreaksInType [] (bracket_of hashed ∷ []) hash_clash 3
 is_hash_clash = (
   hashed,
@@ -236,7 +236,7 @@ with_int = (1, including bracket int) ∷ (3, tag bracket (codes "A")) ∷ []
 abbrev of_with_int : List Occurrence
 of_with_int = bracket_of with_int ∷ use_of 1 (codes "int") [] false ∷ []
 
--- NotVariant at the included type
+-- The rule `not_variant` is broken at the included type.
 is_not_variant : BreaksInType [] of_with_int not_variant 1
 unfolding head predeclared
 is_not_variant = (
@@ -304,7 +304,7 @@ arguments_differ : of_int.argument ≡ of_string.argument → ⊥
 unfolding letters
 arguments_differ same = let e : 3 ≡ 6 = ap letters same in omega (arith, e)
 
--- TagClash at the later item
+-- The rule `tag_clash` is broken at the later item.
 is_tag_clash : BreaksInFile (t_places ∷ u_places ∷ []) tag_clash 14
 is_tag_clash = inr (
   u_places,

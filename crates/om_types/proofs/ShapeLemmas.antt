@@ -1,4 +1,4 @@
--- The types that a shape names, where other types stand in it.
+-- The types in a representation whose parts are replaced.
 use Rattle.std.proofs.Common.{◌≡◌, ◌∙◌, List, [], ◌∷◌, ◌++◌, Option, Some, None, refl, ap, sym}
 use Rattle.std.specs.Prelude.{map, option_map}
 use Rattle.std.specs.List.{flat_map}

@@ -1,5 +1,5 @@
--- What accepted declarations are like: abbreviations come to an end, no declared type is deeper
--- than 200, and the tags of a bracket have hashes of their own.
+-- The properties of accepted declarations: the expansion of abbreviations terminates, no declared
+-- type is deeper than 200, and distinct tags of a bracket have distinct hashes.
 use Rattle.std.specs.Prelude.{ℕ, suc, ◌<◌, ◌≤◌, ◌≡◌, ◌⊎◌, List, [], ◌∷◌, ◌++◌, length, Some, None}
 use Rattle.om_polyvar.specs.TagHash.{tag_hash}
 use Rattle.std.specs.Prelude.{Contains}
@@ -27,7 +27,7 @@ abbrev pub IsVariable : Ty → Type 0
 IsVariable (variable name) = Unit {0}
 IsVariable t = ⊥
 
--- parts are added to a name, a tuple or a bracket, and to no variable
+-- Parts extend a name, a tuple or a bracket, and never a variable.
 abbrev pub IsWhole : Ty → Type 0
 IsWhole (variable name) = ⊥
 IsWhole (named name) = Unit {0}
@@ -43,7 +43,7 @@ IsType t = IsVariable t ⊎ IsWhole t
 
 -- ---- ranks
 
--- the names that a type uses outside tag arguments
+-- The names that a type uses outside tag arguments.
 abbrev pub names_outside : Ty → List (List ℕ)
 names_outside (variable x) = []
 names_outside (named name) = name ∷ []
@@ -54,7 +54,8 @@ names_outside (tag whole x) = names_outside whole
 names_outside (tag_of whole x argument) = names_outside whole
 names_outside (including whole included) = names_outside whole ++ names_outside included
 
--- Each abbreviation's rank is above those of all names that it uses outside tag arguments.
+-- A ranking: the rank of each abbreviation is greater than the ranks of all names that it uses
+-- outside tag arguments.
 pub record IsRanking (decls : List Decl) (rank : List ℕ → ℕ) : Type 0 where
   pub bounded : (name : List ℕ) → rank name ≤ length decls
   pub positive :
@@ -78,8 +79,8 @@ types_of_body (bodies.Record fields) = types_of_fields fields
 types_of_body (bodies.Variant constructors) =
     flat_map (λ (constructor : Constructor). types_of_arguments constructor.arguments) constructors
 
--- What the rules of scope and the limit of depth give: no abbreviation comes back to itself, and
--- each declared type is written as the grammar has it and at most 200 deep.
+-- The consequences of the scope rules and of the depth limit: no abbreviation expands to itself,
+-- and each declared type follows the grammar and is at most 200 deep.
 pub record AreSound (decls : List Decl) : Type 0 where
   pub rank : List ℕ → ℕ
   pub ranking : IsRanking decls rank
@@ -90,7 +91,7 @@ pub record AreSound (decls : List Decl) : Type 0 where
 
 -- ---- well-formed types
 
--- The names are known, each with as many arguments as it takes, where k more arguments follow.
+-- All names are known, and each has the right number of arguments, if `k` more arguments follow.
 abbrev pub TakeArguments : List Decl → ℕ → Ty → Type 0
 TakeArguments decls k (variable x) = Unit {0}
 TakeArguments decls k (named name) = arity_of decls name ≡ Some k
@@ -104,7 +105,7 @@ TakeArguments decls k (tag_of whole x argument) =
 TakeArguments decls k (including whole included) =
     TakeArguments decls 0 whole × TakeArguments decls 0 included
 
--- each variable is one of these
+-- Each variable is one of these.
 abbrev pub VariablesAmong : List (List ℕ) → Ty → Type 0
 VariablesAmong names (variable x) = Contains names x
 VariablesAmong names (named name) = Unit {0}
@@ -121,18 +122,18 @@ abbrev pub AreVariants : HeadOf Ty → Type 0
 AreVariants (heads.Variants tags) = Unit {0}
 AreVariants other = ⊥
 
--- tags of one hash have one name
+-- Tags with the same hash have the same name.
 abbrev pub HaveOwnHashes : List (TagOf Ty) → Type 0
 HaveOwnHashes tags =
     (one other : TagOf Ty) → Contains tags one → Contains tags other
     → tag_hash one.name ≡ tag_hash other.name → one.name ≡ other.name
 
--- The type ends in an item: all its tags have hashes of their own.
+-- The type is a bracket that ends in an item, and its distinct tags have distinct hashes.
 abbrev pub IsHashed : List Decl → Ty → Type 0
 IsHashed decls t = HaveOwnHashes (tags_in (head decls t))
 
--- Each bracket in the type includes polymorphic variants alone, and its tags have hashes of their
--- own.
+-- Each bracket in the type includes polymorphic variants only, and its distinct tags have distinct
+-- hashes.
 abbrev pub HasSoundBrackets : List Decl → Ty → Type 0
 HasSoundBrackets decls (variable x) = Unit {0}
 HasSoundBrackets decls (named name) = Unit {0}
@@ -148,13 +149,13 @@ HasSoundBrackets decls (including whole included) =
     HasSoundBrackets decls whole × HasSoundBrackets decls included
     × AreVariants (head decls included) × IsHashed decls (including whole included)
 
--- A type over declarations: it is written as the grammar has it, and breaks no rule of scope.
+-- A valid type over declarations: it follows the grammar and breaks no scope rule.
 pub record IsSoundType (decls : List Decl) (t : Ty) : Type 0 where
   pub written : IsType t
   pub arguments : TakeArguments decls 0 t
   pub brackets : HasSoundBrackets decls t
 
--- Declarations that break no rule of scope.
+-- Declarations that break no scope rule.
 pub record AreWellFormed (decls : List Decl) : Type 0 where
   pub sound : AreSound decls
   pub new_names :
@@ -170,13 +171,13 @@ pub record AreWellFormed (decls : List Decl) : Type 0 where
 
 -- ---- hashes of reached types
 
--- tags of one hash are one tag
+-- Tags with the same hash are equal.
 abbrev pub AreHashed : {T : Type 0} → List (PolyTag T) → Type 0
 AreHashed {T} tags =
     (one other : PolyTag T) → Contains tags one → Contains tags other
     → one.hash ≡ other.hash → one ≡ other
 
--- so it is at the head of each of these types
+-- At the head of each of these types, tags with the same hash are equal.
 abbrev pub AreKnownByHash : List Decl → List Ty → Type 0
 AreKnownByHash decls types =
     (t : Ty) (tags : List (PolyTag Ty)) → Contains types t

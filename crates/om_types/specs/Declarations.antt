@@ -1,4 +1,4 @@
--- What names mean, and abbreviations replaced (the OCaml manual, "Type definitions").
+-- The meanings of names, and the expansion of abbreviations (the OCaml manual, "Type definitions").
 use Rattle.std.specs.Prelude.{ℕ, zero, suc, ◌≡◌, List, [], ◌∷◌, Option, Some, None, option_map}
 use Rattle.std.specs.Prelude.{codes}
 use Rattle.std.specs.Prelude.{option_and_then, find, length}
@@ -24,13 +24,14 @@ predeclared_names =
 abbrev pub Entry : Type 0
 Entry = List ℕ × Predeclared
 
--- the predeclared type of this name
+-- The predeclared type with this name.
 unfoldable pub predeclared : List ℕ → Option Predeclared
 predeclared name =
     option_map (λ (entry : Entry). entry.1)
     (find (λ (entry : Entry). bytes_eq entry.0 name) predeclared_names)
 
--- the declaration of this name; accepted declarations have distinct names, and no predeclared ones
+-- The declaration of this name. Accepted declarations have distinct names, none of them
+-- predeclared.
 abbrev pub declaration_of : List Decl → List ℕ → Option Decl
 declaration_of decls name = find (λ (decl : Decl). bytes_eq decl.name name) decls
 
@@ -45,17 +46,17 @@ abbrev pub arity_in : Option Predeclared → Option Decl → Option ℕ
 arity_in (Some base) decl = Some (predeclared_arity base)
 arity_in None decl = option_map (λ (d : Decl). length d.parameters) decl
 
--- how many arguments a name takes
+-- The number of arguments that a name takes.
 abbrev pub arity_of : List Decl → List ℕ → Option ℕ
 arity_of decls name = arity_in (predeclared name) (declaration_of decls name)
 
 -- ---- abbreviations
 
--- a type of the declaration, at these arguments
+-- A type of the declaration, with these arguments for its parameters.
 abbrev pub instance_of : Decl → List Ty → Ty → Ty
 instance_of decl arguments t = instance (argument_for decl.parameters arguments) t
 
--- the type that the body abbreviates
+-- The type that the body abbreviates, if the body is an abbreviation.
 abbrev pub abbreviated : Body → Option Ty
 abbreviated (bodies.Abbreviation t) = Some t
 abbreviated (bodies.Record fields) = None
@@ -70,16 +71,16 @@ abbrev pub abbreviated_by : List Decl → Option (List ℕ) → List Ty → Opti
 abbreviated_by decls None arguments = None
 abbreviated_by decls (Some name) arguments = abbreviated_at (declaration_of decls name) arguments
 
--- what the abbreviation at the head of a type stands for, where there is one
+-- The expansion of the abbreviation at the head of a type, if there is one.
 abbrev pub unfolded : List Decl → Ty → Option Ty
 unfolded decls t = abbreviated_by decls (name_of t) (parts t)
 
--- the type after so many replacements at its head
+-- The type after that many expansions at its head.
 abbrev pub unfolded_times : List Decl → ℕ → Ty → Option Ty
 unfolded_times decls zero t = Some t
 unfolded_times decls (suc n) t = option_and_then (unfolded_times decls n) (unfolded decls t)
 
--- the type after replacements at its head until no abbreviation is there
+-- `u` is `t` after expansions at its head until no abbreviation is left there.
 pub record IsExpanded (decls : List Decl) (t u : Ty) : Type 0 where
   pub times : ℕ
   pub replaced : unfolded_times decls times t ≡ Some u

@@ -1,5 +1,5 @@
--- Equal types: a finite list of pairs of types justifies them, also where types come back to
--- themselves through polymorphic variants (Henry, Mauny, Chailloux and Manoury 2012).
+-- Type equality: a finite list of pairs of types justifies an equality, even if types recur through
+-- polymorphic variants (Henry, Mauny, Chailloux and Manoury 2012).
 use Rattle.std.specs.Prelude.{◌≡◌, List, [], ◌∷◌, Option, Some, None, Contains}
 use Rattle.om_types.specs.declared.decl.Decl.{Decl}
 use Rattle.om_types.specs.declared.head.TagOf.{TagOf}
@@ -12,7 +12,7 @@ use Rattle.om_types.specs.Shapes.{Shapes}
 use Rattle.om_types.specs.Fitting.{shaped}
 
 module _ {T : Type 0} where
-  -- the lists have one length, and the types at each place are alike
+  -- The lists have the same length, and the types at each position are related.
   abbrev pub Pairwise : (T → T → Type 0) → List T → List T → Type 0
   Pairwise Alike [] [] = Unit {0}
   Pairwise Alike (t ∷ ts) (u ∷ us) = Alike t u × Pairwise Alike ts us
@@ -27,7 +27,7 @@ module _ {T : Type 0} where
   TagsAgree Alike one other =
       (one.name ≡ other.name) × ArgumentsAgree Alike one.argument other.argument
 
-  -- each tag of the one list is in the other, and back, with arguments that are alike
+  -- Each tag of one list is in the other list, and conversely, with related arguments.
   pub record SameTags (Alike : T → T → Type 0) (tags others : List (TagOf T)) : Type 0 where
     pub there :
         (tag : TagOf T) → Contains tags tag
@@ -36,8 +36,8 @@ module _ {T : Type 0} where
         (other : TagOf T) → Contains others other
         → (tag : TagOf T) × Contains tags tag × TagsAgree Alike tag other
 
-  -- the same variable, predeclared type or datatype, tuples of one length, or the same tags, with
-  -- parts that are alike
+  -- Two heads agree: they are the same variable, predeclared type or datatype, tuples of the same
+  -- length, or the same tags, with related parts.
   abbrev pub HeadsAgree : (T → T → Type 0) → HeadOf T → HeadOf T → Type 0
   HeadsAgree Alike (heads.Variable x) (heads.Variable y) = x ≡ y
   HeadsAgree Alike (heads.Predeclared b ts) (heads.Predeclared c us) =
@@ -48,24 +48,24 @@ module _ {T : Type 0} where
   HeadsAgree Alike heads.Absent heads.Absent = Unit {0}
   HeadsAgree Alike one other = ⊥
 
-  -- the pairs have these two
+  -- The list contains this pair.
   abbrev pub Holds : List (T × T) → T → T → Type 0
   Holds pairs t u = Contains pairs (t, u)
 
-  -- the heads of each pair agree, and the pairs of their parts are in the list too
+  -- The heads of each pair agree, and the pairs of their parts are in the list too.
   abbrev pub IsClosed : (T → HeadOf T) → List (T × T) → Type 0
   IsClosed head pairs = (t u : T) → Holds pairs t u → HeadsAgree (Holds pairs) (head t) (head u)
 
-  -- some closed list has the two
+  -- Some closed list contains the pair.
   pub record EqualBy (head : T → HeadOf T) (t u : T) : Type 0 where
     pub pairs : List (T × T)
     pub holds : Holds pairs t u
     pub closed : IsClosed head pairs
 
--- two types over declarations are equal
+-- Two types over declarations are equal.
 abbrev pub Equal : List Decl → Ty → Ty → Type 0
 Equal decls = EqualBy (head decls)
 
--- the shapes of types over declarations
+-- The representations of types over declarations.
 abbrev pub declared_shapes : List Decl → Shapes Ty
 declared_shapes decls = shaped (shape decls) (Equal decls)

@@ -1,6 +1,7 @@
--- What a value of a graph may be at a shape, over any types: the table of representations, read by
--- the kinds of values and objects (`mlvalues.h`; Henry, Mauny, Chailloux and Manoury 2012). What
--- fits, what is needed and what is mutable are read off it.
+-- The values that a representation allows in a graph, generic in the types: the table of
+-- representations, by the kinds of values and objects (`mlvalues.h`; Henry, Mauny, Chailloux and
+-- Manoury 2012). The table determines which values match, which fields are required, and which
+-- objects are mutable.
 use Rattle.std.specs.Prelude.{ℕ, suc, ◌==◌, nat_lt, ◌&&◌, not, Bool, true, false, if◌then◌else◌}
 use Rattle.std.specs.Prelude.{IsTrue, IsSome, List, [], ◌∷◌, length, slice_get, find, replicate}
 use Rattle.std.specs.Prelude.{filter}
@@ -18,7 +19,7 @@ use Rattle.om_types.specs.declared.shape.ShapeOf.TheVariants as shapes
 
 -- ---- integers
 
--- from 0 and below k
+-- The integer is at least 0 and below `k`.
 abbrev pub is_below : ℕ → ℤ → Bool
 is_below k (pos n) = nat_lt n k
 is_below k (negsuc n) = false
@@ -28,17 +29,17 @@ is_number (pos m) (pos n) = m == n
 is_number (negsuc m) (negsuc n) = m == n
 is_number m n = false
 
--- the tag of a block
+-- The tag of a block.
 abbrev pub tag_of_block : Option Obj → ℕ
 tag_of_block (Some (objects.Block tag values)) = tag
 tag_of_block object = 0
 
 module _ {T : Type 0} where
-  -- the tag of this hash
+  -- The first tag with this hash.
   abbrev pub tag_with : List (PolyTag T) → ℤ → Option (PolyTag T)
   tag_with tags z = find (λ (tag : PolyTag T). is_number tag.hash z) tags
 
-  -- it is there, and has no argument
+  -- The tag exists and has no argument.
   abbrev pub is_bare : Option (PolyTag T) → Bool
   is_bare None = false
   is_bare (Some tag) = not (is_some tag.arg)
@@ -51,7 +52,7 @@ module _ {T : Type 0} where
   fits_int shapes.Anything z = true
   fits_int shape z = false
 
-  -- `[||]` is the atom 0
+  -- The empty array `[||]` is the atom 0.
   abbrev pub fits_atom : ShapeOf T → ℕ → Bool
   fits_atom (shapes.ArrayOf t) tag = tag == 0
   fits_atom shapes.FloatArray tag = tag == 0
@@ -60,7 +61,7 @@ module _ {T : Type 0} where
   fits_atom shapes.Anything tag = true
   fits_atom shape tag = false
 
-  -- ---- the types of a block's fields, by their numbers, where the block fits
+  -- ---- the types of a block's fields, by index, if the block matches
 
   abbrev pub numbered_from : ℕ → List T → List (ℕ × T)
   numbered_from i [] = []
@@ -73,7 +74,7 @@ module _ {T : Type 0} where
   constr_fields size None = None
   constr_fields size (Some constr) = fields_if (length constr.fields == size) constr.fields
 
-  -- field 0 is the hash, field 1 the argument
+  -- Field 0 is the hash, and field 1 is the argument.
   abbrev pub argument_field : Option T → Option (List (ℕ × T))
   argument_field arg = option_map (λ t. (1, t) ∷ []) arg
 
@@ -131,7 +132,8 @@ module _ {T : Type 0} where
   is_native shapes.Anything = true
   is_native shape = false
 
-  -- the fields for which the shape has types in an object, or None where the object does not fit
+  -- The fields of an object that have types under the representation, or `None` if the object does
+  -- not match.
   abbrev pub object_fields : ShapeOf T → Obj → Option (List (ℕ × T))
   object_fields shape (objects.Block tag values) = block_fields shape tag values
   object_fields shape (objects.Bytes bytes) = none_if (is_bytes shape)
@@ -141,7 +143,8 @@ module _ {T : Type 0} where
   object_fields shape (objects.I64 z) = none_if (is_int64 shape)
   object_fields shape (objects.Native z) = none_if (is_native shape)
 
-  -- the same of a value
+  -- The fields of a value that have types under the representation, or `None` if the value does not
+  -- match.
   abbrev pub fields_of : List Obj → Val → ShapeOf T → Option (List (ℕ × T))
   fields_of graph (vals.Int z) shape = none_if (fits_int shape z)
   fields_of graph (vals.Atom tag) shape = none_if (fits_atom shape tag)
@@ -153,7 +156,7 @@ module _ {T : Type 0} where
   is_mutable_block None = false
   is_mutable_block (Some constr) = constr.mutable
 
-  -- whether the shape says so of an object that fits it
+  -- The representation makes an object mutable, given that the object matches.
   abbrev pub is_mutable : ShapeOf T → Option Obj → Bool
   is_mutable (shapes.Bytes mutable) object = mutable
   is_mutable (shapes.Sum constants blocks) object =
@@ -169,19 +172,19 @@ module _ {T : Type 0} where
   or_none None = []
   or_none (Some needs) = needs
 
-  -- ---- what is hidden
+  -- ---- wildcards
 
-  -- whether anything is asked of the values of the shape
+  -- The representation restricts its values.
   abbrev pub is_asked : ShapeOf T → Bool
   is_asked shapes.Anything = false
   is_asked shape = true
 
--- the fields of whose values something is asked
+-- The fields whose types restrict their values.
 abbrev pub asked_of : {T : Type 0} → (T → ShapeOf T) → List (ℕ × T) → List (ℕ × T)
 asked_of {T} shape fields = filter (λ (field : ℕ × T). is_asked (shape field.1)) fields
 
--- What shapes of any types say of the values of a graph, where it is said which types are equal. A
--- field of whose value nothing is asked is not needed.
+-- The interface `Shapes` from representations of any types and from a type equality. A field whose
+-- type does not restrict its values is not required.
 abbrev pub shaped : {T : Type 0} → (T → ShapeOf T) → (T → T → Type 0) → Shapes T
 shaped shape Equal = record {
   fits = λ graph v t. IsSome (fields_of graph v (shape t));

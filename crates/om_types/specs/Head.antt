@@ -1,6 +1,6 @@
--- The head of a type: abbreviations at it are replaced until none is there, and included types are
--- replaced, in their places, by the tags of their own heads (the OCaml manual, "Polymorphic variant
--- types").
+-- The head of a type (the OCaml manual, "Polymorphic variant types"). Abbreviations at the head are
+-- expanded until none is left. Each included type is replaced, in its position, by the tags of its
+-- own head.
 use Rattle.std.specs.Prelude.{ℕ, zero, suc, ◌*◌, ◌^◌, Bool, not, List, [], ◌∷◌, ◌++◌, length}
 use Rattle.std.specs.Prelude.{filter}
 use Rattle.std.specs.Prelude.{Option, Some, None}
@@ -20,7 +20,7 @@ use Rattle.om_types.specs.Declarations.{predeclared, unfolded}
 abbrev pub has_tag : List (TagOf Ty) → List ℕ → Bool
 has_tag tags name = list_any (λ (other : TagOf Ty). bytes_eq other.name name) tags
 
--- of a tag that comes twice the first stays
+-- If a tag occurs twice, the first occurrence stays.
 abbrev pub joined : List (TagOf Ty) → List (TagOf Ty) → List (TagOf Ty)
 joined tags more = tags ++ filter (λ (tag : TagOf Ty). not (has_tag tags tag.name)) more
 
@@ -44,7 +44,7 @@ abbrev pub head_meant : Option Predeclared → List ℕ → HeadOf Ty
 head_meant (Some base) name = heads.Predeclared base []
 head_meant None name = heads.Datatype name []
 
--- the head of a name, before its arguments
+-- The head of a name, before its arguments.
 abbrev pub name_head : List ℕ → HeadOf Ty
 name_head name = head_meant (predeclared name) name
 
@@ -54,7 +54,7 @@ with_part (heads.Datatype name ts) t = heads.Datatype name (ts ++ t ∷ [])
 with_part (heads.Tuple ts) t = heads.Tuple (ts ++ t ∷ [])
 with_part other t = heads.Absent
 
--- the head of a type that has no abbreviation at its head, where those of included types are given
+-- The head of a type without an abbreviation at its head, given the heads of included types.
 abbrev pub plain_head : (Ty → HeadOf Ty) → Ty → HeadOf Ty
 plain_head head (variable name) = heads.Variable name
 plain_head head (named name) = name_head name
@@ -67,22 +67,22 @@ plain_head head (tag_of whole name argument) =
 plain_head head (including whole included) =
     with_tags (plain_head head whole) (tags_in (head included))
 
--- the head of what the type is replaced by, or else its own
+-- The head of the expansion, if there is one, or else the type's own head.
 abbrev pub head_by : (Ty → HeadOf Ty) → Ty → Option Ty → HeadOf Ty
 head_by head t (Some other) = head other
 head_by head t None = plain_head head t
 
--- the head with at most n replacements one inside the other
+-- The head with at most `n` nested expansions.
 abbrev pub head_within : List Decl → ℕ → Ty → HeadOf Ty
 head_within decls zero t = heads.Absent
 head_within decls (suc n) t = head_by (head_within decls n) t (unfolded decls t)
 
--- So many replacements are enough where no abbreviation comes back to itself and no declared type
--- is deeper than 200.
+-- A sufficient number of nested expansions, if no abbreviation expands to itself and no declared
+-- type is deeper than 200.
 abbrev pub enough : List Decl → Ty → ℕ
 enough decls t = depth t * 202 ^ suc (length decls)
 
--- The head of t is that of what t is replaced by, where an abbreviation is at its head, and else
--- its plain head. Over accepted declarations no other function is so.
+-- The head of `t`: if an abbreviation is at its head, the head of the expansion of `t`, otherwise
+-- its plain head. Over accepted declarations, this is the only such function.
 unfoldable pub head : List Decl → Ty → HeadOf Ty
 head decls t = head_within decls (enough decls t) t

@@ -1,16 +1,18 @@
--- What makes shapes fit to be checked, at the types in question.
+-- The conditions under which values can be checked against representations, for a given set of
+-- types.
 use Rattle.std.specs.Prelude.{ℕ, ◌⊎◌, List, Contains}
 use Rattle.om_model.specs.declared.value.Val.{Val}
 use Rattle.om_model.specs.declared.value.Obj.{Obj}
 use Rattle.om_types.specs.Shapes.{Shapes}
 
--- all types are in question
+-- The set of all types.
 abbrev pub Everything : {T : Type 0} → T → Type 0
 Everything t = Unit {0}
 
--- Equality is symmetric and transitive. The types in question are equal to themselves, need such
--- types alone, and mean the same as each type that is equal to one of them: the same values fit,
--- the same fields are needed, at equal types, and the same objects are mutable.
+-- The laws of representations. Equality is symmetric and transitive. It is reflexive on the given
+-- types, and their required fields have given types. A given type and any type equal to it have the
+-- same meaning: the same values match, the same fields are required at equal types, and the same
+-- objects are mutable.
 pub record AreLawful {T : Type 0} (shapes : Shapes T) (InQuestion : T → Type 0) : Type 0 where
   pub reflexive : (t : T) → InQuestion t → shapes.equal t t
   pub symmetric : (t u : T) → shapes.equal t u → shapes.equal u t

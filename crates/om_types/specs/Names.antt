@@ -1,4 +1,4 @@
--- The names that a type's declaration or variant has, in declared order.
+-- The constructor, field and tag names of a type, in the order of the declaration.
 use Rattle.std.specs.Prelude.{ℕ, List, [], ◌∷◌, map, Option, Some, None, codes, if◌then◌else◌}
 use Rattle.std.specs.List.{filter_map}
 use Rattle.om_polyvar.specs.TagHash.{tag_hash}
@@ -30,12 +30,13 @@ no_names = record { constants = []; constructors = []; fields = []; tags = [] }
 abbrev pub field_names : List Field → List (List ℕ)
 field_names fields = map (λ (field : Field). field.name) fields
 
--- the name of a constant constructor
+-- The name of a constant constructor.
 abbrev pub constant_name : Constructor → Option (List ℕ)
 constant_name constructor =
     if is_constant constructor.arguments then Some constructor.name else None
 
--- a name with the fields of its inline record, where it has one
+-- The name of a constructor with arguments, and the field names of its inline record, if it has
+-- one.
 abbrev pub carrying_names : List ℕ → Arguments → Option ConstrNames
 carrying_names name arguments.Constant = None
 carrying_names name (arguments.Listed types) = Some (record { name = name; fields = [] })
@@ -62,11 +63,12 @@ abbrev pub declared_body_names : Option Decl → Names
 declared_body_names None = no_names
 declared_body_names (Some decl) = body_names decl.body
 
--- a constructor with arguments and without an inline record
+-- A constructor with arguments and without an inline record.
 abbrev pub plain_constr : List ℕ → ConstrNames
 plain_constr name = record { name = name; fields = [] }
 
--- lists, options and references have names, as if they were declared; the others have none
+-- The names of a predeclared type. Lists, options and references have names as if they were
+-- declared. The others have none.
 abbrev pub predeclared_type_names : Predeclared → Names
 predeclared_type_names bases.List = record no_names {
   constants = codes "[]" ∷ [];
@@ -87,6 +89,6 @@ head_names decls (heads.Datatype name ts) = declared_body_names (declaration_of 
 head_names decls (heads.Variants tags) = record no_names { tags = map tag_name tags }
 head_names decls other = no_names
 
--- the names of a type
+-- The names of a type.
 abbrev pub names_of : List Decl → Ty → Names
 names_of decls t = head_names decls (head decls t)

@@ -1,15 +1,15 @@
--- The tree that a list of nodes stands for.
+-- The tree that a list of nodes denotes.
 use Rattle.std.specs.Prelude.{ℕ, ◌<◌, ◌-◌, ◌≡◌, List, [], ◌∷◌, ◌++◌, length, fold, slice_get, Some}
 use Rattle.std.specs.Prelude.{slice_index_or}
 use Rattle.om_types.specs.Ty.{Ty, variable, named, tuple, bracket, part, tag, tag_of, including}
 use Rattle.om_types.specs.declared.ty.Node.{Node}
 use Rattle.om_types.specs.declared.ty.Node.TheVariants as nodes
 
--- the type with this number
+-- The type with this index.
 abbrev pub type_at : List Ty → ℕ → Ty
 type_at types i = slice_index_or types i tuple
 
--- what a node stands for, after the types of earlier nodes
+-- The type that a node denotes, given the types of the earlier nodes.
 abbrev pub type_of_node : List Ty → Node → Ty
 type_of_node types (nodes.Variable name) = variable name
 type_of_node types (nodes.Named name) = named name
@@ -22,11 +22,11 @@ type_of_node types (nodes.TagOf whole name argument) =
 type_of_node types (nodes.Including whole included) =
     including (type_at types whole) (type_at types included)
 
--- the type of each node
+-- The type of each node.
 unfoldable pub types_of : List Node → List Ty
 types_of all = fold (λ types node. types ++ type_of_node types node ∷ []) [] all
 
--- the type of the last node
+-- The type of the last node.
 unfoldable pub type_of : List Node → Ty
 type_of all = type_at (types_of all) (length all - 1)
 
@@ -37,6 +37,6 @@ IsBelow n (nodes.TagOf whole name argument) = (whole < n) × (argument < n)
 IsBelow n (nodes.Including whole included) = (whole < n) × (included < n)
 IsBelow n node = Unit {0}
 
--- each node names earlier ones
+-- Each node refers to earlier nodes only.
 abbrev pub AreOrdered : List Node → Type 0
 AreOrdered all = (i : ℕ) (node : Node) → slice_get all i ≡ Some node → IsBelow i node

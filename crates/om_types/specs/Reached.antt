@@ -1,5 +1,5 @@
--- The types that a type reaches, in the order of their numbers, and where they are too many (this
--- project's own).
+-- The types that a type reaches, in the order of their numbers, and the limit on their number. The
+-- order and the limit are this project's own.
 use Rattle.std.specs.Prelude.{ℕ, ◌<◌, ◌≡◌, ◌⊎◌, List, [], ◌∷◌, ◌++◌, length, Option, Some, None}
 use Rattle.std.specs.Prelude.{slice_get, Contains, Bool, true, false}
 use Rattle.std.specs.List.{flat_map}
@@ -22,7 +22,8 @@ abbrev pub listed_if : {T : Type 0} → Option T → List T
 listed_if None = []
 listed_if (Some t) = t ∷ []
 
--- the types that a shape names, constructor by constructor and field by field, tags in their order
+-- The types in a representation: constructor by constructor and field by field, or tags in their
+-- order.
 abbrev pub named_in : {T : Type 0} → ShapeOf T → List T
 named_in {T} (shapes.Sum constants blocks) = flat_map (λ (constr : Constr T). constr.fields) blocks
 named_in (shapes.Product mutable ts) = ts
@@ -31,7 +32,7 @@ named_in (shapes.ArrayOfAnything t) = t ∷ []
 named_in {T} (shapes.Poly tags) = flat_map (λ (tag : PolyTag T). listed_if tag.arg) tags
 named_in shape = []
 
--- the arguments, components and tag arguments of a head
+-- The arguments, components and tag arguments of a head.
 abbrev pub parts_of : {T : Type 0} → HeadOf T → List T
 parts_of (heads.Predeclared base ts) = ts
 parts_of (heads.Datatype name ts) = ts
@@ -39,22 +40,22 @@ parts_of (heads.Tuple ts) = ts
 parts_of {T} (heads.Variants tags) = flat_map (λ (tag : TagOf T). listed_if tag.argument) tags
 parts_of head = []
 
--- the types that a shape names, and after them the parts of the head
+-- The types in the representation, followed by the parts of the head.
 abbrev pub reached_from : List Decl → Ty → List Ty
 reached_from decls t = named_in (shape decls t) ++ parts_of (head decls t)
 
--- whether the head is that of the type `_`
+-- The head is that of the wildcard `_`.
 abbrev pub is_any_head : {T : Type 0} → HeadOf T → Bool
 is_any_head (heads.Predeclared bases.Any ts) = true
 is_any_head head = false
 
--- none of these types is `_`
+-- None of these types is a wildcard `_`.
 abbrev pub NoneIsHidden : List Decl → List Ty → Type 0
 NoneIsHidden decls types = (t : Ty) → Contains types t → is_any_head (head decls t) ≡ false
 
 -- ---- all steps
 
--- the second list is the first without what comes again, or was seen before
+-- The second list is the first without repetitions and without types already in `seen`.
 abbrev pub IsWithoutRepeats : List Ty → List Ty → List Ty → Type 0
 IsWithoutRepeats seen [] others = others ≡ []
 IsWithoutRepeats seen (t ∷ ts) others =
@@ -62,26 +63,29 @@ IsWithoutRepeats seen (t ∷ ts) others =
     ⊎ ((¬ Contains seen t) × (rest : List Ty) × (others ≡ t ∷ rest)
     × IsWithoutRepeats (seen ++ t ∷ []) ts rest)
 
--- type k of these is reached from an earlier one
+-- Type `k` of the list is reached from an earlier one.
 abbrev pub IsFromEarlier : List Decl → List Ty → ℕ → Ty → Type 0
 IsFromEarlier decls types k u =
     (j : ℕ) × (w : Ty) × (j < k) × (slice_get types j ≡ Some w) × Contains (reached_from decls w) u
 
--- The types that t reaches: t, and then, type by type, those that each reaches, where first met.
+-- The types that `t` reaches: `t` itself, and then, type by type, the types that each reaches
+-- directly, in the order of first occurrence.
 pub record IsReached (decls : List Decl) (t : Ty) (types : List Ty) : Type 0 where
   pub in_order : IsWithoutRepeats [] (t ∷ flat_map (reached_from decls) types) types
-  -- and no others: a list that reaches itself alone is none
+  -- Each type but the first is reached from an earlier one. This excludes lists whose types only
+  -- reach one another.
   pub from_earlier :
       (k : ℕ) (u : Ty) → 0 < k → slice_get types k ≡ Some u → IsFromEarlier decls types k u
 
 -- ---- too many
 
--- no type is there twice
+-- No type is in the list twice.
 abbrev pub AreDistinct : List Ty → Type 0
 AreDistinct types =
     (i j : ℕ) (u : Ty) → slice_get types i ≡ Some u → slice_get types j ≡ Some u → i ≡ j
 
--- More than 65,536 distinct types are t or reached from an earlier one of them.
+-- There are more than 65,536 distinct types, each of which is `t` or is reached from an earlier
+-- one.
 pub record ReachesTooMany (decls : List Decl) (t : Ty) : Type 0 where
   pub types : List Ty
   pub many : 65536 < length types

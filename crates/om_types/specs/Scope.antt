@@ -1,5 +1,5 @@
--- The rules of scope: what breaks each of them and where, and which is answered (the OCaml manual,
--- "Type definitions"; their order and places are this project's own).
+-- The scope rules: what breaks each rule and at which lexeme, and which violation is reported (the
+-- OCaml manual, "Type definitions"). The order and the positions are this project's own.
 use Rattle.std.specs.Prelude.{ℕ, ◌<◌, ◌≤◌, ◌≡◌, ◌≢◌, ◌⊎◌, Bool, true, false, List, [], ◌∷◌, length}
 use Rattle.std.specs.Prelude.{map}
 use Rattle.std.specs.Prelude.{Option, Some, None, IsSome, slice_get, Contains}
@@ -24,25 +24,26 @@ use Rattle.om_types.specs.Occurrence.{DeclPlaces}
 -- ---- rules
 
 pub data Rule : Type 0 where
-  -- no type name, parameter, field, constructor or tag is written twice
+  -- No type name, parameter, field, constructor or tag is declared twice.
   twice : Rule
   unknown_name : Rule
   arity : Rule
   unbound_variable : Rule
-  -- no abbreviation comes back to itself
+  -- No abbreviation expands to itself.
   cyclic : Rule
-  -- in its own group a name has no argument that holds a variable and is none
+  -- In its own group, a type name has no argument that contains a variable without being a
+  -- variable.
   irregular : Rule
   too_many_constructors : Rule
-  -- what a bracket includes is a polymorphic variant
+  -- Every type that a bracket includes is a polymorphic variant.
   not_variant : Rule
-  -- a tag that comes from two items has one argument
+  -- A tag that comes from two items has one argument type.
   tag_clash : Rule
   hash_clash : Rule
-  -- no record lies flat through an abbreviation of its own group
+  -- No record is flat through an abbreviation of its own group.
   float_in_group : Rule
 
--- the rules are judged in this order
+-- The order in which the rules are checked.
 abbrev pub turn : Rule → ℕ
 turn twice = 0
 turn unknown_name = 1
@@ -56,20 +57,20 @@ turn tag_clash = 8
 turn hash_clash = 9
 turn float_in_group = 10
 
--- The rule that is answered, with its lexeme: it is broken there and at no lesser one, and no
--- earlier rule is broken anywhere.
+-- The violation that is reported, with its lexeme: the rule is broken there and at no smaller
+-- lexeme, and no earlier rule is broken anywhere.
 pub record IsFirst (Breaks : Rule → ℕ → Type 0) (rule : Rule) (k : ℕ) : Type 0 where
   pub broken : Breaks rule k
   pub least : (j : ℕ) → j < k → ¬ Breaks rule j
   pub earlier : (other : Rule) (j : ℕ) → turn other < turn rule → ¬ Breaks other j
 
--- no rule is broken
+-- No rule is broken.
 abbrev pub KeepsAll : (Rule → ℕ → Type 0) → Type 0
 KeepsAll Breaks = (rule : Rule) (k : ℕ) → ¬ Breaks rule k
 
 -- ---- names
 
--- a name stands at lexeme k that stands earlier in the list too
+-- The name at lexeme `k` occurs earlier in the list too.
 pub record IsSecond (all : List Placed) (k : ℕ) : Type 0 where
   pub earlier : ℕ
   pub later : ℕ
@@ -81,7 +82,7 @@ pub record IsSecond (all : List Placed) (k : ℕ) : Type 0 where
 
 -- ---- types
 
--- a variable stands in the type
+-- The type contains a variable.
 abbrev pub HoldsVariable : Ty → Type 0
 HoldsVariable (variable x) = Unit {0}
 HoldsVariable (named name) = ⊥
@@ -92,7 +93,7 @@ HoldsVariable (tag whole x) = HoldsVariable whole
 HoldsVariable (tag_of whole x argument) = HoldsVariable whole ⊎ HoldsVariable argument
 HoldsVariable (including whole included) = HoldsVariable whole ⊎ HoldsVariable included
 
--- an abbreviation of this group is among those that are replaced at the head of t
+-- An abbreviation of this group is among those that are expanded at the head of `t`.
 pub record IsThrough (decls : List Decl) (group : ℕ) (t : Ty) : Type 0 where
   pub times : ℕ
   pub type : Ty
@@ -106,17 +107,17 @@ pub record IsThrough (decls : List Decl) (group : ℕ) (t : Ty) : Type 0 where
 
 -- ---- brackets
 
--- the tag that an item writes, if it is one
+-- The tag of an item, if the item is a tag.
 abbrev pub written_tag : PlacedItem → Option Placed
 written_tag (k, tag bracket name) = Some (k, name)
 written_tag (k, tag_of bracket name argument) = Some (k, name)
 written_tag (k, t) = None
 
--- the tags that an item brings
+-- The tags that an item contributes.
 abbrev pub tags_of_item : List Decl → Ty → List (TagOf Ty)
 tags_of_item decls item = tags_in (head decls item)
 
--- Item i brings the tag one, and item j, which stands at lexeme k, the tag other.
+-- Item `i` contributes the tag `one`, and item `j`, at lexeme `k`, contributes the tag `other`.
 pub record HasTags (decls : List Decl) (items : List PlacedItem) (k i j : ℕ) (one other : TagOf Ty)
     : Type 0 where
   pub place : ℕ
@@ -127,27 +128,28 @@ pub record HasTags (decls : List Decl) (items : List PlacedItem) (k i j : ℕ) (
   pub one_there : Contains (tags_of_item decls first) one
   pub other_there : Contains (tags_of_item decls second) other
 
--- one tag comes from two items with unequal arguments; types are compared as they are written
+-- One tag comes from two items with unequal arguments. Argument types are compared as they are
+-- written.
 abbrev pub ClashesAt : List Decl → List PlacedItem → ℕ → Type 0
 ClashesAt decls items k =
     (i j : ℕ) × (one other : TagOf Ty) × HasTags decls items k i j one other
     × (i < j) × (one.name ≡ other.name) × (one.argument ≢ other.argument)
 
--- two tags have one hash; both may come from one included type
+-- Two tags with different names have the same hash. Both may come from one included type.
 abbrev pub HashesAt : List Decl → List PlacedItem → ℕ → Type 0
 HashesAt decls items k =
     (i j : ℕ) × (one other : TagOf Ty) × HasTags decls items k i j one other
     × (i ≤ j) × (one.name ≢ other.name) × (tag_hash one.name ≡ tag_hash other.name)
 
--- ---- one list of occurrences, where the declarations of some groups are seen
+-- ---- one list of occurrences, with the declarations of some groups visible
 
 module _ (decls : List Decl) (Seen : ℕ → Type 0) (occurrences : List Occurrence) where
-  -- some bracket breaks a rule
+  -- Some bracket breaks a rule.
   abbrev pub BracketBreaks : (List PlacedItem → Type 0) → Type 0
   BracketBreaks Breaks =
       (items : List PlacedItem) × Contains occurrences (bracket_of items) × Breaks items
 
-  -- the name at lexeme k breaks a rule
+  -- The name at lexeme `k` breaks a rule.
   abbrev pub UseBreaks : ℕ → (List ℕ → List Ty → Type 0) → Type 0
   UseBreaks k Breaks =
       (name : List ℕ) × (arguments : List Ty) × (in_tag : Bool)
@@ -171,7 +173,7 @@ module _ (decls : List Decl) (Seen : ℕ → Type 0) (occurrences : List Occurre
   BreaksIn hash_clash k = BracketBreaks (λ items. HashesAt decls items k)
   BreaksIn rule k = ⊥
 
--- In the text of one type all declarations are seen, and any variables may stand.
+-- In the text of a single type, all declarations are visible and all variables are allowed.
 abbrev pub BreaksInType : List Decl → List Occurrence → Rule → ℕ → Type 0
 BreaksInType decls occurrences rule k = BreaksIn decls (λ group. Unit {0}) occurrences rule k
 
@@ -183,7 +185,7 @@ decls_of all = map (λ (d : DeclPlaces). d.decl) all
 abbrev pub declared_names : List DeclPlaces → List Placed
 declared_names all = map (λ (d : DeclPlaces). (d.place, d.decl.name)) all
 
--- one abbreviation uses another one of its group outside tag arguments
+-- One abbreviation uses another one of its group outside tag arguments.
 pub record IsStep (all : List DeclPlaces) (one other : DeclPlaces) : Type 0 where
   pub first : Contains all one
   pub second : Contains all other
@@ -194,12 +196,12 @@ pub record IsStep (all : List DeclPlaces) (one other : DeclPlaces) : Type 0 wher
   pub arguments : List Ty
   pub used : Contains one.occurrences (use_of place other.decl.name arguments false)
 
--- steps lead from one over those between to the other
+-- A sequence of such steps from one declaration through `between` to the other.
 abbrev pub AreSteps : List DeclPlaces → DeclPlaces → List DeclPlaces → DeclPlaces → Type 0
 AreSteps all one [] other = IsStep all one other
 AreSteps all one (next ∷ between) other = IsStep all one next × AreSteps all next between other
 
--- each field expands to `float`, at least one through an abbreviation of this group
+-- Each field expands to `float`, and at least one of them through an abbreviation of this group.
 abbrev pub IsFlatThroughGroup : List Decl → ℕ → Body → Type 0
 IsFlatThroughGroup decls group (bodies.Record fields) =
     ((f : Field) → Contains fields f → is_float decls f.ty ≡ true)
@@ -207,15 +209,15 @@ IsFlatThroughGroup decls group (bodies.Record fields) =
 IsFlatThroughGroup decls group body = ⊥
 
 module _ (all : List DeclPlaces) where
-  -- the name at lexeme k is used in its own group with an argument that holds a variable and is
-  -- none alone
+  -- The name at lexeme `k` is used in its own group with an argument that contains a variable
+  -- without being one.
   abbrev pub IsIrregularAt : DeclPlaces → ℕ → Type 0
   IsIrregularAt d k =
       UseBreaks (decls_of all) (λ group. Unit {0}) d.occurrences k (λ name arguments.
       (e : DeclPlaces) × Contains all e × (e.decl.name ≡ name) × (e.decl.group ≡ d.decl.group)
       × (t : Ty) × Contains arguments t × HoldsVariable t × (¬ IsVariable t))
 
-  -- one declaration breaks a rule; it sees its own group and earlier ones
+  -- A declaration breaks a rule. It sees its own group and earlier ones.
   abbrev pub BreaksInDecl : DeclPlaces → Rule → ℕ → Type 0
   BreaksInDecl d twice k =
       IsSecond d.parameters k ⊎ IsSecond d.constructors k
@@ -232,14 +234,14 @@ module _ (all : List DeclPlaces) where
   BreaksInDecl d rule k =
       BreaksIn (decls_of all) (λ group. group ≤ d.decl.group) d.occurrences rule k
 
-  -- type names are distinct over the whole file, and none is a predeclared one
+  -- Type names are distinct in the whole file, and none is predeclared.
   abbrev pub NamesBreak : Rule → ℕ → Type 0
   NamesBreak twice k =
       IsSecond (declared_names all) k
       ⊎ ((name : List ℕ) × Contains (declared_names all) (k, name) × IsSome (predeclared name))
   NamesBreak rule k = ⊥
 
-  -- the text of a file breaks a rule at lexeme k
+  -- The text of a file breaks a rule at lexeme `k`.
   abbrev pub BreaksInFile : Rule → ℕ → Type 0
   BreaksInFile rule k =
       NamesBreak rule k ⊎ ((d : DeclPlaces) × Contains all d × BreaksInDecl d rule k)

@@ -1,5 +1,5 @@
--- What a search of objects at types knows that has seen all paths up to some path: what the check
--- keeps from turn to turn (this project's own).
+-- The invariant of a search over objects at types after it has seen all paths up to some path. The
+-- check keeps the invariant from step to step. This project's own.
 use Rattle.std.specs.Prelude.{ℕ, ◌≡◌, ◌⊎◌, List, [], ◌∷◌, ◌++◌, Some, Contains}
 use Rattle.om_model.specs.declared.value.Val.{Val}
 use Rattle.om_model.specs.declared.value.Val.TheVariants as vals
@@ -7,14 +7,14 @@ use Rattle.om_model.specs.declared.value.Obj.{Obj}
 use Rattle.om_types.specs.Shapes.{Shapes}
 use Rattle.om_types.specs.Fault.{IsBefore, field_of, value_at}
 
--- an object at a type, and the least path to it
+-- An object at a type, and the least path to them.
 pub record Entry (T : Type 0) : Type 0 where
   pub path : List ℕ
   pub object : ℕ
   pub type : T
 
--- where the value is a reference, its object has an entry at an equal type, whose path is not after
--- this one
+-- If the value is a reference, then its object has an entry at an equal type, and the entry's path
+-- is not after this one.
 abbrev pub IsEntered : {T : Type 0} → Shapes T → List (Entry T) → Val → T → List ℕ → Type 0
 IsEntered shapes entries (vals.Int z) t path = Unit {0}
 IsEntered shapes entries (vals.Atom tag) t path = Unit {0}
@@ -22,25 +22,26 @@ IsEntered {T} shapes entries (vals.Ref o) t path =
     (entry : Entry T) × Contains entries entry × (entry.object ≡ o)
     × shapes.equal t entry.type × (¬ IsBefore path entry.path)
 
--- Seen are the paths that were looked at: with each path all that are before it.
+-- The state of the search. `Seen` holds for the inspected paths. If it holds for a path, then it
+-- holds for all paths before it.
 pub record IsSearched {T : Type 0} (shapes : Shapes T) (graph : List Obj) (root : Val) (t : T)
     (entries : List (Entry T)) (Seen : List ℕ → Type 0) : Type 0 where
   pub down : (path other : List ℕ) → Seen path → ¬ IsBefore path other → Seen other
   pub root_fits : shapes.fits graph root t
   pub root_entered : IsEntered shapes entries root t []
-  -- each entry's path leads to it
+  -- The path of each entry leads to the entry's object and type.
   pub leads :
       (entry : Entry T) → Contains entries entry
       → value_at shapes graph root t entry.path ≡ Some (vals.Ref entry.object, entry.type)
-  -- what an entry needs was tested and entered, where the path to it was seen
+  -- If the path to a required field of an entry was seen, then the field was tested and entered.
   pub tested :
       (entry : Entry T) (i : ℕ) (a : T) (w : Val) → Contains entries entry
       → Contains (shapes.needs graph (vals.Ref entry.object) entry.type) (i, a)
       → field_of graph (vals.Ref entry.object) i ≡ Some w → Seen (entry.path ++ i ∷ [])
       → shapes.fits graph w a × IsEntered shapes entries w a (entry.path ++ i ∷ [])
 
--- two entries of one object at unequal types, at one of which it is mutable; the first has the
--- lesser path
+-- Two entries of one object are in conflict: their types are unequal, and the object is mutable at
+-- one of them. The first entry has the lesser path.
 pub record AreClashing {T : Type 0} (shapes : Shapes T) (graph : List Obj)
     (entries : List (Entry T)) (one other : Entry T) : Type 0 where
   pub first : Contains entries one
@@ -51,7 +52,8 @@ pub record AreClashing {T : Type 0} (shapes : Shapes T) (graph : List Obj)
   pub mutable :
       shapes.mutable graph one.object one.type ⊎ shapes.mutable graph one.object other.type
 
--- of all that clash these have the least second path, and to it the least first one
+-- Among all conflicting entries, these have the least second path and, for it, the least first
+-- path.
 pub record AreLeastClashing {T : Type 0} (shapes : Shapes T) (graph : List Obj)
     (entries : List (Entry T)) (one other : Entry T) : Type 0 where
   pub clashing : AreClashing shapes graph entries one other

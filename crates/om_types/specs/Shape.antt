@@ -1,4 +1,5 @@
--- What the values of a type look like (`mlvalues.h`; the runtime's default configuration).
+-- The representation of a type's values (`mlvalues.h`, for the default configuration of the
+-- runtime).
 use Rattle.std.specs.Prelude.{ℕ, Bool, true, false, if◌then◌else◌, List, [], ◌∷◌, length, map}
 use Rattle.std.specs.Prelude.{Option}
 use Rattle.std.specs.Prelude.{Some, None, codes}
@@ -33,12 +34,12 @@ is_float_head other = false
 abbrev pub is_float : List Decl → Ty → Bool
 is_float decls t = is_float_head (head decls t)
 
--- A record lies flat where the declared type of each field expands to `float`. A parameter does
--- not, even where the type is used at `float`.
+-- A record is flat if the declared type of each field expands to `float`. A parameter does not,
+-- even if the type is used at `float`.
 abbrev pub is_flat : List Decl → List Field → Bool
 is_flat decls fields = list_all (λ (field : Field). is_float decls field.ty) fields
 
--- whether the declaration is a record that lies flat; inline records never do
+-- The declaration is a flat record. Inline records are never flat.
 abbrev pub is_flat_body : List Decl → Body → Bool
 is_flat_body decls (bodies.Record fields) = is_flat decls fields
 is_flat_body decls body = false
@@ -58,7 +59,7 @@ constants_in all = count_by (λ (constructor : Constructor). is_constant constru
 abbrev pub types_of_fields : List Field → List Ty
 types_of_fields fields = map (λ (field : Field). field.ty) fields
 
--- the block of a constructor with arguments
+-- The block of a constructor with arguments.
 abbrev pub block_of : (Ty → Ty) → Arguments → Option (Constr Ty)
 block_of instance arguments.Constant = None
 block_of instance (arguments.Listed types) =
@@ -75,17 +76,18 @@ blocks_in instance all =
 abbrev pub block : Bool → List Ty → Constr Ty
 block mutable types = record { mutable = mutable; fields = types }
 
--- the array of a type with this head
+-- The representation of arrays whose element type has this head.
 abbrev pub array_of : HeadOf Ty → Ty → ShapeOf Ty
 array_of (heads.Variable name) t = shapes.ArrayOfVariable
 array_of (heads.Predeclared bases.Any ts) t = shapes.ArrayOfAnything t
 array_of head t = if is_float_head head then shapes.FloatArray else shapes.ArrayOf t
 
--- a list of these, as a type
+-- The type of lists of these elements.
 abbrev pub list_of : Ty → Ty
 list_of t = part (named (codes "list")) t
 
--- A predeclared name with a wrong number of arguments has no values.
+-- The representation of a predeclared type. A predeclared name with a wrong number of arguments has
+-- no values.
 abbrev pub predeclared_shape : List Decl → Predeclared → List Ty → ShapeOf Ty
 predeclared_shape decls bases.Int [] = shapes.AnyInt
 predeclared_shape decls bases.Char [] = shapes.Below 256
@@ -132,6 +134,6 @@ head_shape decls (heads.Tuple ts) = shapes.Product false ts
 head_shape decls (heads.Variants tags) = shapes.Poly (map tag_shape tags)
 head_shape decls heads.Absent = shapes.Variable
 
--- the shape of a type is that of its head
+-- The representation of a type, which is that of its head.
 abbrev pub shape : List Decl → Ty → ShapeOf Ty
 shape decls t = head_shape decls (head decls t)

@@ -1,5 +1,5 @@
--- A table of types: types by their numbers, with shapes that name numbers, and classes of equal
--- ones (this project's own).
+-- A table of types: types by number, with representations whose parts are numbers, and equivalence
+-- classes of equal types. This project's own.
 use Rattle.std.specs.Prelude.{ℕ, ◌≡◌, Bool, List, length, map, Option, Some, None, option_map}
 use Rattle.std.specs.Prelude.{slice_get}
 use Rattle.om_model.specs.declared.value.Val.{Val}
@@ -19,7 +19,7 @@ use Rattle.om_types.specs.Shape.{shape}
 use Rattle.om_types.specs.Fitting.{fields_of, or_none, is_asked, shaped}
 use Rattle.om_types.specs.Equal.{Equal}
 
--- ---- shapes with other parts
+-- ---- representations with other parts
 
 abbrev pub constr_with : {T U : Type 0} → (T → U) → Constr T → Constr U
 constr_with f constr = record { mutable = constr.mutable; fields = map f constr.fields }
@@ -27,7 +27,7 @@ constr_with f constr = record { mutable = constr.mutable; fields = map f constr.
 abbrev pub tag_with_parts : {T U : Type 0} → (T → U) → PolyTag T → PolyTag U
 tag_with_parts f tag = record { hash = tag.hash; arg = option_map f tag.arg }
 
--- the shape with each type replaced
+-- The representation with each type replaced.
 abbrev pub with_parts : {T U : Type 0} → (T → U) → ShapeOf T → ShapeOf U
 with_parts f shapes.AnyInt = shapes.AnyInt
 with_parts f (shapes.Below k) = shapes.Below k
@@ -52,7 +52,7 @@ with_parts f (shapes.ArrayOfAnything t) = shapes.ArrayOfAnything (f t)
 abbrev pub tag_with_part : {T U : Type 0} → (T → U) → TagOf T → TagOf U
 tag_with_part f tag = record { name = tag.name; argument = option_map f tag.argument }
 
--- the head with each part replaced
+-- The head with each part replaced.
 abbrev pub head_with_parts : {T U : Type 0} → (T → U) → HeadOf T → HeadOf U
 head_with_parts f (heads.Variable name) = heads.Variable name
 head_with_parts f (heads.Predeclared base ts) = heads.Predeclared base (map f ts)
@@ -65,11 +65,11 @@ abbrev pub head_or_absent : Option (HeadOf ℕ) → HeadOf ℕ
 head_or_absent None = heads.Absent
 head_or_absent (Some head) = head
 
--- the head at a number, whose parts are numbers
+-- The head with this index, whose parts are numbers.
 abbrev pub head_at : List (HeadOf ℕ) → ℕ → HeadOf ℕ
 head_at all i = head_or_absent (slice_get all i)
 
--- these are the heads of the types, by the numbers of their parts
+-- These are the heads of the types, with the parts as indices into the list of types.
 abbrev pub AreHeadsOf : List Decl → List Ty → List (HeadOf ℕ) → Type 0
 AreHeadsOf decls types all =
     map (head_with_parts (slice_get types)) all
@@ -77,34 +77,35 @@ AreHeadsOf decls types all =
 
 -- ---- tables
 
--- for each number the shape, whose types are numbers, and the class
+-- For each number, the representation, whose parts are numbers, and the class.
 pub record Table : Type 0 where
   pub nodes : List (ShapeOf ℕ)
   pub classes : List ℕ
 
--- a number that is not in the table has no values
+-- A number outside the table has no values.
 abbrev pub node_or_none : Option (ShapeOf ℕ) → ShapeOf ℕ
 node_or_none None = shapes.Variable
 node_or_none (Some node) = node
 
--- the shapes of types by their numbers, equal where they have one class
+-- The representations of types by number. Two numbers are equal if they are in one class.
 abbrev pub table_shapes : Table → Shapes ℕ
 table_shapes table =
     shaped (λ i. node_or_none (slice_get table.nodes i))
     (λ i j. slice_get table.classes i ≡ slice_get table.classes j)
 
--- the fields for which the type of a number has types in a value, by their places
+-- The fields of a value that have types at this number, by index.
 abbrev pub typed_fields : Table → List Obj → Val → ℕ → List (ℕ × ℕ)
 typed_fields table graph v i = or_none (fields_of graph v (node_or_none (slice_get table.nodes i)))
 
--- whether something is asked of the values of the type of a number; only then is a field needed
+-- The type of this number restricts its values. Only such a type makes a field required.
 abbrev pub is_asked_in : Table → ℕ → Bool
 is_asked_in table i = is_asked (node_or_none (slice_get table.nodes i))
 
--- The table of these types: the shapes are theirs, and exactly equal ones have one class.
+-- The table of these types: it has their representations, and two types are in one class if and
+-- only if they are equal.
 pub record IsTableOf (decls : List Decl) (types : List Ty) (table : Table) : Type 0 where
   pub many : length table.classes ≡ length types
-  -- the shapes, whose numbers are those of types
+  -- The representations, whose parts are the numbers of types.
   pub nodes :
       map (with_parts (slice_get types)) table.nodes
       ≡ map (λ t. with_parts Some (shape decls t)) types

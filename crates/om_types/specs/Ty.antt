@@ -1,35 +1,37 @@
--- Types as they are written, abbreviations unexpanded (the OCaml manual, "Type expressions").
+-- Type expressions, with abbreviations unexpanded (the OCaml manual, "Type expressions").
 -- Parentheses leave no node.
 use Rattle.std.specs.Prelude.{ℕ, suc, max, List, [], ◌∷◌, ◌++◌, Option, Some, None, if◌then◌else◌}
 use Rattle.std.specs.Str.{bytes_eq}
 
--- A type is a variable; or a name, a tuple or a bracket of tags, to which its parts are added from
--- the left, one by one. So `(int, string) t` is the name t with the part int and the part string.
+-- A type is a variable; or it is a name, a tuple or a bracket of tags, which is extended by its
+-- parts from the left, one by one. For example, `(int, string) t` is the name `t` with the part
+-- `int` and then the part `string`.
 pub data Ty : Type 0 where
   variable : (name : List ℕ) → Ty
   named : (name : List ℕ) → Ty
   tuple : Ty
   bracket : Ty
-  -- an argument or a component more
+  -- A whole, extended by an argument or a component.
   part : (whole added : Ty) → Ty
-  -- a tag more, without an argument or with one, or an included type more
+  -- A bracket, extended by a tag without or with an argument, or by an included type.
   tag : (whole : Ty) (name : List ℕ) → Ty
   tag_of : (whole : Ty) (name : List ℕ) (argument : Ty) → Ty
   including : (whole included : Ty) → Ty
 
--- the name that the parts are arguments of
+-- The name whose arguments the parts are.
 abbrev pub name_of : Ty → Option (List ℕ)
 name_of (named name) = Some name
 name_of (part whole added) = name_of whole
 name_of t = None
 
--- the arguments or components
+-- The arguments or components.
 abbrev pub parts : Ty → List Ty
 parts (part whole added) = parts whole ++ added ∷ []
 parts t = []
 
--- How deep the parts nest: 1 for a variable or a name alone, and 1 more than the deepest argument,
--- component, tag argument or included type for what has such. Parentheses are not counted.
+-- The nesting depth. A variable or a bare name has depth 1. Other types have a depth that is 1 more
+-- than that of the deepest argument, component, tag argument or included type. Parentheses do not
+-- count.
 abbrev pub depth : Ty → ℕ
 depth (variable name) = 1
 depth (named name) = 1
@@ -40,7 +42,7 @@ depth (tag whole name) = depth whole
 depth (tag_of whole name argument) = max (depth whole) (suc (depth argument))
 depth (including whole included) = max (depth whole) (suc (depth included))
 
--- the type with each variable replaced
+-- The type with each variable replaced.
 abbrev pub instance : (List ℕ → Ty) → Ty → Ty
 instance value (variable name) = value name
 instance value (named name) = named name
@@ -53,7 +55,7 @@ instance value (tag_of whole name argument) =
 instance value (including whole included) =
     including (instance value whole) (instance value included)
 
--- the argument that stands for a parameter; other variables stand for themselves
+-- The argument for a parameter. Other variables stand for themselves.
 abbrev pub argument_for : List (List ℕ) → List Ty → List ℕ → Ty
 argument_for [] arguments name = variable name
 argument_for (parameter ∷ parameters) [] name = variable name

@@ -1,5 +1,5 @@
--- How the logic stores a type: its parts from the left, and after them how they are put together.
--- Contracts never see it.
+-- The encoding of a type as a list in the logic, in postfix order: the parts from the left, and
+-- then how they are combined. Contracts never refer to it.
 use Rattle.std.specs.Prelude.{ℕ, ◌≡◌, List, [], ◌∷◌, cond, ◌==◌}
 use Rattle.std.specs.Coded.{Coded, code_by, coded×, coded_ℕ, coded_list}
 use mathlib.Core.Path.{refl, ap, ◌∙◌}

@@ -1,17 +1,17 @@
--- The text of a type: as it is written, abbreviations unexpanded, with parentheses exactly round a
--- tuple that is the one argument of a name or a component of a tuple.
+-- The text of a type, with abbreviations unexpanded. Parentheses surround a tuple only if it is the
+-- single argument of a name, or a component of a tuple.
 use Rattle.std.specs.Prelude.{ℕ, Bool, true, false, if◌then◌else◌, List, [], ◌∷◌, ◌++◌, map, codes}
 use Rattle.om_types.specs.Ty.{Ty, variable, named, tuple, bracket, part, tag, tag_of, including}
 
--- ---- texts that are put together
+-- ---- joined texts
 
--- these with a text between each two
+-- The texts, with a separator between each two.
 abbrev pub joined_by : List ℕ → List (List ℕ) → List ℕ
 joined_by between [] = []
 joined_by between (text ∷ []) = text
 joined_by between (text ∷ next ∷ texts) = text ++ between ++ joined_by between (next ∷ texts)
 
--- a part's text, and whether it is that of a tuple
+-- The text of a part, and whether the part is a tuple.
 pub record Piece : Type 0 where
   pub is_tuple : Bool
   pub text : List ℕ
@@ -24,13 +24,13 @@ enclosed piece = if piece.is_tuple then codes "(" ++ piece.text ++ codes ")" els
 
 -- ---- types
 
--- what a type begins with, before its parts
+-- The beginning of a type, before its parts.
 pub data Stem : Type 0 where
   word : (text : List ℕ) → Stem
   product : Stem
   brackets : Stem
 
--- a stem and the texts of the parts that follow
+-- A stem, and the texts of the parts that follow it.
 pub record Pieces : Type 0 where
   pub stem : Stem
   pub parts : List Piece
@@ -48,7 +48,7 @@ is_product (word text) = false
 is_product product = true
 is_product brackets = false
 
--- a type's text, as a part of another one
+-- The text of a type as a part of another type.
 abbrev pub as_piece : Pieces → Piece
 as_piece pieces =
     record { is_tuple = is_product pieces.stem; text = spelled pieces.stem pieces.parts }
@@ -75,6 +75,6 @@ pieces_of (tag_of whole name argument) =
     (plain_piece (codes "`" ++ name ++ codes " of " ++ (as_piece (pieces_of argument)).text))
 pieces_of (including whole included) = with_piece (pieces_of whole) (as_piece (pieces_of included))
 
--- the text of a type
+-- The text of a type.
 unfoldable pub type_text : Ty → List ℕ
 type_text t = (as_piece (pieces_of t)).text

@@ -1,4 +1,4 @@
--- The line of a verdict: `yes`, or `no` and the least fault.
+-- The line of a verdict: `yes`, or `no` and the first fault.
 use Rattle.std.specs.Prelude.{ℕ, ◌≡◌, List, [], ◌++◌, length, Option, Some, None, slice_get, codes}
 use Rattle.std.specs.Prelude.{decimal}
 use Rattle.std.specs.Fmt.{signed_decimal}
@@ -26,26 +26,26 @@ object_text (Some (objects.I32 z)) = codes "int32"
 object_text (Some (objects.I64 z)) = codes "int64"
 object_text (Some (objects.Native z)) = codes "nativeint"
 
--- what a value is, whatever its type
+-- A description of a value, independent of its type.
 abbrev pub kind_text : List Obj → Val → List ℕ
 kind_text graph (vals.Int z) = codes "int " ++ signed_decimal z
 kind_text graph (vals.Atom tag) = codes "atom " ++ decimal tag
 kind_text graph (vals.Ref o) = object_text (slice_get graph o)
 
--- ---- faults, over any text of types
+-- ---- faults, generic in the texts of types
 
--- a path leads to a value that was to be of a type
+-- The text of a type mismatch: the path, the expected type, and the value found.
 abbrev pub misfit_text : {T : Type 0} → (T → List ℕ) → List Obj → List ℕ → Val → T → List ℕ
 misfit_text type_text graph path v t =
     path_text path ++ codes ": expected " ++ type_text t ++ codes ", found " ++ kind_text graph v
 
--- two paths lead to one object, each at its type
+-- The text of an aliasing conflict: two paths to one object, each with its type.
 abbrev pub clash_text : {T : Type 0} → (T → List ℕ) → List ℕ → T → List ℕ → T → List ℕ
 clash_text type_text first t second u =
     path_text first ++ codes " and " ++ path_text second ++ codes ": " ++ type_text t
     ++ codes " and " ++ type_text u ++ codes " share a mutable object"
 
--- the values and the types are those at the ends of the paths
+-- The text of a fault, for the values and types at the ends of its paths.
 abbrev pub IsFaultText : {T : Type 0} → Shapes T → (T → List ℕ) → List Obj → Val → T → Fault
     → List ℕ → Type 0
 IsFaultText {T} shapes type_text graph v t (Misfit path) text =
@@ -58,7 +58,7 @@ IsFaultText {T} shapes type_text graph v t (Clash first second) text =
 
 -- ---- the line
 
--- the least fault, and its text after `no`
+-- A `no` line: the first fault, and its text after `no`.
 pub record IsNoLine {T : Type 0} (shapes : Shapes T) (type_text : T → List ℕ) (graph : List Obj)
     (v : Val) (t : T) (line : List ℕ) : Type 0 where
   pub fault : Fault

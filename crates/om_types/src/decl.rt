@@ -3,7 +3,7 @@
 use crate::ty::Ty;
 use om_model::list::List;
 
-/// A type that each file knows.
+/// A predeclared type, whose name every file knows.
 #[derive(Clone, Copy, Debug, PartialEq, Eq)]
 pub enum Predeclared {
     Int,
@@ -21,7 +21,7 @@ pub enum Predeclared {
     Option,
     Array,
     Ref,
-    /// The type `_`, of which nothing is said.
+    /// The wildcard type `_`, which every value has.
     Any,
 }
 
@@ -33,7 +33,8 @@ pub struct Field {
     pub ty: Ty,
 }
 
-/// What stands after a constructor's `of`: nothing, types, or the fields of an inline record.
+/// The arguments after a constructor's `of`: none, a list of types, or the fields of an inline
+/// record.
 #[derive(Drop)]
 pub enum Arguments {
     Constant,
@@ -48,7 +49,7 @@ pub struct Constructor {
     pub arguments: Arguments,
 }
 
-/// What a declared name stands for.
+/// The meaning of a declared name.
 #[derive(Drop)]
 pub enum Body {
     Abbreviation(Ty),
@@ -56,8 +57,8 @@ pub enum Body {
     Variant(List<Constructor>),
 }
 
-/// A declaration. The group is how many declarations come before those that are declared together
-/// with it.
+/// A declaration. `group` is the number of declarations before the group of mutually recursive
+/// declarations to which this one belongs.
 #[derive(Drop)]
 pub struct Decl {
     pub name: List<u8>,
@@ -66,5 +67,5 @@ pub struct Decl {
     pub group: usize,
 }
 
-/// The declarations of a file, in its order.
+/// The declarations of a file, in the order of the file.
 pub type Decls = List<Decl>;

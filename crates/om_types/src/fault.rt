@@ -1,9 +1,10 @@
-//! Why a value does not have a type.
+//! The reasons why a value does not have a type.
 
 use om_model::path::Path;
 
-/// A path to a value that does not fit its type, or two paths, the lesser first, to one object at
-/// unequal types, at one of which it is mutable.
+/// A fault: a type mismatch or an aliasing conflict. A type mismatch has the path to the part that
+/// does not match its type. An aliasing conflict has two paths to one object at unequal types, at
+/// one of which the object is mutable. The lesser path comes first.
 #[derive(Drop)]
 pub enum Fault {
     Misfit(Path),

@@ -1,4 +1,4 @@
-//! Heads of types, over any type of parts.
+//! Heads of types, generic in the type of their parts.
 
 use crate::decl::Predeclared;
 use om_model::list::List;
@@ -10,16 +10,17 @@ pub struct TagOf<T> {
     pub argument: Option<T>,
 }
 
-/// What stands at the head of a type once abbreviations are replaced there, and its parts.
+/// The head of a type after its abbreviations are expanded, with the parts of the head.
 #[derive(Drop)]
 pub enum HeadOf<T> {
     Variable(List<u8>),
     Predeclared(Predeclared, List<T>),
-    /// A declared record or variant and its arguments.
+    /// A declared record or variant, and its arguments.
     Datatype(List<u8>, List<T>),
     Tuple(List<T>),
-    /// The tags of a polymorphic variant, those of included types in their places.
+    /// The tags of a polymorphic variant. The tags of an included type replace the inclusion, in
+    /// its position.
     Variants(List<TagOf<T>>),
-    /// What no type over accepted declarations has.
+    /// The head of no type over accepted declarations.
     Absent,
 }

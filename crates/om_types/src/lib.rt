@@ -1,5 +1,7 @@
-//! Types of values: declarations, type expressions, shapes, equality, typings, paths, faults and
-//! their texts, as definitions (Henry and others, 2012), and the laws on them.
+//! Defines types of OCaml values: declarations, type expressions, representations, type equality,
+//! typings, paths, faults and the texts of types and faults (after Henry and others, 2012). It also
+//! defines the rules of scope for declarations, and tables of types by number. The crate has data
+//! types and definitions only; it has no functions besides the constructor and accessor of `Ty`.
 #![tactic(auto)]
 
 pub mod decl;

@@ -1,9 +1,9 @@
-//! The names that a type's declaration or variant has.
+//! The constructor, field and tag names of a type.
 
 use om_model::list::List;
 
-/// The name of a constructor with arguments, and those of the fields of its inline record, where it
-/// has one.
+/// The name of a constructor with arguments, and the field names of its inline record, if it has
+/// one.
 #[derive(Drop)]
 pub struct ConstrNames {
     pub name: List<u8>,
@@ -17,8 +17,8 @@ pub struct TagName {
     pub hash: i64,
 }
 
-/// The constant constructors, the other constructors, the fields of a record, and the tags, each in
-/// declared order.
+/// The names of the constant constructors, the other constructors, the fields of a record, and the
+/// tags, each in the order of the declaration.
 #[derive(Drop)]
 pub struct Names {
     pub constants: List<List<u8>>,

@@ -1,26 +1,26 @@
-//! How the values of a type are represented (`mlvalues.h`), over any type of parts.
+//! The representation of a type's values (`mlvalues.h`), generic in the type of its parts.
 
 use om_model::list::List;
 
-/// A constructor with arguments: whether its block may be changed, and the types of its fields.
+/// A constructor with arguments: whether its block is mutable, and the types of its fields.
 #[derive(Drop)]
 pub struct Constr<T> {
     pub mutable: bool,
     pub fields: List<T>,
 }
 
-/// A tag of a polymorphic variant by its hash, and the type of its argument.
+/// A tag of a polymorphic variant, by its hash, and the type of its argument.
 #[derive(Drop)]
 pub struct PolyTag<T> {
     pub hash: i64,
     pub arg: Option<T>,
 }
 
-/// What the values of a type look like; a bool says that they may be changed.
+/// The representation of the values of a type. A `bool` is true if the values are mutable.
 #[derive(Drop)]
 pub enum ShapeOf<T> {
     AnyInt,
-    /// Integers from 0 and below the number.
+    /// The integers from 0 up to the number, exclusive.
     Below(u64),
     Bytes(bool),
     Double,
@@ -30,15 +30,15 @@ pub enum ShapeOf<T> {
     /// The number of constant constructors, and the other constructors by the tags of their blocks.
     Sum(u64, List<Constr<T>>),
     Product(bool, List<T>),
-    /// So many doubles in one object.
+    /// One object with this number of doubles.
     FlatFloats(bool, u64),
     ArrayOf(T),
     FloatArray,
     Poly(List<PolyTag<T>>),
     Variable,
     ArrayOfVariable,
-    /// All values, of which nothing is asked.
+    /// All values, without any requirement.
     Anything,
-    /// An array of such values, which may lie flat as doubles.
+    /// An array of elements without any requirement. The array may be a flat array of doubles.
     ArrayOfAnything(T),
 }

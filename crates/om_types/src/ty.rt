@@ -1,4 +1,4 @@
-//! Types as they are written: a list of nodes, which contracts see as a tree.
+//! Type expressions: a list of nodes, whose model in contracts is a tree.
 
 ghost use Rattle.std.specs.Prelude.{◌≡◌};
 ghost use Rattle.om_types.specs.Nodes.{type_of, AreOrdered};
@@ -6,8 +6,8 @@ ghost use Rattle.om_types.specs.Nodes.{type_of, AreOrdered};
 use om_model::list::List;
 use std::marker::Model;
 
-/// A variable; or a name, a tuple or a bracket of tags; or one of these three with a part more.
-/// Nodes are named by their places in the list.
+/// A node: a variable, a name, a tuple or a bracket of tags; or an earlier node extended by one
+/// part. A node refers to an earlier node by the earlier node's index in the list.
 #[derive(Drop)]
 pub enum Node {
     /// A variable, without its quote.
@@ -15,18 +15,18 @@ pub enum Node {
     Named(List<u8>),
     Tuple,
     Bracket,
-    /// An argument or a component more.
+    /// A whole, extended by an argument or a component.
     Part(usize, usize),
-    /// A tag more, without its backquote.
+    /// A bracket, extended by a tag without an argument. The tag has no backquote.
     Tag(usize, List<u8>),
-    /// A tag with an argument more.
+    /// A bracket, extended by a tag with an argument.
     TagOf(usize, List<u8>, usize),
-    /// An included type more.
+    /// A bracket, extended by an included type.
     Including(usize, usize),
 }
 
-/// A type as it is written, abbreviations unexpanded. Parentheses leave nothing. Contracts see the
-/// tree of its last node.
+/// A type expression, with abbreviations unexpanded. Parentheses leave no node. In contracts, its
+/// model is the tree of the last node.
 #[derive(Drop)]
 pub struct Ty {
     nodes: Vec<Node>,
@@ -48,7 +48,7 @@ impl Model for Ty {
 }
 
 impl Ty {
-    /// The type of the last of these nodes.
+    /// Returns the type of the last of these nodes.
     pub fn of(nodes: Vec<Node>) -> Ty
         requires { AreOrdered nodes.items }
         ensures { result ≡ type_of nodes.items }
@@ -56,7 +56,8 @@ impl Ty {
         Ty { nodes }
     }
 
-    /// The nodes, lent: each names earlier ones, and the last one's tree is the type.
+    /// Returns the nodes. Each node refers to earlier nodes only, and the tree of the last node is
+    /// the type.
     pub fn nodes(&self) -> &[Node]
         ensures ordered { AreOrdered result.now }
         ensures last { type_of result.now ≡ self.now }

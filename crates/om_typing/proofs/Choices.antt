@@ -1,4 +1,4 @@
--- Searches of lists.
+-- Exhaustive searches of lists.
 use Rattle.std.proofs.Common.{suc, ◌≡◌, ◌∙◌, ◌⊎◌, ⊎_elim, inl, inr, List, [], ◌∷◌, length, sym, subst, arith}
 use Rattle.std.specs.Prelude.{Contains}
 use Rattle.om_model.proofs.Options.{Contains-first, Contains-later, Contains-none, Contains-cases}
@@ -16,7 +16,8 @@ search_more {X} Q x xs (inr first) (inr all) = inr each where
   each : (y : X) → Contains (x ∷ xs) y → Q y
   each y among = by_place y (Contains-cases x xs y among)
 
--- some item leads to an E, or each has the property
+-- If each item either yields an `E` or has the property, then some item yields an `E` or all items
+-- have the property.
 pub search_all : {X E : Type 0} (Q : X → Type 0) (xs : List X) → ((x : X) → Contains xs x → E ⊎ Q x) → E ⊎ ((x : X) → Contains xs x → Q x)
 search_all Q [] test = inr (λ x among. absurd (Contains-none x among))
 search_all Q (x ∷ xs) test =

@@ -1,4 +1,5 @@
--- The misfit at which a search ends is the least fault, and so is the least clash of all its entries where it has seen all paths.
+-- The mismatch at which a search ends is the least fault. If the search has covered all paths, the
+-- least aliasing conflict of its entries is the least fault.
 use Rattle.std.proofs.Common.{ℕ, ◌≡◌, ◌∙◌, ◌⊎◌, ⊎_elim, inl, inr, List, Some, sym, ap, subst}
 use Rattle.std.specs.Prelude.{Contains}
 use Rattle.std.proofs.lemmas.Option.{same_Some}
@@ -16,7 +17,7 @@ use Rattle.om_model.proofs.Options.{IsSomeAnd-some}
 use Rattle.om_typing.proofs.PathLemmas.{paths_compare}
 use Rattle.om_typing.proofs.SearchedLemmas.{seen_is_known, before_transitive}
 
--- a misfit before which no misfit is
+-- If no mismatch is before this one, then it is the least fault.
 pub least_misfit : {T : Type 0} (shapes : Shapes T) (graph : List Obj) (root : Val) (t : T)
     (path : List ℕ) → IsMisfit shapes graph root t path
     → ((other : List ℕ) → IsMisfit shapes graph root t other → IsBefore other path → ⊥)
@@ -30,7 +31,7 @@ least_misfit shapes graph root t path misfit first =
 
 module _ {T : Type 0} (shapes : Shapes T) (lawful : AreLawful shapes Everything) (graph : List Obj)
     (root : Val) (t : T) (entries : List (Entry T)) where
-  -- a search that has seen all paths before a misfit
+  -- If a search has covered all paths before a mismatch, then the mismatch is the least fault.
   pub misfit_is_least :
       (path : List ℕ) → IsSearched shapes graph root t entries (λ other. IsBefore other path)
       → IsMisfit shapes graph root t path → IsLeastFault shapes graph root t (Misfit path)
@@ -79,7 +80,7 @@ module _ {T : Type 0} (shapes : Shapes T) (lawful : AreLawful shapes Everything)
       mutable = c.mutable;
     }
 
-    -- of two entries with unequal types one path is before the other
+    -- If two entries have unequal types, then one path is before the other.
     ordered : (a b : Entry T) → Contains entries a → Contains entries b
         → (shapes.equal a.type b.type → ⊥) → IsBefore a.path b.path ⊎ IsBefore b.path a.path
     ordered a b among among' unequal = ⊎_elim
@@ -94,7 +95,8 @@ module _ {T : Type 0} (shapes : Shapes T) (lawful : AreLawful shapes Everything)
               subst (λ u. shapes.equal a.type u) (ap (λ (p : Val × T). p.1) place)
               (lawful.reflexive a.type tt)
 
-    -- each clash has two entries that clash, whose paths are not after its own
+    -- For each aliasing conflict there are two conflicting entries whose paths are not after its
+    -- own.
     pub record HasClashing (first second : List ℕ) : Type 0 where
       pub a : Entry T
       pub b : Entry T
@@ -164,7 +166,8 @@ module _ {T : Type 0} (shapes : Shapes T) (lawful : AreLawful shapes Everything)
         both = λ same. absurd (e.4 (subst (λ p. IsBefore first p) (sym same) c.before));
       }
 
-    -- the least clash of the entries of a search that has seen all paths
+    -- If the search has covered all paths, then the least aliasing conflict of the entries is the
+    -- least fault.
     pub clash_is_least :
         (one other : Entry T) → AreLeastClashing shapes graph entries one other
         → IsLeastFault shapes graph root t (Clash one.path other.path)

@@ -1,4 +1,4 @@
--- The types that are named for fields.
+-- The types of required fields.
 use Rattle.std.proofs.Common.{ℕ, ◌≡◌, ◌∙◌, ◌⊎◌, inl, inr, List, [], ◌∷◌, Bool, true, false, cond, Some, refl, sym, ap}
 use Rattle.std.specs.Prelude.{option_map, find, Contains, ◌==◌}
 use Rattle.std.proofs.lemmas.Bool.{false≢true}
@@ -14,7 +14,7 @@ not_at_first : {T : Type 0} (first : ℕ × T) (needs : List (ℕ × T)) (i : �
 not_at_first first needs i t other (inl same) = absurd (false≢true (sym other ∙ (Decides-eqb first.0 i).1 (ap (λ need. need.0) same)))
 not_at_first first needs i t other (inr later) = later
 
--- some type is named for a field that is needed
+-- If a field is required, then the lookup of its type succeeds.
 pub needed_is_named : {T : Type 0} (needs : List (ℕ × T)) (i : ℕ) (t : T) → Contains needs (i, t) → (u : T) × (type_of_field needs i ≡ Some u)
 needed_is_named [] i t need = absurd (Contains-none (i, t) need)
 needed_is_named (first ∷ needs) i t need =

@@ -1,4 +1,4 @@
--- A value has one least fault at a type, and a fault has one text.
+-- A value has at most one least fault at a type, and a fault has at most one text.
 use Rattle.std.proofs.Common.{ℕ, ◌≡◌, ◌∙◌, inl, inr, List, Some, sym, ap, ◌++◌}
 use Rattle.std.specs.Prelude.{codes}
 use Rattle.std.proofs.lemmas.Option.{same_Some}
@@ -12,7 +12,7 @@ use Rattle.om_types.specs.LeastFault.{IsToldBefore, IsLeastFault}
 use Rattle.om_types.specs.VerdictText.{misfit_text, clash_text, IsFaultText, IsNoLine}
 use Rattle.om_typing.proofs.PathLemmas.{OneOfThree, paths_compare}
 
--- of two faults one is told before the other, or they are the same
+-- Of two faults, one is reported before the other, or they are equal.
 faults_compare : (one other : Fault) → OneOfThree (IsToldBefore one other) (one ≡ other) (IsToldBefore other one)
 faults_compare (Misfit p) (Misfit q) = at (paths_compare p q) where
   at : OneOfThree (IsBefore p q) (p ≡ q) (IsBefore q p) → OneOfThree (IsBefore p q) (Misfit p ≡ Misfit q) (IsBefore q p)
@@ -31,7 +31,7 @@ faults_compare (Clash first second) (Clash one other) = at (paths_compare second
   at (inr (inl same)) (inr (inl equal)) = inr (inl (ap (λ p. Clash p second) equal ∙ ap (λ q. Clash one q) same))
 
 module _ {T : Type 0} (shapes : Shapes T) (graph : List Obj) (v : Val) (t : T) where
-  -- there is one least fault
+  -- There is at most one least fault.
   pub least_once : (one other : Fault) → IsLeastFault shapes graph v t one → IsLeastFault shapes graph v t other → one ≡ other
   least_once one other is its = at (faults_compare one other) where
     at : OneOfThree (IsToldBefore one other) (one ≡ other) (IsToldBefore other one) → one ≡ other
@@ -43,7 +43,7 @@ module _ {T : Type 0} (shapes : Shapes T) (graph : List Obj) (v : Val) (t : T) w
     one_place : (path : List ℕ) (v1 v2 : Val) (t1 t2 : T) → value_at shapes graph v t path ≡ Some (v1, t1) → value_at shapes graph v t path ≡ Some (v2, t2) → ◌≡◌ {A = Val × T} (v1, t1) (v2, t2)
     one_place path v1 v2 t1 t2 one other = same_Some (v1, t1) (v2, t2) (sym one ∙ other)
 
-    -- a fault has one text
+    -- A fault has at most one text.
     pub fault_text_once : (fault : Fault) (text other : List ℕ) → IsFaultText shapes type_text graph v t fault text → IsFaultText shapes type_text graph v t fault other → text ≡ other
     fault_text_once (Misfit path) text other (w, u, at, is) (w', u', at', is') =
         is ∙ (ap (λ (p : Val × T). misfit_text type_text graph path p.0 p.1) (one_place path w w' u u' at at') ∙ sym is')
@@ -51,7 +51,7 @@ module _ {T : Type 0} (shapes : Shapes T) (graph : List Obj) (v : Val) (t : T) w
         is ∙ (ap (λ (p : Val × T). clash_text type_text first p.1 second two) (one_place first o o' one one' at at')
         ∙ (ap (λ (p : Val × T). clash_text type_text first one' second p.1) (one_place second o o' two two' at2 at2') ∙ sym is'))
 
-    -- and so a value has one line that tells a fault
+    -- Hence a value has at most one line that reports a fault.
     pub no_line_once : (line other : List ℕ) → IsNoLine shapes type_text graph v t line → IsNoLine shapes type_text graph v t other → line ≡ other
     no_line_once line other one two =
         let same = least_once one.fault two.fault one.least two.least in

@@ -1,4 +1,4 @@
--- Longer paths, and the order of paths.
+-- Extending paths, and the order of paths.
 use Rattle.std.proofs.Common.{ℕ, zero, suc, ◌<◌, ◌≡◌, ◌∙◌, ◌⊎◌, inl, inr, ◌++◌, List, [], ◌∷◌, length, Some, refl, sym, ap, subst, arith}
 use Rattle.std.specs.Prelude.{option_and_then}
 use Rattle.std.proofs.lemmas.Option.{option_and_then_some, same_Some}
@@ -7,10 +7,11 @@ use Rattle.om_model.specs.declared.value.Obj.{Obj}
 use Rattle.om_types.specs.Shapes.{Shapes}
 use Rattle.om_types.specs.Fault.{step, value_at, IsLexicallyBefore, IsBefore}
 
--- ---- one step more
+-- ---- one more step
 
 module _ {T : Type 0} (shapes : Shapes T) (graph : List Obj) where
-  -- a step from the end of a path makes the path longer
+  -- If a path leads to a value and a step leads from there to `next`, then the path with this step
+  -- leads to `next`.
   pub value_at-push : (path : List ℕ) (v : Val) (t : T) (i : ℕ) (place next : Val × T) → value_at shapes graph v t path ≡ Some place → step shapes graph place.0 place.1 i ≡ Some next → value_at shapes graph v t (path ++ i ∷ []) ≡ Some next
   value_at-push [] v t i place next placed stepped =
       let here : step shapes graph v t i ≡ Some next = subst (λ (p : Val × T). step shapes graph p.0 p.1 i ≡ Some next) (sym (same_Some (v, t) place placed)) stepped in
@@ -21,7 +22,7 @@ module _ {T : Type 0} (shapes : Shapes T) (graph : List Obj) where
 
 -- ---- order
 
--- of two things the first comes first, or they are the same, or the second comes first
+-- Trichotomy: before, same or after.
 abbrev pub OneOfThree : Type 0 → Type 0 → Type 0 → Type 0
 OneOfThree Before Same After = Before ⊎ (Same ⊎ After)
 
@@ -51,7 +52,7 @@ lexically_compare [] (j ∷ q) same = absurd (omega arith)
 lexically_compare (i ∷ p) [] same = absurd (omega arith)
 lexically_compare (i ∷ p) (j ∷ q) same = with_heads i j p q (numbers_compare i j) (lexically_compare p q (omega arith))
 
--- of two paths one is before the other, or they are the same
+-- Of two paths, one is before the other, or they are equal.
 pub paths_compare : (p q : List ℕ) → OneOfThree (IsBefore p q) (p ≡ q) (IsBefore q p)
 paths_compare p q = by_length (numbers_compare (length p) (length q)) where
   of_one_length : length p ≡ length q → LexicallyCompare p q → OneOfThree (IsBefore p q) (p ≡ q) (IsBefore q p)

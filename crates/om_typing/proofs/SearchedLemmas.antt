@@ -1,5 +1,5 @@
--- Each path that was looked at leads to a value that fits and is entered, with a path that is not after it. So the first misfit that
--- is met is the least, over infinitely many paths.
+-- Each covered path leads to a value that matches and is entered with a path that is not after it.
+-- So the first mismatch that the search meets is the least of infinitely many.
 use Rattle.std.proofs.Common.{ℕ, zero, suc, ◌≡◌, ◌∙◌, ⊎_elim, inl, inr, List, [], ◌∷◌, ◌++◌, length}
 use Rattle.std.proofs.Common.{Some, refl, sym, ap, subst, arith}
 use Rattle.std.specs.Prelude.{Contains, option_and_then, option_map}
@@ -17,7 +17,8 @@ use Rattle.om_typing.proofs.PathLemmas.{paths_compare}
 
 -- ---- the order of paths
 
--- a path with a step more is not before another with the same step, where the first is not before the second
+-- If two extended paths of equal length with the same last step are in lexicographic order, then so
+-- are the paths without that step.
 lexically_pushed :
     (p q : List ℕ) (i : ℕ) → length p ≡ length q → IsLexicallyBefore (p ++ i ∷ []) (q ++ i ∷ [])
     → IsLexicallyBefore p q
@@ -73,7 +74,8 @@ never_before_root [] before = never_before_itself [] before
 never_before_root (i ∷ p) (inl less) = omega (arith, less)
 never_before_root (i ∷ p) (inr equal) = equal.1
 
--- where q is not before p, and p with a step more not before r, q with this step is not before r
+-- If `q` is not before `p`, and `p` with one more step is not before `r`, then `q` with this step
+-- is not before `r`.
 pub not_before_through :
     (p q r : List ℕ) (i : ℕ) → (IsBefore q p → ⊥) → (IsBefore (p ++ i ∷ []) r → ⊥)
     → IsBefore (q ++ i ∷ []) r → ⊥
@@ -124,7 +126,7 @@ module _ {T : Type 0} (shapes : Shapes T) (graph : List Obj) where
         stepped = more.stepped;
       })
 
--- ---- what is seen is entered
+-- ---- covered paths are entered
 
 module _ {T : Type 0} (shapes : Shapes T) (lawful : AreLawful shapes Everything) (graph : List Obj)
     (root : Val) (t : T) (entries : List (Entry T)) (Seen : List ℕ → Type 0)
@@ -147,7 +149,7 @@ module _ {T : Type 0} (shapes : Shapes T) (lawful : AreLawful shapes Everything)
         entered.0.path entered.4,
   )
 
-  -- a step from an object that is entered
+  -- A step from an object that is entered.
   from_entry : (front : List ℕ) (i o : ℕ) (u : T) (w : Val) (a : T)
       → IsEntered shapes entries (vals.Ref o) u front → Seen (front ++ i ∷ [])
       → field_at graph o i ≡ Some w → Contains (shapes.needs graph (vals.Ref o) u) (i, a)
@@ -200,7 +202,7 @@ module _ {T : Type 0} (shapes : Shapes T) (lawful : AreLawful shapes Everything)
       subst (λ p. Known p w a) (sym last.is) (one_more last.front last.last last.place.0
       last.place.1 w a front seen' last.stepped)
 
-  -- each path that was looked at leads to a value that fits, and is entered no later
+  -- If a path is covered, then its value matches and is entered with a path that is not after it.
   pub seen_is_known :
       (path : List ℕ) (w : Val) (a : T) → Seen path → value_at shapes graph root t path ≡ Some
       (w, a) → Known path w a

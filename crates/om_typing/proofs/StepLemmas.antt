@@ -1,4 +1,4 @@
--- A check that takes each object at each class once takes few steps.
+-- The bound on the number of steps of a check that visits each object at most once per class.
 use Rattle.std.proofs.Common.{ℕ, zero, suc, ◌≡◌, ◌+◌, ◌*◌, ◌<◌, ◌≤◌, ◌==◌, ◌∙◌, ◌⊎◌, ⊎_elim, inl, inr, Bool, true, false, cond, List, [], ◌∷◌, length, Option, Some, None, refl, sym, ap, ap₂, subst, arith, eqb-true}
 use Rattle.std.specs.Prelude.{slice_get, map, flat_map, sum_by, Contains, if◌then◌else◌, ◌&&◌, option_and_then, replicate}
 use Rattle.std.specs.List.{list_any}
@@ -22,9 +22,9 @@ use Rattle.om_types.specs.Fitting.{numbered_from, fields_if, constr_fields, argu
 use Rattle.om_types.proofs.AskedLemmas.{few_asked}
 use Rattle.om_typing.specs.StepLaws.{AreApart, key_of, AreEntries, steps_of}
 
--- ---- sums over lists whose elements are apart
+-- ---- sums over lists of distinct elements
 
--- no element is among those after it
+-- No element occurs among the elements after it.
 abbrev pub Distinct : {X : Type 0} → List X → Type 0
 Distinct [] = Unit {0}
 Distinct (x ∷ xs) = (¬ Contains xs x) × Distinct xs
@@ -37,7 +37,7 @@ distinct (x ∷ xs) apart = (
 )
 
 module _ {X : Type 0} (f : X → ℕ) where
-  -- the list without one of its elements
+  -- A list without one occurrence of an element.
   record Without (ys : List X) (x : X) : Type 0 where
     rest : List X
     total : sum_by f ys ≡ f x + sum_by f rest
@@ -63,7 +63,8 @@ module _ {X : Type 0} (f : X → ℕ) where
       })
       (Contains-cases z ys x among)
 
-  -- distinct elements of a list have no greater sum
+  -- If the elements of `xs` are distinct and all in `ys`, then the sum over `xs` is at most the sum
+  -- over `ys`.
   sum_within : (xs ys : List X) → Distinct xs → ((x : X) → Contains xs x → Contains ys x) → sum_by f xs ≤ sum_by f ys
   sum_within [] ys apart within = omega arith
   sum_within (x ∷ xs) ys apart within =
@@ -85,7 +86,7 @@ module _ {X : Type 0} (f : X → ℕ) where
 
 -- ---- all objects at all classes
 
--- the numbers of so many objects, from a number on
+-- The numbers of the objects, counted from `k`.
 abbrev places : ℕ → List Obj → List ℕ
 places k [] = []
 places k (object ∷ rest) = k ∷ places (suc k) rest
@@ -102,7 +103,7 @@ abbrev weight : Option Obj → ℕ
 weight None = 0
 weight (Some object) = 1 + length (values_of object)
 
--- what the objects and their fields come to
+-- The weights sum to the number of objects plus the number of their fields.
 sum_of_places :
     (w : ℕ → ℕ) (k : ℕ) (graph : List Obj) → ((i : ℕ) (object : Obj) → slice_get graph i ≡ Some object → w (k + i) ≡ weight (Some object))
     → sum_by w (places k graph) ≡ length graph + field_count graph
@@ -115,7 +116,7 @@ sum_of_places w k (object ∷ rest) each =
     let e : k + suc i ≡ suc k + i = omega arith in subst (λ n. w n ≡ weight (Some other)) e (each (suc i) other is)) in
     omega (arith, sum_by-cons w k (places (suc k) rest), sum_by-cons (λ o. length (values_of o)) object rest, here, others)
 
--- the objects at one class
+-- All objects, each with one class.
 abbrev at_class : List Obj → ℕ → List (ℕ × Option ℕ)
 at_class graph class = map (λ o. (o, Some class)) (places 0 graph)
 
@@ -149,7 +150,7 @@ sum_at_classes graph (class ∷ classes) =
 
 -- ---- the classes
 
--- the numbers that were not seen, each once
+-- The numbers that are not in `seen`, each once.
 abbrev firsts : List ℕ → List ℕ → List ℕ
 firsts seen [] = []
 firsts seen (n ∷ ns) = if list_any (λ other. other == n) seen then firsts seen ns else n ∷ firsts (n ∷ seen) ns
@@ -196,7 +197,7 @@ in_firsts seen (m ∷ ns) n among =
     in_firsts_at (list_any (λ other. other == m) seen) seen m ns n (seen_test seen m) (Contains-cases m ns n among)
     (in_firsts seen ns n) (in_firsts (m ∷ seen) ns n)
 
--- ---- an object's needs
+-- ---- the required fields of an object
 
 pub length-numbered_from : {T : Type 0} (i : ℕ) (ts : List T) → length (numbered_from i ts) ≡ length ts
 length-numbered_from i [] = refl
@@ -259,7 +260,8 @@ module _ (table : Table) (graph : List Obj) (entries : List (ℕ × ℕ)) (all :
   abbrev classes : List ℕ
   classes = firsts [] table.classes
 
-  -- an entry's steps are no more than its object and its fields
+  -- The steps of an entry are at most the weight of its object: one for the object and one for each
+  -- field.
   weighed :
       (entry : ℕ × ℕ) → Contains entries entry
       → 1 + length ((table_shapes table).needs graph (vals.Ref entry.0) entry.1) ≤ key_weight graph (key_of table entry)
@@ -270,7 +272,7 @@ module _ (table : Table) (graph : List Obj) (entries : List (ℕ × ℕ)) (all :
       (or_none (object_fields (node_or_none (slice_get table.nodes entry.1)) object.0)) in
       rw object.1 (omega (arith, few, asked))
 
-  -- its key is among all objects at all classes
+  -- The key of each entry is among all objects at all classes.
   among_all : (key : ℕ × Option ℕ) → Contains (map (key_of table) entries) key → Contains (at_classes graph classes) key
   among_all key among =
       let e = map-Contains (key_of table) entries key among in

@@ -1,4 +1,4 @@
--- The values of a graph, and each of them with each type.
+-- All values of a graph, and all pairs of a value and a type.
 use Rattle.std.proofs.Common.{ℕ, ◌≡◌, List, ◌∷◌, Some}
 use Rattle.std.specs.Prelude.{slice_get, map, flat_map, Contains}
 use Rattle.std.proofs.lemmas.Option.{option_and_then_some}
@@ -7,7 +7,7 @@ use Rattle.om_model.specs.declared.value.Val.{Val}
 use Rattle.om_model.specs.declared.value.Obj.{Obj}
 use Rattle.om_types.specs.Typing.{values_of, field_at}
 
--- a root and all fields of blocks
+-- The root and all fields of blocks.
 abbrev pub all_values : List Obj → Val → List Val
 all_values graph root = root ∷ flat_map values_of graph
 
@@ -17,7 +17,7 @@ field_is_value graph root o i w field =
     Contains-later root (flat_map values_of graph) w
     (Contains-flat_map values_of graph object w (slice_get-Contains graph o object at_o) (slice_get-Contains (values_of object) i w at_i)))
 
--- each of the values with each of the types
+-- All pairs of one of the values and one of the types.
 abbrev pub slots_of : {T : Type 0} → List Val → List T → List (Val × T)
 slots_of values types = flat_map (λ v. map (λ t. (v, t)) types) values
 

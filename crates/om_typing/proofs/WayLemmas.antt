@@ -1,5 +1,5 @@
--- Each path of a least fault, without its last step, is the least path to what it leads to, up to equal types: a lesser one would
--- lead to a lesser fault.
+-- If a fault is least, then each of its paths without the last step is the least path to its
+-- object, up to equal types. A lesser path would lead to a lesser fault.
 use Rattle.std.proofs.Common.{ℕ, ◌≡◌, ◌∙◌, ◌⊎◌, ⊎_elim, inl, inr, List, [], ◌∷◌, ◌++◌, length, Option, Some, None, refl, sym, ap, subst, arith}
 use Rattle.std.specs.Prelude.{option_and_then, option_map}
 use Rattle.std.proofs.lemmas.Option.{option_and_then_some, same_Some}
@@ -29,7 +29,7 @@ lexically_push (j ∷ p) [] i same before = absurd before
 lexically_push (j ∷ p) (k ∷ q) i same (inl less) = inl less
 lexically_push (j ∷ p) (k ∷ q) i same (inr later) = inr (later.0, lexically_push p q i (omega arith) later.1)
 
--- a lesser path with a step more is lesser
+-- If a path is before another, then it stays before it after both are extended by the same step.
 push_before : (p q : List ℕ) (i : ℕ) → IsBefore p q → IsBefore (p ++ i ∷ []) (q ++ i ∷ [])
 push_before p q i (inl shorter) = inl (omega (arith, length_pushed p i, length_pushed q i))
 push_before p q i (inr equal) = inr (omega (arith, length_pushed p i, length_pushed q i, equal.0), lexically_push p q i equal.0 equal.1)
@@ -41,7 +41,7 @@ only_some None = refl
 only_some (Some x) = refl
 
 module _ {T : Type 0} (shapes : Shapes T) (graph : List Obj) where
-  -- a path with a step more leads where the step leads from its end
+  -- A path with one more step leads to the target of that step.
   step_after :
       (front : List ℕ) (v : Val) (t : T) (i : ℕ) (place : Val × T) → value_at shapes graph v t front ≡ Some place
       → value_at shapes graph v t (front ++ i ∷ []) ≡ step shapes graph place.0 place.1 i
@@ -54,7 +54,7 @@ module _ {T : Type 0} (shapes : Shapes T) (graph : List Obj) where
 
 module _ {T : Type 0} (shapes : Shapes T) (lawful : AreLawful shapes Everything) (decidable : AreDecidable shapes)
     (graph : List Obj) (root : Val) (t : T) where
-  -- the same step at an equal type, and the type that it leads to is equal
+  -- The same step from an equal type leads to the same value at an equal type.
   record SameStep (o : ℕ) (w : T) (i : ℕ) (x : Val) (a : T) : Type 0 where
     type : T
     stepped : step shapes graph (vals.Ref o) w i ≡ Some (x, type)
@@ -82,7 +82,8 @@ module _ {T : Type 0} (shapes : Shapes T) (lawful : AreLawful shapes Everything)
         equal = subst (λ b. shapes.equal a b) (sym once) other.2;
       })
 
-  -- where a lesser path leads to the same object at an equal type, with the last step it leads to the same value at an equal type
+  -- If a lesser path leads to the same object at an equal type, then its extension leads to the
+  -- same value at an equal type.
   record Lesser (path : List ℕ) (x : Val) (a : T) : Type 0 where
     other : List ℕ
     type : T
@@ -107,7 +108,7 @@ module _ {T : Type 0} (shapes : Shapes T) (lawful : AreLawful shapes Everything)
         equal = s.equal;
       }
 
-  -- a misfit
+  -- The claim for a mismatch.
   misfit_way : (path : List ℕ) → IsLeastFault shapes graph root t (Misfit path) → IsLeastWay shapes graph root t path
   misfit_way path least front i is o u other w at_front at_other same before =
       let misfit = subst (λ p. IsMisfit shapes graph root t p) is least.is_fault in
@@ -118,16 +119,17 @@ module _ {T : Type 0} (shapes : Shapes T) (lawful : AreLawful shapes Everything)
       (λ fits. place.2 (lawful.fits graph place.0.0 l.type place.0.1 (inl tt) (lawful.symmetric place.0.1 l.type l.equal) fits)))
       (subst (λ p. IsBefore l.other p) (sym is) l.before)
 
-  -- mutable at a type, and so at an equal one
+  -- If an object is mutable at a type, then it is mutable at an equal type.
   mutable_at : (o : ℕ) (u w : T) → shapes.equal u w → shapes.mutable graph o u → shapes.mutable graph o w
   mutable_at o u w same mutable = lawful.mutable graph o u w (inl tt) same mutable
 
-  -- a clash whose second path is lesser, or has the same second path and a lesser first one, is told before
+  -- No aliasing conflict has a lesser second path, or the same second path and a lesser first path.
   abbrev IsNoLesser : List ℕ → List ℕ → Type 0
   IsNoLesser first second =
       (one other : List ℕ) → IsClash shapes graph root t one other → ¬ (IsBefore other second ⊎ ((other ≡ second) × IsBefore one first))
 
-  -- two paths to one object at unequal types, at one of which it is mutable, in either order
+  -- If two paths lead to one object at unequal types, and it is mutable at one of them, then they
+  -- form an aliasing conflict. Either type may be the mutable one.
   clash_of_two :
       (p q : List ℕ) (o : ℕ) (u w : T) → value_at shapes graph root t p ≡ Some (vals.Ref o, u)
       → value_at shapes graph root t q ≡ Some (vals.Ref o, w) → ¬ shapes.equal u w

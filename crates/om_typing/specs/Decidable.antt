@@ -1,34 +1,35 @@
--- What makes it decidable whether a value has a type.
+-- Conditions that make it decidable whether a value has a type.
 use Rattle.std.specs.Prelude.{ℕ, ◌≡◌, ◌⊎◌, List, Some, Contains}
 use Rattle.om_model.specs.declared.value.Val.{Val}
 use Rattle.om_model.specs.declared.value.Obj.{Obj}
 use Rattle.om_types.specs.Shapes.{Shapes}
 use Rattle.om_types.specs.Fault.{field_of}
 
--- Each question to the shapes has an answer, and the fields that a type needs are there, each at
--- one type.
+-- The relations of the shapes are decidable. Every field that a type requires exists and is
+-- required at one type only.
 pub record AreDecidable {T : Type 0} (shapes : Shapes T) : Type 0 where
-  -- a value fits a type, or does not
+  -- It is decidable whether a value matches the representation of a type.
   pub fits : (graph : List Obj) (v : Val) (t : T)
       → shapes.fits graph v t ⊎ (¬ shapes.fits graph v t)
-  -- an object is mutable at a type, or is not
+  -- It is decidable whether an object is mutable at a type.
   pub mutable : (graph : List Obj) (o : ℕ) (t : T)
       → shapes.mutable graph o t ⊎ (¬ shapes.mutable graph o t)
-  -- two types are one, or are not
+  -- It is decidable whether two types are equal.
   pub equal : (t u : T) → shapes.equal t u ⊎ (¬ shapes.equal t u)
-  -- a field that is needed is there
+  -- Every required field exists.
   pub there : (graph : List Obj) (v : Val) (t : T) (i : ℕ) (u : T)
       → Contains (shapes.needs graph v t) (i, u) → (w : Val) × (field_of graph v i ≡ Some w)
-  -- no field is needed at two types
+  -- No field is required at two different types.
   pub once : (graph : List Obj) (v : Val) (t : T) (i : ℕ) (u w : T)
       → Contains (shapes.needs graph v t) (i, u) → Contains (shapes.needs graph v t) (i, w) → u ≡ w
 
--- the type is equal to one of these
+-- The type is equal to one of these types.
 abbrev pub IsAmong : {T : Type 0} → Shapes T → List T → T → Type 0
 IsAmong {T} shapes types t = (u : T) × Contains types u × shapes.equal t u
 
--- Finitely many types are reached from a type, up to equality: it is among them, and so is each
--- type that one of them needs for a field, in any graph and at any value.
+-- Finitely many types are reachable from the type, up to equality. The type is among `types`. If a
+-- type in `types` requires a field at a type, in any graph and at any value, that type is among
+-- `types` too.
 pub record ReachesFew {T : Type 0} (shapes : Shapes T) (t : T) : Type 0 where
   pub types : List T
   pub own : IsAmong shapes types t

@@ -1,4 +1,4 @@
--- The steps before the last one of a fault's paths.
+-- The prefixes of the paths of a fault, without their last step.
 use Rattle.std.specs.Prelude.{ℕ, ◌≡◌, List, [], ◌∷◌, ◌++◌, Some}
 use Rattle.om_model.specs.declared.value.Val.{Val}
 use Rattle.om_model.specs.declared.value.Val.TheVariants as vals
@@ -8,8 +8,8 @@ use Rattle.om_types.specs.declared.fault.Fault.TheVariants.{Misfit, Clash}
 use Rattle.om_types.specs.Shapes.{Shapes}
 use Rattle.om_types.specs.Fault.{IsBefore, value_at}
 
--- without its last step the path leads to an object at a type, and no lesser path leads to this
--- object at an equal type
+-- If the prefix of the path without its last step leads to an object at a type, then it is the
+-- least path to it. That is, no lesser path leads to the same object at an equal type.
 abbrev pub IsLeastWay : {T : Type 0} → Shapes T → List Obj → Val → T → List ℕ → Type 0
 IsLeastWay {T} shapes graph root t path =
     (front : List ℕ) (i : ℕ) → path ≡ front ++ i ∷ [] → (o : ℕ) (u : T) (other : List ℕ) (w : T)
@@ -17,7 +17,7 @@ IsLeastWay {T} shapes graph root t path =
     → value_at shapes graph root t other ≡ Some (vals.Ref o, w) → shapes.equal u w
     → ¬ IsBefore other front
 
--- each path of the fault
+-- Each path of the fault has this property.
 abbrev pub AreLeastWays : {T : Type 0} → Shapes T → List Obj → Val → T → Fault → Type 0
 AreLeastWays shapes graph root t (Misfit path) = IsLeastWay shapes graph root t path
 AreLeastWays shapes graph root t (Clash first second) =

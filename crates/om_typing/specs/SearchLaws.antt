@@ -1,5 +1,5 @@
--- What a search of objects at types finds: the least of all faults, over infinitely many paths.
--- Types are the numbers of a table.
+-- The result of a search over objects at types: the first (least) fault among infinitely many
+-- paths. Types are indices into a table.
 use Rattle.std.specs.Prelude.{ℕ, List}
 use Rattle.om_model.specs.declared.value.Val.{Val}
 use Rattle.om_model.specs.declared.value.Obj.{Obj}
@@ -10,7 +10,7 @@ use Rattle.om_types.specs.LeastFault.{IsLeastFault}
 use Rattle.om_types.specs.Table.{Table, table_shapes}
 use Rattle.om_types.specs.Searched.{Entry, IsSearched, AreLeastClashing}
 
--- the misfit that a search meets which has seen all paths before it is the least fault
+-- If a search has covered all paths before a type mismatch, then this mismatch is the least fault.
 abbrev pub FirstMisfitIsLeast : Type 0
 FirstMisfitIsLeast =
     (table : Table) → AreLawful (table_shapes table) Everything
@@ -19,7 +19,8 @@ FirstMisfitIsLeast =
     → IsMisfit (table_shapes table) graph root t path
     → IsLeastFault (table_shapes table) graph root t (Misfit path)
 
--- where all paths were seen, the least clash of the entries is the least fault
+-- If a search has covered all paths, then the least aliasing conflict among its entries is the
+-- least fault.
 abbrev pub LeastClashIsLeast : Type 0
 LeastClashIsLeast =
     (table : Table) → AreLawful (table_shapes table) Everything

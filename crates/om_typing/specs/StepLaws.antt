@@ -1,4 +1,4 @@
--- How many steps a check takes that takes each object at each class once.
+-- The number of steps of a check that visits each object at most once per class.
 use Rattle.std.specs.Prelude.{ℕ, ◌+◌, ◌<◌, ◌≤◌, ◌≡◌, List, length, map, Some, Option, slice_get}
 use Rattle.std.specs.Prelude.{sum_by, Contains}
 use Rattle.om_model.specs.declared.value.Val.TheVariants as vals
@@ -6,21 +6,22 @@ use Rattle.om_model.specs.declared.value.Obj.{Obj}
 use Rattle.om_types.specs.Steps.{most_steps}
 use Rattle.om_types.specs.Table.{Table, table_shapes}
 
--- nothing stands at two places
+-- No element occurs at two positions.
 abbrev pub AreApart : {X : Type 0} → List X → Type 0
 AreApart {X} xs = (j k : ℕ) (x : X) → slice_get xs j ≡ Some x → slice_get xs k ≡ Some x → j ≡ k
 
--- the object, and the class of its type
+-- The object and the class of its type.
 abbrev pub key_of : Table → ℕ × ℕ → ℕ × Option ℕ
 key_of table entry = (entry.0, slice_get table.classes entry.1)
 
--- Objects at types, by their numbers: all are there, and no object is there twice at one class.
+-- Objects at types, both by number. All of them exist, and no object occurs twice at the same
+-- class.
 pub record AreEntries (table : Table) (graph : List Obj) (entries : List (ℕ × ℕ)) : Type 0 where
   pub objects : (o i : ℕ) → Contains entries (o, i) → o < length graph
   pub types : (o i : ℕ) → Contains entries (o, i) → i < length table.classes
   pub apart : AreApart (map (key_of table) entries)
 
--- one for the root, and for each entry one and one for each of its needs
+-- One step for the root; for each entry, one step and one for each of its required fields.
 abbrev pub steps_of : Table → List Obj → List (ℕ × ℕ) → ℕ
 steps_of table graph entries =
     1
@@ -29,7 +30,7 @@ steps_of table graph entries =
     + length ((table_shapes table).needs graph (vals.Ref entry.0) entry.1))
     entries
 
--- these are no more than one, and for each class one for each object and each field
+-- The number of steps is at most one, plus, for each class, one for each object and each field.
 abbrev pub StepsAreFew : Type 0
 StepsAreFew =
     (table : Table) (graph : List Obj) (entries : List (ℕ × ℕ)) → AreEntries table graph entries

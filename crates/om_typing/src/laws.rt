@@ -1,16 +1,17 @@
-//! The laws, as contracts.
+//! The laws of the crate, as contracts of lemma functions.
 
 ghost use Rattle.om_typing.specs.SearchLaws.{FirstMisfitIsLeast, LeastClashIsLeast};
 ghost use Rattle.om_typing.specs.StepLaws.{StepsAreFew};
 
-/// What a search finds is the least fault, over all paths.
+/// States that a search over objects at types finds the first (least) fault among all paths.
 pub fn searches_find_the_least()
     ensures misfit { FirstMisfitIsLeast }
     ensures clash { LeastClashIsLeast }
 {}
 
-/// A check that takes each object at each class once, and tests each of its needs once, takes at
-/// most one step and, for each class, one for each object and each field.
+/// States a bound on the steps of a check that visits each object at most once per class and tests
+/// each of its required fields once. The bound is one, plus, for each class, one step for each
+/// object and each field.
 pub fn checks_take_few_steps()
     ensures { StepsAreFew }
 {}

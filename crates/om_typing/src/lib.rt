@@ -1,5 +1,7 @@
-//! Whether a value has a type is decidable: it has the type or a fault, and a search finds the
-//! least one. The functions do nothing: what each ensures is the law.
+//! Proves that it is decidable whether a value has a type: the value has the type or a fault, and a
+//! search finds the first (least) fault. The laws are `searches_find_the_least` and
+//! `checks_take_few_steps`. Both are lemma functions: they do nothing and exist only for their
+//! contracts.
 #![tactic(auto)]
 
 mod laws;

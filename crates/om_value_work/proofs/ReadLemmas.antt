@@ -1,4 +1,4 @@
--- What is said of the values so far, as a piece is taken.
+-- The output for the values so far, while a chunk is taken.
 use Rattle.std.proofs.Common.{◌≡◌, ◌⊎◌, ℕ, zero, suc, ◌+◌, ◌^◌, ◌<◌, ◌≤◌, Bool, true, false, List, [], ◌∷◌, ◌++◌, length, take, drop, Result, Ok, Err, inl, inr, refl, sym, ap, ◌∙◌, subst, append_assoc, append-nil, length-append, take_all, arith}
 use Rattle.std.specs.Prelude.{◌&&◌, IsErrAnd}
 use Rattle.std.proofs.lemmas.List.{length-take-le, take-append-drop}
@@ -38,7 +38,7 @@ use Rattle.om_value_work.specs.Reading.{HasRead, IsValueRead, PutsNext}
 
 module _ {D T E A : Type 0} (language : Language D T E) (commands : Commands A) (a : A)
     (limit : ℕ) where
-  -- what is known of a command whose items are values
+  -- The properties of a command whose items are values.
   pub record HasValues : Type 0 where
     pub value_first :
         (items : List Item) (bytes : List ℕ) (item : Item) (more : List ℕ)
@@ -58,14 +58,14 @@ module _ {D T E A : Type 0} (language : Language D T E) (commands : Commands A) 
         → commands.Ends a items bytes
         (outcome.stops (stops.Value (length items) (truncated_text n)))
 
--- a halt is that of the result
+-- The error is that of the result.
 pub halt_is :
     {U : Type 0} (P : Result U Halt → Type 0) (halt : Halt) (result : Result U Halt)
     → IsErrAnd result (λ h. h ≡ halt) → P (Err halt) → P result
 halt_is P halt (Ok unit) is p = absurd is
 halt_is P halt (Err h) is p = subst (λ h. P (Err h)) (sym is) p
 
--- no byte was taken
+-- The state before any byte is taken.
 pub begins :
     {A : Type 0} (commands : Commands A) (a : A) (limit : ℕ) (Ready : Type 0) (reader : Reader)
     → Ready → Leads limit [] reader → HasRead commands a limit Ready reader 0 true [] []
@@ -80,7 +80,7 @@ begins commands a limit Ready reader ready leads = record {
   is_well = refl;
 }
 
--- the reader is at the end of a value
+-- The reader is at the end of a value.
 pub none_left :
     (limit : ℕ) (front : List ℕ) (reader : Reader) → IsFront limit front
     → Leads limit front reader → EndsInput {U = Unit {0}} limit front (Ok tt) → front ≡ []
@@ -90,7 +90,7 @@ none_left limit front reader is_front leads (inr (tree, spelled)) =
 
 module _ {D T E A : Type 0} {language : Language D T E} {commands : Commands A} {a : A}
     {limit : ℕ} (known : HasValues language commands a limit) where
-  -- there are no more values than bytes
+  -- There are no more values than bytes.
   cut_count :
       (before : List Item) (bytes : List ℕ) (items : List Item) (rest : List ℕ)
       → Cut commands a before bytes items rest
@@ -118,7 +118,7 @@ module _ {D T E A : Type 0} {language : Language D T E} {commands : Commands A} 
         let some = v.some in omega (arith, fewer, short, counted, some)
 
     module _ (h : HasRead commands a limit Ready reader count well taken said) where
-      -- what was taken holds no stop
+      -- The bytes taken so far give no exit reason.
       abbrev pub holds : HoldNoStop commands a taken said
       holds =
           let e = front_end limit h.front h.is_front in record {
@@ -128,7 +128,7 @@ module _ {D T E A : Type 0} {language : Language D T E} {commands : Commands A} 
             goes_on = known.goes_on h.items h.front h.leads.bytes e.0 e.1 e.2;
           }
 
-      -- a value is cut, at the input's end
+      -- A value is truncated at the end of the input.
       pub ends_cut :
           (truncated : Truncated) → EndsInput {U = Unit {0}} limit h.front (Err truncated)
           → (o : ByteState) (stop : Stop)
@@ -144,10 +144,10 @@ module _ {D T E A : Type 0} {language : Language D T E} {commands : Commands A} 
             puts_nothing o,
           )
 
-      -- ---- bytes in hand
+      -- ---- buffered bytes
 
       module _ {rest : List ℕ} {new : Reader} {fed : Fed} (f : Feeds limit h.front rest new fed) where
-        -- they complete the value
+        -- The buffered bytes complete the value.
         abbrev pub whole_read :
             fed.done ≡ true
             → IsValueRead commands a limit Ready new count well (taken ++ take fed.taken rest) said
@@ -172,7 +172,7 @@ module _ {D T E A : Type 0} {language : Language D T E} {commands : Commands A} 
             let some = length-take-le fed.taken rest in
             let fits = f.within in omega (arith, size, some, short, fits)
 
-        -- then there are some
+        -- If the value is complete, then some bytes were taken.
         pub some_taken : fed.done ≡ true → 0 < fed.taken
         some_taken done = some fed.taken refl where
           some : (n : ℕ) → fed.taken ≡ n → 0 < n
@@ -184,7 +184,7 @@ module _ {D T E A : Type 0} {language : Language D T E} {commands : Commands A} 
               (subst (λ b. SpelledUnder limit b whole.0) none whole.1))
           some (suc n) e = omega arith
 
-        -- they are all taken, and do not complete it
+        -- All buffered bytes are taken, and the value is not complete.
         pub front_read :
             fed.done ≡ false
             → HasRead commands a limit Ready new count well (taken ++ take fed.taken rest)
@@ -205,7 +205,7 @@ module _ {D T E A : Type 0} {language : Language D T E} {commands : Commands A} 
               is_well = h.is_well;
             })
 
-      -- ---- a halt, in what is in hand
+      -- ---- an error in the buffered bytes
 
       module _ (rest : List ℕ) where
         abbrev pub StopsIn : Stop → Type 0
@@ -225,7 +225,7 @@ module _ {D T E A : Type 0} {language : Language D T E} {commands : Commands A} 
               }))
             ]
 
-        -- what is refused
+        -- The reader refuses the bytes.
         pub refused_halts :
             (refusal : ReadRefusal) (stop : Stop) → RefusedIn limit (h.front ++ rest) refusal
             → IsStopOf count refusal stop → (o : ByteState)
@@ -233,7 +233,7 @@ module _ {D T E A : Type 0} {language : Language D T E} {commands : Commands A} 
         refused_halts refusal stop told is o =
             (holds, stops_in refusal stop told is, puts_nothing o)
 
-        -- at the value that ends there
+        -- The error is at the value that ends there.
         pub next_halts :
             (StopsSo : Stop → Type 0) → ((stop : Stop) → StopsSo stop → StopsIn stop) → (n : ℕ)
             (out : Change ByteState) (reader' : Reader) (count' : ℕ) (well' : Bool) (halt : Halt)
@@ -260,7 +260,7 @@ module _ {D T E A : Type 0} {language : Language D T E} {commands : Commands A} 
               part,
             )
 
-    -- ---- a value that was read whole
+    -- ---- a value that was read completely
 
     module _ (v : IsValueRead commands a limit Ready reader count well taken said) {value : Value}
         (f : Finishes limit v.whole value) (next : Said)
@@ -274,11 +274,11 @@ module _ {D T E A : Type 0} {language : Language D T E} {commands : Commands A} 
           } in first_next commands a taken v.items said v.whole (value_item f.tree) [] next v.first
           (known.first_value v.items v.whole (value_item f.tree) [] first) says
 
-      -- what is said of it is said of the bytes
+      -- The output for the value is the output for the bytes.
       pub value_told : AreSaid commands a taken (said ++ next ∷ [])
       value_told = (v.items ++ value_item f.tree ∷ [], [], value_said)
 
-      -- the reader waits for the next one
+      -- The reader waits for the next value.
       pub value_done :
           (new : Reader) → Leads limit [] new → (fine_all : Bool) → fine_all ≡ (well && next.well)
           → HasRead commands a limit Ready new (count + 1) fine_all taken (said ++ next ∷ [])

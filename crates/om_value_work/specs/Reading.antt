@@ -1,4 +1,5 @@
--- What has been read of the values, and said of them, as their bytes come.
+-- The state of a command while the bytes of its input arrive: the values read so far, and the
+-- output for them.
 use Rattle.std.specs.Prelude.{ℕ, ◌<◌, ◌≡◌, Bool, List, [], ◌∷◌, ◌++◌, length, Result, Ok, Err}
 use Rattle.om_format.specs.Front.{IsFront}
 use Rattle.om_read.specs.declared.reader.Reader.{Reader}
@@ -14,8 +15,8 @@ use Rattle.om_work.specs.Works.{AreSaid}
 
 module _ {A : Type 0} (commands : Commands A) (a : A) (limit : ℕ) (Ready : Type 0)
     (reader : Reader) (count : ℕ) (well : Bool) (taken : List ℕ) (said : List Said) where
-  -- Of these bytes the reader has taken what comes after the values, a front of the next one; this
-  -- is said of the values. What the command has besides is ready.
+  -- The reader has taken the bytes after the complete values, which are a prefix of the next value.
+  -- `said` is the output for the complete values. The command's own state is ready.
   pub record HasRead : Type 0 where
     pub ready : Ready
     pub items : List Item
@@ -26,7 +27,7 @@ module _ {A : Type 0} (commands : Commands A) (a : A) (limit : ℕ) (Ready : Typ
     pub counted : count ≡ length items
     pub is_well : well ≡ all_well said
 
-  -- the same where the reader has taken all of the next one
+  -- The same, if the reader has taken all bytes of the next value.
   pub record IsValueRead : Type 0 where
     pub ready : Ready
     pub items : List Item
@@ -38,8 +39,8 @@ module _ {A : Type 0} (commands : Commands A) (a : A) (limit : ℕ) (Ready : Typ
     pub counted : count ≡ length items
     pub is_well : well ≡ all_well said
 
--- What is said of the value that is there, after these, is put, and the reader waits for the next
--- one; or there is a stop, and nothing is put; or out failed.
+-- The output for the current value is written, and the reader waits for the next value. Or the run
+-- ends with an exit reason and writes nothing. Or writing the output fails.
 abbrev pub PutsNext : {A U : Type 0} → Commands A → A → ℕ → Type 0 → Reader → ℕ → Bool → List ℕ
     → List Said → (Stop → Type 0) → Change ByteState → Result U Halt → Type 0
 PutsNext commands a limit Ready reader count well taken said StopsSo out (Ok unit) =

@@ -1,4 +1,4 @@
-//! What has been read of the values of the input as their bytes come, and said of them, at a
-//! command whose items are values. These are definitions, and lemmas on them: nothing here does
-//! anything.
+//! Definitions and lemmas for commands whose items are values: which values have been read so far,
+//! and which output has been written for them, while the bytes of the input arrive. The crate
+//! contains no code.
 #![tactic(auto)]

@@ -1,4 +1,4 @@
--- What is to be verified is one, by the files that are wanted, each of which is read or stops the run.
+-- The task is unique, by the requested files. Each of these files is read, or it ends the run.
 use Rattle.std.proofs.Common.{◌≡◌, ◌⊎◌, ◌<◌, ℕ, List, Some, Result, Ok, Err, inl, inr, refl, sym, ap, ◌∙◌, subst}
 use Rattle.std.specs.Prelude.{MatchResult}
 use Rattle.om_format.specs.Tree.{Tree}
@@ -16,7 +16,7 @@ use Rattle.om_commands.proofs.GivenLemmas.{type_given}
 use Rattle.om_commands.proofs.TurnLemmas.{not_between, is_before, file_whole}
 use Rattle.om_verification.specs.Verification.{Shown, Verification, Asked, typed_of, verified_by, ReadsSections, ReadsCertificateOf, WantedIn, VerifiesBy, Wants, Finds, verifying}
 
--- the words ask for one verification
+-- The arguments request one verification.
 pub asked_once :
     (request : Request) (one other : Asked) → verified_by request ≡ Some one
     → verified_by request ≡ Some other → one ≡ other
@@ -25,7 +25,7 @@ asked_once request one other h k = let both : Some one ≡ Some other = sym h �
 module _ {D T E S : Type 0} (language : Language D T E) (Reads : ReadsSections S)
     (ShownBy : T → S → Tree → Shown → Type 0) (lawful : IsLawful language)
     (once : (text : List ℕ) → IsOnce (Reads text)) where
-  -- ---- what is found is one
+  -- ---- the task is unique
 
   certificate_once :
       (files : List ℕ → Found) (name : List ℕ) → IsOnce (ReadsCertificateOf Reads files name)
@@ -55,7 +55,7 @@ module _ {D T E S : Type 0} (language : Language D T E) (Reads : ReadsSections S
       verifies_once files asked' result other
       (subst (λ a. VerifiesBy language Reads files a result) same h) k
 
-  -- ---- the files that are wanted
+  -- ---- the requested files
 
   wants_file :
       (request : Request) (files : Fetches) (asked : Asked) → verified_by request ≡ Some asked
@@ -81,7 +81,7 @@ module _ {D T E S : Type 0} (language : Language D T E) (Reads : ReadsSections S
         by (inr (now, e, type, reads)) (inl (now', e')) = absurd (cc (now, now'))
         by (inr (now, e, type, reads)) (inr (now', e', type', reads')) = e ∙ sym e'
 
-  -- ---- what is found is by them
+  -- ---- the task depends on these files
 
   certificate_by :
       (files others : List ℕ → Found) (name : List ℕ) (result : Result (List S) Stop)
@@ -90,7 +90,7 @@ module _ {D T E S : Type 0} (language : Language D T E) (Reads : ReadsSections S
   certificate_by files others name result same (text, reads, next) =
       (text, subst (λ found. ReadsFile name found text) same reads, next)
 
-  -- what is found by the sections of CERT
+  -- The task, by the entries of CERT.
   abbrev Sections : Fetches → Asked → Result (Verification T S) Stop → T → Type 0
   Sections files asked result type =
       Then (ReadsCertificateOf Reads (files 1) asked.certificate) (done type asked) result
@@ -122,7 +122,7 @@ module _ {D T E S : Type 0} (language : Language D T E) (Reads : ReadsSections S
       e,
     )
 
-  -- ---- each of them is read, or stops the run
+  -- ---- each file is read or ends the run
 
   certificate_read :
       (files : List ℕ → Found) (name : List ℕ) (result : Result (List S) Stop)
@@ -166,7 +166,7 @@ module _ {D T E S : Type 0} (language : Language D T E) (Reads : ReadsSections S
       (subst (λ a. WantedIn language files a turn name) (asked_once request asked' asked is' is)
       wanted)
 
-  -- ---- a stop of the outside comes of one of them
+  -- ---- an exit reason of the environment comes from one of the files
 
   certificate_inside :
       (files : List ℕ → Found) (name : List ℕ) (stop : Stop)
@@ -213,7 +213,7 @@ module _ {D T E S : Type 0} (language : Language D T E) (Reads : ReadsSections S
       (subst (ComesOf language lawful asked.certificate (files 1 asked.certificate)) same
       (certificate_inside (files 1) asked.certificate s read))
 
-  -- ---- the type was read
+  -- ---- the type was parsed
 
   pub found_given :
       (request : Request) (files : Fetches) (a : Verification T S)

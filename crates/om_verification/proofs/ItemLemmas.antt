@@ -1,4 +1,5 @@
--- What is said of a value, where the run stops and how the input ends are one, and stay.
+-- The output for a value, the exit reason and the end of the input are unique, and they remain if
+-- more bytes follow.
 use Rattle.std.proofs.Common.{◌≡◌, ℕ, Bool, true, false, List, [], ◌∷◌, ◌++◌, length, Some, None, inl, inr, sym, ap, ◌∙◌, subst}
 use Rattle.std.specs.Prelude.{if◌then◌else◌, nat_lt, codes}
 use Rattle.om_model.specs.Bytes.{AreBytes}
@@ -24,7 +25,7 @@ sections_inner true stop e = let is : stop ≡ sections_left = cc e in subst IsI
 sections_inner false stop e = absurd (cc e)
 
 module _ {T S : Type 0} (ShownBy : T → S → Tree → Shown → Type 0) (a : Verification T S) where
-  -- ---- what stays, and where more has to come
+  -- ---- exit reasons remain, and the run continues
 
   pub stop_stays :
       (items : List Item) (bytes later : List ℕ) (stop : Stop)
@@ -49,7 +50,7 @@ module _ {T S : Type 0} (ShownBy : T → S → Tree → Shown → Type 0) (a : V
       no_stop stop (inr r) =
           fine r.refusal (end_once a.limit rest are_bytes end (refused r.refusal) tail r.tail)
 
-      -- bytes that are no value, and are not refused
+      -- If bytes are no value and are not refused, then the run continues.
       pub goes_on : GoesOn (verifying language Reads ShownBy) a items rest
       goes_on = record {
         no_stop = no_stop;
@@ -58,7 +59,7 @@ module _ {T S : Type 0} (ShownBy : T → S → Tree → Shown → Type 0) (a : V
 
 module _ {T S : Type 0} (ShownBy : T → S → Tree → Shown → Type 0) (a : Verification T S)
     (once : (section : S) (tree : Tree) → IsOnce (ShownBy a.type section tree)) where
-  -- ---- what a section shows
+  -- ---- what an entry proves
 
   shown_once : (number : ℕ) (tree : Tree) → IsOnce (IsShown ShownBy a number tree)
   shown_once number tree shown other h k =
@@ -88,7 +89,7 @@ module _ {T S : Type 0} (ShownBy : T → S → Tree → Shown → Type 0) (a : V
       let same : why ≡ why' = cc one in
       is ∙ (ap (λ w. codes "certificate " ++ w) same ∙ sym is')
 
-  -- a value that is certified has a section, which is not rejected
+  -- If a value is certified, then it has an entry that is not rejected.
   pub certified_or_not :
       (number : ℕ) (tree : Tree) (text reason : List ℕ) (well : Bool)
       → IsShown ShownBy a number tree (shows text well) → IsUncertified ShownBy a number tree reason
@@ -98,7 +99,7 @@ module _ {T S : Type 0} (ShownBy : T → S → Tree → Shown → Type 0) (a : V
   certified_or_not number tree text reason well shown (inr (why, rejected, is)) =
       cc (shown_once number tree (shows text well) (rejects why) shown rejected)
 
-  -- ---- where the run stops
+  -- ---- where the run ends
 
   module _ (bytes : List ℕ) (are_bytes : AreBytes bytes) (number : ℕ) where
     comes_once : IsOnce (ComesUncertified ShownBy a number bytes)

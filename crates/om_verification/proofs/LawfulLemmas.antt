@@ -1,4 +1,4 @@
--- The command is lawful, where the language is, and what it reads is read in one way.
+-- If the language is lawful, and everything parses in one way, then the command is lawful.
 use Rattle.om_format.specs.Tree.{Tree}
 use Rattle.om_outcome.specs.Outcome.{Language}
 use Rattle.om_promises.specs.Lawful.{AreLawful}

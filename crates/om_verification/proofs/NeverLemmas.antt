@@ -1,4 +1,4 @@
--- The command never ends with 5 or 11.
+-- The command never ends with status 5 or 11.
 use Rattle.std.proofs.Common.{ℕ, List, inl, inr}
 use Rattle.om_format.specs.Tree.{Tree}
 use Rattle.om_outcome.specs.declared.status.Status.{Status}
@@ -17,7 +17,7 @@ module _ {D T E S : Type 0} (language : Language D T E) (Reads : ReadsSections S
       IsCaused (verifying language Reads ShownBy) (certificate_tables language Reads ShownBy) words
       call status
 
-  -- an input shows neither
+  -- No input causes either status.
   script_stop : (a : Verification T S) (input : List ℕ) → StopWith ShownBy a input Script → ⊥
   script_stop a input (inl (is, h)) = cc is
   script_stop a input (inr (is, h)) = cc is

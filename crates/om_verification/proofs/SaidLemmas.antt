@@ -1,4 +1,4 @@
--- What is said of values, by the tables: from it what their sections are, and back.
+-- The outputs for values and their certificate entries determine each other, as the tables state.
 use Rattle.std.proofs.Common.{◌≡◌, ◌≤◌, ◌+◌, ℕ, suc, Bool, true, false, List, [], ◌∷◌, length, refl, sym, ap, ◌∙◌, subst, arith}
 use Rattle.std.specs.Prelude.{◌↔◌, if◌then◌else◌, nat_lt}
 use Rattle.std.proofs.lemmas.Bool.{lt-ltb, le-ltb, ltb-true, ltb-false}
@@ -20,20 +20,20 @@ use Rattle.om_verification.specs.Verification.{Shown, shows, Verification, IsSho
 use Rattle.om_verification.specs.Meanings.{IsCertified, HasSection, Finish}
 
 module _ {T S : Type 0} (ShownBy : T → S → Tree → Shown → Type 0) (a : Verification T S) where
-  -- this is said of the value with the number
+  -- The output for the value with this number.
   pub record IsSaid (number : ℕ) (tree : Tree) (said : Said) : Type 0 where
     pub text : List ℕ
     pub shown : IsShown ShownBy a number tree (shows text said.well)
     pub is : said.text ≡ line text
 
-  -- and this of the values, the first of which has the number
+  -- The outputs for the values; the first value has this number.
   abbrev pub AreSaid : ℕ → List Tree → List Said → Type 0
   AreSaid number trees said = numbered.AreSaid IsSaid number trees said
 
   abbrev Certified : Bool → ℕ → Tree → Type 0
   Certified well number tree = IsCertified ShownBy a well number tree
 
-  -- a value has a section where something is said of it
+  -- If there is an output for a value, then the value has an entry.
   section_of :
       (well : Bool) (number : ℕ) (tree : Tree) → HasSaid IsSaid well number tree
       → Certified well number tree
@@ -49,14 +49,14 @@ module _ {T S : Type 0} (ShownBy : T → S → Tree → Shown → Type 0) (a : V
     refl,
   )
 
-  -- ---- what holds of values of which this is said
+  -- ---- from the outputs to the values
 
   pub all_have :
       (k : ℕ) (trees : List Tree) (said : List Said) → AreSaid k trees said
       → HoldsOfAll (HasSection ShownBy a) k trees
   all_have k trees said h = numbered.all_have IsSaid Certified section_of k trees said h
 
-  -- values that have sections are no more than the sections
+  -- If values have entries, then there are at most as many values as entries.
   pub as_many :
       (k : ℕ) (trees : List Tree) → HoldsOfAll (HasSection ShownBy a) k trees
       → k ≤ length a.sections → k + length trees ≤ length a.sections
@@ -71,7 +71,7 @@ module _ {T S : Type 0} (ShownBy : T → S → Tree → Shown → Type 0) (a : V
   all_counted trees h most =
       let few = as_many 0 trees h (omega arith) in omega (arith, few, most)
 
-  -- where the input ends after such values, its status is one of the table
+  -- If the input ends after such values, then its status is one of the table.
   pub finish_of :
       (trees : List Tree) (said : List Said) (last : Reply) → AreSaid 0 trees said
       → last ≡ ends_sections ShownBy a (length trees)
@@ -101,14 +101,14 @@ module _ {T S : Type 0} (ShownBy : T → S → Tree → Shown → Type 0) (a : V
         (ended (all_counted trees have (ltb-false (length trees) (length a.sections) at))
         (all_well said) refl)
 
-  -- ---- what is said of values of which this holds
+  -- ---- from the values to the outputs
 
   pub say_some :
       (k : ℕ) (trees : List Tree) → HoldsOfAll (HasSection ShownBy a) k trees
       → (said : List Said) × AreSaid k trees said
   say_some k trees h = numbered.say_some IsSaid Certified said_of k trees h
 
-  -- replies to values and their end, of this status
+  -- The replies for values and their end, with this status.
   abbrev pub IsReplied : List Tree → Status → Type 0
   IsReplied trees status =
       (all : Replies) × ((ending_of all).status ≡ status) × AreSaid 0 trees all.said
@@ -175,7 +175,7 @@ module _ {T S : Type 0} (ShownBy : T → S → Tree → Shown → Type 0) (a : V
       λ is. record { tree = tree; is = refl; text = is.text; shown = is.shown; said_is = is.is },
     )
 
-    -- the first values, as items
+    -- The first values, as items.
     pub says_first :
         (bytes : List ℕ) (trees : List Tree) (said : List Said) (rest : List ℕ)
         → SpellAll a.limit bytes trees rest → AreSaid 0 trees said
@@ -184,7 +184,7 @@ module _ {T S : Type 0} (ShownBy : T → S → Tree → Shown → Type 0) (a : V
         values_first language a.limit (verifying language Reads ShownBy) a first IsSaid tells bytes
         trees said rest spelled say
 
-    -- the first items, as values
+    -- The first items, as values.
     pub say_first :
         (bytes : List ℕ) (items : List Item) (said : List Said) (rest : List ℕ)
         → SaysFirst (verifying language Reads ShownBy) a bytes items said rest

@@ -25,7 +25,7 @@ use Rattle.om_verification.proofs.SaidLemmas.{AreSaid, all_have, finish_of, say_
 
 module _ {D T E S : Type 0} (language : Language D T E) (Reads : ReadsSections S)
     (ShownBy : T → S → Tree → Shown → Type 0) where
-  -- ---- a stop is one of the table
+  -- ---- each exit reason is in the table
 
   abbrev Stopping : Verification T S → List ℕ → Stop → Type 0
   Stopping a bytes stop = HoldStop (verifying language Reads ShownBy) a bytes stop
@@ -69,9 +69,9 @@ module _ {D T E S : Type 0} (language : Language D T E) (Reads : ReadsSections S
       },
     )
 
-  -- ---- and one of the table is a stop
+  -- ---- each row of the table is an exit reason
 
-  -- a stop of this status is held
+  -- There is an exit reason with this status.
   abbrev HasStop : Verification T S → List ℕ → Status → Type 0
   HasStop a bytes status = (stop : Stop) × (status_of stop ≡ status) × Stopping a bytes stop
 
@@ -201,13 +201,13 @@ module _ {D T E S : Type 0} (language : Language D T E) (Reads : ReadsSections S
           is_refused = refuses;
         })
 
-    -- a stop of this status comes before the input
+    -- There is an exit reason with this status before the input.
     abbrev HasStopBefore : Status → Type 0
     HasStopBefore status =
         (stop : Stop) × (status_of stop ≡ status)
         × Finds language Reads ShownBy request files (Err stop)
 
-    -- FILE or TYPE stops it
+    -- Case: FILE or TYPE ends the run.
     by_type :
         (asked : Asked) → verified_by request ≡ Some asked → (stop : Stop)
         → ReadsTypeOf language (files 0) (typed_of asked) (Err stop)

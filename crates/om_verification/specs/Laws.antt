@@ -1,11 +1,11 @@
--- The laws on the command that verifies certificates.
+-- The laws of the command `verify`.
 use Rattle.std.specs.Prelude.{◌≡◌, None}
 use Rattle.om_format.specs.Tree.{Tree}
 use Rattle.om_outcome.specs.Outcome.{Request, Language}
 use Rattle.om_choice.specs.Choice.{IsIdleAt}
 use Rattle.om_verification.specs.Verification.{Shown, verified_by, ReadsSections, verifying}
 
--- it is idle at each request that is not its own
+-- The command does nothing for a request that is not its own.
 abbrev pub IsIdleElsewhere : {D T E S : Type 0} → Language D T E → ReadsSections S
     → (T → S → Tree → Shown → Type 0) → Type 0
 IsIdleElsewhere language Reads ShownBy =

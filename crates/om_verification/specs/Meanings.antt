@@ -1,20 +1,21 @@
--- What each status means at the command that verifies a certificate:
+-- Exit status specification of the command `verify`:
 --
---   0   each value has its section, which shows that nothing is wrong with it, and none is left
---       (`Finish`)
---   1   each value has its section, which is accepted, and none is left; one of them shows that
---       something is wrong (`Finish`)
---   2   the words ask for nothing
---   3   what FILE holds is refused, or TYPE (`Bar`)
---   4   a value is refused (`HoldRefusal`) or cut (`AreCut`), and all before it have their sections
---   6   FILE, or CERT in its turn, is not read to its end (`Bar`)
---   8   FILE could not be opened, or CERT in its turn (`Bar`)
---   10  FILE, or CERT in its turn, has 2^48 bytes or more (`Bar`)
---   12  what CERT holds is no certificate (`Bar`); a value has no section, or its section is
---       rejected (`HoldBreak`); or sections are left at the end (`Finish`)
+-- - 0: Each value has its certificate entry, which proves that the value is without errors, and no
+--   entry remains (`Finish`).
+-- - 1: Each value has its entry, which is accepted, and no entry remains. One of the entries proves
+--   that its value has an error (`Finish`).
+-- - 2: The arguments are invalid.
+-- - 3: The contents of FILE are refused, or TYPE is (`Bar`).
+-- - 4: A value is refused (`HoldRefusal`) or truncated (`AreCut`), and all values before it have
+--   their entries.
+-- - 6: FILE is not read to its end, or CERT is not, in its turn (`Bar`).
+-- - 8: FILE cannot be opened, or CERT cannot, in its turn (`Bar`).
+-- - 10: FILE has 2^48 bytes or more, or CERT has, in its turn (`Bar`).
+-- - 12: The contents of CERT are no certificate (`Bar`). Or a value has no entry, or its entry is
+--   rejected (`HoldBreak`). Or entries remain at the end (`Finish`).
 --
--- Neither the values nor the files cause another. What 6, 7, 9 and 10 mean of the input, of out and
--- of memory is the same for all commands: it stands in om_promises.
+-- Neither the values nor the files cause any other status. The meanings of 6, 7, 9 and 10 for the
+-- input, for out and for memory are the same for all commands; om_promises defines them.
 use Rattle.std.specs.Prelude.{ℕ, ◌<◌, ◌≡◌, ◌≢◌, ◌⊎◌, Bool, true, false, List, [], ◌∷◌, ◌++◌, length}
 use Rattle.std.specs.Prelude.{Some, Ok, Err}
 use Rattle.om_format.specs.Stream.{SpellAll}
@@ -36,14 +37,15 @@ use Rattle.om_verification.specs.Verification.{Asked, typed_of, verified_by, Rea
 use Rattle.om_certification.specs.Ends as ends
 
 module _ {T S : Type 0} (ShownBy : T → S → Tree → Shown → Type 0) (a : Verification T S) where
-  -- the value has a section that is accepted, and shows whether nothing is wrong with it
+  -- The value has an entry that is accepted, and `well` says whether the entry proves the value to
+  -- be without errors.
   abbrev pub IsCertified : Bool → ℕ → Tree → Type 0
   IsCertified well number tree = (line : List ℕ) × IsShown ShownBy a number tree (shows line well)
 
   abbrev pub HasSection : ℕ → Tree → Type 0
   HasSection number tree = (well : Bool) × IsCertified well number tree
 
-  -- where the input ends after these values, this status comes
+  -- If the input ends after these values, then the run has this status.
   abbrev pub Finish : List Tree → Status → Type 0
   Finish trees Well =
       HoldsOfAll (IsCertified true) 0 trees × (length trees ≡ length a.sections)
@@ -53,11 +55,12 @@ module _ {T S : Type 0} (ShownBy : T → S → Tree → Shown → Type 0) (a : V
   Finish trees Certificate = HoldsOfAll HasSection 0 trees × (length trees < length a.sections)
   Finish trees status = ⊥
 
-  -- where the input is these bytes this status comes, at its end; 4 where a value is cut
+  -- If the input is these bytes, then the run has this status at its end. The status is 4 if a
+  -- value is truncated.
   abbrev pub EndWith : List ℕ → Status → Type 0
   EndWith bytes status = ends.EndWith a.limit HasSection Finish bytes status
 
-  -- the bytes begin with values that have their sections, and one more that is not certified
+  -- The bytes begin with values that have their entries, followed by a value that is not certified.
   pub record HoldBreak (bytes : List ℕ) : Type 0 where
     pub trees : List Tree
     pub tree : Tree
@@ -67,7 +70,7 @@ module _ {T S : Type 0} (ShownBy : T → S → Tree → Shown → Type 0) (a : V
     pub reason : List ℕ
     pub breaks : IsUncertified ShownBy a (length trees) tree reason
 
-  -- the bytes stop the run with this status, whatever follows them
+  -- The bytes end the run with this status, whatever follows them.
   abbrev pub StopWith : List ℕ → Status → Type 0
   StopWith bytes status =
       ((status ≡ Certificate) × HoldBreak bytes)
@@ -75,7 +78,7 @@ module _ {T S : Type 0} (ShownBy : T → S → Tree → Shown → Type 0) (a : V
 
 module _ {D T E S : Type 0} (language : Language D T E) (Reads : ReadsSections S)
     (ShownBy : T → S → Tree → Shown → Type 0) where
-  -- FILE is read, and what it holds is refused, or TYPE
+  -- FILE is read, and its contents are refused, or TYPE is.
   pub record RefusesTypes (request : Request) (files : Fetches) : Type 0 where
     pub asked : Asked
     pub is_asked : verified_by request ≡ Some asked
@@ -83,7 +86,7 @@ module _ {D T E S : Type 0} (language : Language D T E) (Reads : ReadsSections S
     pub read : files 0 asked.file ≡ opened (whole text)
     pub is_refused : IsRefusedType language text asked.type
 
-  -- CERT is read, in its turn, and what it holds is no certificate
+  -- CERT is read, in its turn, and its contents are no certificate.
   pub record RefusesCertificate (request : Request) (files : Fetches) : Type 0 where
     pub asked : Asked
     pub is_asked : verified_by request ≡ Some asked
@@ -94,7 +97,7 @@ module _ {D T E S : Type 0} (language : Language D T E) (Reads : ReadsSections S
     pub line : ℕ
     pub is_refused : Reads text (Err line)
 
-  -- FILE, or CERT in its turn, is not read to its end, and the stop has this status
+  -- FILE is not read to its end, or CERT is not, in its turn; and the exit reason has this status.
   pub record IsUnread (request : Request) (files : Fetches) (status : Status) : Type 0 where
     pub turn : ℕ
     pub name : List ℕ
@@ -103,7 +106,8 @@ module _ {D T E S : Type 0} (language : Language D T E) (Reads : ReadsSections S
     pub fault : ReadsFile name (files turn name) (Err stop)
     pub is : status_of stop ≡ status
 
-  -- the request and what came of its files stop the run before the input, with this status
+  -- The request and the results of fetching its files end the run before the input, with this
+  -- status.
   abbrev pub Bar : Request → Fetches → Status → Type 0
   Bar request files Types = RefusesTypes request files
   Bar request files Certificate = RefusesCertificate request files
@@ -120,6 +124,6 @@ module _ {D T E S : Type 0} (language : Language D T E) (Reads : ReadsSections S
     EndWith = EndWith ShownBy;
   }
 
--- 5 and 11 never come
+-- Statuses 5 and 11 never occur.
 abbrev pub IsNeverEdited : Call → Type 0
 IsNeverEdited call = (call.status ≢ Script) × (call.status ≢ Compat)

@@ -1,5 +1,5 @@
--- The command that verifies a certificate of the values of the input, in the general form: an item
--- is a value, and the section with its number shows something of it.
+-- The command `verify` in the general form. An item is a value, and the certificate entry with its
+-- number proves something about it.
 use Rattle.std.specs.Prelude.{ℕ, ◌≡◌, ◌⊎◌, Bool, if◌then◌else◌, nat_lt, List, [], ◌∷◌, ◌++◌, length}
 use Rattle.std.specs.Prelude.{slice_get, Option, Some, None, Result, Ok, codes}
 use Rattle.om_format.specs.Stream.{SpellAll, End}
@@ -17,13 +17,13 @@ use Rattle.om_promises.specs.LawfulLanguage.{IsGiven}
 use Rattle.om_commands.specs.Tasks.{IsFirstValue}
 use Rattle.om_certification.specs.Ends as ends
 
--- What a section shows of a value at a type: the line that is said of the value, which tells
--- whether nothing is wrong with it; or the section is rejected, for a reason.
+-- What a certificate entry proves about a value at a type: either the output line for the value,
+-- which says whether the value is without errors, or the reason why the entry is rejected.
 pub data Shown : Type 0 where
   shows : (line : List ℕ) → (well : Bool) → Shown
   rejects : (reason : List ℕ) → Shown
 
--- what is to be done: the values at the type are certified by the sections, in their order
+-- The task: the entries certify the values at the type, in their order.
 pub record Verification (T S : Type 0) : Type 0 where
   pub type : T
   pub sections : List S
@@ -32,13 +32,13 @@ pub record Verification (T S : Type 0) : Type 0 where
 -- ---- the values
 
 module _ {T S : Type 0} (ShownBy : T → S → Tree → Shown → Type 0) (a : Verification T S) where
-  -- the section with the number shows this of the value
+  -- The entry with this number proves `shown` about the value.
   pub record IsShown (number : ℕ) (tree : Tree) (shown : Shown) : Type 0 where
     pub section : S
     pub has : slice_get a.sections number ≡ Some section
     pub by : ShownBy a.type section tree shown
 
-  -- this is said of the next value
+  -- The output for the next value.
   pub record SaysOf (items : List Item) (item : Item) (said : Said) : Type 0 where
     pub tree : Tree
     pub is : item ≡ value_item tree
@@ -46,14 +46,14 @@ module _ {T S : Type 0} (ShownBy : T → S → Tree → Shown → Type 0) (a : V
     pub shown : IsShown (length items) tree (shows text said.well)
     pub said_is : said.text ≡ line text
 
-  -- the value has no section, or its section is rejected
+  -- The value has no entry, or its entry is rejected.
   abbrev pub IsUncertified : ℕ → Tree → List ℕ → Type 0
   IsUncertified number tree reason =
       ((slice_get a.sections number ≡ None) × (reason ≡ codes "no section"))
       ⊎ ((why : List ℕ) × IsShown number tree (rejects why)
       × (reason ≡ codes "certificate " ++ why))
 
-  -- a value comes, and is not certified
+  -- The next value is not certified.
   pub record ComesUncertified (number : ℕ) (bytes : List ℕ) (stop : Stop) : Type 0 where
     pub tree : Tree
     pub more : List ℕ
@@ -62,18 +62,18 @@ module _ {T S : Type 0} (ShownBy : T → S → Tree → Shown → Type 0) (a : V
     pub uncertified : IsUncertified number tree reason
     pub is : stop ≡ uncertified_value number reason
 
-  -- after these values the run stops at these bytes
+  -- After these values the run ends at these bytes.
   abbrev pub StopsHere : List Item → List ℕ → Stop → Type 0
   StopsHere items bytes stop =
       ComesUncertified (length items) bytes stop
       ⊎ ends.ComesRefused a.limit (length items) bytes stop
 
-  -- after so many values sections may be left
+  -- The final reply after this many values. Entries that remain are an error.
   abbrev pub ends_sections : ℕ → Reply
   ends_sections number =
       if nat_lt number (length a.sections) then stops sections_left else says nothing_said
 
-  -- the last reply, where the bytes end after so many values, or cut one more
+  -- The final reply if the bytes end after this many values, or inside one more value.
   abbrev pub EndsClean : ℕ → Reply → Type 0
   EndsClean number last = last ≡ ends_sections number
 
@@ -85,7 +85,7 @@ module _ {T S : Type 0} (ShownBy : T → S → Tree → Shown → Type 0) (a : V
 
 -- ---- the files
 
--- FILE, TYPE and CERT, with the limit, where a certificate is to be verified
+-- The parsed arguments, if a certificate is to be verified: FILE, TYPE, CERT and the limit.
 pub record Asked : Type 0 where
   pub file : List ℕ
   pub type : AskedType
@@ -105,24 +105,24 @@ verified_by (own (verify file type certificate lines reading)) =
     })
 verified_by request = None
 
--- a text is read as sections, or has a first faulty line
+-- A text parses as entries, or it has a first faulty line.
 abbrev pub ReadsSections : Type 0 → Type 1
 ReadsSections S = List ℕ → Result (List S) ℕ → Type 0
 
--- CERT is opened and read, then its sections
+-- CERT is opened and read, and then its entries are parsed.
 abbrev pub ReadsCertificateOf : {S : Type 0} → ReadsSections S → (List ℕ → Found) → List ℕ
     → Result (List S) Stop → Type 0
 ReadsCertificateOf Reads files name =
     Then (ReadsFile name (files name)) (λ text. OrRefusal (Reads text) certificate_line)
 
--- a file of this name is wanted in the turn: FILE first, and CERT where FILE and TYPE are read
+-- The file that is requested in this turn: first FILE, and then CERT, if FILE and TYPE are valid.
 abbrev pub WantedIn : {D T E : Type 0} → Language D T E → Fetches → Asked → ℕ → List ℕ → Type 0
 WantedIn {T = T} language files asked turn name =
     ((turn ≡ 0) × (name ≡ asked.file))
     ⊎ ((turn ≡ 1) × (name ≡ asked.certificate)
     × (type : T) × ReadsTypeOf language (files 0) (typed_of asked) (Ok type))
 
--- FILE and TYPE are read, then CERT
+-- FILE and TYPE are read, and then CERT.
 abbrev pub VerifiesBy : {D T E S : Type 0} → Language D T E → ReadsSections S → Fetches → Asked
     → Result (Verification T S) Stop → Type 0
 VerifiesBy language Reads files asked =
@@ -155,8 +155,8 @@ module _ {D T E S : Type 0} (language : Language D T E) (Reads : ReadsSections S
     Ends = EndsHere ShownBy;
   }
 
-  -- a text is read in one way, and a section shows one thing of a value, at each type that some
-  -- texts are read as
+  -- A text parses in one way, and an entry proves one thing about a value, at each type that some
+  -- texts denote.
   pub record AreReadOnce : Type 0 where
     pub sections : (text : List ℕ) → IsOnce (Reads text)
     pub shown : (type : T) → IsGiven language type → (section : S) (tree : Tree)

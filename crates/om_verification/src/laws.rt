@@ -1,4 +1,4 @@
-//! The laws. Each function does nothing: what it ensures is the law.
+//! Lemma functions. They do nothing at run time: the contract of each function is a law.
 
 ghost use Rattle.om_format.specs.Tree.{Tree};
 ghost use Rattle.om_outcome.specs.Outcome.{Language};
@@ -22,8 +22,8 @@ use om_causes::laws::{Meant, causes_of_tables};
 use om_promises::laws::{Act, files_in_turns, lawful_commands, promised, promises_of_commands};
 use std::marker::PhantomData;
 
-/// What texts are read as: declarations, types, lines of scripts, and the sections of a
-/// certificate; and what a section shows of a value at a type.
+/// The parameters of the command: how texts are parsed as declarations, types, script lines and
+/// certificate entries, and what an entry proves about a value at a type.
 pub trait Verifies {
     ghost declarations: { Type 0 };
 
@@ -40,7 +40,7 @@ pub trait Verifies {
     ghost ShownBy: { types → sections → Tree → Shown → Type 0 };
 }
 
-/// The command that verifies certificates, and what each status means at it.
+/// The command `verify`, and its exit status specification.
 pub struct OnCertificates<V>(PhantomData<V>);
 
 impl<V: Verifies> Act for OnCertificates<V> {
@@ -57,23 +57,23 @@ impl<V: Verifies> Meant for OnCertificates<V> {
     ghost tables = { certificate_tables V.language V.Reads V.ShownBy };
 }
 
-/// The command is lawful, where the language is, a certificate is read in one way, and a section
-/// shows one thing of a value.
+/// Proves that the command is lawful if the language is lawful, a certificate parses in one way,
+/// and an entry proves one thing about a value.
 pub fn verifying_is_lawful<V: Verifies>()
     requires language { IsLawful V.language }
     requires once { AreReadOnce V.language V.Reads V.ShownBy }
     ensures { AreLawful (verifying V.language V.Reads V.ShownBy) }
 {}
 
-/// It takes its files turn by turn.
+/// Proves that the command fetches its files in turn.
 pub fn verifying_takes_turns<V: Verifies>()
     requires language { IsLawful V.language }
     requires once { AreReadOnce V.language V.Reads V.ShownBy }
     ensures { AreInTurns (verifying V.language V.Reads V.ShownBy) }
 {}
 
-/// So words, files and an input have one outcome, and the input holds one stop at most, which stays
-/// and comes last.
+/// Proves that arguments, files and input have at most one outcome. The input contains at most one
+/// exit reason. It remains if more bytes follow, and bytes that contain it need no more bytes.
 pub fn verifying_answers_once<V: Verifies>()
     requires language { IsLawful V.language }
     requires once { AreReadOnce V.language V.Reads V.ShownBy }
@@ -86,7 +86,8 @@ pub fn verifying_answers_once<V: Verifies>()
     lawful_commands::<OnCertificates<V>>();
 }
 
-/// What is promised of a call follows from its account, and from that all else.
+/// Proves that the specification of a run follows from its account, and that the other laws follow
+/// from the specification.
 pub fn verifying_keeps_promises<V: Verifies>()
     requires language { IsLawful V.language }
     requires once { AreReadOnce V.language V.Reads V.ShownBy }
@@ -125,20 +126,20 @@ pub fn verifying_keeps_promises<V: Verifies>()
     files_in_turns::<OnCertificates<V>>();
 }
 
-/// It is idle at each request that is not its own.
+/// Proves that the command does nothing for any other request.
 pub fn verifying_is_idle_elsewhere<V: Verifies>()
     ensures { IsIdleElsewhere V.language V.Reads V.ShownBy }
 {}
 
-/// The tables are exact: what stops a run, and how an input ends, by its values and their sections;
-/// and what the words and the files do.
+/// Proves that the status tables are exact. They determine what ends a run and how an input ends,
+/// by its values and their certificate entries, and what the arguments and the files cause.
 pub fn certificates_have_meanings<V: Verifies>()
     ensures { AreExact (verifying V.language V.Reads V.ShownBy)
         (certificate_tables V.language V.Reads V.ShownBy) }
 {}
 
-/// What is promised of a call gives each status its cause, and to each cause its status; and 5 and
-/// 11 never come.
+/// Proves the exit status specification: each status has its cause, and each cause has its status.
+/// Statuses 5 and 11 never occur.
 pub fn causes_of_certificates<V: Verifies>()
     requires language { IsLawful V.language }
     requires once { AreReadOnce V.language V.Reads V.ShownBy }

@@ -1,6 +1,7 @@
-//! The command that verifies a certificate of the values of the input, in the general form: the
-//! files that it wants, what it says of a value by the section with its number, where it stops, and
-//! how it ends. These are definitions, and the laws on them: nothing here does anything.
+//! The specification of the command `verify` in the general form of `Commands`: the files that it
+//! requests, its output for a value by the certificate entry with its number, where the run ends
+//! early, and how it ends. `causes_of_certificates` proves the meaning of its exit statuses. The
+//! crate contains only definitions and laws; the command's code is in another crate.
 #![tactic(auto)]
 
 pub mod laws;

@@ -1,4 +1,4 @@
--- The account of a call that verifies a certificate, from what its files gave.
+-- Proves `Account` for a run of `verify`, from the contents of its files.
 use Rattle.std.proofs.Common.{◌≡◌, ◌⊎◌, ◌<◌, ℕ, zero, suc, Bool, List, Ok, Err, inl, inr, refl, subst, arith}
 use Rattle.om_outcome.specs.declared.status.Status.{Status}
 use Rattle.om_outcome.specs.declared.reading.Reading.{Reading}
@@ -23,19 +23,19 @@ use Rattle.om_verifier.specs.Files.{GivesCertificate}
 use Rattle.om_verifier.specs.Reading.{on_certificates_after, certified_after}
 use Rattle.om_passing.specs.Skipping.{Passed}
 
--- what came of the first turn and of the second one
+-- The results of the first and the second turn.
 abbrev two_found : Found → Found → ℕ → List ℕ → Found
 two_found first second zero name = first
 two_found first second (suc turn) name = second
 
--- FILE and CERT are wanted in two turns
+-- FILE and CERT are fetched in two turns.
 pub wanted_soon : WantsInTurns 2 on_certificates_after
 wanted_soon request files turn name (asked, is, inl (first, e)) = omega (arith, first)
 wanted_soon request files turn name (asked, is, inr (second, e, type, reads)) =
     omega (arith, second)
 
 module _ (words : List (List ℕ)) (found : Fetches) where
-  -- two turns, one after the other
+  -- Two turns, one after the other.
   new_fetches :
       (before between after : FilesState)
       → FetchesIn on_certificates_after words (change before between) found 0
@@ -60,7 +60,7 @@ module _ (words : List (List ℕ)) (found : Fetches) where
     each (suc zero) less = second
     each (suc (suc n)) less = absurd (omega (arith, less))
 
--- FILE or TYPE is not read
+-- FILE or TYPE cannot be read.
 module _ (words : List (List ℕ)) (file type certificate : List ℕ) (lines : Bool)
     (reading : Reading) (asks : Asks words (own (verify file type certificate lines reading))) (files : Change FilesState)
     (found : Found) (fetched : Fetched files file found) where
@@ -102,7 +102,7 @@ module _ (words : List (List ℕ)) (file type certificate : List ℕ) (lines : B
       stop_account on_certificates_after words file_found input out files fetches err status stop
       (gives_stop stop gives) r
 
--- they are, and CERT comes next
+-- FILE and TYPE are read, and CERT is next.
 module _ (words : List (List ℕ)) (r : Prepared) (certificate : List ℕ) (reading : Reading)
     (a b c : FilesState) (asks : AsksToVerify words r certificate reading (change a b))
     (found : Found) (fetched : Fetched (change b c) certificate found) where
@@ -151,7 +151,7 @@ module _ (words : List (List ℕ)) (r : Prepared) (certificate : List ℕ) (read
       )
   stop_given stop (inr memory) = inr memory
 
-  -- there are no sections
+  -- CERT gives no entries.
   pub no_sections_account :
       (stop : Stop) → GivesCertificate certificate found (Err stop) → (input out : ByteState)
       (err : Change ByteState) (status : Status) → Reports stop err status
@@ -161,7 +161,7 @@ module _ (words : List (List ℕ)) (r : Prepared) (certificate : List ℕ) (read
       stop_account on_certificates_after words both_found input out (change a c) both_fetched err status
       stop (stop_given stop gives) reports
 
-  -- the values are verified
+  -- The values are verified.
   pub sections_account :
       (sections : List Section) → GivesCertificate certificate found (Ok sections)
       → (input out err : Change ByteState) (status : Status)
@@ -174,7 +174,7 @@ module _ (words : List (List ℕ)) (r : Prepared) (certificate : List ℕ) (read
         (refl, (asked_of, refl, (Ok (type_over r), asks.gives.0, (Ok sections, gives, refl)))),
       )
 
--- for equal acts
+-- Equal parameters have the same `Account`.
 pub account_same :
     (over other : Passed) (a b : Verification TypeOver Section) (input out err : Change ByteState)
     (status : Status) → over ≡ other → a ≡ b

@@ -1,4 +1,4 @@
--- What a CERT is read as.
+-- The result of reading CERT.
 use Rattle.std.proofs.Common.{◌≡◌, ℕ, List, Some, Ok, Err, inl, inr, refl, ap}
 use Rattle.om_section.specs.declared.read.CertFault.{CertFault}
 use Rattle.om_section.specs.declared.read.CertFault.TheVariants.{Syntax, Memory}

@@ -1,4 +1,4 @@
--- What comes of a section by the requested table is shown at the type.
+-- The result of an entry by the requested table is its result at the type.
 use Rattle.std.proofs.Common.{ℕ, ◌≡◌, true, false, List, ◌++◌, Some, Result, Ok, Err, inl, inr, refl, sym, subst}
 use Rattle.std.specs.Prelude.{codes, slice_get, IfOk}
 use Rattle.om_model.specs.declared.value.Val.{Val}
@@ -32,7 +32,7 @@ use Rattle.om_verifier.specs.declared.judge.Judged.TheVariants.{Line, Uncertifie
 use Rattle.om_verifier.specs.Shown.{why_text, Answers}
 use Rattle.om_verifier.specs.Judged.{Judges, JudgesAt}
 
--- a section that is accepted states the fault that it shows
+-- If an entry is accepted, then it states the fault that it shows.
 stated_fault :
     (table : Table) (graph : List Obj) (root : Val) (section : Section) (fault : Fault)
     → IsVerified table graph root section (No fault)
@@ -47,7 +47,7 @@ stated_fault table graph root (sections.Clash one two) fault (inl (accepted, is)
     subst (IsFault (table_shapes table) graph root 0) (sym same) accepted
 
 module _ (r : Prepared) (ready : IsReady r) (graph : List Obj) (root : Val) (section : Section) where
-  -- by the table that was made
+  -- By the table that was built.
   answer_at :
       (verified : Verified) → IsVerified (table_of r.table) graph root section verified
       → Answers (type_over r) section graph root verified
@@ -65,7 +65,7 @@ module _ (r : Prepared) (ready : IsReady r) (graph : List Obj) (root : Val) (sec
   stated fault is = stated_fault (table_of r.table) graph root section fault is
 
   module _ (root_first : TheRootIsFirst) where
-    -- `yes`
+    -- The output is `yes`.
     pub judged_yes :
         IsLawful (table_of r.table) → TablesDecide → (verified : Verified) → verified ≡ Yes
         → IsVerified (table_of r.table) graph root section verified
@@ -88,7 +88,7 @@ module _ (r : Prepared) (ready : IsReady r) (graph : List Obj) (root : Val) (sec
           spelled,
         )
 
-    -- `no`, and the fault
+    -- The output is `no` with the fault.
     pub judged_no :
         TablesHaveTheFaults → TextsAreOfTypes → NeverBoth → (fault : Fault)
         → IsVerified (table_of r.table) graph root section (No fault) → (why : List ℕ)
@@ -114,7 +114,7 @@ module _ (r : Prepared) (ready : IsReady r) (graph : List Obj) (root : Val) (sec
           spelled,
         )
 
-  -- or why it is rejected
+  -- The entry is rejected for this reason.
   pub judged_rejected :
       (verified : Verified) (why : Why) → verified ≡ Rejected why
       → IsVerified (table_of r.table) graph root section verified
@@ -131,7 +131,7 @@ module _ (r : Prepared) (ready : IsReady r) (graph : List Obj) (root : Val) (sec
     spelled,
   )
 
--- ---- by the number
+-- ---- by the number of the entry
 
 module _ (t : TypeOver) (all : List Section) (number : ℕ) (graph : List Obj) (root : Val) where
   pub judged_at :

@@ -1,4 +1,4 @@
--- A certificate is read in one way, and a section shows one thing of a value at a type.
+-- A certificate has only one reading, and an entry has only one result for a value at a type.
 use Rattle.std.proofs.Common.{ℕ, ◌≡◌, ◌∙◌, true, false, List, ◌++◌, Ok, Err, sym, ap, subst}
 use Rattle.std.specs.Prelude.{codes}
 use Rattle.om_model.specs.declared.value.Val.{Val}

@@ -1,4 +1,4 @@
--- What is said of the values so far, as a piece is taken.
+-- The output for the values so far, while a chunk is taken.
 use Rattle.std.proofs.Common.{◌≡◌, ◌⊎◌, ℕ, ◌+◌, ◌<◌, ◌≤◌, Bool, List, [], ◌∷◌, ◌++◌, length, take, drop, Result, Ok, Err, inl, inr, refl, sym, ap, ◌∙◌, subst, append_assoc, append-nil}
 use Rattle.std.specs.Prelude.{◌&&◌, IsErrAnd, if◌then◌else◌}
 use Rattle.std.proofs.lemmas.Bool.{lt-ltb, le-ltb}
@@ -33,7 +33,7 @@ use Rattle.om_verifier.specs.Shown.{IsShownAt, reads_sections, declared_sections
 use Rattle.om_verifier.specs.Judged.{IsShownBy, IsUncertifiedBy, PutsShown}
 use Rattle.om_verifier.specs.Reading.{on_certificates, certified, HasRead, IsValueRead, StopsNext, PutsNext}
 
--- its items are values
+-- The items of the command are values.
 abbrev pub has_values :
     (r : Prepared) (all : List Section) (limit : ℕ)
     → HasValues declared_types on_certificates (certified r all limit) limit
@@ -47,7 +47,7 @@ has_values r all limit =
       cuts = λ items bytes n tail. (cut n, tail, refl);
     }
 
--- what is said of a value in memory is said of its tree
+-- The output for a value in memory is the output for its tree.
 shown_read :
     (t : TypeOver) (all : List Section) (limit number : ℕ) (value : Value) (tree : Tree)
     (shown : Shown) → IsValueOf value tree
@@ -70,7 +70,7 @@ uncertified_read t all limit number value tree reason is (inl none) = inl none
 uncertified_read t all limit number value tree reason is (inr (why, by, spelled)) =
     inr (why, shown_read t all limit number value tree (rejects why) is by, spelled)
 
--- what was read stays for equal types, sections and limits
+-- The state is preserved for equal types, entries and limits.
 pub has_same :
     (r s : Prepared) (all others : List Section) (limit most : ℕ) (reader : Reader) (count : ℕ)
     (well : Bool) (taken : List ℕ) (said : List Said) → r ≡ s → all ≡ others → limit ≡ most
@@ -85,7 +85,7 @@ module _ (r : Prepared) (all : List Section) (limit : ℕ) where
   abbrev a : Verification TypeOver Section
   a = certified r all limit
 
-  -- a stop at a value is one at the bytes that it begins
+  -- If the run ends at a value, then it ends at the bytes that begin with the value.
   pub stop_begins :
       (items : List Item) (front rest : List ℕ) (n : ℕ) (stop : Stop)
       → StopsNext r all limit items (front ++ take n rest) stop
@@ -100,14 +100,14 @@ module _ (r : Prepared) (all : List Section) (limit : ℕ) where
       inl (subst (λ b. StopsHere declared_sections a items b stop) same more)
 
   module _ {reader : Reader} {count : ℕ} {well : Bool} {taken : List ℕ} {said : List Said} where
-    -- ---- the input's end
+    -- ---- the end of the input
 
     module _ (h : HasRead r all limit reader count well taken said)
         (end : EndsInput {U = Unit {0}} limit h.front (Ok tt)) where
       abbrev Ends : Change ByteState → Result Bool Halt → Type 0
       Ends out result = PutsLast on_certificates a said h.items h.front out result
 
-      -- sections are left
+      -- Certificate entries are left.
       pub ends_left :
           count < length all → (o : ByteState) → Ends (change o o) (Err (halts.Stop sections_left))
       ends_left less o =
@@ -121,7 +121,7 @@ module _ (r : Prepared) (all : List Section) (limit : ℕ) where
             puts_nothing o,
           )
 
-      -- or none
+      -- No certificate entries are left.
       pub ends_all : length all ≤ count → (o : ByteState) → Ends (change o o) (Ok well)
       ends_all most o =
           let enough : length all ≤ length h.items = subst (λ n. length all ≤ n) h.counted most in (
@@ -136,11 +136,11 @@ module _ (r : Prepared) (all : List Section) (limit : ℕ) where
             puts_nothing o,
           )
 
-    -- ---- a value that was read whole
+    -- ---- a value that was read completely
 
     module _ (v : IsValueRead r all limit reader count well taken said) (value : Value)
         (f : Finishes limit v.whole value) where
-      -- this is said of it
+      -- This is the output for the value.
       value_said :
           (text : List ℕ) (fine : Bool)
           → IsShownBy (type_over r) all count value.heap value.root (shows text fine)
@@ -155,7 +155,7 @@ module _ (r : Prepared) (all : List Section) (limit : ℕ) where
         said_is = refl;
       }
 
-      -- it was put, and the reader waits for the next one
+      -- The output was written, and the reader waits for the next value.
       pub value_put :
           (out : Change ByteState) (fine : Bool)
           → PutsShown (type_over r) all count value.heap value.root out (Ok fine)
@@ -192,7 +192,7 @@ module _ (r : Prepared) (all : List Section) (limit : ℕ) where
           let next : Said = record { text = line text; well = fine } in
           (next, value_told (has_values r all limit) v f next (value_said text fine by), part)
 
-      -- or it was not
+      -- The output was not written.
       pub value_halts :
           (out : Change ByteState) (halt : Halt) (new : Reader) (count' : ℕ) (well' : Bool)
           (result : Result (Unit {0}) Halt) → IsErrAnd result (λ h. h ≡ halt)

@@ -1,4 +1,4 @@
--- The words that ask to verify a certificate, where the type is read.
+-- The arguments of `verify`, after the type was read.
 use Rattle.std.specs.Prelude.{ℕ, Bool, List, Ok}
 use Rattle.om_outcome.specs.declared.reading.Reading.{Reading}
 use Rattle.om_outcome.specs.Outcome.{Found, asked_type, own, verify, Asks}
@@ -7,7 +7,7 @@ use Rattle.om_promises.specs.Given.{Fetched}
 use Rattle.om_declared.specs.declared.requested.Prepared.{Prepared}
 use Rattle.om_declared.specs.Types.{GivesType}
 
--- FILE and TYPE gave this type, and CERT comes next
+-- FILE and TYPE gave this type, and CERT is read next.
 pub record AsksToVerify (words : List (List ℕ)) (r : Prepared) (certificate : List ℕ)
     (reading : Reading) (files : Change FilesState) : Type 0 where
   pub file : List ℕ

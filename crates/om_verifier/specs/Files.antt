@@ -1,4 +1,4 @@
--- What a CERT gives.
+-- The result of reading CERT.
 use Rattle.std.specs.Prelude.{ℕ, ◌≡◌, ◌⊎◌, List, Some, Result, Ok, Err}
 use Rattle.om_section.specs.declared.read.CertReader.{CertReader}
 use Rattle.om_section.specs.declared.read.CertFault.{CertFault}
@@ -14,12 +14,12 @@ use Rattle.om_promises.specs.Given.{Gathers, Fetched}
 use Rattle.om_verification.specs.Verification.{ReadsCertificateOf}
 use Rattle.om_verifier.specs.Shown.{reads_sections}
 
--- memory ran out, or the stop tells the line at fault
+-- The exit reason reports the line with the error, or memory ran out.
 abbrev pub IsCertificateStop : CertFault → Stop → Type 0
 IsCertificateStop (Syntax line) stop = stop ≡ certificate_line line
 IsCertificateStop Memory stop = stop ≡ out_of_memory
 
--- the sections of the certificate, or why there are none, but for out of memory
+-- The certificate entries, or the exit reason if there are none. Memory may also run out.
 abbrev pub GivesCertificate : List ℕ → Found → Result (List Section) Stop → Type 0
 GivesCertificate name found (Ok sections) =
     ReadsCertificateOf reads_sections (λ name. found) name (Ok sections)
@@ -31,14 +31,14 @@ abbrev pub FindsCertificateIn : Change FilesState → List ℕ → Result (List 
 FindsCertificateIn files name result =
     (found : Found) × Fetched files name found × GivesCertificate name found result
 
--- ---- as its bytes come
+-- ---- while its bytes arrive
 
--- the bytes, taken up to their end
+-- The bytes, taken up to their end.
 abbrev pub all_of : List ℕ → Taken
 all_of bytes = record { bytes = bytes; until = at_end }
 
--- the source was taken whole, and its bytes have come to the reader; or the stop says why no more
--- were taken
+-- All bytes of the source were passed to the reader. Or the exit reason says why no more bytes were
+-- taken.
 abbrev pub ComesWhole : Change ByteState → CertReader → Result (Unit {0}) Stop → Type 0
 ComesWhole source reader (Ok done) =
     (bytes : List ℕ) × Gathers source (all_of bytes) × HasCome reader bytes
@@ -46,7 +46,7 @@ ComesWhole source reader (Err stop) =
     (taken : Taken) × Gathers source taken
     × ((fault_of taken.until ≡ Some stop) ⊎ (stop ≡ out_of_memory))
 
--- what was taken of the source, whatever its name is, gives the sections or the stop
+-- The bytes taken from the source give the entries or the exit reason, whatever the file's name is.
 abbrev pub TakesCertificate : Change ByteState → Result (List Section) Stop → Type 0
 TakesCertificate source result =
     (taken : Taken) × Gathers source taken

@@ -1,4 +1,4 @@
--- What comes of a value and its section, in code.
+-- The result of the code for a value and its certificate entry.
 use Rattle.std.specs.Prelude.{ℕ, ◌≡◌, ◌⊎◌, Bool, List, [], ◌++◌, slice_get, Some, None, Result, Ok}
 use Rattle.std.specs.Prelude.{Err, codes}
 use Rattle.om_model.specs.declared.value.Val.{Val}
@@ -17,7 +17,7 @@ use Rattle.om_verifier.specs.declared.judge.Judged.{Judged}
 use Rattle.om_verifier.specs.declared.judge.Judged.TheVariants.{Line, Uncertified}
 use Rattle.om_verifier.specs.Shown.{IsShownAt}
 
--- by one section
+-- By one certificate entry.
 abbrev pub Judges : TypeOver → Section → List Obj → Val → Judged → Type 0
 Judges t section graph v (Line text well) =
     (said : List ℕ) × IsShownAt t section graph v (shows said well) × (text ≡ line said)
@@ -25,13 +25,13 @@ Judges t section graph v (Uncertified reason) =
     (why : List ℕ) × IsShownAt t section graph v (rejects why)
     × (reason ≡ codes "certificate " ++ why)
 
--- the section with the number shows this
+-- The certificate entry with this number gives this result.
 abbrev pub IsShownBy : TypeOver → List Section → ℕ → List Obj → Val → Shown → Type 0
 IsShownBy t sections number graph v shown =
     (section : Section) × (slice_get sections number ≡ Some section)
     × IsShownAt t section graph v shown
 
--- there is no such section, or it is rejected
+-- There is no such entry, or it is rejected.
 abbrev pub IsUncertifiedBy : TypeOver → List Section → ℕ → List Obj → Val → List ℕ → Type 0
 IsUncertifiedBy t sections number graph v reason =
     ((slice_get sections number ≡ None) × (reason ≡ codes "no section"))
@@ -44,8 +44,8 @@ JudgesAt t sections number graph v (Line text well) =
 JudgesAt t sections number graph v (Uncertified reason) =
     IsUncertifiedBy t sections number graph v reason
 
--- the line is put; or the value is not certified, or memory ran out, and nothing is put; or out
--- failed
+-- The line is written. Or the value is not certified or memory ran out, and nothing is written. Or
+-- writing the output fails.
 abbrev pub PutsShown : TypeOver → List Section → ℕ → List Obj → Val → Change ByteState
     → Result Bool Halt → Type 0
 PutsShown t sections number graph v out (Ok well) =

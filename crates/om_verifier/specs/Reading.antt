@@ -1,4 +1,5 @@
--- What has been read of the values, and said of them by their sections, as their bytes come.
+-- The values read so far, and the output for them by their certificate entries, while the bytes of
+-- the input arrive.
 use Rattle.std.specs.Prelude.{ℕ, Bool, false, List, length, Result}
 use Rattle.om_read.specs.declared.reader.Reader.{Reader}
 use Rattle.om_section.specs.declared.section.Section.{Section}
@@ -18,41 +19,41 @@ use Rattle.om_outcome.specs.declared.reading.Reading.{Reading}
 use Rattle.om_passing.specs.Asked.{passed_by}
 use Rattle.om_passing.specs.Skipping.{Passed, skipping}
 
--- the command at declared types, and after the bytes that the words ask to pass over
+-- The command at declared types, and the same command after skipped bytes.
 abbrev pub on_certificates : Commands (Verification TypeOver Section)
 on_certificates = verifying declared_types reads_sections declared_sections
 
 abbrev pub on_certificates_after : Commands (Passed × Verification TypeOver Section)
 on_certificates_after = skipping passed_by on_certificates
 
--- what is done
+-- The parameters of the command.
 abbrev pub certified : Prepared → List Section → ℕ → Verification TypeOver Section
 certified r sections limit =
     record { type = type_over r; sections = sections; limit = limit }
 
--- and what is passed over before
+-- The parameters, with the number of skipped bytes.
 abbrev pub certified_after :
     Prepared → List Section → Reading → Passed × Verification TypeOver Section
 certified_after r sections reading =
     (record { bytes = reading.skip; copied = false }, certified r sections reading.limit)
 
 module _ (r : Prepared) (sections : List Section) (limit : ℕ) where
-  -- what has been read of the values and said of them, with a front of the next one
+  -- The values read so far and their output, with a prefix of the next value.
   abbrev pub HasRead : Reader → ℕ → Bool → List ℕ → List Said → Type 0
   HasRead = work.HasRead on_certificates (certified r sections limit) limit (IsReady r)
 
-  -- the same with all of the next one
+  -- The same, with all bytes of the next value.
   abbrev pub IsValueRead : Reader → ℕ → Bool → List ℕ → List Said → Type 0
   IsValueRead = work.IsValueRead on_certificates (certified r sections limit) limit (IsReady r)
 
-  -- the value after these is not certified, or memory ran out
+  -- The value after these is not certified, or memory ran out.
   abbrev pub StopsNext : List Item → List ℕ → Stop → Type 0
   StopsNext items whole =
       OrMemory (λ stop. ComesUncertified declared_sections (certified r sections limit)
       (length items) whole stop)
 
-  -- What is said of the value that is there, after these, is put; or the value is not certified,
-  -- or memory ran out, and nothing is put; or out failed.
+  -- The output for the current value is written. Or the value is not certified or memory ran out,
+  -- and nothing is written. Or writing the output fails.
   abbrev pub PutsNext : {U : Type 0} → Reader → ℕ → Bool → List ℕ → List Said → List Item
       → List ℕ → Change ByteState → Result U Halt → Type 0
   PutsNext reader count well taken said items whole =

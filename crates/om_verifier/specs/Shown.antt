@@ -1,4 +1,4 @@
--- What a section of a certificate shows of a value at a declared type.
+-- The result of a certificate entry for a value at a declared type.
 use Rattle.std.specs.Prelude.{ℕ, ◌≡◌, true, false, List, ◌++◌, Result, Ok, Err, codes, decimal}
 use Rattle.om_model.specs.declared.value.Val.{Val}
 use Rattle.om_model.specs.declared.value.Obj.{Obj}
@@ -21,7 +21,7 @@ use Rattle.om_cert_alike.specs.Alike.{IsAnswerAt}
 use Rattle.om_declared.specs.Language.{TypeOver}
 use Rattle.om_verification.specs.Verification.{Shown, shows, rejects}
 
--- the text of a reason
+-- The text of a reason.
 abbrev pub why_text : Why → List ℕ
 why_text (Range i) = codes "Range(" ++ decimal i ++ codes ")"
 why_text (Unfit i) = codes "Unfit(" ++ decimal i ++ codes ")"
@@ -31,19 +31,20 @@ why_text Root = codes "Root"
 why_text NotFault = codes "NotFault"
 
 module _ (t : TypeOver) (section : Section) (graph : List Obj) (v : Val) where
-  -- by a table of the types that the type reaches, this is the answer to the section
+  -- By a table of the types that the type reaches, this is the result of the certificate entry.
   abbrev pub Answers : Verified → Type 0
   Answers = IsAnswerAt t.decls t.type graph v section
 
-  -- its pairs are accepted, and so the value has the type, and each closed instance of it
+  -- The pairs of the entry are accepted, so the value has the type and each of its closed
+  -- instances.
   pub record ShowsType (line : List ℕ) : Type 0 where
     pub accepted : Answers Yes
     pub has : HasType (declared_shapes t.decls) graph v t.type
     pub each : HasEachInstance t.decls graph v t.type
     pub is : line ≡ codes "yes"
 
-  -- Its paths are a fault, and so the value has not the type, nor each closed instance of it. Of
-  -- several faults it may state any.
+  -- The paths of the entry are a fault, so the value lacks the type and some closed instance of it.
+  -- If there are several faults, the entry may state any of them.
   pub record ShowsFault (line : List ℕ) : Type 0 where
     pub fault : Fault
     pub accepted : Answers (No fault)
@@ -54,7 +55,7 @@ module _ (t : TypeOver) (section : Section) (graph : List Obj) (v : Val) where
     pub is_text : IsFaultText (declared_shapes t.decls) type_text graph v t.type fault text
     pub is : line ≡ codes "no " ++ text
 
-  -- it is rejected, first for this reason
+  -- The entry is rejected, and this is the first reason.
   pub record IsRejected (reason : List ℕ) : Type 0 where
     pub why : Why
     pub rejected : Answers (Rejected why)
@@ -65,12 +66,13 @@ module _ (t : TypeOver) (section : Section) (graph : List Obj) (v : Val) where
   IsShownAt (shows line false) = ShowsFault line
   IsShownAt (rejects reason) = IsRejected reason
 
--- what the section shows of the value of a tree
+-- The result of the entry for the value of a tree.
 abbrev pub declared_sections : TypeOver → Section → Tree → Shown → Type 0
 declared_sections t section tree shown =
     IsShownAt t section (objects_of tree 0) (root tree 0) shown
 
--- the text is the certificate of these sections, or this line is its first fault
+-- The text is the certificate with these entries, or this is the number of its first line with an
+-- error.
 abbrev pub reads_sections : List ℕ → Result (List Section) ℕ → Type 0
 reads_sections text (Ok all) = IsCertificate text all
 reads_sections text (Err line) = IsSyntaxAt text line

@@ -1,4 +1,5 @@
-//! `verify`: the files, then the values by their sections, and the account of the call.
+//! The command `verify`: reads the files and verifies the values by their certificate entries. The
+//! contract states that the run satisfies `Account`.
 
 ghost use Rattle.std.specs.Prelude.{List, ℕ};
 ghost use Rattle.om_outcome.specs.Outcome.{Asks, own, verify as verify_of};
@@ -22,7 +23,7 @@ use om_stops::stop::report_stop;
 use om_work::run_reported;
 use std::alloc::Global;
 
-// Verifies the values by the sections, at the type.
+// Verifies the values at the type by the certificate entries.
 fn verify_values<S: Source, K: Sink, E: Sink>(
     alloc: Global,
     requested: &Requested,
@@ -46,7 +47,7 @@ fn verify_values<S: Source, K: Sink, E: Sink>(
     run_reported(alloc, &mut passing, input, out, err)
 }
 
-// Reads CERT, and verifies the values.
+// Reads CERT and verifies the values.
 fn verify_by<S: Source, O: Opener, K: Sink, E: Sink>(
     alloc: Global,
     requested: &Requested,
@@ -79,7 +80,7 @@ fn verify_by<S: Source, O: Opener, K: Sink, E: Sink>(
     }
 }
 
-// Reads CERT, and verifies the values at the type that a FILE and a TYPE gave.
+// Reads CERT and verifies the values at the type from FILE and TYPE.
 fn verify_over<S: Source, O: Opener, K: Sink, E: Sink>(
     alloc: Global,
     requested: Requested,
@@ -109,7 +110,7 @@ fn verify_over<S: Source, O: Opener, K: Sink, E: Sink>(
     )
 }
 
-/// Reads FILE and TYPE, then CERT, and verifies the values.
+/// Reads FILE and TYPE, then CERT, and verifies the values. Returns the exit status.
 pub fn verify<S: Source, O: Opener, K: Sink, E: Sink>(
     alloc: Global,
     file: &str,

@@ -1,4 +1,4 @@
-//! CERT, opened, and read as its bytes come.
+//! Reads the file CERT while its bytes arrive.
 
 ghost use Rattle.std.specs.Prelude.{ℕ, ◌≡◌, ◌<◌, ◌+◌, ◌^◌, ◌++◌, [], length, vec_len, List as Seq};
 ghost use Rattle.std.specs.Prelude.{IfOk, OnOk};
@@ -18,7 +18,7 @@ use om_stops::made::unopened_file;
 use om_work::{LENGTH_LIMIT, PIECE};
 use std::alloc::Global;
 
-/// The stop of a CERT that is refused.
+/// Returns the exit reason for a CERT that is refused.
 fn certificate_stop(fault: CertFault) -> Stop
     ensures { IsCertificateStop fault result }
 {
@@ -28,14 +28,14 @@ fn certificate_stop(fault: CertFault) -> Stop
     }
 }
 
-/// Memory for the bytes that a call gives.
+/// Allocates the buffer for one read.
 fn new_buffer(alloc: Global) -> Result<Vec<u8>, Memory>
     ensures { IfOk result (λ buffer. vec_len buffer ≡ piece_limit) }
 {
     Ok(vec![in alloc; 0; PIECE]?)
 }
 
-/// Hands the reader the next piece.
+/// Passes the next chunk to the certificate reader.
 fn hand_on(reader: &mut CertReader, piece: &[u8]) -> Result<(), Memory>
     requires { (bytes : Seq ℕ) × HasCome reader.old bytes
         × (length bytes + length piece.now < 2 ^ 63) }
@@ -46,8 +46,8 @@ fn hand_on(reader: &mut CertReader, piece: &[u8]) -> Result<(), Memory>
     reader.take(piece)
 }
 
-// Takes the bytes of CERT and hands them on, up to their end, a fault or 2^48 bytes; behind a line
-// that is refused too, since a fault of reading goes before it.
+// Passes the bytes of CERT to the reader, up to the end, an error or 2^48 bytes. It continues after
+// a refused line, because a read error takes precedence over a refused line.
 fn take_pieces<O: Opener>(
     files: &mut O,
     reader: &mut CertReader,
@@ -79,7 +79,7 @@ fn take_pieces<O: Opener>(
     Err(Stop::TooLong)
 }
 
-// The sections of a CERT that has come whole.
+// Returns the certificate entries of a CERT that was read to its end.
 fn read_end(reader: CertReader) -> Result<Cert, Stop>
     requires { (bytes : Seq ℕ) × HasCome reader bytes × (length bytes < 2 ^ 63) }
     ensures { (name bytes : Seq ℕ) → HasCome reader bytes
@@ -110,7 +110,7 @@ fn read_fetched<O: Opener>(alloc: Global, files: &mut O) -> Result<Cert, Stop>
     }
 }
 
-/// Reads CERT.
+/// Reads the file `name` as a CERT. The error is the exit reason.
 pub fn find_certificate<O: Opener>(alloc: Global, files: &mut O, name: &str) -> Result<Cert, Stop>
     ensures { FindsCertificateIn (change (O.state files.old) (O.state files.new)) name.now result }
 {

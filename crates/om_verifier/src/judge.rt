@@ -1,4 +1,4 @@
-//! What the section with a number shows of a value.
+//! Checks a value by its certificate entry.
 
 ghost use Rattle.std.specs.Prelude.{IfOk};
 ghost use Rattle.om_type_table.specs.Made.{table_of};
@@ -22,15 +22,16 @@ use om_table::{tables_decide, type_or_fault};
 use om_types::fault::Fault;
 use std::alloc::Global;
 
-/// What is said of a value by its section, with its line feed, and whether nothing is wrong with
-/// the value; or why the value is not certified.
+/// The result for a value: its output with a line feed, and whether the value is ok. Or the reason
+/// why the certificate does not certify it.
 #[derive(Drop)]
 pub enum Judged {
     Line(List<u8>, bool),
     Uncertified(List<u8>),
 }
 
-/// What the section with the number shows of a value, if there is one.
+/// Checks a value by the certificate entry with this number. If there is none, the value is not
+/// certified.
 pub fn judge(
     alloc: Global,
     value: &Rooted<'_>,
@@ -49,7 +50,7 @@ pub fn judge(
     judge_by(alloc, value, requested, &sections[number as usize])
 }
 
-/// What a section shows of a value.
+/// Checks a value by a certificate entry.
 fn judge_by(
     alloc: Global,
     value: &Rooted<'_>,
@@ -63,7 +64,7 @@ fn judge_by(
     told(alloc, value, requested, section, &verified)
 }
 
-/// What is said of a value by what came of its section.
+/// Returns the output for the result of a certificate entry.
 fn told(
     alloc: Global,
     value: &Rooted<'_>,
@@ -95,7 +96,7 @@ fn told(
     }
 }
 
-/// What is said of a value whose section states a fault.
+/// Returns the output for a value whose certificate entry states a fault.
 fn told_fault(
     alloc: Global,
     value: &Rooted<'_>,

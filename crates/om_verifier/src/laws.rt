@@ -1,4 +1,4 @@
-//! The laws. Each function does nothing: what it ensures is the law.
+//! The laws. The functions do nothing and exist only for their contracts.
 
 ghost use Rattle.std.specs.Prelude.{List};
 ghost use Rattle.om_types.specs.declared.decl.Decl.{Decl};
@@ -31,7 +31,8 @@ impl Verifies for DeclaredSections {
     ghost ShownBy = { declared_sections };
 }
 
-/// A certificate is read in one way, and a section shows one thing of a value at a type.
+/// Proves that a certificate has only one reading, and that a certificate entry has only one result
+/// for a value at a type.
 pub fn declared_sections_are_read_once()
     ensures { AreReadOnce declared_types reads_sections declared_sections }
 {

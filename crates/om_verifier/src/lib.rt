@@ -1,5 +1,7 @@
-//! Certificates of the values of the input, verified: what a section shows of a value at a declared
-//! type, and the command that reads the values as they come.
+//! Implements `verify`: checks the values of the input by the entries of a certificate, while their
+//! bytes arrive. If an entry is accepted, the value has the type (`ShowsType`), or has the stated
+//! fault (`ShowsFault`). A missing or rejected entry ends the run. The check of a single entry is
+//! in another crate.
 #![tactic(auto)]
 
 mod command;

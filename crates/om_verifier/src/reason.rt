@@ -1,4 +1,4 @@
-//! The texts of the reasons for which a section is rejected.
+//! The texts of the reasons why a certificate entry is rejected.
 
 ghost use Rattle.std.specs.Prelude.{◌≡◌, ◌++◌, codes, decimal, IfOk, OnOk, string_bytes};
 ghost use Rattle.om_verifier.specs.Shown.{why_text};
@@ -8,7 +8,7 @@ use om_model::Memory;
 use om_stops::put::put;
 use std::alloc::{AllocError, Global};
 
-// A name, with a number.
+// Returns a name with a number.
 fn with_number(alloc: Global, name: &str, number: u64) -> Result<String, AllocError>
     ensures { IfOk result
         (λ text. string_bytes text ≡ name.now ++ codes "(" ++ decimal number ++ codes ")") }
@@ -16,7 +16,7 @@ fn with_number(alloc: Global, name: &str, number: u64) -> Result<String, AllocEr
     format!(in alloc; "{name}({number})")
 }
 
-// A name, with two numbers.
+// Returns a name with two numbers.
 fn with_numbers(alloc: Global, name: &str, one: u64, other: u64) -> Result<String, AllocError>
     ensures { IfOk result
         (λ text. string_bytes text
@@ -25,7 +25,7 @@ fn with_numbers(alloc: Global, name: &str, one: u64, other: u64) -> Result<Strin
     format!(in alloc; "{name}({one}, {other})")
 }
 
-// Puts a name with a number at the end.
+// Appends a name with a number.
 fn put_number(text: &mut Vec<u8>, alloc: Global, name: &str, number: u64) -> Result<(), Memory>
     ensures { OnOk result
         (text.new.items
@@ -35,7 +35,7 @@ fn put_number(text: &mut Vec<u8>, alloc: Global, name: &str, number: u64) -> Res
     put(text, named.as_bytes())
 }
 
-// Puts the reason of a need at the end.
+// Appends the text of a missing required field.
 fn put_need(text: &mut Vec<u8>, alloc: Global, pair: u64, field: u64) -> Result<(), Memory>
     ensures { OnOk result
         (text.new.items
@@ -46,7 +46,7 @@ fn put_need(text: &mut Vec<u8>, alloc: Global, pair: u64, field: u64) -> Result<
     put(text, named.as_bytes())
 }
 
-/// Puts the text of a reason at the end.
+/// Appends the text of a reason.
 pub fn put_why(text: &mut Vec<u8>, alloc: Global, why: Why) -> Result<(), Memory>
     ensures { OnOk result (text.new.items ≡ text.old.items ++ why_text why) }
 {

@@ -1,4 +1,5 @@
-//! The values of the input, one by one, as their bytes come, each verified by its section.
+//! The values of the input, one by one, while their bytes arrive. Each is verified by its
+//! certificate entry.
 
 ghost use Rattle.std.specs.Prelude.{◌≡◌, ◌<◌, ◌+◌, ◌^◌, ℕ, List, [], length, true};
 ghost use Rattle.om_outcome.specs.Outcome.{Said};
@@ -20,8 +21,8 @@ use om_work::Work;
 use std::alloc::Global;
 use std::mem;
 
-/// Puts what the section with the number shows of a value, and answers whether nothing is wrong
-/// with it; a value that is not certified stops the run.
+/// Writes the output for a value by the certificate entry with this number. Returns true if the
+/// value is ok. If the value is not certified, the run ends.
 fn put_shown<K: Sink>(
     alloc: Global,
     value: &Rooted<'_>,
@@ -42,8 +43,8 @@ fn put_shown<K: Sink>(
     }
 }
 
-/// The values so far: how many there are, whether nothing is wrong with any, and the reader of the
-/// next one; and the sections that certify them.
+/// The state of the command: the number of values so far, whether all are ok, the reader of the
+/// next value, and the certificate entries.
 #[derive(Drop)]
 pub struct Certified<'a> {
     requested: &'a Requested,
@@ -55,7 +56,8 @@ pub struct Certified<'a> {
 }
 
 impl<'a> Certified<'a> {
-    /// No byte was taken. The number is the limit of words on 64 bits in a value.
+    /// Creates the state before any byte is taken. `limit` is the greatest number of 64-bit words
+    /// in a value.
     pub fn new(
         alloc: Global,
         requested: &'a Requested,
@@ -79,8 +81,8 @@ impl<'a> Certified<'a> {
         }
     }
 
-    /// Puts what is said of the value that the reader has whole. A new reader waits for the next
-    /// one, in the memory of this one.
+    /// Writes the output for the value that the reader has read completely. A new reader for the
+    /// next value reuses the memory of this one.
     fn put_value<K: Sink>(&mut self, alloc: Global, out: &mut K) -> Result<(), Halt>
         requires { (taken : List ℕ) × (said : List Said)
             × IsValueRead self.old.requested.now self.old.sections.now self.old.limit

@@ -1,4 +1,4 @@
-//! A block of memory for words: the functions that use pointers.
+//! A block of memory for 64-bit words. This module contains all code that uses pointers.
 ghost use Rattle.std.specs.Prelude.{◌≡◌, ℕ, ◌+◌, ◌^◌, ◌<◌, ◌≤◌, List, [], ◌∷◌, ◌++◌, length, take};
 ghost use Rattle.std.specs.Prelude.{replicate, slice_range, if◌then◌else◌};
 ghost use Rattle.std.specs.Borrow.{sem};
@@ -8,7 +8,7 @@ use std::alloc::{Allocator, Global};
 use std::marker::Model;
 use std::slice;
 
-/// Room for `cap` words, of which the first are written. Where `cap` is 0 there is no block.
+/// Room for `cap` words, of which the first are written. If `cap` is 0, there is no memory.
 pub(crate) struct Block {
     at: *mut u64,
     ghost cap: { ℕ },
@@ -25,7 +25,7 @@ impl Model for Block {
 impl Block {
     ghost use Rattle.om_words.specs.Lends.{lends_words};
 
-    /// No block.
+    /// Returns a block without memory.
     pub(crate) fn none() -> Block
         ensures { (result.cap ≡ 0) × (result.words ≡ []) }
     {
@@ -35,7 +35,7 @@ impl Block {
         }
     }
 
-    /// Takes the first block.
+    /// Allocates memory for `cap` words. Returns false if there is not enough memory.
     pub(crate) fn take(&mut self, alloc: &Global, cap: usize) -> bool
         requires { (self.old.cap ≡ 0) × (0 < cap) × (cap < 2 ^ 60) }
         ensures { (self.new.words ≡ []) × (self.new.cap ≡ (if result then cap else 0)) }
@@ -49,7 +49,8 @@ impl Block {
         }
     }
 
-    /// Makes the block a larger one.
+    /// Enlarges the block from `old` to `cap` words. Returns false and changes nothing if there is
+    /// not enough memory.
     pub(crate) fn grow(&mut self, alloc: &Global, len: usize, old: usize, cap: usize) -> bool
         requires { (len ≡ length self.old.words) × (old ≡ self.old.cap) × (0 < old) × (old ≤ cap)
             × (cap < 2 ^ 60) }
@@ -65,7 +66,7 @@ impl Block {
         }
     }
 
-    /// Puts w after the `len` words.
+    /// Writes `w` after the first `len` words.
     pub(crate) fn push(&mut self, len: usize, w: u64)
         requires { (len ≡ length self.old.words) × (len < self.old.cap) }
         ensures { (self.new.words ≡ self.old.words ++ w ∷ []) × (self.new.cap ≡ self.old.cap) }
@@ -73,7 +74,7 @@ impl Block {
         unsafe { *self.at.add(len) = w }
     }
 
-    /// Puts n times w after the `len` words.
+    /// Writes `n` copies of `w` after the first `len` words.
     pub(crate) fn push_run(&mut self, len: usize, n: usize, w: u64)
         requires { (len ≡ length self.old.words) × (len + n ≤ self.old.cap)
             × (self.old.cap < 2 ^ 60) }
@@ -85,7 +86,7 @@ impl Block {
         }
     }
 
-    /// Puts these words after the `len` words.
+    /// Writes `words` after the first `len` words.
     pub(crate) fn push_all(&mut self, len: usize, words: &[u64])
         requires { (len ≡ length self.old.words) × (len + length words.now ≤ self.old.cap)
             × (self.old.cap < 2 ^ 60) }
@@ -96,7 +97,7 @@ impl Block {
         }
     }
 
-    /// The words, lent.
+    /// Returns a slice of the words.
     pub(crate) fn words(&self, len: usize) -> &[u64]
         requires { len ≡ length self.now.words }
         ensures { result.now ≡ self.now.words }
@@ -104,7 +105,7 @@ impl Block {
         unsafe { slice::from_raw_parts(self.at, len) }
     }
 
-    /// The n words from word `from` on, lent to be written.
+    /// Returns a mutable slice of the `n` words from word `from` on.
     pub(crate) fn part_mut(&mut self, from: usize, n: usize) -> &mut [u64]
         requires { from + n ≤ length self.old.words }
         ensures* writes_back { sem 𝓛 (lends_words self.entry from result) }
@@ -113,13 +114,13 @@ impl Block {
         unsafe { slice::from_raw_parts_mut(self.at.add(from), n) }
     }
 
-    /// Forgets the words from `len` on, whose room stays.
+    /// Removes the words from word `_len` on. The capacity stays the same.
     pub(crate) fn cut(&mut self, _len: usize)
         requires { _len ≤ length self.old.words }
         ensures { (self.new.words ≡ take _len self.old.words) × (self.new.cap ≡ self.old.cap) }
     {}
 
-    /// Gives the block back.
+    /// Frees the memory of the block.
     pub(crate) fn free(self, alloc: &Global, cap: usize)
         requires { cap ≡ self.cap }
     {

@@ -1,4 +1,6 @@
-//! Words of 64 bits, side by side in memory of their own.
+//! An arena of 64-bit words: a growable array whose capacity contracts can see (`spare`). Callers
+//! reserve room once and then append words without further checks. All code that uses pointers is
+//! in the module `block`.
 #![tactic(auto)]
 
 mod block;

@@ -1,4 +1,4 @@
-//! A region: words side by side in one block of memory.
+//! The arena: 64-bit words side by side in one block of memory.
 
 ghost use Rattle.std.specs.Prelude.{◌≡◌, ◌↔◌, ◌+◌, ◌-◌, ◌*◌, ◌^◌, ◌<◌, ◌≤◌, [], ◌∷◌, ◌++◌, length};
 ghost use Rattle.std.specs.Prelude.{take, replicate, slice_index, slice_set, slice_range, IsTrue};
@@ -10,8 +10,8 @@ use om_model::Memory;
 use std::alloc::Global;
 use std::marker::Model;
 
-/// Words, which contracts see as the list `words`, and as `spare` the number of those that can
-/// still be appended without taking memory. The memory is freed when the region is dropped.
+/// An arena of 64-bit words. Contracts see its contents as the list `words`, and the number of
+/// words that can be appended without allocation as `spare`. Dropping the arena frees its memory.
 pub struct Region {
     block: Block,
     len: usize,
@@ -42,11 +42,12 @@ impl Drop for Region {
     }
 }
 
-/// A region with room for so many words is not made larger: no memory holds twice as many.
+/// An arena with room for this many words is not enlarged, because no memory has room for twice as
+/// many.
 const LARGEST: usize = 1 << 59;
 
 impl Region {
-    /// The region without words or room. It takes no memory.
+    /// Returns an empty arena. This call does not allocate.
     pub fn new(alloc: Global) -> Region
         ensures { result.words ≡ [] }
     {
@@ -58,7 +59,7 @@ impl Region {
         }
     }
 
-    /// Makes room for n more words. Where there was not enough, the capacity at least doubles.
+    /// Makes room for `n` more words. If the room was insufficient, the capacity at least doubles.
     pub fn reserve(&mut self, n: usize) -> Result<(), Memory>
         ensures words { self.new.words ≡ self.old.words }
         ensures room { OnOk result (n ≤ self.new.spare) }
@@ -72,7 +73,7 @@ impl Region {
         self.grow(n)
     }
 
-    /// There is room for n more words.
+    /// Returns true if there is room for `n` more words.
     #[inline(always)]
     pub fn has_room(&self, n: usize) -> bool
         ensures { IsTrue result ↔ (n ≤ self.now.spare) }
@@ -80,7 +81,7 @@ impl Region {
         n <= self.cap - self.len
     }
 
-    /// Takes memory for n more words.
+    /// Allocates memory for `n` more words.
     #[cold]
     fn grow(&mut self, n: usize) -> Result<(), Memory>
         requires { self.old.spare < n }
@@ -106,7 +107,7 @@ impl Region {
         Ok(())
     }
 
-    /// Appends a word for which there is room.
+    /// Appends a word. There must be room for it.
     pub fn append_reserved(&mut self, w: u64)
         requires { 0 < self.old.spare }
         ensures words { self.new.words ≡ self.old.words ++ w ∷ [] }
@@ -117,7 +118,7 @@ impl Region {
         self.len = len + 1;
     }
 
-    /// Word i.
+    /// Returns the word at index `i`.
     pub fn get(&self, i: usize) -> u64
         requires { i < length self.now.words }
         ensures { result ≡ slice_index self.now.words i }
@@ -125,7 +126,7 @@ impl Region {
         self.block.words(self.len)[i]
     }
 
-    /// Puts w in the place of word i.
+    /// Replaces the word at index `i` by `w`.
     #[tactic(auto, using(crate::proofs::Parts::overwritten_one))]
     pub fn set(&mut self, i: usize, w: u64)
         requires { i < length self.old.words }
@@ -134,7 +135,7 @@ impl Region {
         self.block.part_mut(i, 1)[0] = w;
     }
 
-    /// The n words from word i on, lent.
+    /// Returns a slice of the `n` words from index `i` on.
     pub fn part(&self, i: usize, n: usize) -> &[u64]
         requires { i + n ≤ length self.now.words }
         ensures { result.now ≡ slice_range self.now.words i (i + n) }
@@ -142,7 +143,7 @@ impl Region {
         &self.block.words(self.len)[i..i + n]
     }
 
-    /// Appends n copies of a word, for which there is room.
+    /// Appends `n` copies of a word. There must be room for them.
     pub fn append_run(&mut self, n: usize, w: u64)
         requires { n ≤ self.old.spare }
         ensures words { self.new.words ≡ self.old.words ++ replicate n w }
@@ -152,7 +153,7 @@ impl Region {
         self.len += n;
     }
 
-    /// Appends words for which there is room.
+    /// Appends words. There must be room for them.
     pub fn append_slice(&mut self, words: &[u64])
         requires { length words.now ≤ self.old.spare }
         ensures words { self.new.words ≡ self.old.words ++ words.now }
@@ -162,7 +163,7 @@ impl Region {
         self.len += words.len();
     }
 
-    /// How many words there are. With their room they are fewer than 2^60.
+    /// Returns the number of words. The capacity is always less than 2^60 words.
     pub fn len(&self) -> usize
         ensures len { result ≡ length self.now.words }
         ensures small { capacity self.now < 2 ^ 60 }
@@ -170,7 +171,7 @@ impl Region {
         self.len
     }
 
-    /// Drops the words from word n on. Their room stays.
+    /// Removes the words from index `n` on. The capacity stays the same.
     pub fn truncate(&mut self, n: usize)
         requires { n ≤ length self.old.words }
         ensures words { self.new.words ≡ take n self.old.words }

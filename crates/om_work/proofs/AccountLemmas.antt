@@ -1,4 +1,4 @@
--- The account of a call, from the run and how it is reported.
+-- The account of a run, from the run and its report.
 use Rattle.std.proofs.Common.{◌≡◌, ◌⊎◌, Bool, List, [], ◌∷◌, ◌++◌, ℕ, Result, Ok, Err, inl, inr, sym, ap, ◌∙◌, subst, append-nil}
 use Rattle.om_outcome.specs.declared.status.Status.{Status}
 use Rattle.om_outcome.specs.declared.status.Status.TheVariants.{WriteFault}
@@ -28,7 +28,7 @@ module _ {A : Type 0} (c : Commands A) (a : A) (words : List (List ℕ)) (found 
   said_first said (inl (reads, paced)) = inr (a, prepared, reads, paced)
   said_first said (inr (unread, none, silent)) = inl (none, silent)
 
-  -- what is not read was not taken
+  -- If a command reads no input, then nothing is consumed.
   untaken :
       (said : List Said) → IsSaidOf c a taken said
       → ((a : A) → Prepares c words found (Ok a) → c.Reads a → ⊥) → taken ≡ nothing
@@ -50,7 +50,7 @@ module _ {A : Type 0} (c : Commands A) (a : A) (words : List (List ℕ)) (found 
       line = inl (none, same ∙ ap ending_status is);
     })
 
-    -- the stop that is told: what the run stops by, or that memory ran out
+    -- The exit reason that is reported: that of the run, or that memory ran out.
     tells :
         (stop told : Stop) → (Answers c a taken (replies said (stops stop)) ⊎ (stop ≡ out_of_memory))
         → Puts out (texts_of said) → (told ≡ stop) ⊎ (told ≡ out_of_memory)
@@ -102,7 +102,7 @@ module _ {A : Type 0} (c : Commands A) (a : A) (words : List (List ℕ)) (found 
     ended (Err (halts.Stop stop)) ends reported = ends_stopped stop ends reported
     ended (Err halts.WriteFault) ends (none, same) = ends_broken ends none same
 
--- the account of a call that came to a run, which is reported
+-- The account of a run that is reported.
 pub account :
     {A : Type 0} (c : Commands A) (a : A) (input out err : Change ByteState) (status : Status)
     (result : Result Bool Halt) → Runs c a input out result → IsReported result err status

@@ -1,4 +1,4 @@
--- The first items of bytes: they stay when bytes follow, and one more comes after them.
+-- The first items of bytes. They remain if more bytes follow, and one more item comes after them.
 use Rattle.std.proofs.Common.{◌≡◌, ℕ, List, [], ◌∷◌, ◌++◌, refl, sym, ap, subst, append-nil, append_assoc}
 use Rattle.om_outcome.specs.Outcome.{Said}
 use Rattle.om_promises.specs.Commands.{Item, Commands, Cut, AllSay, SaysFirst}
@@ -15,7 +15,7 @@ module _ {A : Type 0} (c : Commands A) (a : A) where
     cut_stays stay (before ++ item ∷ []) more items rest later cut,
   )
 
-  -- what is said of the first items stays
+  -- The outputs for the first items remain.
   pub first_stays :
       ItemsStay c a → (bytes : List ℕ) (items : List Item) (said : List Said) (rest later : List ℕ)
       → SaysFirst c a bytes items said rest
@@ -54,7 +54,7 @@ module _ {A : Type 0} (c : Commands A) (a : A) where
         (subst (λ b. c.Says a b item next) (sym (append_assoc before (first ∷ []) items)) says),
   )
 
-  -- and of one more item
+  -- The outputs for the first items and one more item.
   pub first_next :
       (bytes : List ℕ) (items : List Item) (said : List Said) (rest : List ℕ)
       (item : Item) (more : List ℕ) (next : Said)
@@ -66,7 +66,7 @@ module _ {A : Type 0} (c : Commands A) (a : A) where
     all_say = say_next [] items said item next first.all_say says;
   }
 
-  -- of no item nothing is said
+  -- If there is no item, then there is no output.
   pub none_first :
       (items : List Item) (rest : List ℕ) → SaysFirst c a [] items [] rest
       → (items ≡ []) × (rest ≡ [])

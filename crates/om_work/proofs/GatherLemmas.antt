@@ -1,4 +1,5 @@
--- What is said of items, gathered and put at once: where out fails, it fails in the text of one item.
+-- Outputs for items, collected and written at once. If writing to out fails, then it fails in the
+-- output for one item.
 use Rattle.std.proofs.Common.{◌≡◌, ◌⊎◌, ℕ, ◌+◌, ◌-◌, ◌<◌, ◌≤◌, List, [], ◌∷◌, ◌++◌, length, take, drop, Option, Some, None, Result, Ok, Err, inl, inr, refl, sym, ap, ◌∙◌, subst, append_assoc, append-nil, length-append, arith}
 use Rattle.std.proofs.Math.Seq.{take-add, take-append-add}
 use Rattle.std.proofs.lemmas.List.{take-append-drop, take-append-le}
@@ -25,14 +26,14 @@ use Rattle.om_work.proofs.FirstLemmas.{first_stays}
 abbrev grown : List ℕ → List ℕ → Change ByteState
 grown old new = change (text_state old) (text_state new)
 
--- what a call on it did
+-- The effect of a write to it.
 puts_text : (old new text : List ℕ) → Puts (grown old new) text → new ≡ old ++ text
 puts_text old new text put =
     let is : ◌≡◌ {A = Option (List ℕ)} (Some new) (Some (old ++ text)) = put.appended in cc is
 
--- ---- out fails in one of some texts
+-- ---- writing to out fails in one of several outputs
 
--- of the texts of some items these were put, and then a part of the next one
+-- The outputs for some items were written, followed by a part of the next one.
 pub record FailsIn (out : Change ByteState) (more : List Said) : Type 0 where
   pub first : List Said
   pub next : Said
@@ -61,7 +62,7 @@ module _ (q : ByteState) (faults : ℕ) (cause : HasCause faults q.faults true) 
   }
 
   module _ (told : is_some q.bytes ≡ true) where
-    -- so much of the texts came to the bytes before
+    -- The first `n` bytes of the outputs were appended.
     abbrev Came : List ℕ → List Said → ℕ → Type 0
     Came before more n = q.bytes ≡ Some (before ++ take n (texts_of more))
 
@@ -146,14 +147,14 @@ fails_in :
     → PutsPart (change o q) (texts_of more) → FailsIn (change o q) more
 fails_in o q more some part = fails_by q o.faults part.cause o.bytes more some part
 
--- ---- one more text
+-- ---- one more output
 
 none_split :
     (first later : List Said) (next : Said) → ◌≡◌ {A = List Said} [] (first ++ next ∷ later) → ⊥
 none_split [] later next same = cc same
 none_split (said ∷ first) later next same = cc same
 
--- what is in front of an item is in front of the last one
+-- An element at which the list is split is the last element or precedes it.
 last_split :
     (more first later : List Said) (last next : Said)
     → more ++ last ∷ [] ≡ first ++ next ∷ later
@@ -176,7 +177,7 @@ last_split (said ∷ more) (told ∷ first) later last next same =
 module _ {A : Type 0} (c : Commands A) (a : A) where
   -- ---- one item
 
-  -- it stops the run, and puts nothing, or the run is finished behind it
+  -- Case: the item ends the run without output, or the run is finished after it.
   pub one_stopped :
       (before after : Has) (in_hand old new : List ℕ) (stop : Stop)
       → Feeds c a before after in_hand (grown old new) (Err (halts.Stop stop))
@@ -193,7 +194,7 @@ module _ {A : Type 0} (c : Commands A) (a : A) where
             inl (holds, why, puts_text old new [] none ∙ append-nil old)
         by bytes said (inr f) = inr f
 
-  -- ---- items so far
+  -- ---- the items so far
 
   pub gathers_none :
       (has : Has) (in_hand text bytes : List ℕ) (said : List Said) → has bytes said → text ≡ []
@@ -207,7 +208,7 @@ module _ {A : Type 0} (c : Commands A) (a : A) where
   }
 
   module _ (in_hand bytes : List ℕ) (said : List Said) where
-    -- out may fail in one text more
+    -- Writing may fail in one more output.
     pub may_break_last :
         (more : List Said) (last : Said) → MayBreak c a bytes said in_hand more
         → MayBreakAt c a bytes said in_hand more last
@@ -259,7 +260,7 @@ module _ {A : Type 0} (c : Commands A) (a : A) where
     may_break_more more (one ∷ two ∷ new) few before holds then = absurd (omega (arith, few))
 
   module _ (before has after : Has) (in_hand text new : List ℕ) (t : ℕ) where
-    -- some items were gathered, from any bytes and what is said of them
+    -- Some items were collected, from any bytes and their outputs.
     abbrev SoFar : Type 0
     SoFar = (bytes : List ℕ) (said : List Said) → before bytes said
         → GathersTo c a has in_hand t text bytes said
@@ -361,7 +362,7 @@ module _ {A : Type 0} (c : Commands A) (a : A) where
         subst (λ e. Gathers c a before any in_hand new (Err e)) (sym is)
         (gathers_err so_far any halt one)
 
-  -- ---- they are put
+  -- ---- the outputs are written
 
   module _ (before after : Has) (in_hand text : List ℕ) (o q : ByteState) where
     pub some_put :

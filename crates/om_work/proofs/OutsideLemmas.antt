@@ -1,4 +1,4 @@
--- A status of the outside comes only of a call that has it.
+-- A status of the environment occurs only in a run in which the environment caused it.
 use Rattle.std.proofs.Common.{◌≡◌, ℕ, ◌+◌, ◌^◌, ◌≤◌, Bool, List, [], length, Result, Ok, Err, IfSome, inl, inr, refl, sym, ap, ◌∙◌, subst, length-append, arith}
 use Rattle.std.proofs.lemmas.Option.{IfSome_then}
 use Rattle.om_outcome.specs.Outcome.{Taken, InputEnd, at_end, at_fault, at_length, unasked, Said, stops, replies}
@@ -15,14 +15,14 @@ use Rattle.om_promises.proofs.PutLemmas.{rose_after}
 use Rattle.om_work.specs.Runs.{EndsRun}
 use Rattle.om_work.specs.Reported.{HasReason, HaltsByOutside, TellsOutside}
 
--- a part after a whole text: a call failed
+-- If only a part is written after a whole text, then an operation failed.
 part_rose :
     (out : Change ByteState) (text next : List ℕ) → PutsPartAfter out text next
     → RoseOrLast out.before.faults out.after.faults
 part_rose out text next (between, put, part) =
     rose_after out.before.faults between.faults out.after.faults put.cause part.cause
 
--- what was taken is of the input
+-- The consumed bytes are bytes of the input.
 long_input :
     (input : Change ByteState) (taken : Taken) → Gathers input taken → taken.until ≡ at_length
     → IfSome input.before.bytes (λ bytes. 2 ^ 48 ≤ length bytes)

@@ -1,4 +1,4 @@
--- What the loop over a piece has done so far.
+-- The state of the loop over a chunk.
 use Rattle.std.proofs.Common.{◌≡◌, ℕ, ◌+◌, ◌<◌, List, [], ◌++◌, length, take, drop, ◌∷◌, Result, Ok, Err, inl, inr, refl, sym, ap, ◌∙◌, subst, append_assoc, append-nil, length-append, arith}
 use Rattle.std.proofs.lemmas.List.{length-drop, take-append-drop}
 use Rattle.std.specs.Prelude.{Bool, IsErrAnd}
@@ -12,7 +12,7 @@ use Rattle.om_promises.proofs.PutLemmas.{puts_then, puts_nothing}
 use Rattle.om_promises.proofs.ValueLemmas.{texts_of-append}
 use Rattle.om_work.specs.Works.{Has, HaltsIn, HaltsWithin, FinishesWithin, HaltsSo, Feeds, FeedsSome, FeedsAll, EndsAt}
 
--- what is before the rest of the piece is taken, and what is said of its items is put
+-- The bytes before the rest of the chunk are consumed, and the outputs for their items are written.
 pub record PieceSoFar (has : Has) (bytes : List ℕ) (said : List Said) (piece rest : List ℕ)
     (out : Change ByteState) : Type 0 where
   pub done : List ℕ
@@ -36,7 +36,7 @@ piece_begins has bytes said piece o there = record {
 module _ {A : Type 0} (c : Commands A) (a : A) (has : Has) (bytes : List ℕ) (said : List Said)
     (piece rest : List ℕ) (o p : ByteState)
     (s : PieceSoFar has bytes said piece rest (change o p)) where
-  -- the piece has no more bytes than before
+  -- The chunk has no more bytes than before.
   pub piece_room :
       (limit : ℕ) → length bytes + length piece < limit
       → length (bytes ++ s.done) + length rest < limit
@@ -137,7 +137,7 @@ pub piece_smaller :
 piece_smaller c a has after rest out n (some, fits, feeds) =
     omega (arith, length-drop n rest, some, fits)
 
--- a call ends in a halt
+-- Case: the run ends.
 pub feeds_halt :
     {A : Type 0} (c : Commands A) (a : A) (before after : Has) (in_hand : List ℕ)
     (out : Change ByteState) (halt : Halt) (result : Result ℕ Halt)
@@ -158,7 +158,7 @@ ends_halt c a has out halt (Ok well) is ends = absurd is
 ends_halt c a has out halt (Err e) is ends =
     subst (λ e. EndsAt c a has out (Err e)) (sym is) ends
 
--- what was done so far, from any bytes and what is said of them
+-- The state so far, from any bytes and their outputs.
 abbrev pub FedSoFar : Has → Has → List ℕ → List ℕ → Change ByteState → Type 0
 FedSoFar before has piece rest out =
     (bytes : List ℕ) (said : List Said) → before bytes said

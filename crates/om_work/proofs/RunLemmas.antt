@@ -1,4 +1,4 @@
--- What the loop over the input has done so far.
+-- The state of the loop over the input.
 use Rattle.std.proofs.Common.{◌≡◌, ℕ, ◌+◌, ◌^◌, ◌<◌, ◌≤◌, Bool, List, [], ◌∷◌, ◌++◌, length, take, Result, Ok, Err, inl, inr, refl, sym, ap, ◌∙◌, subst, append_assoc, append-nil, length-append, arith}
 use Rattle.std.proofs.lemmas.List.{length-take}
 use Rattle.std.specs.Prelude.{IsErrAnd}
@@ -21,7 +21,8 @@ use Rattle.om_work.specs.Works.{Has, ItemsStay, AreSaid, HaltsIn, FinishesWithin
 use Rattle.om_work.specs.Runs.{EndsRun, Runs}
 use Rattle.om_work.proofs.FirstLemmas.{first_stays, none_first}
 
--- so many bytes are taken, none of which stops the run, and what is said of their items is put
+-- The first `count` bytes are consumed and do not end the run, and the outputs for their items are
+-- written.
 pub record RunSoFar (has : Has) (count : ℕ) (input out : Change ByteState) : Type 0 where
   pub bytes : List ℕ
   pub said : List Said
@@ -42,7 +43,7 @@ run_begins has i o there = record {
 }
 
 module _ {A : Type 0} (c : Commands A) (a : A) where
-  -- nothing is in hand
+  -- Case: there are no current bytes.
   paced_whole :
       (bytes : List ℕ) (said : List Said) (until : InputEnd) → HoldNoStop c a bytes said
       → IsPaced c a (taken bytes until) said
@@ -57,9 +58,9 @@ module _ {A : Type 0} (c : Commands A) (a : A) where
     asked = inr refl;
   }
 
-  -- ---- the last reply
+  -- ---- the final reply
 
-  -- a last text is put after the others
+  -- A final output is written after the others.
   put_final :
       (said : List Said) (final : Said) (o p q : ByteState) → Puts (change o p) (texts_of said)
       → Puts (change p q) final.text → Puts (change o q) (texts_of (said ++ final ∷ []))
@@ -75,7 +76,7 @@ module _ {A : Type 0} (c : Commands A) (a : A) where
       subst (λ text. Puts (change o q) text) (append-nil (texts_of said))
       (puts_then o p q (texts_of said) [] before none)
 
-  -- what follows from the last reply, whatever it answers
+  -- The consequences of the final reply, whatever it is.
   module _ (bytes : List ℕ) (until : InputEnd) (said : List Said) (items : List Item) (rest : List ℕ)
       (answers : (last : Reply) → c.Ends a items rest last
       → Answers c a (taken bytes until) (replies said last)) where
@@ -115,7 +116,7 @@ module _ {A : Type 0} (c : Commands A) (a : A) where
 
   -- ---- with an input
 
-  -- there was no memory to take any of it
+  -- Case: memory ran out before any of the input was read.
   pub run_without_memory :
       c.Reads a → (i o : ByteState) → HoldNoStop c a [] []
       → Runs c a (change i i) (change o o) (Err (halts.Stop out_of_memory))
@@ -132,7 +133,7 @@ module _ {A : Type 0} (c : Commands A) (a : A) where
     few : count < 2 ^ 48 → length s.bytes < 2 ^ 48
     few short = let counted = s.counted in omega (arith, counted, short)
 
-    -- the last reply where no stop is held
+    -- The final reply if the input contains no exit reason.
     closed :
         (holds : HoldNoStop c a s.bytes s.said) (until : InputEnd) (last : Reply)
         → IsLast c a holds.items holds.rest until last
@@ -204,7 +205,7 @@ module _ {A : Type 0} (c : Commands A) (a : A) where
                   (puts_then o p q (texts_of s.said) (texts_of more) s.put put);
             }
 
-        -- ---- a halt within the piece
+        -- ---- the run ends within the chunk
 
         module _ (stay : ItemsStay c a) (done in_hand : List ℕ)
             (split : take n buffer ≡ done ++ in_hand) (all : List Said) (r : ByteState)
@@ -218,7 +219,7 @@ module _ {A : Type 0} (c : Commands A) (a : A) where
               let size = ap length split ∙ length-append done in_hand in
               let whole = length-take n buffer in omega (arith, size, whole, piece)
 
-          -- no piece more was taken
+          -- No further chunk is read.
           paced :
               HoldNoStop c a (s.bytes ++ done) all
               → IsPaced c a (taken (s.bytes ++ take n buffer) unasked) all
@@ -278,7 +279,7 @@ module _ {A : Type 0} (c : Commands A) (a : A) where
             );
           }
 
-        -- the run is finished within the piece
+        -- The run is finished within the chunk.
         finished_so :
             (halt : Halt) → FinishesWithin c a s.bytes s.said (take n buffer) (change p q) halt
             → Runs c a (change i k) (change o q) (Err halt)

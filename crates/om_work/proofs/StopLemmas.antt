@@ -1,4 +1,4 @@
--- The account of a call that stops before its input, by any commands.
+-- The account of a run that ends before its input, for any commands.
 use Rattle.std.proofs.Common.{◌≡◌, ◌⊎◌, ◌<◌, ℕ, List, [], Err, inl, inr, refl, ◌∙◌, subst}
 use Rattle.om_outcome.specs.declared.status.Status.{Status}
 use Rattle.om_outcome.specs.Outcome.{IsUsage, Request, nothing, unfetched, stops as stops_reply, stopped, ending_of}
@@ -13,12 +13,12 @@ use Rattle.om_promises.specs.Outside.{PutsLine}
 use Rattle.om_promises.proofs.PutLemmas.{puts_nothing}
 use Rattle.om_promises.proofs.TakeLemmas.{took_nothing}
 
--- files are wanted in so many turns at most
+-- Files are requested in at most `n` turns.
 abbrev pub WantsInTurns : {A : Type 0} → ℕ → Commands A → Type 0
 WantsInTurns n c = (request : Request) (files : Fetches) (turn : ℕ) (name : List ℕ)
     → c.Wants request files turn name → turn < n
 
--- no file was fetched
+-- No file was fetched.
 abbrev pub nothing_found : Fetches
 nothing_found = λ turn name. unfetched
 
@@ -52,7 +52,7 @@ module _ {A : Type 0} (c : Commands A) (words : List (List ℕ)) where
     memory_account : PutsLine err status (ending_of (stopped out_of_memory)) → Account c words ended
     memory_account line = account_of out_of_memory (inr refl) line
 
-    -- the stop is reported, or that memory ran out for its line
+    -- The exit reason is reported, or that memory ran out for its line.
     pub stop_account : (s : Stop) → (Prepares c words found (Err s) ⊎ (s ≡ out_of_memory))
         → Reports s err status → Account c words ended
     stop_account s (inl prepared) r = which r.which where
@@ -92,10 +92,10 @@ module _ {A : Type 0} (c : Commands A) (words : List (List ℕ)) where
       stopped_so =
           stop_account nothing_found input out (change files files) none_fetched err status
 
-      -- memory ran out before
+      -- Case: memory ran out before.
       pub unread_account : Reports out_of_memory err status → Untouched
       unread_account r = stopped_so out_of_memory (inr refl) r
 
-      -- the words ask for nothing
+      -- Case: the arguments are invalid.
       pub usage_account : IsUsage words → Reports usage err status → Untouched
       usage_account none r = stopped_so usage (inl (Err usage, (none, refl), refl)) r

@@ -1,4 +1,4 @@
--- What is said of items, gathered before it is put.
+-- The output for items, collected before it is written.
 use Rattle.std.specs.Prelude.{ℕ, ◌<◌, ◌≤◌, ◌≡◌, ◌⊎◌, Bool, List, [], ◌∷◌, ◌++◌, length, take, drop}
 use Rattle.std.specs.Prelude.{Some, Result, Ok, Err}
 use Rattle.om_outcome.specs.Outcome.{Said, texts_of}
@@ -13,12 +13,13 @@ use Rattle.om_promises.specs.Account.{HoldNoStop}
 use Rattle.om_promises.specs.Commands.{Item, Commands, SaysFirst}
 use Rattle.om_work.specs.Works.{Has, AreSaid, FinishesIn}
 
--- a text in memory, as a sink: how often memory ran out is not counted
+-- A text in memory as a sink. The times that memory ran out are not counted.
 abbrev pub text_state : List ℕ → ByteState
 text_state text = record { bytes = Some text; faults = last_count }
 
 module _ {A : Type 0} (c : Commands A) (a : A) where
-  -- after these items out may fail in the text of the next one: the bytes before it hold no stop
+  -- Writing may fail in the output for the item after these ones: the bytes before it do not end
+  -- the run.
   pub record MayBreakAt (bytes : List ℕ) (said : List Said) (in_hand : List ℕ)
       (first : List Said) (next : Said) : Type 0 where
     pub done : List ℕ
@@ -27,13 +28,14 @@ module _ {A : Type 0} (c : Commands A) (a : A) where
     pub holds : HoldNoStop c a (bytes ++ done) (said ++ first)
     pub are_said : AreSaid c a (bytes ++ in_hand) ((said ++ first) ++ next ∷ [])
 
-  -- it may fail in any of these texts
+  -- Writing may fail in any of these outputs.
   abbrev pub MayBreak : List ℕ → List Said → List ℕ → List Said → Type 0
   MayBreak bytes said in_hand more =
       (first later : List Said) (next : Said) → more ≡ first ++ next ∷ later
       → MayBreakAt bytes said in_hand first next
 
-  -- the bytes in hand are taken up to here, and this is the text of the items that end in them
+  -- The first `n` current bytes are consumed, and `text` is the output for the items that end in
+  -- them.
   pub record GathersTo (has : Has) (in_hand : List ℕ) (n : ℕ) (text bytes : List ℕ)
       (said : List Said) : Type 0 where
     pub more : List Said
@@ -41,7 +43,7 @@ module _ {A : Type 0} (c : Commands A) (a : A) where
     pub text_is : text ≡ texts_of more
     pub may_break : MayBreak bytes said in_hand more
 
-  -- up to here, and there the run stops or memory ran out
+  -- Some current bytes are consumed. There the run ends, or memory ran out.
   pub record GathersUntil (in_hand : List ℕ) (stop : Stop) (text bytes : List ℕ)
       (said : List Said) : Type 0 where
     pub n : ℕ
@@ -52,7 +54,7 @@ module _ {A : Type 0} (c : Commands A) (a : A) where
     pub text_is : text ≡ texts_of more
     pub may_break : MayBreak bytes said in_hand more
 
-  -- up to here, and then one item more, behind which the run is finished
+  -- Some current bytes are consumed, followed by one more item, after which the run is finished.
   pub record GathersLast (in_hand : List ℕ) (stop : Stop) (text bytes : List ℕ) (said : List Said)
       : Type 0 where
     pub n : ℕ
@@ -68,8 +70,8 @@ module _ {A : Type 0} (c : Commands A) (a : A) where
     pub text_is : text ≡ texts_of (more ++ next ∷ [])
     pub may_break : MayBreak bytes said in_hand (more ++ next ∷ [])
 
-  -- some bytes in hand are taken, one at least, and the text of the items that end in them is
-  -- gathered; or it comes to a stop
+  -- At least one current byte is consumed, and the output for the items that end in the consumed
+  -- bytes is collected; or the run ends.
   abbrev pub Gathers : Has → Has → List ℕ → List ℕ → Result ℕ Halt → Type 0
   Gathers before after in_hand text (Ok n) =
       (0 < n) × (n ≤ length in_hand)
@@ -80,7 +82,7 @@ module _ {A : Type 0} (c : Commands A) (a : A) where
       → GathersUntil in_hand stop text bytes said ⊎ GathersLast in_hand stop text bytes said
   Gathers before after in_hand text (Err halts.WriteFault) = ⊥
 
-  -- the same with one item at most, whose text comes after another
+  -- As `Gathers`, with at most one item, whose output is appended to a text.
   abbrev pub GathersOne : Has → Has → List ℕ → List ℕ → List ℕ → Result ℕ Halt → Type 0
   GathersOne before after in_hand old new (Ok n) =
       (0 < n) × (n ≤ length in_hand)

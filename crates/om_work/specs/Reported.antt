@@ -1,4 +1,4 @@
--- What a run says at last, and what its status tells of the outside.
+-- The report of a run, and what its status implies about the environment.
 use Rattle.std.specs.Prelude.{ℕ, ◌^◌, ◌≤◌, ◌≡◌, ◌⊎◌, Bool, if◌then◌else◌, List, [], length, Result}
 use Rattle.std.specs.Prelude.{Ok, Err, IfSome}
 use Rattle.om_outcome.specs.declared.status.Status.{Status}
@@ -19,19 +19,19 @@ use Rattle.om_promises.specs.Commands.{Fetches, Commands, Prepares}
 use Rattle.om_promises.specs.Lawful.{IsInner, AreLawfulAt}
 use Rattle.om_work.specs.Runs.{Runs}
 
--- the status of a run that went to its end
+-- The status of a run that reached the end of its input.
 abbrev pub ending_status : Bool → Status
 ending_status well = if well then statuses.Well else statuses.No
 
--- The stop is reported, where the run stopped. Where out failed, or the run went to its end, err
--- has nothing.
+-- If the run ended early, then its exit reason is reported. If writing to out failed, or the run
+-- reached its end, then nothing is written to err.
 abbrev pub IsReported : Result Bool Halt → Change ByteState → Status → Type 0
 IsReported (Ok well) err status = Puts err [] × (status ≡ ending_status well)
 IsReported (Err (halts.Stop stop)) err status = Reports stop err status
 IsReported (Err halts.WriteFault) err status = Puts err [] × (status ≡ statuses.WriteFault)
 
--- The stop is the command's own; or the outside has it: memory ran out, a call on the input failed,
--- or it has 2^48 bytes or more.
+-- The exit reason is the command's own, or the environment caused it: memory ran out, a read from
+-- the input failed, or the input has 2^48 bytes or more.
 abbrev pub HasReason : Change ByteState → Stop → Type 0
 HasReason input stop =
     IsInner stop
@@ -39,7 +39,8 @@ HasReason input stop =
     ⊎ (((stop ≡ read_fault) × RoseOrLast input.before.faults input.after.faults)
     ⊎ ((stop ≡ too_long) × IfSome input.before.bytes (λ bytes. 2 ^ 48 ≤ length bytes))))
 
--- a run stops for such a reason; and out fails only by a call that failed
+-- If the run ends early, then for such a reason. Writing to out fails only if an operation on it
+-- failed.
 abbrev pub HaltsByOutside : Change ByteState → Change ByteState → Result Bool Halt → Type 0
 HaltsByOutside input out (Ok well) = Unit {0}
 HaltsByOutside input out (Err (halts.Stop stop)) = HasReason input stop
@@ -47,7 +48,7 @@ HaltsByOutside input out (Err halts.WriteFault) =
     RoseOrLast out.before.faults out.after.faults
 
 module _ {A : Type 0} (c : Commands A) where
-  -- the account of a call that came to this, whatever its words and files
+  -- A run with these results has an account, whatever its arguments and files are.
   abbrev pub HasAccount :
       A → Change ByteState → Change ByteState → Change ByteState → Status → Type 0
   HasAccount a input out err status =
@@ -55,7 +56,7 @@ module _ {A : Type 0} (c : Commands A) where
       → FetchesFor c words files found → Prepares c words found (Ok a)
       → Account c words (call input files out err status)
 
-  -- a command that is lawful answers no status of the outside but for a call that has it
+  -- A lawful command returns a status of the environment only if the environment caused it.
   abbrev pub TellsOutside : Type 0
   TellsOutside = (a : A) → AreLawfulAt c a
       → (input out : Change ByteState) (result : Result Bool Halt)

@@ -1,4 +1,4 @@
--- What a command does with its input, taken piece by piece.
+-- A run of a command on its input, chunk by chunk.
 use Rattle.std.specs.Prelude.{◌≡◌, ◌⊎◌, Bool, List, [], ◌∷◌, ◌++◌, Result, Ok, Err}
 use Rattle.om_outcome.specs.Outcome.{Taken, nothing, Said, says, stops, replies, texts_of, all_well}
 use Rattle.om_outcome.specs.declared.stop.Stop.TheVariants.{Memory as out_of_memory}
@@ -13,15 +13,16 @@ use Rattle.om_promises.specs.Outside.{PutsPartAfter}
 use Rattle.om_work.specs.Works.{AreSaid}
 
 module _ {A : Type 0} (c : Commands A) (a : A) where
-  -- what is said of the items that came, where the input is read: no piece more was taken once
-  -- something stopped the run; else nothing was taken
+  -- The outputs for the items so far, if the input is read: no further chunk is read after one that
+  -- ends the run. If the input is not read, then nothing is consumed.
   abbrev pub IsSaidOf : Taken → List Said → Type 0
   IsSaidOf taken said =
       (c.Reads a × IsPaced c a taken said)
       ⊎ ((c.Reads a → ⊥) × (taken ≡ nothing) × (said ≡ []))
 
-  -- After what was said all was put that belongs to the last reply, which follows from what was
-  -- taken, or memory ran out; or out failed within the next text.
+  -- After these outputs, everything that belongs to the final reply is written. The final reply
+  -- follows from the consumed input, or memory ran out. Or writing to out failed within the next
+  -- output.
   abbrev pub EndsRun : Taken → List Said → Change ByteState → Result Bool Halt → Type 0
   EndsRun taken said out (Ok well) =
       (final : Said) × Answers c a taken (replies said (says final))
@@ -35,7 +36,7 @@ module _ {A : Type 0} (c : Commands A) (a : A) where
       ⊎ Answers c a taken (replies said (says next)))
       × PutsPartAfter out (texts_of said) next.text
 
-  -- the input is taken piece by piece, and what is said of its items is put
+  -- The input is read chunk by chunk, and the outputs for its items are written.
   pub record Runs (input out : Change ByteState) (result : Result Bool Halt) : Type 0 where
     pub taken : Taken
     pub gathers : Gathers input taken

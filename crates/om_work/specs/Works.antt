@@ -1,4 +1,4 @@
--- What a command does with the bytes of its input, as they come.
+-- A command and the bytes of its input as they arrive.
 use Rattle.std.specs.Prelude.{ℕ, ◌<◌, ◌≤◌, ◌≡◌, ◌⊎◌, Bool, List, [], ◌∷◌, ◌++◌, length, take}
 use Rattle.std.specs.Prelude.{Result, Ok, Err}
 use Rattle.om_outcome.specs.Outcome.{Said, says, stops, texts_of, all_well}
@@ -11,24 +11,24 @@ use Rattle.om_stops.specs.declared.stop.Halt.TheVariants as halts
 use Rattle.om_promises.specs.Account.{HoldNoStop}
 use Rattle.om_promises.specs.Commands.{Item, Commands, SaysFirst}
 
--- these bytes were taken, and this was said of their items
+-- These bytes are consumed, and these are the outputs for their items.
 abbrev pub Has : Type 1
 Has = List ℕ → List Said → Type 0
 
 module _ {A : Type 0} (c : Commands A) (a : A) where
-  -- an item stays one when bytes follow
+  -- An item remains one if more bytes follow.
   abbrev pub ItemsStay : Type 0
   ItemsStay = (items : List Item) (bytes : List ℕ) (item : Item) (more later : List ℕ)
       → c.IsFirst a items bytes item more → c.IsFirst a items (bytes ++ later) item (more ++ later)
 
-  -- this is said of the first items of the bytes
+  -- The outputs for the first items of the bytes.
   abbrev pub AreSaid : List ℕ → List Said → Type 0
   AreSaid bytes said = (items : List Item) × (rest : List ℕ) × SaysFirst c a bytes items said rest
 
-  -- ---- in a piece
+  -- ---- in a chunk
 
-  -- The bytes before those in hand hold no stop. With those in hand the run stops, or memory ran
-  -- out; or the next item ends, and its text could not be put whole.
+  -- The bytes before the current ones do not end the run. With the current bytes the run ends, or
+  -- memory ran out; or the next item ends, and its output could not be written completely.
   abbrev pub HaltsIn : List ℕ → List ℕ → List Said → Change ByteState → Halt → Type 0
   HaltsIn earlier in_hand said out (halts.Stop stop) =
       (holds : HoldNoStop c a earlier said)
@@ -39,8 +39,8 @@ module _ {A : Type 0} (c : Commands A) (a : A) where
       HoldNoStop c a earlier said
       × (next : Said) × AreSaid (earlier ++ in_hand) (said ++ next ∷ []) × PutsPart out next.text
 
-  -- With the bytes in hand the run is finished: one item more ends in them, what is said of it is
-  -- put, and behind it the run stops so.
+  -- The run is finished with the current bytes: one more item ends in them, its output is written,
+  -- and the run ends after it with this reason.
   pub record FinishesIn (earlier in_hand : List ℕ) (said : List Said) (out : Change ByteState)
       (halt : Halt) : Type 0 where
     pub holds : HoldNoStop c a earlier said
@@ -57,8 +57,8 @@ module _ {A : Type 0} (c : Commands A) (a : A) where
   Halts earlier in_hand said out halt =
       HaltsIn earlier in_hand said out halt ⊎ FinishesIn earlier in_hand said out halt
 
-  -- Some bytes in hand are taken, one at least, and at most one item ends with them: what is said
-  -- of it is put. Or it comes to a halt.
+  -- At least one current byte is consumed. At most one item ends in the consumed bytes, and its
+  -- output is written. Or the run ends.
   abbrev pub Feeds : Has → Has → List ℕ → Change ByteState → Result ℕ Halt → Type 0
   Feeds before after in_hand out (Ok n) =
       (0 < n) × (n ≤ length in_hand)
@@ -68,7 +68,7 @@ module _ {A : Type 0} (c : Commands A) (a : A) where
   Feeds before after in_hand out (Err halt) =
       (bytes : List ℕ) (said : List Said) → before bytes said → Halts bytes in_hand said out halt
 
-  -- it comes to a halt within a piece: before that what is said of the items that end there is put
+  -- The run ends within a chunk. The outputs for the items that end before are written.
   pub record HaltsWithin (bytes : List ℕ) (said : List Said) (piece : List ℕ)
       (out : Change ByteState) (halt : Halt) : Type 0 where
     pub done : List ℕ
@@ -79,8 +79,8 @@ module _ {A : Type 0} (c : Commands A) (a : A) where
     pub put : Puts (change out.before between) (texts_of more)
     pub halts : HaltsIn (bytes ++ done) in_hand (said ++ more) (change between out.after) halt
 
-  -- the run is finished within a piece: what is said of the items that end there is put, and it
-  -- stops behind the last one
+  -- The run is finished within a chunk. The outputs for the items that end there are written, and
+  -- the run ends after the last of them.
   pub record FinishesWithin (bytes : List ℕ) (said : List Said) (piece : List ℕ)
       (out : Change ByteState) (halt : Halt) : Type 0 where
     pub done : List ℕ
@@ -101,8 +101,8 @@ module _ {A : Type 0} (c : Commands A) (a : A) where
   HaltsSo bytes said piece out halt =
       HaltsWithin bytes said piece out halt ⊎ FinishesWithin bytes said piece out halt
 
-  -- Some bytes in hand are taken, one at least, and what is said of the items that end in them is
-  -- put; or it comes to a halt within those in hand.
+  -- At least one current byte is consumed, and the outputs for the items that end in the consumed
+  -- bytes are written. Or the run ends within the current bytes.
   abbrev pub FeedsSome : Has → Has → List ℕ → Change ByteState → Result ℕ Halt → Type 0
   FeedsSome before after in_hand out (Ok n) =
       (0 < n) × (n ≤ length in_hand)
@@ -112,8 +112,8 @@ module _ {A : Type 0} (c : Commands A) (a : A) where
   FeedsSome before after in_hand out (Err halt) =
       (bytes : List ℕ) (said : List Said) → before bytes said → HaltsSo bytes said in_hand out halt
 
-  -- a piece is taken to its end, and what is said of the items that end in it is put; or it comes
-  -- to a halt within it
+  -- A chunk is consumed to its end, and the outputs for the items that end in it are written; or
+  -- the run ends within it.
   abbrev pub FeedsAll :
       {U : Type 0} → Has → Has → List ℕ → Change ByteState → Result U Halt → Type 0
   FeedsAll before after piece out (Ok done) =
@@ -124,8 +124,8 @@ module _ {A : Type 0} (c : Commands A) (a : A) where
 
   -- ---- at the end
 
-  -- The last reply is put, and the answer is whether nothing is wrong with any of it; or it is a
-  -- stop, or memory ran out; or it could not be put whole.
+  -- The final output is written, and the result says whether no output has an error. Or the final
+  -- reply is an exit reason, or memory ran out; or the output could not be written completely.
   abbrev pub PutsLast :
       List Said → List Item → List ℕ → Change ByteState → Result Bool Halt → Type 0
   PutsLast said items rest out (Ok well) =
@@ -136,7 +136,7 @@ module _ {A : Type 0} (c : Commands A) (a : A) where
   PutsLast said items rest out (Err halts.WriteFault) =
       (final : Said) × c.Ends a items rest (says final) × PutsPart out final.text
 
-  -- no more bytes come
+  -- No more bytes arrive.
   abbrev pub EndsAt : Has → Change ByteState → Result Bool Halt → Type 0
   EndsAt has out result =
       (bytes : List ℕ) (said : List Said) → has bytes said

@@ -1,4 +1,4 @@
-//! What is said of items, gathered and put at once.
+//! Collects the output for several items and writes it with one call.
 
 ghost use Rattle.std.specs.Prelude.{◌≡◌, ◌<◌, ◌+◌, ◌^◌, ℕ, List, [], length};
 ghost use Rattle.om_outcome.specs.Outcome.{Said};
@@ -12,10 +12,10 @@ use om_outcome::stop::Stop;
 use om_stops::stop::Halt;
 use std::alloc::Global;
 
-/// Once more bytes than that are gathered they are put.
+/// If more bytes than this are collected, then they are written.
 const GATHERED: usize = 1 << 20;
 
-/// A text in memory.
+/// A sink in memory.
 #[derive(Drop)]
 struct Text {
     bytes: Vec<u8>,
@@ -34,8 +34,7 @@ impl Sink for Text {
     }
 }
 
-/// Takes some bytes in hand, and puts what is to be said of the item that ends with them, if one
-/// does, at the end of a text.
+/// Consumes some of the current bytes. If an item ends with them, appends its output to a text.
 fn gather_one<W: Work>(
     alloc: Global,
     work: &mut W,
@@ -66,7 +65,7 @@ fn gather_one<W: Work>(
     }
 }
 
-/// Takes bytes in hand to their end, or until enough is gathered of what is to be said.
+/// Consumes the current bytes to their end, or until enough output is collected.
 fn gather<W: Work>(
     alloc: Global,
     work: &mut W,
@@ -89,7 +88,9 @@ fn gather<W: Work>(
     Ok(taken)
 }
 
-/// Takes bytes in hand, and puts in one call what is to be said of the items that end in them.
+/// Consumes some of the current bytes, and writes the output for the items that end in them with
+/// one call. Returns the number of bytes consumed. Fails if the run ends, if memory runs out, or if
+/// writing fails.
 pub fn feed_some<W: Work, K: Sink>(
     alloc: Global,
     work: &mut W,

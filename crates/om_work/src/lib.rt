@@ -1,5 +1,7 @@
-//! A command as a value: what it does with its input as it comes, and the one loop that takes the
-//! input piece by piece. The loop knows no type, no text and no edit.
+//! A command as a value (`Work`): it consumes the input in chunks and writes the output for each
+//! item. `run_work` is the only loop over the input, and `run_reported` also reports the exit
+//! reason. Their contracts (`Runs`, `HasAccount`) give the account of a run. The loop depends on no
+//! type, text or edit.
 #![tactic(auto)]
 
 mod gather;

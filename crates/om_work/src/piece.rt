@@ -1,4 +1,4 @@
-//! A piece of the input, taken to its end.
+//! Consumes a chunk of the input to its end.
 
 ghost use Rattle.std.specs.Prelude.{◌≡◌, ◌<◌, ◌≤◌, ◌^◌, ℕ, List, length};
 ghost use Rattle.om_model.specs.Bytes.{AreBytes};
@@ -13,7 +13,8 @@ use om_model::bytes::skip;
 use om_stops::stop::Halt;
 use std::alloc::Global;
 
-/// Takes a piece to its end, and puts what is to be said of the items that end in it.
+/// Consumes a chunk to its end, and writes the output for the items that end in it. Fails if the
+/// run ends within the chunk, if memory runs out, or if writing fails.
 pub fn feed_piece<W: Work, K: Sink>(
     alloc: Global,
     work: &mut W,

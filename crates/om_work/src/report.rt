@@ -1,4 +1,4 @@
-//! A run, and the line of its stop on err.
+//! A run, and the line on err that reports its exit reason.
 
 ghost use Rattle.std.specs.Prelude.{◌≡◌, []};
 ghost use Rattle.om_edge.specs.State.{change};
@@ -10,14 +10,15 @@ use om_outcome::status::Status;
 use om_stops::stop::{Halt, report_stop};
 use std::alloc::Global;
 
-/// The status of a run that went to its end.
+/// Returns the status of a run that reached the end of its input: 0 if it was without errors, and 1
+/// otherwise.
 fn status_of_all(well: bool) -> Status
     ensures { result ≡ ending_status well }
 {
     if well { Status::Well } else { Status::No }
 }
 
-/// Puts the line of a stop on err, where the run stopped, and answers the status.
+/// If the run ended early, writes the line of its exit reason to err. Returns the exit status.
 fn report<E: Sink>(alloc: Global, err: &mut E, ended: Result<bool, Halt>) -> Status
     ensures { IsReported ended (change (E.state err.old) (E.state err.new)) result }
 {
@@ -28,7 +29,7 @@ fn report<E: Sink>(alloc: Global, err: &mut E, ended: Result<bool, Halt>) -> Sta
     }
 }
 
-/// Does the work with the input, tells on err where it stops, and answers the status.
+/// Runs the command on the input, reports on err why it ended early, and returns the exit status.
 pub fn run_reported<W: Work, S: Source, K: Sink, E: Sink>(
     alloc: Global,
     work: &mut W,
@@ -47,8 +48,8 @@ pub fn run_reported<W: Work, S: Source, K: Sink, E: Sink>(
     report(alloc, err, ended)
 }
 
-/// A command that is lawful answers no status of the outside, 6 to 10, but for a call that has it.
-/// The function does nothing: what it ensures is a law.
+/// Proves that a lawful command returns a status of the environment (6 to 10) only if the
+/// environment caused it. This is a lemma function: it does nothing at run time.
 pub fn outside_is_told<W: Work>()
     ensures { TellsOutside W.commands }
 {}

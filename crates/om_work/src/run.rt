@@ -1,4 +1,4 @@
-//! The one loop over the input.
+//! The loop over the input.
 
 ghost use Rattle.std.specs.Prelude.{◌≡◌, [], length, vec_len, IfOk};
 ghost use Rattle.om_edge.specs.State.{change};
@@ -12,21 +12,21 @@ use om_outcome::stop::Stop;
 use om_stops::stop::Halt;
 use std::alloc::Global;
 
-/// A call on the input is asked for so many bytes.
+/// The size in bytes of a read from the input.
 pub const PIECE: usize = 65536;
 
-/// So many bytes are too many.
+/// The length in bytes from which on an input is too long.
 pub const LENGTH_LIMIT: usize = 1 << 48;
 
-/// Memory for the bytes that a call on the input gives.
+/// Allocates the buffer for a read from the input. Fails with `Memory` if memory runs out.
 fn new_buffer(alloc: Global) -> Result<Vec<u8>, Memory>
     ensures { IfOk result (λ buffer. vec_len buffer ≡ piece_limit) }
 {
     Ok(vec![in alloc; 0; PIECE]?)
 }
 
-/// Takes the input piece by piece, from no byte on. What is to be said of the items that end in a
-/// piece is put before the next piece is asked for.
+/// Reads the input chunk by chunk from its first byte on. Writes the output for the items that end
+/// in a chunk before it requests the next chunk.
 fn take_pieces<W: Work, S: Source, K: Sink>(
     alloc: Global,
     work: &mut W,
@@ -56,8 +56,8 @@ fn take_pieces<W: Work, S: Source, K: Sink>(
     Err(Halt::Stop(Stop::TooLong))
 }
 
-/// Does the work with the input, or without it where it is not to be read. The answer at the end is
-/// whether nothing is wrong with any of what was said.
+/// Runs the command on its input, or without an input if the command reads none. Returns true if no
+/// output has an error. Fails if the run ends early or if writing to out fails.
 pub fn run_work<W: Work, S: Source, K: Sink>(
     alloc: Global,
     work: &mut W,

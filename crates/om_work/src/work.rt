@@ -1,4 +1,4 @@
-//! What a command does with its input.
+//! The interface of a command.
 
 ghost use Rattle.std.specs.Prelude.{◌≡◌, ◌<◌, ◌+◌, ◌^◌, ◌↔◌, ℕ, List, length, IsTrue};
 ghost use Rattle.om_outcome.specs.Outcome.{Said};
@@ -11,26 +11,28 @@ use om_edge::Sink;
 use om_stops::stop::Halt;
 use std::alloc::Global;
 
-/// What a command does with its input, as it comes.
+/// A command that consumes its input in chunks.
 pub trait Work {
-    /// What may be done, by commands.
+    /// The type of the command's tasks.
     ghost Act: { Type 0 };
 
     ghost commands: { Commands Act };
 
-    /// What is done.
+    /// The task of this value.
     ghost act: { Self → Act };
 
-    /// It took these bytes, none of which stops the run, and said this of their items.
+    /// This value has consumed these bytes, which do not end the run, and has written these outputs
+    /// for their items.
     ghost has: { Self → List ℕ → List Said → Type 0 };
 
-    /// Whether the input is read.
+    /// Returns true if the command reads the input.
     fn reads(&self) -> bool
         ensures { IsTrue result ↔ commands.Reads (act self.now) };
 
-    /// Takes some of the bytes in hand, one at least, up to the end of an item at most, and puts
-    /// what is to be said of that item. Of a command that reads nothing this says nothing: it is
-    /// not called.
+    /// Consumes some of the current bytes, at least one and at most up to the end of an item, and
+    /// writes the output for that item. Returns the number of bytes consumed. Fails if the run
+    /// ends, if memory runs out, or if writing fails. The contract states nothing about a command
+    /// that reads no input, because `feed` is not called for it.
     fn feed<K: Sink>(&mut self, alloc: Global, in_hand: &[u8], out: &mut K) -> Result<usize, Halt>
         requires some { 0 < length in_hand.now }
         requires has { (bytes : List ℕ) × (said : List Said) × has self.old bytes said
@@ -40,16 +42,16 @@ pub trait Work {
             → Feeds commands (act self.old) (has self.old) (has self.new) in_hand.now
             (change (K.state out.old) (K.state out.new)) result };
 
-    /// No more bytes come: puts the last reply, and answers whether nothing is wrong with any of
-    /// it.
+    /// Handles the end of the input: writes the final output. Returns true if no output has an
+    /// error. Fails if the run ends early, if memory runs out, or if writing fails.
     fn end<K: Sink>(&mut self, alloc: Global, out: &mut K) -> Result<bool, Halt>
         requires { (bytes : List ℕ) × (said : List Said) × has self.old bytes said
             × (length bytes < 2 ^ 48) }
         ensures { EndsAt commands (act self.old) (has self.old)
             (change (K.state out.old) (K.state out.new)) result };
 
-    /// Nothing in what was taken stops the run, and an item stays one when bytes follow. The method
-    /// does nothing: what it ensures are laws.
+    /// Proves that the bytes consumed do not end the run, and that an item remains one if more
+    /// bytes follow. This is a lemma method: it does nothing at run time.
     fn laws(&self)
         ensures holds { (bytes : List ℕ) (said : List Said) → has self.now bytes said
             → HoldNoStop commands (act self.now) bytes said }

@@ -1,4 +1,4 @@
--- The command that takes bytes.
+-- The command that reads bytes.
 use Rattle.std.proofs.Common.{◌≡◌, ◌≢◌, ℕ, ◌+◌, ◌<◌, ◌≤◌, true, List, [], ◌∷◌, ◌++◌, length, get_or, Ok, inl, inr, refl, sym, ap, ◌∙◌, subst, length-append, arith}
 use Rattle.std.specs.Prelude.{◌&&◌}
 use Rattle.om_model.specs.declared.refusal.ReadRefusal.TheVariants.{Compressed}
@@ -23,7 +23,7 @@ use Rattle.om_work_examples.specs.Taken.{HasBytes}
 pub bytes_stay : (refused : ℕ) → ItemsStay bytes_but refused
 bytes_stay refused items bytes item more later is = (is.0, ap (λ b. b ++ later) is.1, is.2)
 
--- each item has a byte
+-- Each item has one byte.
 few_items :
     (refused : ℕ) (before : List Item) (bytes : List ℕ) (items : List Item) (rest : List ℕ)
     → Cut bytes_but refused before bytes items rest → length items ≤ length bytes
@@ -47,7 +47,7 @@ module _ (refused count : ℕ) (bytes : List ℕ) (said : List Said)
     goes_on = record { no_stop = λ stop s. cc s.1; no_item = λ item more is. cc is.1 };
   }
 
-  -- one more byte is said
+  -- One more byte is written.
   byte_said :
       (b : ℕ) (more : List ℕ) → b ≢ refused
       → SaysFirst bytes_but refused (bytes ++ b ∷ more) (h.items ++ text (b ∷ []) ∷ [])
@@ -130,7 +130,7 @@ byte_feeds refused count in_hand o q some other put = (
   ),
 )
 
--- no byte was taken
+-- The state before the first byte.
 pub bytes_begin : (refused : ℕ) → HasBytes refused 0 [] []
 bytes_begin refused = record {
   items = [];

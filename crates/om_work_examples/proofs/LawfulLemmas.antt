@@ -1,4 +1,4 @@
--- The small commands are lawful, whatever they are to do.
+-- The small commands are lawful for all tasks.
 use Rattle.std.proofs.Common.{◌≡◌, ℕ, List, [], ◌∷◌, ◌++◌, sym, ap, ◌∙◌, subst, append_assoc, length-append, arith}
 use Rattle.om_promises.specs.Commands.{text}
 use Rattle.om_promises.specs.Lawful.{IsInner, AreLawfulAt}

@@ -1,4 +1,4 @@
--- The command that takes lines.
+-- The command that reads lines.
 use Rattle.std.proofs.Common.{◌≡◌, ◌≢◌, ℕ, ◌<◌, true, List, [], ◌∷◌, ◌++◌, length, get_or, Ok, Err, inr, refl, sym, ap, ◌∙◌, subst, append_assoc, append-nil, arith}
 use Rattle.std.specs.Prelude.{◌&&◌, ◌==◌, false}
 use Rattle.om_outcome.specs.Outcome.{Said, nothing_said, says, all_well}
@@ -30,7 +30,7 @@ lines_stay items bytes item more later is = record {
 }
 
 module _ (rest bytes : List ℕ) (said : List Said) (h : HasLines rest bytes said) where
-  -- what comes after the last line feed is no whole line
+  -- The bytes after the last line feed are no complete line.
   abbrev pub lines_hold : HoldNoStop lines tt bytes said
   lines_hold = record {
     items = h.items;
@@ -43,7 +43,7 @@ module _ (rest bytes : List ℕ) (said : List Said) (h : HasLines rest bytes sai
     };
   }
 
-  -- one more byte, which is no line feed
+  -- Case: one more byte that is no line feed.
   pub line_goes_on :
       (b : ℕ) → b ≢ 10 → HasLines (rest ++ b ∷ []) (bytes ++ b ∷ []) (said ++ [])
   line_goes_on b other = record {
@@ -58,7 +58,7 @@ module _ (rest bytes : List ℕ) (said : List Said) (h : HasLines rest bytes sai
   abbrev next : Said
   next = fine (rest ++ 10 ∷ [])
 
-  -- a line feed ends the line
+  -- Case: a line feed ends the line.
   line_said :
       (more : List ℕ)
       → SaysFirst lines tt (bytes ++ 10 ∷ more) (h.items ++ text rest ∷ []) (said ++ next ∷ []) more
@@ -75,7 +75,7 @@ module _ (rest bytes : List ℕ) (said : List Said) (h : HasLines rest bytes sai
     well = all_well-snoc said next ∙ ap (λ w. w && true) h.well;
   }
 
-  -- ---- halts
+  -- ---- the run ends
 
   pub lines_memory :
       (in_hand : List ℕ) (o : ByteState)
@@ -148,7 +148,7 @@ module _ (rest bytes : List ℕ) (said : List Said) (h : HasLines rest bytes sai
   lines_end_fault o q some part =
       (lines_hold, (next, ap (λ s. says s) (sym (last_is some)), part))
 
--- whether there are some bytes
+-- If the length is not 0, then there are some bytes.
 pub some_left : (bytes : List ℕ) → false ≡ (length bytes == 0) → 0 < length bytes
 some_left [] e = absurd (cc e)
 some_left (b ∷ bytes) e = omega arith
@@ -203,7 +203,7 @@ module _ (rest kept in_hand : List ℕ) (some : 0 < length in_hand)
         line_fault rest bytes said h in_hand f.0 o q (f.1 ∙ ap (λ b. b ∷ f.0) is_feed)
         (subst (λ t. PutsPart (change o q) t) told_next part)
 
--- no byte was taken
+-- The state before the first byte.
 pub lines_begin : (rest : List ℕ) → rest ≡ [] → HasLines rest [] []
 lines_begin rest none = record {
   items = [];

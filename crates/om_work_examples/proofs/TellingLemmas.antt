@@ -1,4 +1,4 @@
--- The command that reads nothing.
+-- The command that reads no input.
 use Rattle.std.proofs.Common.{◌≡◌, ℕ, List, [], Result, Ok, Err, Bool, true, refl, sym, subst}
 use Rattle.om_edge.specs.Sink.{Puts, PutsPart}
 use Rattle.om_edge.specs.State.{ByteState, Change, change}
@@ -8,7 +8,7 @@ use Rattle.om_promises.specs.Account.{HoldNoStop}
 use Rattle.om_work.specs.Works.{Has, PutsLast, EndsAt}
 use Rattle.om_work_examples.specs.Small.{telling, fine}
 
--- nothing was taken
+-- Nothing is consumed.
 abbrev IsNothing : Has
 IsNothing = λ bytes said. (bytes ≡ []) × (said ≡ [])
 

@@ -1,4 +1,4 @@
--- Three small commands: one reads nothing, one takes lines, and one takes bytes and refuses one of
+-- Three small commands: one reads no input, one reads lines, and one reads bytes and refuses one of
 -- them.
 use Rattle.std.specs.Prelude.{ℕ, ◌≡◌, ◌≢◌, true, List, [], ◌∷◌, ◌++◌, length, Ok, codes}
 use Rattle.std.specs.List.{AllByRecursion}
@@ -9,11 +9,11 @@ use Rattle.om_outcome.specs.declared.stop.Stop.{Stop}
 use Rattle.om_outcome.specs.declared.stop.Stop.TheVariants.{Value as value}
 use Rattle.om_promises.specs.Commands.{Item, text, Commands}
 
--- nothing is wrong
+-- An output without errors.
 abbrev pub fine : List ℕ → Said
 fine said = record { text = said; well = true }
 
--- ---- the text is told, and nothing is read
+-- ---- the command writes a text and reads no input
 
 abbrev pub telling : Commands (List ℕ)
 telling = record {
@@ -26,13 +26,13 @@ telling = record {
   Ends = λ a items bytes last. last ≡ says (fine a);
 }
 
--- ---- each line is said again, and a last one gets its line feed
+-- ---- the command writes each line again; a last line gets a line feed
 
--- there is no line feed
+-- The bytes contain no line feed.
 abbrev pub IsUnbroken : List ℕ → Type 0
 IsUnbroken bytes = AllByRecursion (λ b. b ≢ 10) bytes
 
--- the bytes are a line, its line feed, and then the rest
+-- The bytes are a line with its line feed, followed by the rest.
 pub record IsFirstLine (bytes : List ℕ) (item : Item) (more : List ℕ) : Type 0 where
   pub line : List ℕ
   pub unbroken : IsUnbroken line
@@ -43,7 +43,7 @@ abbrev pub SaysLine : Item → Said → Type 0
 SaysLine item said =
     (line : List ℕ) × (item ≡ text line) × (said ≡ fine (line ++ 10 ∷ []))
 
--- what is said of the bytes after the last line feed
+-- The output for the bytes after the last line feed.
 abbrev pub last_line : List ℕ → Said
 last_line [] = nothing_said
 last_line (b ∷ rest) = fine ((b ∷ rest) ++ 10 ∷ [])
@@ -59,9 +59,9 @@ lines = record {
   Ends = λ a items bytes last. last ≡ says (last_line bytes);
 }
 
--- ---- each byte is said again, but for one, which is refused
+-- ---- the command writes each byte again, except for one, which it refuses
 
--- a byte, and then the rest
+-- The bytes are one byte followed by the rest.
 abbrev pub IsFirstByte : List ℕ → Item → List ℕ → Type 0
 IsFirstByte bytes item more = (b : ℕ) × (bytes ≡ b ∷ more) × (item ≡ text (b ∷ []))
 
@@ -69,7 +69,7 @@ abbrev pub SaysByte : ℕ → Item → Said → Type 0
 SaysByte refused item said =
     (b : ℕ) × (b ≢ refused) × (item ≡ text (b ∷ [])) × (said ≡ fine (b ∷ []))
 
--- it is refused by its number
+-- The byte is refused, with its number.
 abbrev pub StopsAtByte : ℕ → List Item → List ℕ → Stop → Type 0
 StopsAtByte refused items bytes stop =
     (more : List ℕ) × (bytes ≡ refused ∷ more)

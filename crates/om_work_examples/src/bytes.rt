@@ -1,4 +1,4 @@
-//! A command that takes bytes, and refuses one of them.
+//! A command that reads bytes and refuses one of them.
 
 use om_edge::{Sink, put_all};
 use om_model::refusal::ReadRefusal;
@@ -7,7 +7,7 @@ use om_stops::stop::Halt;
 use om_work::Work;
 use std::alloc::Global;
 
-/// Says each byte again, but for one, which is refused.
+/// Writes each byte again, except for one byte value, which it refuses.
 #[derive(Drop)]
 pub struct BytesBut {
     refused: u8,
@@ -17,7 +17,7 @@ pub struct BytesBut {
 impl BytesBut {
     ghost use Rattle.std.specs.Prelude.{◌≡◌};
 
-    /// No byte was taken.
+    /// Creates the command before its first byte.
     pub fn new(refused: u8) -> BytesBut
         ensures { result ≡ record { refused = refused; count = 0 } }
     {

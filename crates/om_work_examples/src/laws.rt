@@ -1,4 +1,4 @@
-//! The small commands are lawful.
+//! The laws of the small commands.
 
 ghost use Rattle.std.specs.Prelude.{ℕ, List};
 ghost use Rattle.om_promises.specs.Lawful.{AreLawfulAt};
@@ -8,8 +8,9 @@ ghost use Rattle.om_work_examples.specs.Small.{telling, lines, bytes_but};
 use crate::{BytesBut, Lines, Telling};
 use om_work::outside_is_told;
 
-/// The small commands are lawful, whatever they are to do: so they answer a status of the outside
-/// only for a call that has it. The function does nothing: what it ensures are laws.
+/// Proves that the small commands are lawful for all tasks. Therefore they return a status of the
+/// environment only if the environment caused it. This is a lemma function: it does nothing at run
+/// time.
 pub fn small_commands_tell_outside()
     ensures telling { ((a : List ℕ) → AreLawfulAt telling a) × TellsOutside telling }
     ensures lines { ((a : Unit {0}) → AreLawfulAt lines a) × TellsOutside lines }

@@ -1,6 +1,6 @@
-//! Three small commands, each as a value: so a command that reads nothing, one that takes lines of
-//! text, and one that takes bytes and refuses one of them have the shape that the one loop asks
-//! for.
+//! Three small commands as examples of the trait `Work`: one reads no input, one reads lines of
+//! text, and one reads bytes and refuses one of them. They show that these kinds of commands fit
+//! the loop of om_work. `small_commands_tell_outside` proves that they are lawful.
 #![tactic(auto)]
 
 mod bytes;

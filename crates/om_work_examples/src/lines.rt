@@ -1,4 +1,4 @@
-//! A command that takes lines of text.
+//! A command that reads lines of text.
 
 ghost use Rattle.std.specs.Prelude.{◌≡◌, ◌++◌, ◌∷◌, [], OnOk};
 
@@ -10,15 +10,15 @@ use std::alloc::Global;
 
 const LINE_FEED: u8 = 10;
 
-/// Puts a byte at the end.
+/// Appends a byte. Fails with `Memory` if memory runs out.
 fn keep(line: &mut Vec<u8>, byte: u8) -> Result<(), Memory>
     ensures { OnOk result (line.new.items ≡ line.old.items ++ byte ∷ []) }
 {
     Ok(line.push(byte)?)
 }
 
-/// Says each line again. What comes after the last line feed is kept, and said with a line feed at
-/// the end.
+/// Writes each line again. Buffers the bytes after the last line feed, and writes them with a line
+/// feed at the end.
 #[derive(Drop)]
 pub struct Lines {
     rest: Vec<u8>,
@@ -27,7 +27,7 @@ pub struct Lines {
 impl Lines {
     ghost use Rattle.std.specs.Prelude.{◌≡◌, []};
 
-    /// No byte was taken.
+    /// Creates the command before its first byte.
     pub fn new(alloc: Global) -> Lines
         ensures { result.rest.items ≡ [] }
     {

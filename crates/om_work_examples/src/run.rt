@@ -1,4 +1,4 @@
-//! Whole runs of the small commands.
+//! Complete runs of the small commands.
 
 ghost use Rattle.std.specs.Prelude.{◌≡◌};
 ghost use Rattle.om_edge.specs.State.{change};
@@ -11,7 +11,7 @@ use om_outcome::status::Status;
 use om_work::run_reported;
 use std::alloc::Global;
 
-/// Says the text, and leaves the input alone.
+/// Writes the text and reads no input. Returns the exit status.
 pub fn run_telling<S: Source, K: Sink, E: Sink>(
     alloc: Global,
     text: &[u8],
@@ -28,7 +28,7 @@ pub fn run_telling<S: Source, K: Sink, E: Sink>(
     run_reported(alloc, &mut Telling { text }, input, out, err)
 }
 
-/// Says each line again.
+/// Writes each line again. Returns the exit status.
 pub fn run_lines<S: Source, K: Sink, E: Sink>(
     alloc: Global,
     input: &mut S,
@@ -43,7 +43,7 @@ pub fn run_lines<S: Source, K: Sink, E: Sink>(
     run_reported(alloc, &mut Lines::new(alloc), input, out, err)
 }
 
-/// Says each byte again, but for one, which is refused.
+/// Writes each byte again, except for one byte value, which it refuses. Returns the exit status.
 pub fn run_bytes<S: Source, K: Sink, E: Sink>(
     alloc: Global,
     refused: u8,

@@ -1,11 +1,11 @@
-//! A command that reads nothing.
+//! A command that reads no input.
 
 use om_edge::{Sink, put_all};
 use om_stops::stop::Halt;
 use om_work::Work;
 use std::alloc::Global;
 
-/// Says its text.
+/// Writes its text.
 #[derive(Drop)]
 pub struct Telling<'a> {
     pub text: &'a [u8],

@@ -1,4 +1,4 @@
--- How large a tree is, beside the heap.
+-- The size of a tree compared with the heap.
 use Rattle.std.proofs.Common.{ℕ, zero, suc, ◌≡◌, ◌≢◌, ◌+◌, ◌<◌, ◌≤◌, ◌∙◌, ⊎_elim, List, [], ◌∷◌, length, map, Some, refl, sym, ap, subst, arith, pos}
 use Rattle.std.specs.Prelude.{slice_get, Contains, sum_by}
 use Rattle.std.specs.List.{AllZip}
@@ -15,7 +15,7 @@ use Rattle.om_canonical.specs.Numbering.{numbered, AreDistinct, Shows, IsNumberi
 use Rattle.om_canonical.proofs.ListLemmas.{AllZip-at}
 use Rattle.om_heap.specs.Heap.{object_at, object_words, heap_words}
 
--- ---- sums over different numbers
+-- ---- sums over distinct numbers
 
 record IsRemoved (f : ℕ → ℕ) (ks : List ℕ) (k : ℕ) : Type 0 where
   others : List ℕ
@@ -56,7 +56,7 @@ sum_within f (k ∷ ks) all distinct among =
     (among m (Contains-later k ks m has))) in
     omega (arith, sum_by-cons f k ks, r.total)
 
--- the numbers below n, the least first
+-- The numbers below `n` in increasing order.
 abbrev upto : ℕ → List ℕ
 upto zero = []
 upto (suc n) = 0 ∷ map suc (upto n)
@@ -77,7 +77,7 @@ sum-upto : (g : List Obj) → sum_by (words_at g) (upto (length g)) ≡ heap_wor
 sum-upto [] = refl
 sum-upto (o ∷ g) = omega (arith, sum_by-cons (words_at (o ∷ g)) 0 (map suc (upto (length g))), sum_by-suc (words_at (o ∷ g)) (upto (length g)), sum-upto g, sum_by-cons object_words o g)
 
--- ---- the objects that a tree shows
+-- ---- the objects in a tree
 
 alike_words : (pairs : List (ℕ × ℕ)) (a b : Obj) → AreAlikeObjects pairs a b → object_words a ≡ object_words b
 alike_words pairs (objects.Block tag values) (objects.Block tag' values') alike = ap (λ n. 1 + n) (sym (AllZip-long _ values values' alike.1))
@@ -106,7 +106,7 @@ shown_inside g met ks os m all has =
     let a = IsSomeAnd-some (slice_get g m) (λ a. AreAlikeObjects (numbered met) a o.0) o.2 in
     slice_get_within g m a.0 a.1
 
--- the objects of the tree are at most those of the heap, and so are their words
+-- The tree has at most as many objects and words as the heap.
 pub few_words : (g : List Obj) (v : Val) (tree : Tree) (ks : List ℕ) → IsNumbering g v tree ks → heap_words (objects_of tree 0) ≤ heap_words g
 few_words g v tree ks numbering =
     let within = sum_within (words_at g) ks (upto (length g)) numbering.distinct
@@ -140,7 +140,7 @@ a_word (objects.I32 z) = omega arith
 a_word (objects.I64 z) = omega arith
 a_word (objects.Native z) = omega arith
 
--- each object has a word
+-- Each object has at least one word.
 pub objects-le-words : (g : List Obj) → length g ≤ heap_words g
 objects-le-words [] = omega arith
 objects-le-words (o ∷ g) = omega (arith, sum_by-cons object_words o g, a_word o, objects-le-words g)

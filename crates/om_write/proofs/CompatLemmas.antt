@@ -1,4 +1,4 @@
--- What is too large for a reader on 32 bits.
+-- Items that are too large for a 32-bit reader.
 use Rattle.std.proofs.Common.{ℕ, zero, suc, ◌≡◌, ◌+◌, ◌∙◌, Bool, true, false, List, [], ◌∷◌, ◌++◌, take, Option, Some, None, refl, sym, ap, subst}
 use Rattle.std.specs.Prelude.{slice_get, find, IsSomeAnd, cond}
 use Rattle.om_model.proofs.Options.{IsSomeAnd-some, IsSomeAnd-at}
@@ -11,7 +11,7 @@ use Rattle.om_write.specs.Tells.{Tells}
 use Rattle.om_write.specs.declared.compat.Compat.{Compat}
 use Rattle.om_write.proofs.SumLemmas.{take_one}
 
--- ---- the first of a list
+-- ---- the first element of a list
 
 found_none : (b : Bool) (x : Token) (rest : Option Token) → cond b (Some x) rest ≡ None → (b ≡ false) × (rest ≡ None)
 found_none true x rest e = absurd (cc)

@@ -1,4 +1,4 @@
--- Two lists of trees one after the other.
+-- Concatenation of two lists of trees.
 use Rattle.std.proofs.Common.{ℕ, ◌≡◌, ◌+◌, ◌∙◌, ◌∷◌, ◌++◌, refl, sym, ap, arith, append_assoc, add-zero}
 use Rattle.om_format.specs.Tree.{Forest, none, more, tokens, forest_tokens, AreTrees, made, all_made, AllReferBack, root, roots, objects_of, all_objects}
 

@@ -1,4 +1,4 @@
--- What is written is read again, and what is read is written again.
+-- Reading and writing are inverse to each other.
 use Rattle.std.proofs.Common.{◌∙◌, ap}
 use Rattle.om_canonical.proofs.CanonLemmas.{canon_spells_lem}
 use Rattle.om_canonical.proofs.SameTree.{one_tree_only}

@@ -1,4 +1,4 @@
--- One token of a walk: which it is, and what is left after it.
+-- One token of a walk: its identity, and the remaining trees after it.
 use Rattle.std.proofs.Common.{ℕ, zero, suc, ◌≡◌, ◌+◌, ◌-◌, ◌<◌, ◌≤◌, ◌∙◌, List, [], ◌∷◌, ◌++◌, length, drop, Some, refl, sym, ap, ap₂, subst, arith, append_assoc, ℤ, pos}
 use Rattle.std.specs.Prelude.{slice_get, slice_index, IsSomeAnd}
 use Rattle.std.specs.List.{AllZip}
@@ -29,7 +29,7 @@ use Rattle.om_write.proofs.ForestLemmas.{join, tokens-join, AreTrees-join, back-
 tokens_after : (t : Token) (s f : Forest) → forest_tokens (more (node t s) f) ≡ t ∷ forest_tokens (join s f)
 tokens_after t s f = ap (λ ts. t ∷ ts) (sym (tokens-join s f))
 
--- the objects after that of the first token
+-- The objects after the object of the first token.
 objects_after : (tree : Tree) (c : ℕ) (t : Token) (s f : Forest) → IsToken t → drop c (objects_of tree 0) ≡ all_objects (more (node t s) f) c
     → drop (c + made_by t) (objects_of tree 0) ≡ all_objects (join s f) (c + made_by t)
 objects_after tree c t s f h is =
@@ -45,7 +45,7 @@ objects_after tree c t s f h is =
     ∙ ap (λ n. drop n (first ++ all_objects (join s f) d)) (sym many)
     ∙ drop-append_seam first (all_objects (join s f) d)
 
--- the subtrees of the first token come next, and then the other trees
+-- The subtrees of the first token come next, followed by the other trees.
 enter : (tree : Tree) (ks : List ℕ) (c : ℕ) (t : Token) (s f : Forest) (v : Val) (below values : List Val)
     → AreLeft tree ks c (more (node t s) f) (v ∷ values) → AllZip (AreAlike (numbered ks)) below (roots s (c + made_by t))
     → AreLeft tree ks (c + made_by t) (join s f) (below ++ values)
@@ -59,15 +59,15 @@ enter tree ks c t s f v below values left alike =
           (subst (λ n. AllZip (AreAlike (numbered ks)) values (roots f n)) place left.alike.1));
     }
 
--- ---- what comes next
+-- ---- the next token
 
--- the next token, and the trees left after it
+-- The next token and the remaining trees after it.
 pub record Goes (tree : Tree) (ks : List ℕ) (c : ℕ) (forest : Forest) (token : Token) (d : ℕ) (values : List Val) : Type 0 where
   pub rest : Forest
   pub tokens_are : forest_tokens forest ≡ token ∷ forest_tokens rest
   pub left : AreLeft tree ks d rest values
 
--- a token that makes no object and has no fields
+-- A token that creates no object and has no fields.
 passes : (tree : Tree) (ks : List ℕ) (c : ℕ) (t : Token) (s f : Forest) (v : Val) (values : List Val)
     → made_by t ≡ 0 → trees_in s ≡ 0 → AreLeft tree ks c (more (node t s) f) (v ∷ values) → Goes tree ks c (more (node t s) f) t c values
 passes tree ks c t none f v values no_object no_fields left =
@@ -104,7 +104,7 @@ at_drop zero (y ∷ xs) x ys is = cc
 at_drop (suc n) [] x ys is = absurd (cc)
 at_drop (suc n) (y ∷ xs) x ys is = at_drop n xs x ys is
 
--- what the tree shows of an object
+-- An object and its counterpart in the tree agree.
 shown : (g : List Obj) (v : Val) (tree : Tree) (ks : List ℕ) (c k : ℕ) (o : Obj) (os : List Obj) → IsNumbering g v tree ks
     → slice_get ks c ≡ Some k → drop c (objects_of tree 0) ≡ o ∷ os → AreAlikeObjects (numbered ks) (object_at g k) o
 shown g v tree ks c k o os numbering at_c is =
@@ -113,7 +113,7 @@ shown g v tree ks c k o os numbering at_c is =
     let a = IsSomeAnd-some (slice_get g k) (λ a. AreAlikeObjects (numbered ks) a o) shows in
     subst (λ x. AreAlikeObjects (numbered ks) x o) (sym (get_or_from_slice_get g k a.0 (objects.I32 (pos 0)) a.1)) a.2
 
--- an object that is alike a block, and one that is alike a leaf
+-- Objects that agree with a block and with a leaf.
 record IsBlockOf (pairs : List (ℕ × ℕ)) (a : Obj) (tag : ℕ) (values : List Val) : Type 0 where
   token : object_token a ≡ block tag (length values)
   alike : AllZip (AreAlike pairs) (fields_of a) values
@@ -145,7 +145,7 @@ alike_leaf pairs (objects.Native z) o h alike = record { token = ap leaf alike; 
 
 -- ---- a reference
 
--- it leads to the next object, or to an earlier one
+-- The reference leads to the next object or to an earlier one.
 pub record Meets (g : List Obj) (tree : Tree) (ks : List ℕ) (c : ℕ) (forest : Forest) (k : ℕ) (values : List Val) : Type 0 where
   pub at_c : slice_get ks c ≡ Some k
   pub goes : Goes tree ks c forest (object_token (object_at g k)) (c + 1) (fields_of (object_at g k) ++ values)

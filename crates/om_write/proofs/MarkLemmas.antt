@@ -1,4 +1,4 @@
--- The marks of objects that are met in their order.
+-- The marks of objects that are visited in order.
 use Rattle.std.proofs.Common.{ℕ, suc, ◌≡◌, ◌+◌, ◌<◌, ◌≤◌, ◌∙◌, List, [], ◌∷◌, ◌++◌, length, replicate, get_or, set, cond, true, false, sym, ap, ap₂, inl, inr, arith, length-set, get_or-set_same, get_or-set_other}
 use Rattle.std.proofs.lemmas.List.{ext_get_or, get_or_past, length-replicate, get_or-replicate}
 use Rattle.std.proofs.lemmas.List.FromFn.{length-map-range_with_len, get_or-map-range_with_len, map-range_with_len_more}
@@ -12,14 +12,14 @@ length-in_order met objects = length-map-range_with_len (mark_in_order met) 0 ob
 pub get_or-in_order : (met objects k : ℕ) → k < objects → get_or (in_order met objects) k 0 ≡ mark_in_order met k
 get_or-in_order met objects k inside = get_or-map-range_with_len (mark_in_order met) 0 objects k k 0 inside (omega arith)
 
--- an object that is met has its number and 1, and others have 0
+-- The mark of a visited object is its number plus 1; all other marks are 0.
 pub mark_met : (met k : ℕ) → k < met → mark_in_order met k ≡ suc k
 mark_met met k less = ap (λ b. cond b (suc k) 0) (lt-ltb k met less)
 
 pub mark_unmet : (met k : ℕ) → met ≤ k → mark_in_order met k ≡ 0
 mark_unmet met k past = ap (λ b. cond b (suc k) 0) (le-ltb k met past)
 
--- so the mark of an object that is met is its number and 1
+-- Hence a mark that is not 0 is the number of its object plus 1.
 pub met_in_order : (met objects k i : ℕ) → get_or (in_order met objects) k 0 ≡ suc i → k ≡ i
 met_in_order met objects k i is = elim (cases_lt k objects) [
   | inl inside ↦ elim (cases_lt k met) [
@@ -59,7 +59,7 @@ one_more_in_order met objects inside =
 pub in_order-push : (met k : ℕ) → in_order met (k + 1) ≡ in_order met k ++ mark_in_order met k ∷ []
 in_order-push met k = map-range_with_len_more (mark_in_order met) 0 k k (omega arith)
 
--- ---- both kinds
+-- ---- both representations
 
 pub marks_ordered : (m : Marks) → m.ordered ≡ true → marks_of m ≡ in_order m.met m.objects
 marks_ordered m ordered = ap (λ b. cond b (in_order m.met m.objects) m.table.items) ordered

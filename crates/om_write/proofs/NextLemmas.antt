@@ -26,7 +26,7 @@ use Rattle.om_write.proofs.LeftLemmas.{Meets, object_next}
 use Rattle.om_write.proofs.SizeLemmas.{tree_words, few_bytes}
 use Rattle.om_write.proofs.WalkLemmas.{Advances, Keeps, Enters, advance_integer, advance_atom, advance_reference, advance_object, marks_behind}
 
--- ---- how large a value is
+-- ---- the size of a value
 
 pub record IsBounded (tree : Tree) : Type 0 where
   pub words : all_words64 (map measure_of (tokens tree)) < 2 ^ 60
@@ -47,7 +47,7 @@ some_token : (tree : Tree) (ks : List ℕ) (c : ℕ) (forest : Forest) (v : Val)
 some_token tree ks c none v values left = absurd left.alike
 some_token tree ks c (more (node t s) f) v values left = omega arith
 
--- where no value is left nothing changes
+-- If no value remains, then nothing changes.
 pub still_walk : (g : List Obj) (walk nv : Walk) → IsWalk g walk → IsFrame g nv.last → All (IsOuter g) nv.frames.items → vec_len nv.frames ≤ vec_len walk.frames
     → vec_capacity nv.frames ≡ vec_capacity walk.frames → nv ≡ record walk { last = nv.last; frames = nv.frames } → left_of g nv ≡ left_of g walk → IsWalk g nv
 still_walk g walk nv w last frames depth capacity frame left =
@@ -160,7 +160,7 @@ module _ (g : List Obj) (walk nv : Walk) (v : Val) (w : IsWalk g walk) (value : 
       subst (λ x. AreLeft tree at.ks walk.count at.forest (x ∷ left_of g nv)) is (subst (AreLeft tree at.ks walk.count at.forest) value at.left) in
       object_next g walk.root tree at.ks walk.count k (marks_of walk.marks) at.forest (left_of g nv) at.numbering at.marked new left
 
-  -- before an object that is met first, fewer were met than there are
+  -- Before the first visit to an object, not all objects have been visited.
   fewer_met : (k : ℕ) → v ≡ vals.Ref k → slice_index (marks_of walk.marks) k ≡ 0 → walk.count < length g
   fewer_met k is new =
       let t = has_one_tree g walk.root w.heap.is_graph w.value in
@@ -172,7 +172,7 @@ module _ (g : List Obj) (walk nv : Walk) (v : Val) (w : IsWalk g walk) (value : 
   mark_is_old : (k n : ℕ) → slice_index (marks_of nv.marks) k ≡ n → slice_index (marks_of walk.marks) k ≡ n
   mark_is_old k n is = subst (λ ms. slice_index (marks_of ms) k ≡ n) same_marks is
 
-  -- in a second walk over objects that are in order the next one comes
+  -- In a repeated walk over objects in order, a new object is the next one.
   pub next_in_order : (k : ℕ) → v ≡ vals.Ref k → nv.again ≡ true → nv.marks.ordered ≡ true → slice_index (marks_of nv.marks) k ≡ 0 → k ≡ nv.count
   next_in_order k is again ordered new =
       let t = has_one_tree g walk.root w.heap.is_graph w.value in

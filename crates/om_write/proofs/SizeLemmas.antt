@@ -1,4 +1,4 @@
--- How many bytes and words the tokens of a tree take.
+-- The sizes of the tokens of a tree in bytes and in words.
 use Rattle.std.proofs.Common.{ℕ, ◌≡◌, ◌+◌, ◌*◌, ◌≤◌, ◌^◌, ◌∙◌, ◌&&◌, Bool, true, false, cond, ltb, List, [], ◌∷◌, ◌++◌, length, map, refl, sym, ap, ap₂, arith, length-append, ℤ, pos, negsuc, FitsSigned, w64, to_z, of_z}
 use Rattle.std.specs.Prelude.{flat_map}
 use Rattle.std.specs.Int.{bytes_high_first}
@@ -18,7 +18,7 @@ use Rattle.om_canonical.proofs.ByteLemmas.{length-bytes, length-signed_bytes}
 use Rattle.om_canonical.proofs.CanonLemmas.{length-doubles}
 use Rattle.om_heap.specs.Heap.{object_words, heap_words}
 
--- ---- the words of the objects are those of the tokens
+-- ---- the words of the objects are the words of the tokens
 
 token_words : (t : Token) (values : List Val) → length values ≡ of_object fields (measure_of t) → IsToken t → heap_words (object_of t values) ≡ of_object words64 (measure_of t)
 token_words (integer z) values many h = refl
@@ -48,7 +48,7 @@ mutual
       ∙ ap₂ ◌+◌ (tree_words tree c h.0) (forest_words f (c + made tree) h.1)
       ∙ sym (ap all_words64 (map-append measure_of (tokens tree) (forest_tokens f)) ∙ sum_by-append (of_object words64) (map measure_of (tokens tree)) (map measure_of (forest_tokens f)))
 
--- ---- at most nine bytes for each field, and the content of leaves
+-- ---- at most nine bytes for each field, plus the contents of leaves
 
 cond_few : (n : ℕ) (b : Bool) (xs ys : List ℕ) → length xs ≤ n → length ys ≤ n → length (cond b xs ys) ≤ n
 cond_few n true xs ys h k = h
@@ -73,7 +73,7 @@ unfolding integer_spelling
 integer_few (pos n) = cond_few 9 (ltb n 64) ((0x40 + n) ∷ []) (wide_integer (pos n)) (omega arith) (wide_few (pos n))
 integer_few (negsuc n) = wide_few (negsuc n)
 
--- by the code for k bytes of a number below 2 ^ 32, and the code for eight bytes
+-- The two cases are the code with `k` bytes for a number below 2^32, and the code with eight bytes.
 front_few : (n code k last : ℕ) → k ≤ 8 → length (cond (ltb n (2 ^ 32)) (code ∷ bytes_high_first k n) (last ∷ bytes_high_first 8 n)) ≤ 9
 front_few n code k last few = cond_few 9 (ltb n (2 ^ 32)) (code ∷ bytes_high_first k n) (last ∷ bytes_high_first 8 n) (bytes_few k code n few) (bytes_few 8 last n (omega arith))
 
@@ -138,7 +138,7 @@ mutual
       ap all_words64 (map-append measure_of (tokens tree) (forest_tokens f)) ∙ sum_by-append (of_object words64) (map measure_of (tokens tree)) (map measure_of (forest_tokens f)) in
       omega (arith, length-data (tokens tree) (forest_tokens f), words, few_bytes tree h.0, few_forest_bytes f h.1)
 
--- ---- words on 32 bits
+-- ---- 32-bit words
 
 token_words32 : (t : Token) → of_object words32 (measure_of t) ≤ 2 * of_object words64 (measure_of t)
 token_words32 (integer z) = omega arith

@@ -91,9 +91,9 @@ some_fit n tree b =
 pub all_taken : {X : Type 0} (n : ℕ) (ts : List X) → n ≡ length ts → take n ts ≡ ts
 all_taken n ts is = ap (λ m. take m ts) is ∙ take-length ts
 
--- ---- a turn of a loop over a walk
+-- ---- an iteration of a loop over a walk
 
--- the walk gave this step, and is at the next token
+-- The walk returned this step, and is at the next token.
 abbrev pub Gave : List Obj → Walk → Walk → Step → Type 0
 Gave g walk new step = (tree : Tree) → IsTreeOf g walk.root tree → IsNext g (tokens tree) walk.given (Some step) new.given
 
@@ -104,7 +104,7 @@ given_falls g walk new step w n root gave =
     let at = n.at t.tree (subst (λ r. IsTreeOf g r t.tree) (sym root) t.is) in
     omega (arith, (gave t.tree t.is).1, at.within, b.words, b.bytes, b.tokens)
 
--- the totals of the tokens that were given
+-- The totals of the tokens returned so far.
 abbrev pub AreTotals : List Obj → Walk → Totals → Type 0
 AreTotals g walk totals = (tree : Tree) → IsTreeOf g walk.root tree → totals ≡ totals_of (take walk.given (tokens tree))
 
@@ -121,7 +121,7 @@ totals_fit g walk new step totals w gave are =
     let t = has_one_tree g walk.root w.heap.is_graph w.value in
     subst FitTotals (sym (totals_next g walk new step totals gave are t.tree t.is)) (some_fit new.given t.tree (bounded g walk.root t.tree w.heap w.value t.is))
 
--- an array of doubles
+-- An array of doubles.
 pub doubles_totals : (o : Obj) (all : List ℕ) (front n : ℕ) → o ≡ objs.Doubles all → n ≡ length all → front ≡ length (doubles_front n) → object_totals (front + 8 * n) (measures.Doubles n) ≡ token_totals (leaf o)
 doubles_totals o all front n is many first =
     let bytes : length (doubles_front (length all) ++ flat_map double_bytes all) ≡ front + 8 * n =
@@ -133,7 +133,7 @@ doubles_totals o all front n is many first =
 
 -- ---- the header
 
--- each number of a header that is not big has four bytes
+-- If a header uses the small format, then each of its numbers fits in four bytes.
 pub canonical_fits : (ts : List Token) → FitsSmall (canonical_head ts)
 canonical_fits ts small =
     let n = length (data_spelling ts) in

@@ -1,4 +1,4 @@
--- A text that goes to a sink through a buffer.
+-- Writing of a text to a sink through a buffer.
 use Rattle.std.proofs.Common.{ℕ, drop, get_or, ◌≡◌, ◌+◌, ◌<◌, ◌∙◌, List, [], ◌∷◌, ◌++◌, length, take, Option, Some, None, Ok, Err, Result, refl, sym, ap, subst, arith, append_assoc, append-nil}
 use Rattle.std.specs.Prelude.{IfSome, IsErr, OnOk, MatchResult, flat_map, slice_get}
 use Rattle.std.proofs.lemmas.List.{take-append-drop, take_more}
@@ -45,7 +45,7 @@ pub flush_failed : (old new : ByteState) (buffer : List ℕ) → PutsPart (chang
 flush_failed old new buffer part before text carries =
     part_more before new text [] (subst (PutsPart (change before new)) carries.whole (puts_part before old new carries.front buffer carries.puts part))
 
--- the front of a piece
+-- A prefix of a chunk.
 pub adds_first : (a b : ByteState) (x y z piece : List ℕ) (n : ℕ) → AddsAll a b x y [] → z ≡ take (length y + n) (y ++ piece) → AddsAll a b x z (take n piece)
 adds_first a b x y z piece n first is before text carries =
     let r = first before text carries in
@@ -55,7 +55,7 @@ adds_first a b x y z piece n first is before text carries =
       puts = r.puts;
     }
 
--- one piece, and then another
+-- Two chunks in sequence.
 pub adds_both : (a b c : ByteState) (x y z p q : List ℕ) → AddsAll a b x y p → AddsAll b c y z q → AddsAll a c x z (p ++ q)
 adds_both a b c x y z p q first second before text carries =
     subst (Carries before c z) (append_assoc text p q) (second before (text ++ p) (first before text carries))
@@ -64,12 +64,12 @@ pub adds_then_part : (a b c : ByteState) (x y p q : List ℕ) → AddsAll a b x 
 adds_then_part a b c x y p q first second before text carries =
     subst (PutsPart (change before c)) (append_assoc text p q) (second before (text ++ p) (first before text carries))
 
--- where a piece failed, a longer one did
+-- If writing a chunk failed, then writing a longer chunk failed.
 pub adds_part_of : (a b : ByteState) (x p q : List ℕ) → AddsPart a b x p → AddsPart a b x (p ++ q)
 adds_part_of a b x p q first before text carries =
     subst (PutsPart (change before b)) (append_assoc text p q) (part_more before b (text ++ p) q (first before text carries))
 
--- the answer of a call that failed
+-- The result of a call that failed.
 pub adds_if_failed : {A E : Type 0} (a b : ByteState) (x y p : List ℕ) (result : Result A E) → IsErr result → AddsPart a b x p → Adds a b x y p result
 adds_if_failed a b x y p result is part = MatchResult-from_err result (λ _. AddsAll a b x y p) (λ _. AddsPart a b x p) is (λ _. part)
 
@@ -77,9 +77,9 @@ pub adds_then : {A E : Type 0} (a b c : ByteState) (x y z p q : List ℕ) (resul
 adds_then a b c x y z p q (Ok done) first second = adds_both a b c x y z p q first second
 adds_then a b c x y z p q (Err failed) first second = adds_then_part a b c x y p q first second
 
--- ---- a content, element by element
+-- ---- contents, element by element
 
--- what an element adds to the text of the elements before it
+-- The text of the elements before it, extended by the text of one element.
 text_more : (f : ℕ → List ℕ) (xs : List ℕ) (i : ℕ) → i < length xs → flat_map f (take (i + 1) xs) ≡ flat_map f (take i xs) ++ f (get_or xs i 0)
 text_more f xs i inside =
     ap (flat_map f) (take_more xs i 0 inside) ∙ flat_map-append f (take i xs) (get_or xs i 0 ∷ [])
@@ -95,7 +95,7 @@ content_failed a b c x y f xs i inside first second =
     (adds_part_of a c x (flat_map f (take (i + 1) xs)) (flat_map f (drop (i + 1) xs))
     (subst (AddsPart a c x) (sym (text_more f xs i inside)) (adds_then_part a b c x y (flat_map f (take i xs)) (f (get_or xs i 0)) first second)))
 
--- bytes are their own text
+-- The text of a byte is the byte itself.
 abbrev pub itself : ℕ → List ℕ
 itself b = b ∷ []
 
@@ -132,9 +132,9 @@ token_failed a b c x y ts t n is first second =
     (subst (AddsPart a c x) (sym (ap data_spelling (take_one n ts t is) ∙ data-push (take n ts) t))
     (adds_then_part a b c x y (data_spelling (take n ts)) (spelling t) first second)))
 
--- ---- the whole
+-- ---- the whole text
 
--- what was put from an empty buffer on is the text
+-- If the buffer is empty at the start and at the end, then the whole text was written.
 pub all_put : (a b : ByteState) (x y text : List ℕ) → x ≡ [] → y ≡ [] → AddsAll a b x y text → Puts (change a b) text
 all_put a b x y text empty gone adds =
     let nothing : Carries a a x [] = subst (λ z. Carries a a z []) (sym empty) (carries_nothing a) in
@@ -149,7 +149,7 @@ pub canon_is : (tree : Tree) → header_spelling (canonical_head (tokens tree)) 
 unfolding canon
 canon_is tree = refl
 
--- a header, the tokens, and what was left in the buffer
+-- A header, the tokens, and the remaining contents of the buffer.
 pub whole_put : {A E : Type 0} (a b c d : ByteState) (x y z w head body text : List ℕ) (result : Result A E) → x ≡ [] → AddsAll a b x y head → AddsAll b c y z body
     → Adds c d z w [] result → OnOk result (w ≡ []) → head ++ body ≡ text → MatchResult result (λ _. Puts (change a d) text) (λ _. PutsPart (change a d) text)
 whole_put a b c d x y z w head body text (Ok done) empty first second last gone is =

@@ -63,7 +63,7 @@ no_marks g ks = record {
   named = λ i k is. absurd (omega (arith, slice_index-zeros (length g) k));
 }
 
--- a mark tells an earlier object
+-- A mark is at most the number of visited objects.
 pub marks_behind : (g : List Obj) (ks : List ℕ) (c k : ℕ) (marks : List ℕ) → AreMarked g ks c marks → slice_index marks k ≤ c
 marks_behind g ks c k marks marked = behind (slice_index marks k) refl where
   behind : (m : ℕ) → slice_index marks k ≡ m → m ≤ c
@@ -72,7 +72,7 @@ marks_behind g ks c k marks marked = behind (slice_index marks k) refl where
 
 -- ---- the first token
 
--- a frame without words
+-- A frame without words.
 pub record IsEmpty (g : List Obj) (frame : Frame) : Type 0 where
   pub nothing : fields_left g frame ≡ []
   pub is_frame : IsFrame g frame
@@ -85,7 +85,8 @@ no_words g frame empty =
       is_frame = record { words = empty ∙ sym (ap (map (word_of g)) nothing); valid = subst (All (IsValue (length g))) (sym nothing) (All-nil (IsValue (length g))) };
     }
 
--- the numbers of the objects of each tree, in the order of its tokens; and where they are known, whether that order is theirs
+-- The numbers of the objects of each tree, in the order of its tokens. If the walk is repeated and
+-- the marks are ordered, these numbers are in order.
 abbrev pub Numbers : List Obj → Walk → Type 0
 Numbers g walk = (tree : Tree) → IsTreeOf g walk.root tree
     → (ks : List ℕ) × IsNumbering g walk.root tree ks × (walk.again ≡ true → walk.marks.ordered ≡ true → AreInOrder ks)
@@ -124,7 +125,7 @@ start_walk g walk heap value given count next last frames depth marks met room n
   only_root : (g : List Obj) (walk : Walk) → walk.given ≡ 0 → walk.last.rest.now ≡ [] → walk.frames.items ≡ [] → pending g walk ≡ walk.root ∷ []
   only_root g walk given last frames = rw (given, (no_words g walk.last last).nothing, frames) refl
 
--- before the first walk nothing is known of the order
+-- The invariant at the start of the first walk, when nothing is known about the order.
 pub first_walk : (g : List Obj) (walk : Walk) → IsHeap g → IsValue (length g) walk.root → walk.given ≡ 0 → walk.count ≡ 0 → walk.next ≡ 0 → walk.last.rest.now ≡ [] → walk.frames.items ≡ [] → vec_len walk.frames ≡ 0
     → marks_of walk.marks ≡ replicate (length g) 0 → walk.marks.met ≡ 0 → length g ≤ vec_capacity walk.frames → walk.again ≡ false → IsWalk g walk
 first_walk g walk heap value given count next last frames depth marks met room first =
@@ -153,7 +154,7 @@ drop_next (suc n) (y ∷ xs) x ys is = let r = drop_next n xs x ys is in let pla
 not_same : (a b : ℕ) → a ≢ b → (a == b) ≡ false
 not_same a b other = elim (cases_Bool (eqb a b)) [ inl e ↦ absurd (other (eqb-true a b e)) | inr e ↦ e ]
 
--- a walk after one more token
+-- A walk after one more token.
 pub record Advances (g : List Obj) (tree : Tree) (walk new : Walk) (token : Token) : Type 0 where
   pub at_given : slice_get (tokens tree) walk.given ≡ Some token
   pub more_given : walk.given < length (tokens tree)
@@ -164,7 +165,7 @@ nothing_at_root g walk n given =
     let test : (walk.given == 0) ≡ false = not_same walk.given 0 (λ same. omega (arith, given)) in
     ap (λ b. cond b (walk.root ∷ []) [] ++ left_of g walk) test
 
--- after the first token
+-- The remaining values after the first token.
 pub later : (g : List Obj) (walk : Walk) → walk.given ≢ 0 → pending g walk ≡ left_of g walk
 later g walk other = ap (λ b. cond b (walk.root ∷ []) [] ++ left_of g walk) (not_same walk.given 0 other)
 
@@ -187,7 +188,7 @@ advance g tree walk new token at root given goes marked again was =
       };
     }
 
--- what a step leaves as it was
+-- The parts that a step leaves unchanged.
 pub record Keeps (walk new : Walk) : Type 0 where
   pub root : new.root ≡ walk.root
   pub given : new.given ≡ walk.given + 1
@@ -223,7 +224,7 @@ advance_reference g tree walk new k i at keeps mark is =
     (rw keeps.count (reference_next g walk.root tree at.ks walk.count k i (marks_of walk.marks) at.forest (left_of g new) at.numbering at.marked mark left))
     (still_marked g at.ks walk new keeps at.marked) keeps.again (still_ordered walk new keeps)
 
--- what a step to an object changes
+-- The changes by a step to an object.
 pub record Enters (g : List Obj) (k : ℕ) (values : List Val) (walk new : Walk) : Type 0 where
   pub root : new.root ≡ walk.root
   pub given : new.given ≡ walk.given + 1
@@ -256,7 +257,7 @@ no_tokens : (f : Forest) → forest_tokens f ≡ [] → f ≡ none
 no_tokens none is = refl
 no_tokens (more (node t s) f) is = absurd (cc)
 
--- at the end all objects are met
+-- At the end all objects are visited.
 all_met : (g : List Obj) (tree : Tree) (walk : Walk) (at : IsAt g tree walk) → walk.given ≡ length (tokens tree) → length at.ks ≤ walk.count
 all_met g tree walk at end =
     let past : drop walk.given (tokens tree) ≡ [] = drop_all walk.given (tokens tree) (omega arith) in

@@ -3,11 +3,11 @@ use Rattle.std.specs.Prelude.{ℕ, suc, List, map, if◌then◌else◌, nat_lt}
 use Rattle.std.specs.List.{range_with_len}
 use Rattle.om_write.specs.declared.marks.Marks.{Marks}
 
--- the mark of an object, where the first so many are met in their order
+-- The mark of object `k`, if the first `met` objects are visited in order.
 abbrev pub mark_in_order : ℕ → ℕ → ℕ
 mark_in_order met k = if nat_lt k met then suc k else 0
 
--- those of all objects
+-- The marks of all objects in that case.
 abbrev pub in_order : ℕ → ℕ → List ℕ
 in_order met objects = map (mark_in_order met) (range_with_len 0 objects)
 

@@ -1,4 +1,4 @@
--- The tokens that a walk gives.
+-- The tokens that a walk returns.
 use Rattle.std.specs.Prelude.{ℕ, ◌+◌, ◌^◌, ◌<◌, ◌≤◌, ◌≡◌, List, length, Option, Some, None}
 use Rattle.std.specs.Prelude.{slice_get}
 use Rattle.om_model.specs.declared.value.Val.TheVariants as vals
@@ -10,7 +10,7 @@ use Rattle.om_heap.specs.Heap.{object_at, word_of}
 use Rattle.om_write.specs.declared.walk.Step.{Step}
 use Rattle.om_write.specs.declared.walk.Step.TheVariants as steps
 
--- the token that a step is in a graph
+-- The token that a step denotes in a graph.
 abbrev pub token_in : List Obj → Step → Token
 token_in g (steps.Integer z) = integer z
 token_in g (steps.Atom tag) = atom tag
@@ -18,7 +18,7 @@ token_in g (steps.Shared offset) = shared offset
 token_in g (steps.Block tag size) = block tag size
 token_in g (steps.Leaf k word) = leaf (object_at g k)
 
--- its numbers are in range
+-- The numbers of the step are in range.
 abbrev pub IsHeld : List Obj → Step → Type 0
 IsHeld g (steps.Integer z) = IsInteger z
 IsHeld g (steps.Atom tag) = tag ≤ 243
@@ -26,12 +26,12 @@ IsHeld g (steps.Shared offset) = 1 ≤ offset
 IsHeld g (steps.Block tag size) = (tag ≤ 243) × (size < 2 ^ 54)
 IsHeld g (steps.Leaf k word) = (k < length g) × (word ≡ word_of g (vals.Ref k))
 
--- token number n of all, or none where there are n
+-- The step is token `n` of the list, or `None` if the list has `n` tokens.
 abbrev pub IsNext : List Obj → List Token → ℕ → Option Step → ℕ → Type 0
 IsNext g all n None m = (n ≡ length all) × (m ≡ n)
 IsNext g all n (Some step) m = (slice_get all n ≡ Some (token_in g step)) × (m ≡ n + 1)
 
--- the token of an object that is met first
+-- The token of an object at its first visit.
 abbrev pub object_token : Obj → Token
 object_token (objects.Block tag values) = block tag (length values)
 object_token object = leaf object

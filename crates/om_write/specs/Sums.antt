@@ -1,4 +1,4 @@
--- What tokens add to the numbers of a header.
+-- The contributions of tokens to the numbers of a header.
 use Rattle.std.specs.Prelude.{ℕ, ◌+◌, ◌<◌, ◌^◌, List, length, map}
 use Rattle.om_model.specs.declared.code.Measure.{Measure}
 use Rattle.om_model.specs.declared.code.Measure.TheVariants as measures
@@ -11,7 +11,7 @@ use Rattle.om_format.specs.Tree.{made_by}
 use Rattle.om_format.specs.Canonical.{spelling, data_spelling, is_big}
 use Rattle.om_write.specs.declared.measure.Totals.{Totals}
 
--- of one token
+-- The totals of one token.
 abbrev pub token_totals : Token → Totals
 token_totals t = record {
   length = length (spelling t);
@@ -20,7 +20,7 @@ token_totals t = record {
   w64 = of_object words64 (measure_of t);
 }
 
--- of all of them
+-- The totals of a list of tokens.
 abbrev pub totals_of : List Token → Totals
 totals_of ts = record {
   length = length (data_spelling ts);
@@ -37,14 +37,14 @@ plus a b = record {
   w64 = a.w64 + b.w64;
 }
 
--- each number has 64 bits
+-- Each number fits in 64 bits.
 pub record FitTotals (all : Totals) : Type 0 where
   pub length : all.length < 2 ^ 64
   pub objects : all.objects < 2 ^ 64
   pub w32 : all.w32 < 2 ^ 64
   pub w64 : all.w64 < 2 ^ 64
 
--- of an object with so many bytes
+-- The totals of a token that creates one object and has `n` bytes.
 abbrev pub object_totals : ℕ → Measure → Totals
 object_totals n measure =
     record { length = n; objects = 1; w32 = words32 measure; w64 = words64 measure }

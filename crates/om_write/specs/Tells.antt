@@ -1,4 +1,4 @@
--- What a refusal says of what is too large for a reader on 32 bits.
+-- The relation between an item that is too large for a 32-bit reader and its report.
 use Rattle.std.specs.Prelude.{◌≡◌, length}
 use Rattle.om_model.specs.declared.value.Obj.TheVariants as objects
 use Rattle.om_format.specs.Token.{integer, block, leaf}

@@ -1,21 +1,21 @@
--- A text that goes to a sink through a buffer.
+-- Writing of a text to a sink through a buffer.
 use Rattle.std.specs.Prelude.{ℕ, ◌≡◌, List, ◌++◌, Result, MatchResult}
 use Rattle.om_edge.specs.State.{ByteState, change}
 use Rattle.om_edge.specs.Sink.{Puts, PutsPart}
 
--- the sink took the front of the text, and the buffer has the rest
+-- A prefix of the text was written to the sink, and the buffer holds the rest.
 pub record Carries (before now : ByteState) (buffer text : List ℕ) : Type 0 where
   pub front : List ℕ
   pub whole : front ++ buffer ≡ text
   pub puts : Puts (change before now) front
 
--- each text was lengthened by a piece
+-- The text so far, in the sink and in the buffer, was extended by a chunk.
 abbrev pub AddsAll : ByteState → ByteState → List ℕ → List ℕ → List ℕ → Type 0
 AddsAll old new buffer buffer' piece =
     (before : ByteState) (text : List ℕ) → Carries before old buffer text
     → Carries before new buffer' (text ++ piece)
 
--- a call failed, and not all of the text with the piece was put
+-- A call failed, and a proper prefix of the text with the chunk was written.
 abbrev pub AddsPart : ByteState → ByteState → List ℕ → List ℕ → Type 0
 AddsPart old new buffer piece =
     (before : ByteState) (text : List ℕ) → Carries before old buffer text

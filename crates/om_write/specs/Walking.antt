@@ -1,4 +1,4 @@
--- Where a walk is among the tokens of a value.
+-- The position of a walk among the tokens of a value.
 use Rattle.std.specs.Prelude.{ℕ, suc, ◌+◌, ◌-◌, ◌*◌, ◌<◌, ◌≤◌, ◌≡◌, ◌==◌, true, List, [], ◌∷◌, ◌++◌}
 use Rattle.std.specs.Prelude.{length, map, drop, All, Option, None, Some, slice_get, slice_index}
 use Rattle.std.specs.Prelude.{slice_set, vec_len, vec_capacity, if◌then◌else◌}
@@ -17,24 +17,24 @@ use Rattle.om_write.specs.declared.walk.Step.{Step}
 use Rattle.om_write.specs.declared.walk.Frame.{Frame}
 use Rattle.om_write.specs.declared.walk.Walk.{Walk}
 
--- ---- the values that are still to come
+-- ---- the remaining values
 
--- those of a block whose words are left
+-- The remaining field values of a block.
 abbrev pub fields_left : List Obj → Frame → List Val
 fields_left g frame =
     drop (length (fields_of (object_at g frame.block)) - length frame.rest.now)
     (fields_of (object_at g frame.block))
 
--- the words are theirs
+-- The remaining words of the frame are the words of these values.
 pub record IsFrame (g : List Obj) (frame : Frame) : Type 0 where
   pub words : frame.rest.now ≡ map (word_of g) (fields_left g frame)
   pub valid : All (IsValue (length g)) (fields_left g frame)
 
--- a block further out has some
+-- An outer block has at least one remaining field.
 abbrev pub IsOuter : List Obj → Frame → Type 0
 IsOuter g frame = IsFrame g frame × (0 < length frame.rest.now)
 
--- those of the last block come first
+-- The remaining values of all blocks. Those of the last block come first.
 abbrev pub left_in : List Obj → List Frame → List Val
 left_in g [] = []
 left_in g (frame ∷ frames) = left_in g frames ++ fields_left g frame
@@ -42,7 +42,7 @@ left_in g (frame ∷ frames) = left_in g frames ++ fields_left g frame
 abbrev pub left_of : List Obj → Walk → List Val
 left_of g walk = fields_left g walk.last ++ left_in g walk.frames.items
 
--- the word of the first of them is taken, if there is one
+-- The result is the word of the first remaining value, or `None` if there is none.
 abbrev pub Takes : List Obj → List Val → List Val → Option ℕ → Type 0
 Takes g old new None = (old ≡ []) × (new ≡ [])
 Takes g old new (Some word) =
@@ -54,7 +54,7 @@ root_left walk = if walk.given == 0 then walk.root ∷ [] else []
 abbrev pub pending : List Obj → Walk → List Val
 pending g walk = root_left walk ++ left_of g walk
 
--- ---- objects that are met first
+-- ---- first visits
 
 pub record IsMet (g : List Obj) (k : ℕ) (old new : Walk) (step : Step) : Type 0 where
   pub root : new.root ≡ old.root
@@ -73,19 +73,20 @@ pub record IsMet (g : List Obj) (k : ℕ) (old new : Walk) (step : Step) : Type 
   pub capacity : vec_capacity new.frames ≡ vec_capacity old.frames
   pub token : token_in g step ≡ object_token (object_at g k)
 
--- of the first c objects met the marks tell their places, counted from 1, and of all others 0
+-- The marks of the first `c` visited objects are their positions, counted from 1. All other marks
+-- are 0.
 pub record AreMarked (g : List Obj) (ks : List ℕ) (c : ℕ) (marks : List ℕ) : Type 0 where
   pub size : length marks ≡ length g
   pub found : (i k : ℕ) → i < c → slice_get ks i ≡ Some k → slice_index marks k ≡ suc i
   pub named : (i k : ℕ) → slice_index marks k ≡ suc i → (i < c) × (slice_get ks i ≡ Some k)
 
--- the objects are met in the order of their numbers
+-- The objects are visited in the order of their numbers.
 abbrev pub AreInOrder : List ℕ → Type 0
 AreInOrder ks = (i k : ℕ) → slice_get ks i ≡ Some k → k ≡ i
 
--- ---- the place in the tree
+-- ---- the position in the tree
 
--- after c objects these trees are left, and they are those of these values
+-- After `c` objects these trees remain, and they are the trees of these values.
 pub record AreLeft (tree : Tree) (ks : List ℕ) (c : ℕ) (forest : Forest) (values : List Val)
     : Type 0 where
   pub are_trees : AreTrees forest
@@ -103,7 +104,8 @@ pub record IsAt (g : List Obj) (tree : Tree) (walk : Walk) : Type 0 where
   pub marked : AreMarked g ks walk.count (marks_of walk.marks)
   pub order : walk.again ≡ true → walk.marks.ordered ≡ true → AreInOrder ks
 
--- the walk is at a place among the tokens of each tree of its root, of which there is one
+-- The invariant of a walk: it is at a position among the tokens of each tree of its root. The root
+-- has exactly one tree.
 pub record IsWalk (g : List Obj) (walk : Walk) : Type 0 where
   pub heap : IsHeap g
   pub value : IsValue (length g) walk.root

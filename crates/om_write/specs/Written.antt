@@ -1,4 +1,4 @@
--- What a call that writes did.
+-- The effect of a call that writes a value.
 use Rattle.std.specs.Prelude.{◌≡◌, None, Result, Ok, Err, IsSomeAnd}
 use Rattle.om_format.specs.Canonical.{canon}
 use Rattle.om_format.specs.Compat.{too_large_for_32}
@@ -9,8 +9,8 @@ use Rattle.om_write.specs.Tells.{Tells}
 use Rattle.om_write.specs.declared.writer32.Write32Error.{Write32Error}
 use Rattle.om_write.specs.declared.writer32.Write32Error.TheVariants as errors32
 
--- `Writes` of the canonical bytes where a reader on 32 bits can hold the value; or what it cannot
--- hold
+-- If a 32-bit reader can hold the value, the effect is `Writes` of its canonical bytes. Otherwise
+-- the result is the item that is too large.
 abbrev pub Writes32 : {A : Type 0} → Change ByteState → Tree → Result A Write32Error → Type 0
 Writes32 sink tree (Ok done) = (too_large_for_32 tree ≡ None) × Puts sink (canon tree)
 Writes32 sink tree (Err (errors32.Compat compat)) =
@@ -19,7 +19,7 @@ Writes32 sink tree (Err errors32.Fault) =
     (too_large_for_32 tree ≡ None) × PutsPart sink (canon tree)
 Writes32 sink tree (Err errors32.Memory) = Unit {0}
 
--- nothing was put then
+-- If the call returns this error, then it has written nothing.
 abbrev pub IsEarly : Write32Error → Type 0
 IsEarly (errors32.Compat compat) = Unit {0}
 IsEarly errors32.Fault = ⊥

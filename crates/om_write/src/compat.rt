@@ -1,4 +1,4 @@
-//! What a reader on 32 bits cannot hold (`extern.c`, flag `Compat_32`).
+//! Values that a 32-bit reader cannot hold (`extern.c`, flag `Compat_32`).
 
 ghost use Rattle.std.specs.Prelude.{◌≡◌, ◌<◌, length, true, false, find, None, IsNone, IsSomeAnd};
 ghost use Rattle.std.specs.Prelude.{MatchOption};
@@ -17,8 +17,9 @@ use om_headers::Head;
 use om_heap::{Heap, Kind};
 use om_model::code::Custom;
 
-/// What is too large: an integer or a `Nativeint` by itself, a block by its fields, a string by its
-/// bytes, an array by its doubles, and a header by the greatest of its numbers.
+/// The item that is too large for a 32-bit reader, with its size: the value of an integer or a
+/// `Nativeint`, the fields of a block, the bytes of a string, the doubles of an array, or the
+/// largest number of a header.
 #[derive(Clone, Copy, Debug)]
 pub enum Compat {
     Int(i64),
@@ -29,7 +30,7 @@ pub enum Compat {
     Header(u64),
 }
 
-/// The first token of a walk that is too large.
+/// Returns the first token of a walk that is too large.
 pub fn first_large<'a>(heap: &'a Heap, walk: &mut Walk<'a>) -> Option<Compat>
     requires walk { IsWalk heap.now walk.old }
     requires first { walk.old.given ≡ 0 }
@@ -50,7 +51,7 @@ pub fn first_large<'a>(heap: &'a Heap, walk: &mut Walk<'a>) -> Option<Compat>
     None
 }
 
-/// The greatest number of a header that has to be big.
+/// Returns the largest number of a header that must use the large format.
 pub fn head_compat(head: Head) -> Option<Compat>
     ensures { MatchOption result (large_header head ≡ None)
         (λ compat. IsSomeAnd (large_header head) (λ t. Tells t compat)) }

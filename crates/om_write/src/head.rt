@@ -1,4 +1,4 @@
-//! The header of a value, without its bytes.
+//! The header of a value, without its data.
 
 ghost use Rattle.std.specs.Prelude.{◌≡◌, length, IfOk};
 ghost use Rattle.om_model.specs.Graph.{IsValue};
@@ -14,8 +14,8 @@ use om_model::Memory;
 use om_model::value::Val;
 use std::alloc::Global;
 
-/// What the header states that `write` puts before a value: the bytes of its data, the objects that
-/// it reaches, each counted once, and their words.
+/// Returns the header that `write` writes before a value: the length of its data in bytes, the
+/// number of objects that it reaches, each counted once, and their size in words.
 pub fn head_of(alloc: Global, heap: &Heap, root: Val) -> Result<Head, Memory>
     requires { IsValue (length heap.now) root }
     ensures { (tree : Tree) → IsTreeOf heap.now root tree

@@ -1,14 +1,14 @@
-//! Laws over the definitions. The functions do nothing: what each ensures is the law.
+//! Laws over the definitions, as contracts of lemma functions.
 
 ghost use Rattle.om_write.specs.Laws.{WrittenIsRead, ReadIsWritten};
 
-/// What is put of a value is read as the same value, under each limit that the words of its tree
-/// keep.
+/// States that the bytes written for a value are read as the same value, under every limit that the
+/// words of its tree respect.
 pub fn written_is_read()
     ensures { WrittenIsRead }
 {}
 
-/// Bytes that are the runtime's own spelling are written again as they were read.
+/// States that bytes in the runtime's own encoding are written again exactly as they were read.
 pub fn read_is_written()
     ensures { ReadIsWritten }
 {}

@@ -1,4 +1,4 @@
-//! Which objects a walk has met.
+//! Marks for the objects that a walk has visited.
 
 ghost use Rattle.std.specs.Prelude.{◌≡◌, ◌+◌, ◌<◌, length, true, false, IsOk, IfOk, OnOk};
 ghost use Rattle.std.specs.Prelude.{MatchResult, replicate, slice_index, slice_set};
@@ -7,20 +7,20 @@ ghost use Rattle.om_write.specs.Marks.{mark_in_order, in_order, marks_of};
 use om_model::Memory;
 use std::alloc::Global;
 
-/// Of each object its number among those met, counted from 1, or 0. While objects are met in the
-/// order of their numbers, only how many were met is kept.
+/// For each object, its number among the visited objects, counted from 1, or 0. As long as objects
+/// are visited in the order of their numbers, only the count of visited objects is stored.
 #[derive(Drop)]
 pub struct Marks {
     objects: u64,
     ordered: bool,
-    // where they are ordered: how many were met
+    // The number of visited objects, if they are in order.
     met: u64,
-    // where they are not
+    // The marks, if they are not in order.
     table: Vec<u64>,
 }
 
 impl Marks {
-    /// None of so many objects is met.
+    /// Creates marks for `objects` objects, none of them visited.
     pub fn new(alloc: Global, objects: u64) -> Marks
         ensures marks { marks_of result ≡ replicate objects 0 }
         ensures ordered { result.ordered ≡ true }
@@ -34,7 +34,7 @@ impl Marks {
         }
     }
 
-    /// Whether objects were met in the order of their numbers.
+    /// Returns true if all objects were visited in the order of their numbers.
     #[inline(always)]
     pub fn is_ordered(&self) -> bool
         ensures { result ≡ self.now.ordered }
@@ -42,7 +42,7 @@ impl Marks {
         self.ordered
     }
 
-    /// The mark of object k.
+    /// Returns the mark of object `k`.
     #[inline(always)]
     pub fn get(&self, k: u64) -> u64
         requires { k < length (marks_of self.now) }
@@ -55,7 +55,7 @@ impl Marks {
         }
     }
 
-    /// Marks object k. Only a first object out of order takes memory.
+    /// Sets the mark of object `k`. Only the first object out of order allocates memory.
     #[inline(always)]
     pub fn set(&mut self, k: u64, mark: u64) -> Result<(), Memory>
         requires inside { k < length (marks_of self.old) }
@@ -81,7 +81,7 @@ impl Marks {
         Ok(())
     }
 
-    /// Takes all marks off.
+    /// Removes all marks.
     pub fn clear(&mut self)
         ensures marks { marks_of self.new ≡ replicate (length (marks_of self.old)) 0 }
         ensures met { self.new.met ≡ 0 }
@@ -92,7 +92,7 @@ impl Marks {
     }
 }
 
-// The mark of object k, where the first ones are met.
+// Returns the mark of object `k`, if the first `met` objects are visited in order.
 #[inline(always)]
 fn mark_of(met: u64, k: u64) -> u64
     ensures { result ≡ mark_in_order met k }
@@ -100,7 +100,7 @@ fn mark_of(met: u64, k: u64) -> u64
     if k < met { k + 1 } else { 0 }
 }
 
-// The marks of so many objects, of which the first ones are met.
+// Returns the marks of `objects` objects, if the first `met` of them are visited in order.
 #[cold]
 fn make_table(alloc: Global, objects: u64, met: u64) -> Result<Vec<u64>, Memory>
     ensures { IfOk result (λ table. table.items ≡ in_order met objects) }

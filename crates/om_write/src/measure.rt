@@ -1,4 +1,4 @@
-//! What the header states of a value.
+//! Computes the header of a value.
 
 ghost use Rattle.std.specs.Prelude.{◌≡◌, ◌<◌, length, IfOk, OnOk};
 ghost use Rattle.om_format.specs.Iso.{IsTreeOf};
@@ -20,7 +20,8 @@ use om_heap::{Heap, Kind};
 use om_model::Memory;
 use om_model::code::Custom;
 
-/// The bytes of tokens, their objects, and the words of these on 32 and on 64 bits.
+/// Totals for tokens: the number of bytes, the number of objects, and the sizes of these objects in
+/// 32-bit words and in 64-bit words.
 #[derive(Clone, Copy)]
 pub struct Totals {
     length: u64,
@@ -30,7 +31,7 @@ pub struct Totals {
 }
 
 impl Totals {
-    // Of a token that makes no object.
+    // Returns the totals of a token that creates no object.
     #[inline(always)]
     fn of_bytes(length: usize) -> Totals
         ensures { result ≡ record { length = length; objects = 0; w32 = 0; w64 = 0 } }
@@ -43,7 +44,7 @@ impl Totals {
         }
     }
 
-    // Of one that makes an object.
+    // Returns the totals of a token that creates an object.
     #[inline(always)]
     fn of_object(length: u64, measure: Measure) -> Totals
         requires { IsCountable measure }
@@ -69,7 +70,7 @@ impl Totals {
         self.w64 += other.w64;
     }
 
-    // The header of a value whose tokens these are.
+    // Returns the header of a value with these totals.
     fn head(self) -> Head
         ensures { result ≡ head_of_totals self }
     {
@@ -83,7 +84,7 @@ impl Totals {
     }
 }
 
-/// The header of the value that a walk begins.
+/// Returns the header of the value at whose start the walk is.
 pub fn measure<'a>(heap: &'a Heap, walk: &mut Walk<'a>) -> Result<Head, Memory>
     requires walk { IsWalk heap.now walk.old }
     requires first { walk.old.given ≡ 0 }
@@ -101,7 +102,7 @@ pub fn measure<'a>(heap: &'a Heap, walk: &mut Walk<'a>) -> Result<Head, Memory>
     Ok(totals.head())
 }
 
-// What one token adds.
+// Returns the totals of one token.
 #[inline(always)]
 fn step_totals(heap: &Heap, step: Step) -> Totals
     requires heap { IsHeap heap.now }

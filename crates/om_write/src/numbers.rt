@@ -1,4 +1,4 @@
-//! The objects that a value reaches, by the order in which they are met.
+//! Numbers the objects that a value reaches.
 
 ghost use Rattle.std.specs.Prelude.{◌≡◌, ◌<◌, length, slice_index, IfOk};
 ghost use Rattle.om_model.specs.Graph.{IsValue};
@@ -14,15 +14,15 @@ use om_model::Memory;
 use om_model::value::Val;
 use std::alloc::Global;
 
-/// Of each object of a graph its place among those that a value reaches, in the order in which they
-/// are met, depth first and fields from left to right.
+/// For each object of a graph, its position among the objects that a value reaches. The order is
+/// depth first, fields from left to right.
 #[derive(Drop)]
 pub struct Numbers {
     marks: Marks,
 }
 
 impl Numbers {
-    /// The place of object k, counted from 1, or 0 where the value does not reach it.
+    /// Returns the position of object `k`, counted from 1, or 0 if the value does not reach it.
     pub fn get(&self, k: u64) -> u64
         requires { k < length (marks_of self.now.marks) }
         ensures { result ≡ slice_index (marks_of self.now.marks) k }

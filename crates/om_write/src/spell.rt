@@ -1,4 +1,4 @@
-//! The tokens of a value as text.
+//! Encodes the tokens of a value.
 
 ghost use Rattle.std.specs.Prelude.{◌≡◌, ◌<◌, ◌≤◌, length, take, vec_capacity, flat_map};
 ghost use Rattle.om_format.specs.Canonical.{spelling, leaf_spelling, double_bytes};
@@ -15,7 +15,7 @@ use om_codes::{spell_block, spell_double_array_len, spell_int, spell_shared, spe
 use om_edge::{Failed, Sink};
 use om_heap::{Heap, Kind};
 
-/// Lengthens the text by the spelling of a token.
+/// Appends the encoding of a token to the output.
 #[inline(always)]
 pub fn add_step<K: Sink>(
     heap: &Heap,
@@ -39,7 +39,7 @@ pub fn add_step<K: Sink>(
     }
 }
 
-// The first of nine bytes.
+// Appends the first `front.1` bytes of an array of nine bytes.
 #[inline(always)]
 fn add_front<K: Sink>(
     front: ([u8; 9], usize),
@@ -62,7 +62,7 @@ fn add_front<K: Sink>(
     }
 }
 
-// An object without fields.
+// Appends the encoding of an object without fields.
 #[inline(always)]
 fn add_leaf<K: Sink>(
     heap: &Heap,
@@ -100,7 +100,8 @@ fn add_leaf<K: Sink>(
     }
 }
 
-// The n bytes of a string, which its words have, the least significant first.
+// Appends the `n` bytes of a string. The heap stores them in 64-bit words, least significant byte
+// first.
 #[inline(always)]
 fn add_bytes<K: Sink>(
     heap: &Heap,
@@ -129,7 +130,7 @@ fn add_bytes<K: Sink>(
     add_first(out, buffer, &last, n as usize % 8)
 }
 
-// The words of an object after its header.
+// Returns the words of an object after its header.
 #[inline(always)]
 fn body(heap: &Heap, k: u64, word: u64) -> &[u64]
     requires inside { k < length heap.now }
@@ -139,7 +140,7 @@ fn body(heap: &Heap, k: u64, word: u64) -> &[u64]
     heap.body_at(word)
 }
 
-// The n doubles of an array, or one double.
+// Appends the `n` doubles of an array, or a single double.
 #[inline(always)]
 fn add_doubles<K: Sink>(
     heap: &Heap,

@@ -1,4 +1,4 @@
-//! Text that goes to a sink through a buffer.
+//! Writing of a text to a sink through a buffer.
 
 ghost use Rattle.std.specs.Prelude.{◌≡◌, ◌+◌, ◌≤◌, [], ◌∷◌, length, take, IfOk, OnOk, vec_len};
 ghost use Rattle.std.specs.Prelude.{vec_capacity};
@@ -8,11 +8,11 @@ use om_edge::{Failed, Sink, put_all};
 use om_model::Memory;
 use std::alloc::Global;
 
-/// How many bytes are put at once: few, since each value has a buffer of its own, and the sink
-/// mostly gathers what is put.
+/// The buffer size in bytes. It is small, because each value has a buffer of its own and the sink
+/// usually has a larger one.
 pub const LIMIT: usize = 1024;
 
-/// An empty buffer.
+/// Returns an empty buffer.
 pub fn new_buffer(alloc: Global) -> Result<Vec<u8>, Memory>
     ensures empty { IfOk result (λ buffer. buffer.items ≡ []) }
     ensures room { IfOk result (λ buffer. LIMIT ≤ vec_capacity buffer) }
@@ -20,7 +20,7 @@ pub fn new_buffer(alloc: Global) -> Result<Vec<u8>, Memory>
     Ok(Vec::with_capacity(alloc, LIMIT)?)
 }
 
-/// Puts what the buffer has.
+/// Writes the contents of the buffer to the sink.
 #[inline(never)]
 pub fn flush<K: Sink>(out: &mut K, buffer: &mut Vec<u8>) -> Result<(), Failed>
     ensures adds { Adds (K.state out.old) (K.state out.new) buffer.old.items buffer.new.items []
@@ -34,7 +34,7 @@ pub fn flush<K: Sink>(out: &mut K, buffer: &mut Vec<u8>) -> Result<(), Failed>
     Ok(())
 }
 
-// Puts what the buffer has where there is no room for n more bytes.
+// If the buffer has no room for `n` more bytes, writes its contents to the sink.
 #[inline(always)]
 fn make_room<K: Sink>(out: &mut K, buffer: &mut Vec<u8>, n: usize) -> Result<(), Failed>
     requires { n ≤ LIMIT }
@@ -49,7 +49,7 @@ fn make_room<K: Sink>(out: &mut K, buffer: &mut Vec<u8>, n: usize) -> Result<(),
     flush(out, buffer)
 }
 
-/// Lengthens the text by a short piece.
+/// Appends a short chunk to the output.
 #[inline(always)]
 pub fn add<K: Sink>(out: &mut K, buffer: &mut Vec<u8>, piece: &[u8]) -> Result<(), Failed>
     requires short { length piece.now ≤ LIMIT }
@@ -63,7 +63,7 @@ pub fn add<K: Sink>(out: &mut K, buffer: &mut Vec<u8>, piece: &[u8]) -> Result<(
     Ok(())
 }
 
-/// Lengthens the text by the first n bytes of a short piece.
+/// Appends the first `n` bytes of a short chunk to the output.
 #[inline(always)]
 pub fn add_first<K: Sink>(
     out: &mut K,
@@ -85,7 +85,7 @@ pub fn add_first<K: Sink>(
     Ok(())
 }
 
-/// Lengthens the text by a byte.
+/// Appends a byte to the output.
 #[inline(always)]
 pub fn add_byte<K: Sink>(out: &mut K, buffer: &mut Vec<u8>, byte: u8) -> Result<(), Failed>
     requires { LIMIT ≤ vec_capacity buffer.old }

@@ -1,5 +1,5 @@
-//! The tokens of a value, depth first and fields from left to right: an object where it is met
-//! first, and references to it after that.
+//! Enumerates the tokens of a value, depth first, fields from left to right. The first visit to an
+//! object gives its own token. Later visits give references to it.
 
 ghost use Rattle.std.specs.Prelude.{◌≡◌, ◌≢◌, ◌+◌, ◌-◌, ◌*◌, ◌≤◌, ◌<◌, ◌^◌, ◌∷◌, ◌++◌, [], length};
 ghost use Rattle.std.specs.Prelude.{true, All, IfSome, IfNone, IfOk, IsOk, OnOk, MatchOption};
@@ -21,18 +21,18 @@ use om_model::Memory;
 use om_model::value::Val;
 use std::alloc::Global;
 
-/// A token; an object without fields by its number and the word that refers to it.
+/// A token. An object without fields is given by its number and the word that refers to it.
 #[derive(Clone, Copy)]
 pub enum Step {
     Integer(i64),
     Atom(u8),
-    /// A reference to the object so many places back from the next one.
+    /// A reference to an earlier object. The number is its distance back from the next object.
     Shared(u64),
     Block(u8, u64),
     Leaf(u64, u64),
 }
 
-/// A block, and the words of its fields that are still to come.
+/// A block and the words of its remaining fields.
 #[derive(Clone, Copy)]
 pub struct Frame<'a> {
     block: u64,
@@ -40,7 +40,7 @@ pub struct Frame<'a> {
 }
 
 impl<'a> Frame<'a> {
-    // Takes the word of the next field.
+    // Removes and returns the word of the next field.
     #[inline(always)]
     fn take(&mut self, heap: &Heap) -> Option<u64>
         requires { IsFrame heap.now self.old }
@@ -54,25 +54,25 @@ impl<'a> Frame<'a> {
     }
 }
 
-/// A place among the tokens of a value.
+/// A position in the sequence of the tokens of a value.
 #[derive(Drop)]
 pub struct Walk<'a> {
     root: Val,
-    // how many tokens were given, and how many objects were met
+    // The number of tokens returned so far, and the number of objects visited.
     given: u64,
     count: u64,
-    // whether all tokens were given before
+    // True if all tokens have been returned once before.
     again: bool,
     marks: Marks,
-    // the word of the object after those met, where they are met in order
+    // The word of the object after the visited ones, if they are in order.
     next: u64,
-    // the innermost block, and those further out that have fields left
+    // The innermost block, and the outer blocks that have remaining fields.
     last: Frame<'a>,
     frames: Vec<Frame<'a>>,
 }
 
 impl<'a> Walk<'a> {
-    /// Before the first token of a value.
+    /// Creates a walk before the first token of a value.
     pub fn new(alloc: Global, heap: &'a Heap, root: Val) -> Result<Walk<'a>, Memory>
         requires { IsValue (length heap.now) root }
         ensures walk { IfOk result (IsWalk heap.now) }
@@ -95,7 +95,7 @@ impl<'a> Walk<'a> {
         })
     }
 
-    /// The marks of the objects met.
+    /// Returns the marks of the visited objects.
     pub fn into_marks(self) -> Marks
         ensures { result ≡ self.entry.marks }
     {
@@ -112,7 +112,7 @@ impl<'a> Walk<'a> {
         marks
     }
 
-    /// Goes back from the end to the first token.
+    /// Moves from the end back to the first token.
     pub fn restart(&mut self, heap: &Heap)
         requires walk { IsWalk heap.now self.old }
         requires end { (tree : Tree) → IsTreeOf heap.now self.old.root tree
@@ -135,7 +135,8 @@ impl<'a> Walk<'a> {
         self.frames.clear();
     }
 
-    /// The next token. It may take memory where not all tokens were given before.
+    /// Returns the next token, or `None` at the end. May allocate memory, unless all tokens have
+    /// been returned once before.
     #[inline(always)]
     pub fn next(&mut self, heap: &'a Heap) -> Result<Option<Step>, Memory>
         requires { IsWalk heap.now self.old }
@@ -159,7 +160,7 @@ impl<'a> Walk<'a> {
         }
     }
 
-    /// The next token, where all were given before.
+    /// Returns the next token in a repeated walk. It allocates no memory.
     #[inline(always)]
     pub fn next_again(&mut self, heap: &'a Heap) -> Option<Step>
         requires walk { IsWalk heap.now self.old }
@@ -177,8 +178,8 @@ impl<'a> Walk<'a> {
         }
     }
 
-    // The next value and its word: the root, and then the next field of the block met last that has
-    // one left.
+    // Returns the next value and its word: first the root, then the next field of the innermost
+    // block that has one left.
     #[inline(always)]
     fn next_value(&mut self, heap: &Heap) -> Option<(Val, u64)>
         requires heap { IsHeap heap.now }
@@ -206,7 +207,7 @@ impl<'a> Walk<'a> {
         Some((self.value_of(heap, word), word))
     }
 
-    // The word of the next field of the block met last that has one left.
+    // Returns the word of the next field of the innermost block that has one left.
     #[inline(always)]
     fn next_word(&mut self, heap: &Heap) -> Option<u64>
         requires last { IsFrame heap.now self.old.last }
@@ -227,8 +228,8 @@ impl<'a> Walk<'a> {
         self.last.take(heap)
     }
 
-    // The value of a word. The object after those met is known by its word where they are met in
-    // order.
+    // Returns the value of a word. As long as objects are visited in order, the next object is
+    // recognized by its word.
     #[inline(always)]
     fn value_of(&self, heap: &Heap, word: u64) -> Val
         requires heap { IsHeap heap.now }
@@ -245,7 +246,8 @@ impl<'a> Walk<'a> {
         }
     }
 
-    // The token of an object: itself where it was not met before, and then it is from now on.
+    // Returns the token of an object: the object itself at its first visit, and a reference
+    // afterwards. Marks a new object as visited.
     #[inline(always)]
     fn meet(&mut self, heap: &'a Heap, k: u64, word: u64) -> Result<Step, Memory>
         requires heap { IsHeap heap.now }
@@ -282,7 +284,7 @@ impl<'a> Walk<'a> {
         Ok(self.enter(heap, k, word))
     }
 
-    // The token of an object that is met first. The fields of a block come next.
+    // Returns the token of an object at its first visit. If it is a block, its fields come next.
     #[inline(always)]
     fn enter(&mut self, heap: &'a Heap, k: u64, word: u64) -> Step
         requires heap { IsHeap heap.now }
@@ -320,7 +322,7 @@ impl<'a> Walk<'a> {
         }
     }
 
-    // The fields of a frame come next.
+    // Makes the fields of a block the next ones.
     #[inline(always)]
     fn open(&mut self, heap: &Heap, inner: Frame<'a>)
         requires last { IsFrame heap.now self.old.last }
@@ -343,7 +345,7 @@ impl<'a> Walk<'a> {
     }
 }
 
-/// Which object it is, and how large.
+/// Returns the kind and size of an object.
 #[inline(always)]
 pub fn kind_at(heap: &Heap, k: u64, word: u64) -> Kind
     requires inside { k < length heap.now }

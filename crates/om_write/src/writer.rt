@@ -1,4 +1,4 @@
-//! The bytes of a value.
+//! Writes the bytes of a value.
 
 ghost use Rattle.std.specs.Prelude.{◌≡◌, ◌≤◌, [], length, true, IsErrOf, MatchResult, vec_capacity};
 ghost use Rattle.om_model.specs.Graph.{IsValue};
@@ -20,8 +20,9 @@ use om_heap::Heap;
 use om_model::value::Val;
 use std::alloc::Global;
 
-/// Puts the bytes that the runtime writes for a value: those of the one tree whose value is the
-/// same. All memory is taken before the first byte is put.
+/// Writes the bytes that OCaml's runtime writes for a value: the canonical bytes of the unique tree
+/// with the same value. Allocates all memory before it writes the first byte. If a call on the sink
+/// fails, a proper prefix was written.
 pub fn write<K: Sink>(alloc: Global, heap: &Heap, root: Val, out: &mut K) -> Result<(), WriteError>
     requires { IsValue (length heap.now) root }
     ensures puts { (tree : Tree) × IsTreeOf heap.now root tree
@@ -37,7 +38,7 @@ pub fn write<K: Sink>(alloc: Global, heap: &Heap, root: Val, out: &mut K) -> Res
     Ok(())
 }
 
-/// Puts a header, and then the tokens of a walk.
+/// Writes a header and then the tokens of a walk.
 pub fn put_value<'a, K: Sink>(
     heap: &'a Heap,
     head: Head,
@@ -62,7 +63,7 @@ pub fn put_value<'a, K: Sink>(
     flush(out, buffer)
 }
 
-// Lengthens the text by the tokens of a walk.
+// Appends the tokens of a walk to the output.
 fn add_tokens<'a, K: Sink>(
     heap: &'a Heap,
     walk: &mut Walk<'a>,

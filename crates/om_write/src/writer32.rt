@@ -1,4 +1,4 @@
-//! The bytes of a value that a reader on 32 bits can hold.
+//! Writes the bytes of a value for a 32-bit reader.
 
 ghost use Rattle.std.specs.Prelude.{◌≡◌, length, IfErr};
 ghost use Rattle.om_model.specs.Graph.{IsValue};
@@ -21,7 +21,7 @@ use om_model::value::Val;
 use std::alloc::Global;
 use thiserror::Error;
 
-/// Why a value was not written for a reader on 32 bits.
+/// The reason why a value was not written for a 32-bit reader.
 #[derive(Clone, Copy, Debug, Error)]
 pub enum Write32Error {
     #[error("too large for 32 bits")]
@@ -48,8 +48,8 @@ impl From<Memory> for Write32Error {
     }
 }
 
-/// Puts what `write` puts, where a reader on 32 bits can hold the value. Else it answers the first
-/// token that is too large, or where there is none the header, and puts nothing.
+/// Writes the same bytes as `write`, if a 32-bit reader can hold the value. Otherwise writes
+/// nothing and returns the first token that is too large, or the header if no token is.
 pub fn write32<K: Sink>(
     alloc: Global,
     heap: &Heap,

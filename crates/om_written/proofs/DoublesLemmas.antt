@@ -1,4 +1,5 @@
--- The bytes of doubles, in the runtime's order, are what it writes of the doubles that they are.
+-- The bytes of doubles, in the runtime's order, are the bytes that the runtime writes for the
+-- decoded doubles.
 use Rattle.std.proofs.Common.{ℕ, zero, suc, ◌≡◌, ◌+◌, ◌*◌, ◌/◌, ◌%◌, ◌<◌, ◌≤◌, ◌^◌, ◌∙◌, List, [], ◌∷◌, ◌++◌, length, take, drop, refl, sym, ap, ap₂, subst, arith}
 use Rattle.std.specs.Prelude.{flat_map, All}
 use Rattle.std.specs.Int.{byte_at, bytes_low_first}
@@ -14,9 +15,9 @@ use Rattle.om_written.specs.Written.{BeginsWritten}
 use Rattle.om_written.proofs.WrittenLemmas.{take_two}
 use Rattle.om_canonical.proofs.ByteLemmas.{byte_at-is}
 
--- ---- one
+-- ---- one double
 
--- a digit, and then the others
+-- One digit and the digits after it.
 next_low : (i b n : ℕ) → b < 256 → byte_at (suc i) (b + 256 * n) ≡ byte_at i n
 next_low i b n small =
     let one : (b + 256 * n) / 256 ≡ n = omega arith in
@@ -36,9 +37,9 @@ low_number (b ∷ bytes) are =
     let first : (b + 256 * n) % 256 ≡ b = omega (arith, small) in
     ap₂ (λ x xs. x ∷ xs) first (lows_next 0 (length bytes) b n small ∙ low_number bytes (All-tail (λ b. b < 256) b bytes are))
 
--- ---- many
+-- ---- several doubles
 
--- so many doubles
+-- The doubles that the bytes encode.
 abbrev doubles_of : ℕ → List ℕ → List ℕ
 doubles_of zero xs = []
 doubles_of (suc k) xs = little_number (take 8 xs) ∷ doubles_of k (drop 8 xs)
@@ -69,7 +70,7 @@ doubles_fit (suc k) xs are within =
     (little_number_fits (take 8 xs) 8 (All-take (λ b. b < 256) 8 xs are) (omega (arith, few)))
     (doubles_fit k (drop 8 xs) (All-drop (λ b. b < 256) 8 xs are) (omega (arith, rest, within)))
 
--- an array of them
+-- An array of doubles.
 pub doubles_first : (n count : ℕ) (bytes : List ℕ) → AreBytes bytes → n + 8 * count ≤ length bytes → 0 < count → count < 2 ^ 64 → take n bytes ≡ doubles_front count → BeginsWritten (n + 8 * count) bytes
 doubles_first n count bytes are within some few front =
     let rest = drop n bytes in

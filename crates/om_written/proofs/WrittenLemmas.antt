@@ -1,4 +1,5 @@
--- Spellings of tokens behind a header that the runtime spells are the canonical bytes of the value that they spell.
+-- If a header and tokens are encoded as the runtime encodes them, then they are the canonical bytes
+-- of the value that they encode.
 use Rattle.std.proofs.Common.{ℕ, ℤ, pos, ◌-◌, ◌*◌, ◌/◌, ◌%◌, get_or, zero, suc, ◌≡◌, ◌+◌, ◌<◌, ◌≤◌, ◌^◌, ◌∙◌, ◌⊎◌, inl, inr, Bool, false, cond, List, [], ◌∷◌, ◌++◌, length, map, take, drop, refl, sym, ap, ap₂, subst, arith, length-append, append-nil}
 use Rattle.std.specs.Prelude.{All, ◌==◌}
 use Rattle.std.specs.List.{concat, AllZip}
@@ -25,7 +26,7 @@ use Rattle.om_canonical.proofs.CanonLemmas.{concat-spellings}
 use Rattle.om_headers.specs.Spelling.{HasSmallNumbers}
 use Rattle.om_written.specs.Written.{CanBeSpelled, StandsFirst, BeginsWritten, AreSpelled, AreWritten, AreBare, IsOwnHeader, IsAsWritten}
 
--- ---- bytes spell the tokens of one list
+-- ---- bytes encode at most one list of tokens
 
 pub same_tokens : (ts us : List Token) (ps qs : List (List ℕ)) → AllZip Spells ts ps → AllZip Spells us qs → concat ps ≡ concat qs → ts ≡ us
 same_tokens [] [] ps qs s v e = refl
@@ -49,19 +50,19 @@ same_tokens (t ∷ ts) (u ∷ us) (p ∷ ps) (q ∷ qs) s v e =
     let rest : concat ps ≡ concat qs = append_cancel_left p (concat ps) (concat qs) (e ∙ ap (λ x. x ++ concat qs) (sym same)) in
     ap₂ (λ x xs. x ∷ xs) (Spells-same t u p s.0 (subst (λ x. Spells u x) (sym same) v.0)) (same_tokens ts us ps qs s.1 v.1 rest)
 
--- spellings are pieces
+-- The list of encodings encodes the list of tokens.
 spelled_each : (ts : List Token) → All CanBeSpelled ts → AllZip Spells ts (map spelling ts)
 spelled_each [] each = tt
 spelled_each (t ∷ ts) each =
     let first : CanBeSpelled t = All-head CanBeSpelled t ts each in
     (spelling_spells_lem t first.0 first.1, spelled_each ts (All-tail CanBeSpelled t ts each))
 
--- ---- one token more
+-- ---- one more token
 
 pub none_spelled : (data' : List ℕ) → AreSpelled [] (take 0 data')
 none_spelled data' = record { spellable = All-nil CanBeSpelled; spelled = refl }
 
--- n bytes more
+-- `n` more bytes.
 pub take_two : (at n : ℕ) (xs : List ℕ) → at ≤ length xs → take (at + n) xs ≡ take at xs ++ take n (drop at xs)
 take_two at n xs within =
     let long : length (take at xs) ≡ at = length-take-le at xs within in
@@ -76,7 +77,7 @@ one_more_spelled ts t at n bytes within s first =
       spelled = flat_map-append spelling ts (t ∷ []) ∙ ap₂ ◌++◌ s.spelled last ∙ sym (take_two at n bytes within);
     }
 
--- the first so many bytes are spellings of tokens
+-- The first `at` bytes are the canonical encodings of tokens.
 abbrev pub WrittenUpTo : ℕ → List ℕ → Type 0
 WrittenUpTo at bytes = (at ≤ length bytes) × AreWritten (take at bytes)
 
@@ -97,7 +98,7 @@ more_written at n bytes before next =
 pub all_written : (at : ℕ) (bytes : List ℕ) → WrittenUpTo at bytes → at ≡ length bytes → AreWritten bytes
 all_written at bytes s whole = subst AreWritten (take_all at bytes (omega (arith, whole))) s.1
 
--- an integer that is all
+-- If an integer's encoding is all of the bytes, then they make no object.
 pub bare_whole : (z : ℤ) (n : ℕ) (bytes : List ℕ) → StandsFirst (integer z) n bytes → n ≡ length bytes → AreBare bytes
 bare_whole z n bytes first whole =
     let is : spelling (integer z) ++ [] ≡ bytes = append-nil (spelling (integer z)) ∙ sym first.spelled ∙ take_all n bytes (omega (arith, whole)) in
@@ -128,7 +129,7 @@ string_first n len bytes are within few front =
       },
     )
 
--- ---- codes that carry a number
+-- ---- codes that contain a number
 
 first_byte : (code : ℕ) (bytes : List ℕ) → 0 < length bytes → get_or bytes 0 0 ≡ code → take 1 bytes ≡ code ∷ []
 first_byte code [] some is = absurd (omega arith)
@@ -190,9 +191,9 @@ canonical_head_is head all big small long states count =
     (not_big n (all_words32 (map measure_of all)) (all_words64 (map measure_of all)) (subst (λ k. k < 2 ^ 32) long few) (subst (λ k. k < 2 ^ 32) w32 few32) (subst (λ k. k < 2 ^ 32) w64 few64) ∙ sym big)
     (sym long) (sym count) (sym w32) (sym w64)
 
--- ---- the whole
+-- ---- a whole value
 
--- how many objects the header states, by the tokens
+-- The number of objects that the header states, by the tokens.
 counted : (head : Head) (all : List Token) (stated : ℕ) → head.objects ≡ stated → States head all → (0 < stated) ⊎ (object_count (map measure_of all) ≡ 0) → head.objects ≡ object_count (map measure_of all)
 counted head all stated is states (inr none) =
     elim states.objects [

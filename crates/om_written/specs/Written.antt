@@ -1,4 +1,4 @@
--- Bytes that are what the runtime writes for the value that they spell.
+-- Bytes that are the canonical bytes of the value that they encode.
 use Rattle.std.specs.Prelude.{ℕ, ◌≤◌, ◌≡◌, false, List, length, take, All, map}
 use Rattle.om_format.specs.Header.{magic, small_magic, head_of}
 use Rattle.om_format.specs.Words.{objects}
@@ -9,28 +9,28 @@ use Rattle.om_format.specs.Canonical.{spelling, data_spelling, header_spelling, 
 use Rattle.om_canonical.specs.Laws.{HasSpelling}
 use Rattle.om_headers.specs.Spelling.{HasSmallNumbers}
 
--- whichever value they spell, they are its canonical bytes
+-- If the bytes encode a tree under some limit, then they are the canonical bytes of that tree.
 abbrev pub IsAsWritten : List ℕ → Type 0
 IsAsWritten bytes =
     (limit : ℕ) (tree : Tree) → SpelledUnder limit bytes tree → bytes ≡ canon tree
 
 -- ---- tokens
 
--- one that has a spelling
+-- The token is valid and can be encoded.
 abbrev pub CanBeSpelled : Token → Type 0
 CanBeSpelled token = IsToken token × HasSpelling token
 
--- the first n bytes are the token's spelling
+-- The first `n` bytes are the canonical encoding of the token.
 pub record StandsFirst (token : Token) (n : ℕ) (bytes : List ℕ) : Type 0 where
   pub within : n ≤ length bytes
   pub spellable : CanBeSpelled token
   pub spelled : take n bytes ≡ spelling token
 
--- some token's
+-- The first `n` bytes are the canonical encoding of some token.
 abbrev pub BeginsWritten : ℕ → List ℕ → Type 0
 BeginsWritten n bytes = (token : Token) × StandsFirst token n bytes
 
--- the bytes are the tokens' spellings
+-- The bytes are the canonical encodings of the tokens.
 pub record AreSpelled (tokens : List Token) (bytes : List ℕ) : Type 0 where
   pub spellable : All CanBeSpelled tokens
   pub spelled : data_spelling tokens ≡ bytes
@@ -38,14 +38,14 @@ pub record AreSpelled (tokens : List Token) (bytes : List ℕ) : Type 0 where
 abbrev pub AreWritten : List ℕ → Type 0
 AreWritten bytes = (tokens : List Token) × AreSpelled tokens bytes
 
--- of tokens that make no object
+-- The bytes are the canonical encodings of tokens that make no object.
 abbrev pub AreBare : List ℕ → Type 0
 AreBare bytes =
     (tokens : List Token) × AreSpelled tokens bytes × (objects (map measure_of tokens) ≡ 0)
 
 -- ---- the header
 
--- a small one, as the runtime spells it, that states so many objects
+-- A small header, encoded as the runtime encodes it, that states this number of objects.
 pub record IsOwnHeader (header : List ℕ) (objects : ℕ) : Type 0 where
   pub small : magic header ≡ small_magic
   pub big_is : (head_of header).big ≡ false

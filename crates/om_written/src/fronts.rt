@@ -1,4 +1,5 @@
-//! Tokens by what they may say: each is spelled, and the bytes are compared with it.
+//! Compares bytes with the canonical encoding of a token: each function encodes the token and tests
+//! whether the bytes begin with the result.
 
 ghost use Rattle.std.specs.Prelude.{◌≡◌, ◌≤◌, ◌∷◌, length, take, IfSome};
 ghost use Rattle.std.specs.Bool.{OnTrue};
@@ -11,7 +12,7 @@ use om_codes::{spell_block, spell_double_array_len, spell_int, spell_shared, spe
 use om_customs::spell;
 use om_model::code::Custom;
 
-/// Whether the bytes begin with the first n of these.
+/// Returns true if `bytes` begins with the first `n` bytes of `front`.
 #[inline(always)]
 fn begins(bytes: &[u8], front: &[u8], n: usize) -> bool
     requires { n ≤ length front.now }
@@ -20,7 +21,8 @@ fn begins(bytes: &[u8], front: &[u8], n: usize) -> bool
     bytes.starts_with(&front[..n])
 }
 
-/// How many bytes the integer has, if they begin with it.
+/// Returns the length in bytes of the canonical encoding of an integer, if `bytes` begins with it
+/// (extern.c).
 pub fn int_len(z: i64, bytes: &[u8]) -> Option<usize>
     ensures { IfSome result (λ n. StandsFirst (integer z) n bytes.now) }
 {
@@ -34,7 +36,8 @@ pub fn int_len(z: i64, bytes: &[u8]) -> Option<usize>
     Some(n)
 }
 
-/// The same of a reference by its offset.
+/// Returns the length in bytes of the canonical encoding of a reference with this offset, if
+/// `bytes` begins with it.
 pub fn shared_len(offset: u64, bytes: &[u8]) -> Option<usize>
     ensures { IfSome result (λ n. StandsFirst (shared offset) n bytes.now) }
 {
@@ -48,7 +51,8 @@ pub fn shared_len(offset: u64, bytes: &[u8]) -> Option<usize>
     Some(n)
 }
 
-/// The same of a block by its tag and size, or of an atom.
+/// Returns the length in bytes of the canonical encoding of a block header with this tag and size,
+/// if `bytes` begins with it. A block of size 0 is an atom.
 pub fn block_len(tag: u8, size: u64, bytes: &[u8]) -> Option<usize>
     ensures { IfSome result (λ n. StandsFirst (block_or_atom tag size) n bytes.now) }
 {
@@ -62,7 +66,8 @@ pub fn block_len(tag: u8, size: u64, bytes: &[u8]) -> Option<usize>
     Some(n)
 }
 
-/// The same of a string of so many bytes.
+/// Returns the length in bytes of the canonical encoding of a string of `len` bytes, if `bytes`
+/// begins with it. Any contents of that length are accepted.
 pub fn string_len(len: u64, bytes: &[u8]) -> Option<usize>
     ensures { IfSome result (λ n. BeginsWritten n bytes.now) }
 {
@@ -77,7 +82,8 @@ pub fn string_len(len: u64, bytes: &[u8]) -> Option<usize>
     Some(n + len as usize)
 }
 
-/// The same of an array of so many doubles.
+/// Returns the length in bytes of the canonical encoding of an array of `count` doubles, if `bytes`
+/// begins with it. Any doubles are accepted.
 pub fn doubles_len(count: u64, bytes: &[u8]) -> Option<usize>
     ensures { IfSome result (λ n. BeginsWritten n bytes.now) }
 {
@@ -95,7 +101,7 @@ pub fn doubles_len(count: u64, bytes: &[u8]) -> Option<usize>
     Some(n + 8 * count as usize)
 }
 
-/// A double from its code on.
+/// Returns the encoding of a double: its code and eight bytes, least significant first.
 fn double_front(bits: u64) -> [u8; 9]
     ensures { result ≡ 0x0c ∷ double_bytes bits }
 {
@@ -103,7 +109,8 @@ fn double_front(bits: u64) -> [u8; 9]
     [0x0c, b[0], b[1], b[2], b[3], b[4], b[5], b[6], b[7]]
 }
 
-/// The same of a double by its bits.
+/// Returns the length in bytes of the canonical encoding of a double with these bits, if `bytes`
+/// begins with it.
 pub fn double_len(bits: u64, bytes: &[u8]) -> Option<usize>
     ensures { IfSome result (λ n. StandsFirst (leaf (objects.Double bits)) n bytes.now) }
 {
@@ -114,7 +121,7 @@ pub fn double_len(bits: u64, bytes: &[u8]) -> Option<usize>
     Some(9)
 }
 
-/// The same of a custom of four bytes.
+/// Returns the length in bytes of the canonical encoding of an `Int32`, if `bytes` begins with it.
 pub fn int32_len(z: i32, bytes: &[u8]) -> Option<usize>
     ensures { IfSome result (λ n. StandsFirst (leaf (objects.I32 z)) n bytes.now) }
 {
@@ -125,7 +132,7 @@ pub fn int32_len(z: i32, bytes: &[u8]) -> Option<usize>
     Some(n)
 }
 
-/// The same of one of eight.
+/// Returns the length in bytes of the canonical encoding of an `Int64`, if `bytes` begins with it.
 pub fn int64_len(z: i64, bytes: &[u8]) -> Option<usize>
     ensures { IfSome result (λ n. StandsFirst (leaf (objects.I64 z)) n bytes.now) }
 {
@@ -136,7 +143,8 @@ pub fn int64_len(z: i64, bytes: &[u8]) -> Option<usize>
     Some(n)
 }
 
-/// The same of a `Nativeint`.
+/// Returns the length in bytes of the canonical encoding of a `Nativeint`, if `bytes` begins with
+/// it.
 pub fn native_len(z: i64, bytes: &[u8]) -> Option<usize>
     ensures { IfSome result (λ n. StandsFirst (leaf (objects.Native z)) n bytes.now) }
 {

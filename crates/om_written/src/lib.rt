@@ -1,5 +1,6 @@
-//! Whether the bytes of a value are those that the runtime itself writes for it, told from the
-//! bytes alone: no value is made.
+//! Decides whether the bytes of a value are exactly the bytes that OCaml's runtime writes for it
+//! (the canonical bytes). `is_as_written` works on the bytes alone and builds no value. The answer
+//! true is proved; the answer false is inconclusive.
 #![tactic(auto)]
 
 mod fronts;

@@ -1,5 +1,5 @@
-//! Tokens, one after another. What a token may say is read from its bytes, and then looked at:
-//! nothing rests on how it is read.
+//! Checks tokens one after another. Each function decodes a token and compares the bytes with the
+//! canonical encoding of the result. The proofs do not depend on the decoding.
 
 ghost use Rattle.std.specs.Prelude.{◌≡◌, ◌<◌, ◌≤◌, length, slice_index, IfSome};
 ghost use Rattle.std.specs.Bool.{OnTrue};
@@ -12,7 +12,7 @@ use crate::fronts::{
 use om_codes::{CodeKind, code_kind};
 use om_model::bytes::{big_endian, signed};
 
-/// The number of so many bytes after the first.
+/// Decodes the number in the `width` bytes after the first byte, most significant byte first.
 fn number_after(bytes: &[u8], width: u8) -> Option<u64> {
     let width = usize::from(width);
     if width > 8 || bytes.len() <= width {
@@ -21,7 +21,8 @@ fn number_after(bytes: &[u8], width: u8) -> Option<u64> {
     Some(big_endian(&bytes[1..=width]))
 }
 
-/// The same of an integer, of a width that has a code.
+/// Decodes the signed integer in the `width` bytes after the first byte. Returns `None` if no code
+/// has this width.
 fn signed_after(bytes: &[u8], width: u8) -> Option<i64> {
     let b = bytes;
     match width {
@@ -36,7 +37,8 @@ fn signed_after(bytes: &[u8], width: u8) -> Option<i64> {
     }
 }
 
-/// The bits of a double after the first byte.
+/// Decodes the bits of the double in the eight bytes after the first byte, least significant byte
+/// first.
 fn bits_after(bytes: &[u8]) -> Option<u64> {
     if bytes.len() < 9 {
         return None;
@@ -45,7 +47,7 @@ fn bits_after(bytes: &[u8]) -> Option<u64> {
     Some(u64::from_le_bytes([b[1], b[2], b[3], b[4], b[5], b[6], b[7], b[8]]))
 }
 
-/// How many bytes the custom has, if they begin with what the runtime writes for it.
+/// Returns the length in bytes of the custom, if `bytes` begins with its canonical encoding.
 fn custom_len(bytes: &[u8]) -> Option<usize>
     ensures { IfSome result (λ n. BeginsWritten n bytes.now) }
 {
@@ -60,7 +62,8 @@ fn custom_len(bytes: &[u8]) -> Option<usize>
     }
 }
 
-/// How many bytes the token has, of this kind, if they begin with what the runtime writes for it.
+/// Returns the length in bytes of a token of this kind, if `bytes` begins with its canonical
+/// encoding.
 fn kind_len(kind: CodeKind, bytes: &[u8]) -> Option<usize>
     ensures { IfSome result (λ n. BeginsWritten n bytes.now) }
 {
@@ -96,7 +99,8 @@ fn kind_len(kind: CodeKind, bytes: &[u8]) -> Option<usize>
     }
 }
 
-/// The same of a token whose code carries its number: each is written so.
+/// Returns the length in bytes of a token whose code contains its number, if `bytes` begins with
+/// its canonical encoding. Every small block, integer and string is in that form.
 #[inline(always)]
 fn small_len(code: u8, bytes: &[u8]) -> Option<usize>
     requires some { 0 < length bytes.now }
@@ -117,7 +121,7 @@ fn small_len(code: u8, bytes: &[u8]) -> Option<usize>
     Some(n)
 }
 
-/// How many bytes the first token has, if they are what the runtime writes for it.
+/// Returns the length in bytes of the first token, if `bytes` begins with its canonical encoding.
 fn token_len(bytes: &[u8]) -> Option<usize>
     ensures { IfSome result (λ n. BeginsWritten n bytes.now) }
 {
@@ -134,7 +138,8 @@ fn token_len(bytes: &[u8]) -> Option<usize>
     }
 }
 
-/// Whether the bytes are what the runtime writes for tokens.
+/// Returns true if the bytes are the canonical encodings of a list of tokens. The answer false is
+/// inconclusive.
 pub fn are_written(bytes: &[u8]) -> bool
     ensures { OnTrue result (AreWritten bytes.now) }
 {
@@ -151,7 +156,8 @@ pub fn are_written(bytes: &[u8]) -> bool
     false
 }
 
-/// The same of one integer.
+/// Returns true if the bytes are the canonical encoding of one integer. The answer false is
+/// inconclusive.
 pub fn are_bare(bytes: &[u8]) -> bool
     ensures { OnTrue result (AreBare bytes.now) }
 {

@@ -1,4 +1,4 @@
-//! A whole value.
+//! Checks a whole value.
 
 ghost use Rattle.std.specs.Prelude.{◌≡◌, length, IfSome};
 ghost use Rattle.std.specs.Bool.{OnTrue};
@@ -7,7 +7,8 @@ ghost use Rattle.om_written.specs.Written.{IsAsWritten, IsOwnHeader};
 use crate::tokens::{are_bare, are_written};
 use om_headers::{HeaderStep, parse};
 
-/// How many objects a small header states, if it is spelled as the runtime does it.
+/// Returns the number of objects that a small header states, if the header is encoded as the
+/// runtime encodes it.
 fn objects_in(header: &[u8]) -> Option<u64>
     requires { length header.now ≡ 20 }
     ensures { IfSome result (λ objects. IsOwnHeader header.now objects) }
@@ -27,8 +28,8 @@ fn objects_in(header: &[u8]) -> Option<u64>
     Some(head.objects)
 }
 
-/// Whether the bytes of a value are those that the runtime writes for it. Where it says no, nothing
-/// is said.
+/// Returns true if the bytes of a value are the bytes that the runtime writes for it (extern.c).
+/// The answer false is inconclusive.
 pub fn is_as_written(bytes: &[u8]) -> bool
     ensures { OnTrue result (IsAsWritten bytes.now) }
 {

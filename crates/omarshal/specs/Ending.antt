@@ -1,4 +1,4 @@
--- How a run ends whose words could not be read.
+-- How a run ends if its arguments could not be read.
 use Rattle.std.specs.Prelude.{◌≡◌, ◌⊎◌}
 use Rattle.om_outcome.specs.declared.status.Status.{Status}
 use Rattle.om_outcome.specs.declared.status.Status.TheVariants.{WriteFault}
@@ -7,7 +7,8 @@ use Rattle.om_outcome.specs.declared.stop.Stop.{Stop}
 use Rattle.om_edge.specs.Sink.{Puts, PutsPart}
 use Rattle.om_edge.specs.State.{ByteState, Change}
 
--- the line of the stop is put and its status answered; or the line could not be put whole
+-- The error line is written and its status returned. If the line could not be written completely,
+-- the status is `WriteFault`.
 abbrev pub Says : Stop → Change ByteState → Status → Type 0
 Says stop err status =
     (Puts err (stop_line stop) × (status ≡ status_of stop))

@@ -1,4 +1,5 @@
-//! The program: makes the real source, files and sinks, and runs the words after its name.
+//! The program. It creates the real input, files and output sinks, and runs the command-line
+//! arguments.
 #![tactic(auto)]
 
 ghost use Rattle.std.specs.Prelude.{◌≡◌, ◌≢◌, drop, IfOk};
@@ -22,7 +23,7 @@ use std::io::{ErrorKind, Lock, StdinLock};
 use std::os::fd::AsFd;
 use std::process::ExitCode;
 
-/// Puts the line of a run whose words could not be read, and answers its status.
+/// Writes the error line of a run whose arguments could not be read, and returns its status.
 fn stop<K: Sink>(err: &mut K, kind: ErrorKind) -> Status
     ensures memory { kind ≡ kinds.OutOfMemory
         → Says out_of_memory (change (K.state err.old) (K.state err.new)) result }
@@ -35,7 +36,7 @@ fn stop<K: Sink>(err: &mut K, kind: ErrorKind) -> Status
     }
 }
 
-/// The words after the first, in their order.
+/// Returns the arguments after the first, in order.
 fn words_after(alloc: Global, mut args: Args) -> Result<Vec<String>, AllocError>
     ensures { IfOk result (λ words. words.items ≡ drop 1 (into_iter_items args)) }
 {
@@ -47,7 +48,7 @@ fn words_after(alloc: Global, mut args: Args) -> Result<Vec<String>, AllocError>
     Ok(words)
 }
 
-/// The words after the program's name.
+/// Returns the arguments after the program name.
 fn read_words(rt: &HostRuntime) -> Result<Vec<String>, ErrorKind> {
     match env::args(rt) {
         Ok(args) => match words_after(rt.alloc(), args) {
@@ -58,8 +59,8 @@ fn read_words(rt: &HostRuntime) -> Result<Vec<String>, ErrorKind> {
     }
 }
 
-/// Standard input. Where it is closed, it cannot be duplicated; a file that is opened later may
-/// have its descriptor, and is not read for it.
+/// Returns standard input. It counts as closed if its descriptor cannot be duplicated. A file that
+/// is opened later may get the closed descriptor, and must not be read as standard input.
 fn standard_input(rt: &HostRuntime) -> MaybeClosed<StdinLock> {
     let stdin = rt.stdin();
     match stdin.as_fd().try_clone_to_owned() {
@@ -68,7 +69,7 @@ fn standard_input(rt: &HostRuntime) -> MaybeClosed<StdinLock> {
     }
 }
 
-/// The status of the process: the number of the run's status.
+/// Returns the exit code of the process, which is the code of the status of the run.
 fn exit_code(status: Status) -> ExitCode
     ensures { exit_status result ≡ code_of status }
 {

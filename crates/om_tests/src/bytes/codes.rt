@@ -1,12 +1,14 @@
-//! The codes that begin tokens, as the runtime's header names them and as OCaml writes them.
+//! Tests of the codes that begin tokens, against the header of the runtime (`intext.h`) and the
+//! output of OCaml.
 
 use om_codes::{
     CodeFault, CodeKind, code_kind, spell_block, spell_double_array_len, spell_int, spell_shared,
     spell_string_len,
 };
 
-// A letter for the kind, small where the code itself carries its number, and the numbers: 1 says
-// little endian, or the code of an old runtime. For what is no token, a letter for what is wrong.
+// Returns a letter for the kind of a code, and its numbers. The letter is lowercase if the code
+// itself contains its number. The number 1 means little endian, or the code of an old runtime. For
+// a code that begins no token, the letter says what is wrong.
 fn told(code: u8) -> (char, u8, u8) {
     match code_kind(code) {
         Ok(CodeKind::SmallBlock(tag, size)) => ('b', tag, size),
@@ -25,7 +27,7 @@ fn told(code: u8) -> (char, u8, u8) {
     }
 }
 
-// A code, and what it is by the runtime's header.
+// Codes, with their kinds by the header of the runtime.
 static KINDS: [(u8, (char, u8, u8)); 35] = [
     (0x80, ('b', 0, 0)),
     (0xa1, ('b', 1, 2)),
@@ -83,7 +85,7 @@ static INTEGERS: [(i64, &[u8]); 12] = [
     (-4611686018427387904, &[0x03, 0xc0, 0, 0, 0, 0, 0, 0, 0]),
 ];
 
-// Whether the bytes that were spelled are these.
+// Returns true if the encoded bytes are these.
 fn is_spelled(spelled: ([u8; 9], usize), bytes: &[u8]) -> bool {
     let (all, n) = spelled;
     n <= all.len() && &all[..n] == bytes

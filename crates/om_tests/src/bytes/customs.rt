@@ -1,4 +1,4 @@
-//! Customs, as OCaml writes them.
+//! Tests of custom values, as OCaml writes them.
 
 use om_customs::{Custom, NativeStep, read_native, spell};
 
@@ -19,8 +19,8 @@ static CUSTOMS: [(Custom, &[u8]); 4] = [
     ),
 ];
 
-// A letter for what the data of a `Nativeint` say, with how many bytes are missing or the kind
-// byte, and the number.
+// Returns a letter for the result of reading the data of a `Nativeint`, with the number of missing
+// bytes or the kind byte, and the number.
 fn told(step: NativeStep) -> (char, usize, i64) {
     match step {
         NativeStep::More(missing) => ('m', missing, 0),
@@ -29,8 +29,8 @@ fn told(step: NativeStep) -> (char, usize, i64) {
     }
 }
 
-// The data that OCaml's `Marshal.to_string` writes, some cut short and some with a byte after them;
-// and a kind that it never writes.
+// Data that OCaml's `Marshal.to_string` writes, some truncated and some with a byte after them, and
+// a kind that it never writes.
 static NATIVES: [(&[u8], (char, usize, i64)); 8] = [
     (&[1, 0, 0, 0, 5], ('v', 0, 5)),
     (&[1, 0xff, 0xff, 0xff, 0xfe, 7], ('v', 0, -2)),

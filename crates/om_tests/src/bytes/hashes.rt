@@ -1,8 +1,9 @@
-//! The hashes of tags, as OCaml computes them.
+//! Tests of the hashes of tags, as OCaml computes them.
 
 use om_polyvar::hash;
 
-// The numbers that OCaml 4.13.1 keeps for these tags. No tag is empty, but any bytes have a hash.
+// The numbers that OCaml 4.13.1 stores for these tags. No tag is empty, but each byte string has a
+// hash.
 static TAGS: [(&[u8], i64); 16] = [
     (b"A", 65),
     (b"B", 66),

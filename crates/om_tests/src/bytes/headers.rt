@@ -1,25 +1,25 @@
-//! Headers, and the words that they state, as OCaml writes them.
+//! Tests of headers and of the word counts in them, as OCaml writes them.
 
 use om_headers::{Head, HeaderStep, Measure, parse, spell, words_of};
 
-// OCaml's header of a list of two.
+// OCaml's header of a list of two elements.
 static SMALL: [u8; 20] = [
     0x84, 0x95, 0xa6, 0xbe, 0, 0, 0, 5, 0, 0, 0, 2, 0, 0, 0, 7, 0, 0, 0, 6,
 ];
 
-// By hand: no value that a test can hold has a big header.
+// By hand: no value that fits into a test has a big header.
 static BIG: [u8; 32] = [
     0x84, 0x95, 0xa6, 0xbf, 0, 0, 0, 0, 0, 0, 0, 1, 0, 0, 0, 3, 0, 0, 0, 0, 0, 0, 1, 0, 0, 0, 0, 0,
     0, 0, 0, 9,
 ];
 
-// Whether the bytes that were spelled are these.
+// Returns true if the encoded bytes are these.
 fn is_spelled(spelled: ([u8; 32], usize), bytes: &[u8]) -> bool {
     let (all, n) = spelled;
     n <= all.len() && &all[..n] == bytes
 }
 
-// Whether a small header that begins the bytes states these numbers.
+// Returns true if the bytes begin with a small header that states these numbers.
 fn states(bytes: &[u8], length: u64, objects: u64, w32: u64, w64: u64) -> bool {
     match parse(bytes) {
         Ok(HeaderStep::Head(head)) => {
@@ -33,7 +33,7 @@ fn states(bytes: &[u8], length: u64, objects: u64, w32: u64, w64: u64) -> bool {
     }
 }
 
-// What the headers state that OCaml 4.13 writes for such a value alone.
+// The word counts in the headers that OCaml 4.13 writes for a single such value.
 static SIZES: [(Measure, (u64, u64)); 8] = [
     (Measure::Block(2), (3, 3)),
     (Measure::Bytes(3), (2, 2)),

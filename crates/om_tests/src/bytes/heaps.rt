@@ -1,4 +1,4 @@
-//! The calls of a heap that no run of the program makes.
+//! Tests of the calls of a heap that no run of the program makes.
 
 ghost use Rattle.std.specs.Prelude.{◌≡◌, []};
 

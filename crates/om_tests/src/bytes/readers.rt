@@ -1,4 +1,4 @@
-//! What a reader answers that no stored question shows: deep values.
+//! Tests of a reader with deep values, which no stored question contains.
 
 use om_model::Memory;
 use om_model::refusal::ReadRefusal;
@@ -6,8 +6,8 @@ use om_read::Reader;
 use std::alloc::{AllocError, Global};
 use std::test::Fail;
 
-// Blocks nested 100,000 deep, and a list of as many cells: the numbers of a small header, and the
-// tokens that stand so many times before an integer.
+// Blocks nested 100,000 deep, and a list of as many cells. Each entry has the numbers of a small
+// header, and the tokens that are repeated before an integer.
 static DEEP: [([u32; 4], &[u8]); 2] = [
     ([100_001, 100_000, 200_000, 200_000], b"\x90"),
     ([200_001, 100_000, 300_000, 300_000], b"\xa0\x41"),
@@ -25,7 +25,7 @@ fn deep(alloc: Global, stated: [u32; 4], tokens: &[u8]) -> Result<Vec<u8>, Alloc
     Ok(bytes)
 }
 
-// Whether a reader takes all of the bytes, and is done.
+// Returns true if a reader takes all bytes and is done.
 fn is_read(alloc: Global, bytes: &[u8]) -> Result<bool, Memory> {
     let mut reader = Reader::new(alloc, 300_000);
     match reader.feed(bytes) {

@@ -1,5 +1,5 @@
-//! The adapters over files, and over a reader and a writer that fail. Runs over the fakes in memory
-//! stand in `om_conformance`.
+//! Tests of the adapters over files, and over a failing reader and writer. Runs over the fakes in
+//! memory are in `om_conformance`.
 
 use om_edge::{
     DiskFiles, Failed, MemFiles, OpenError, Opener, Sink, Source, StdSink, StdSource, WriteError,
@@ -12,7 +12,7 @@ use std::io::{Error, ErrorKind, Read, Write};
 use std::test::Fail;
 use std::{fs, io};
 
-// The bytes after the first n, where these stand in the buffer's front.
+// Returns the bytes after the first `n`, if the first `n` bytes are a prefix of the buffer.
 fn without_front<'a>(bytes: &'a [u8], buf: &[u8], n: usize) -> Option<&'a [u8]> {
     if n > buf.len() {
         return None;
@@ -20,7 +20,7 @@ fn without_front<'a>(bytes: &'a [u8], buf: &[u8], n: usize) -> Option<&'a [u8]> 
     bytes.strip_prefix(&buf[..n])
 }
 
-// Whether takes with a buffer of two bytes answer so, and give these bytes.
+// Returns true if reads with a buffer of two bytes return these results and these bytes.
 fn gives<S: Source>(source: &mut S, answers: &[Result<usize, Failed>], bytes: &[u8]) -> bool {
     let mut rest = bytes;
     for answer in answers {
@@ -34,7 +34,7 @@ fn gives<S: Source>(source: &mut S, answers: &[Result<usize, Failed>], bytes: &[
     rest.is_empty()
 }
 
-// The same of the file that was fetched last.
+// Returns true if reads of the file that was opened last return these results and these bytes.
 fn gives_file<O: Opener>(files: &mut O, answers: &[Result<usize, Failed>], bytes: &[u8]) -> bool {
     let mut rest = bytes;
     for answer in answers {
@@ -48,7 +48,7 @@ fn gives_file<O: Opener>(files: &mut O, answers: &[Result<usize, Failed>], bytes
     rest.is_empty()
 }
 
-// Whether puts of three bytes answer so.
+// Returns true if writes of three bytes return these results.
 fn accepts<K: Sink>(sink: &mut K, answers: &[Result<usize, Failed>]) -> bool {
     for answer in answers {
         if sink.put(b"abc") != *answer {
@@ -58,7 +58,7 @@ fn accepts<K: Sink>(sink: &mut K, answers: &[Result<usize, Failed>]) -> bool {
     true
 }
 
-// What a source over a reader gives, and how many of its calls fail.
+// Returns true if a source over a reader returns these results, and this number of its calls fail.
 fn source_gives<R: Read + Drop>(
     reader: R,
     answers: &[Result<usize, Failed>],
@@ -69,7 +69,7 @@ fn source_gives<R: Read + Drop>(
     gives(&mut source, answers, bytes) && source.faults() == faults
 }
 
-// What a sink over a writer takes, and how many of its calls fail.
+// Returns true if a sink over a writer returns these results, and this number of its calls fail.
 fn sink_accepts<W: Write + Drop>(
     writer: W,
     answers: &[Result<usize, Failed>],
@@ -79,8 +79,8 @@ fn sink_accepts<W: Write + Drop>(
     accepts(&mut sink, answers) && sink.faults() == faults
 }
 
-// What is put is in the file. One that is open for reading alone cannot be written, and one that is
-// open for writing alone cannot be read.
+// Written bytes are in the file. A file that is open only for reading cannot be written, and one
+// that is open only for writing cannot be read.
 #[test]
 fn a_file_is_a_sink_and_a_source(rt: HostRuntime) -> Result<(), Fail> {
     assert!(rt; sink_accepts(File::create(&rt, "put.bytes")?, &[Ok(3), Ok(3), Ok(3)], 0));
@@ -102,7 +102,7 @@ fn a_writer_that_takes_nothing_is_a_fault(rt: HostRuntime) {
     assert!(rt; sink.put(b"") == Ok(0) && sink.faults() == 1);
 }
 
-// What became of a fetch. Out of memory is an error of its own.
+// Returns the outcome of opening a file. Out of memory becomes an error of its own.
 fn fetched(outcome: Result<(), OpenError>) -> Result<Result<(), OpenError>, Memory> {
     match outcome {
         Err(OpenError::Memory) => Err(Memory),
@@ -110,7 +110,8 @@ fn fetched(outcome: Result<(), OpenError>) -> Result<Result<(), OpenError>, Memo
     }
 }
 
-/// A name, the outcome of its fetch, what is then answered to takes, and the bytes that they give.
+/// A file name, the outcome of opening it, the results of the following reads, and the bytes that
+/// they return.
 type Fetch = (
     &'static str,
     Result<(), OpenError>,
@@ -118,7 +119,7 @@ type Fetch = (
     &'static [u8],
 );
 
-// A folder can be opened and not read.
+// A folder can be opened, but not read.
 static ON_DISK: [Fetch; 4] = [
     ("a.bytes", Ok(()), &[Ok(2)], b"ab"),
     ("b.bytes", Err(OpenError::Failed), &[Ok(0)], b""),
@@ -126,7 +127,7 @@ static ON_DISK: [Fetch; 4] = [
     ("a.bytes", Ok(()), &[Ok(2), Ok(1)], b"abc"),
 ];
 
-// Whether all fetches answer so.
+// Returns true if all files are opened and read with these results.
 fn fetches<O: Opener>(files: &mut O, all: &[Fetch]) -> Result<bool, Memory> {
     for (name, opened, answers, bytes) in all {
         if fetched(files.fetch(name))? != *opened || !gives_file(files, answers, bytes) {
@@ -153,7 +154,7 @@ fn files_on_the_disk_are_fetched_and_taken(rt: HostRuntime) -> Result<(), Fail> 
     Ok(())
 }
 
-// By hand: the second fetch fails, and the third take.
+// By hand: opening the second file fails, and so does the third read.
 static IN_MEMORY: [Fetch; 4] = [
     ("a.bytes", Ok(()), &[Ok(2), Ok(1), Err(Failed)], b"abc"),
     ("b.bytes", Err(OpenError::Failed), &[Ok(0)], b""),
@@ -161,7 +162,7 @@ static IN_MEMORY: [Fetch; 4] = [
     ("a.bytes", Ok(()), &[Ok(2), Ok(1)], b"abc"),
 ];
 
-// Whether files in memory answer so, and name the one whose fetch failed.
+// Returns true if files in memory give these results, and name the file that failed to open.
 fn memory_fetches(alloc: Global) -> Result<bool, Memory> {
     let name = String::from_str(alloc, "a.bytes")?;
     let mut pairs = Vec::new(alloc);
@@ -197,7 +198,7 @@ fn errors_convert_and_print(rt: HostRuntime) -> Result<(), Fail> {
     Ok(())
 }
 
-// A reader and a writer whose first call fails. The others give or take one byte.
+// A reader and a writer whose first call fails. Each later call reads or writes one byte.
 #[derive(Drop)]
 struct FailsOnce {
     is_first: bool,

@@ -1,4 +1,5 @@
-//! Small commands, run over an input and sinks in memory, and a stop that no stored run has.
+//! Tests of small commands that run over an input and sinks in memory, and of an exit reason that
+//! no stored run has.
 
 ghost use Rattle.std.specs.Prelude.{◌<◌, length};
 
@@ -12,7 +13,8 @@ use om_work_examples::{Telling, run_bytes, run_lines, run_telling};
 use std::alloc::{AllocError, Global};
 use std::test::Fail;
 
-/// A small command: lines are said again, bytes up to one that is refused, or a text without input.
+/// A small command: it repeats lines, takes bytes up to a refused one, or prints a text without
+/// input.
 #[derive(Clone, Copy)]
 enum Small {
     Lines,
@@ -20,13 +22,13 @@ enum Small {
     Telling(&'static [u8]),
 }
 
-// An input that gives two bytes at a time.
+// Returns an input that returns two bytes at a time.
 fn input_of(alloc: Global, text: &[u8]) -> Result<MemSource, AllocError> {
     let bytes = Vec::from_slice(alloc, text)?;
     Ok(MemSource::new(bytes, 2, Vec::new(alloc)))
 }
 
-// The code of a status, unless memory ran out.
+// Returns the code of a status, unless memory ran out.
 fn code(status: Status) -> Result<u8, Memory> {
     match status {
         Status::Memory => Err(Memory),
@@ -34,7 +36,7 @@ fn code(status: Status) -> Result<u8, Memory> {
     }
 }
 
-// Runs a command over an input, and answers the code of its status.
+// Runs a command over an input, and returns the code of its status.
 fn run_small(
     alloc: Global,
     small: Small,
@@ -50,7 +52,7 @@ fn run_small(
     }
 }
 
-// The code of the status, where out and err have these texts.
+// Returns the code of the status, if out and err have these texts.
 fn code_of(
     alloc: Global,
     small: Small,
@@ -68,9 +70,9 @@ fn code_of(
     }
 }
 
-// A command, its input, what it says on out and on err, and the code of its status. By hand: the
-// last line has no line feed, the third byte is refused or none is, and of the last input nothing
-// is taken.
+// A command, its input, its output on out and on err, and the code of its status. By hand: the last
+// line has no line feed, the third byte is refused or none is, and nothing is taken of the last
+// input.
 static RUNS: [(Small, &[u8], &[u8], &[u8], u8); 4] = [
     (Small::Lines, b"one\n\ntwo", b"one\n\ntwo\n", b"", 0),
     (
@@ -84,7 +86,8 @@ static RUNS: [(Small, &[u8], &[u8], &[u8], u8); 4] = [
     (Small::Telling(b"told"), b"abca", b"told", b"", 0),
 ];
 
-// Whether a command that reads nothing takes no byte of these, and says nothing.
+// Returns true if a command that reads nothing takes none of these buffered bytes and prints
+// nothing.
 fn feeds_nothing(alloc: Global, in_hand: &[u8]) -> Result<bool, Memory>
     requires { 0 < length in_hand.now }
 {
@@ -93,14 +96,15 @@ fn feeds_nothing(alloc: Global, in_hand: &[u8]) -> Result<bool, Memory>
     Ok(matches!(fed, Ok(0)) && out.written().is_empty())
 }
 
-// The status of a run that stops at a type of too many types, with its line on err.
+// Returns the status of a run that ends because a type has too many types, after writing its line
+// to err.
 fn reported(alloc: Global, err: &mut MemSink) -> Status {
     let stop = refused_type(alloc, b"TooManyTypes");
     report_stop(alloc, err, &stop)
 }
 
-// The code of that status, where err has the line. No stored run has such a type: its table takes
-// long.
+// Returns the code of that status, if err has the line. No stored run has such a type, because its
+// table takes long to build.
 fn refused_code(alloc: Global) -> Result<Option<u8>, Memory> {
     let mut err = MemSink::new(alloc, 100, Vec::new(alloc))?;
     let code = code(reported(alloc, &mut err))?;
@@ -111,7 +115,7 @@ fn refused_code(alloc: Global) -> Result<Option<u8>, Memory> {
     }
 }
 
-// By the table of statuses.
+// From the table of statuses.
 #[test]
 fn a_refused_type_is_told(rt: HostRuntime) -> Result<(), Fail> {
     assert!(rt; refused_code(rt.alloc())? == Some(3));

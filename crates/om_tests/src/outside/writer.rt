@@ -1,6 +1,6 @@
-//! Sizes that do not fit a 32-bit machine, and a sink that fails while a value is written for one.
-//! Values that OCaml wrote are written again in `om_conformance`, which also tries the integers at
-//! the ends of 31 and 32 bits, and sinks that fail.
+//! Tests of sizes that do not fit a 32-bit machine, and of a sink that fails while a value is
+//! written for one. Values that OCaml wrote are written again in `om_conformance`, which also tests
+//! the integers at the bounds of 31 and 32 bits, and failing sinks.
 
 use om_edge::MemSink;
 use om_heap::Heap;
@@ -10,7 +10,7 @@ use om_write::{Compat, Write32Error, write32};
 use std::alloc::Global;
 use std::test::Fail;
 
-/// An object of so many fields, bytes or doubles.
+/// An object with many fields, bytes or doubles.
 #[derive(Clone, Copy)]
 enum Large {
     Block,
@@ -18,7 +18,7 @@ enum Large {
     Doubles,
 }
 
-// Adds a large object: one field, byte or double more than `extern.c` has on 32 bits.
+// Appends a large object: it has one field, byte or double more than `extern.c` allows on 32 bits.
 fn add_large(heap: &mut Heap, large: Large) -> Result<u64, Memory> {
     match large {
         Large::Block => heap.add_block(0, 0x40_0000),
@@ -27,7 +27,7 @@ fn add_large(heap: &mut Heap, large: Large) -> Result<u64, Memory> {
     }
 }
 
-// What is told of a value that is written for 32 bits, and of no other reason than its size.
+// Returns the error of writing a value for 32 bits, which is only about its size.
 fn told(written: Result<(), Write32Error>) -> Result<(char, u64), Memory> {
     match written {
         Err(Write32Error::Memory) => Err(Memory),
@@ -39,8 +39,8 @@ fn told(written: Result<(), Write32Error>) -> Result<(char, u64), Memory> {
     }
 }
 
-// What is told of a large object that is written for 32 bits to a sink with room for so many bytes,
-// and how many bytes come to the sink.
+// Writes a large object for 32 bits to a sink with room for 100 bytes. Returns the error, and the
+// number of bytes that the sink received.
 fn written32(alloc: Global, large: Large) -> Result<(char, u64, usize), Memory> {
     let mut heap = Heap::new(alloc);
     let object = add_large(&mut heap, large)?;
@@ -52,8 +52,8 @@ fn written32(alloc: Global, large: Large) -> Result<(char, u64, usize), Memory> 
     Ok((why, size, sink.written().len()))
 }
 
-// What is told of an integer that is written for 32 bits to a sink with room for the header alone,
-// and how many calls of the sink fail.
+// Writes an integer for 32 bits to a sink with room for the header only. Returns the error, and the
+// number of failed calls of the sink.
 fn told_of_full(alloc: Global) -> Result<(char, u64, u64), Memory> {
     let mut full = MemSink::new(alloc, 20, Vec::new(alloc))?;
     let written = write32(alloc, &Heap::new(alloc), Val::Int(1), &mut full);

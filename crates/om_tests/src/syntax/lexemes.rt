@@ -1,4 +1,4 @@
-//! Lexemes of texts, and the first faults of texts without them.
+//! Tests of the lexemes of texts, and of the first lexical errors of other texts.
 
 use om_lex::lexeme::{Integer, Keyword, LexFault, Lexeme, LexemeKind, Suffix, Symbol};
 use om_lex::{next_lexeme, tokens};
@@ -6,7 +6,7 @@ use om_model::Memory;
 use std::alloc::{AllocError, Global};
 use std::test::Fail;
 
-// Puts a word and bytes.
+// Appends a word and bytes.
 fn put_named(text: &mut String, word: &str, bytes: &[u8]) -> Result<(), AllocError> {
     text.push_str(word)?;
     text.push(' ')?;
@@ -64,7 +64,7 @@ fn put_integer(text: &mut String, integer: Integer) -> Result<(), AllocError> {
     write!(text, "int {sign} {value} {suffix}")
 }
 
-// Puts what a lexeme is.
+// Appends the kind of a lexeme.
 fn put_kind(text: &mut String, kind: &LexemeKind) -> Result<(), AllocError> {
     match kind {
         LexemeKind::Keyword(keyword) => text.push_str(keyword_text(*keyword)),
@@ -80,7 +80,7 @@ fn put_kind(text: &mut String, kind: &LexemeKind) -> Result<(), AllocError> {
     }
 }
 
-// Puts a lexeme with its first byte's place and its length.
+// Appends a lexeme with its offset and its length in bytes.
 fn put_lexeme(text: &mut String, lexeme: &Lexeme) -> Result<(), AllocError> {
     put_kind(text, &lexeme.kind)?;
     write!(text, " @{}+{};", lexeme.span.first, lexeme.span.len)
@@ -93,14 +93,14 @@ fn put_lexemes(text: &mut String, lexemes: &[Lexeme]) -> Result<(), AllocError> 
     Ok(())
 }
 
-// Whether this is what is put of lexemes.
+// Returns true if this is the text of the lexemes.
 fn are_told(alloc: Global, lexemes: &[Lexeme], want: &str) -> Result<bool, Memory> {
     let mut told = String::new(alloc);
     put_lexemes(&mut told, lexemes)?;
     Ok(told.as_str() == want)
 }
 
-// Whether a text has these lexemes.
+// Returns true if a text has these lexemes.
 fn has_lexemes(alloc: Global, text: &[u8], want: &str) -> Result<bool, Memory> {
     match tokens(alloc, text) {
         Ok(lexemes) => are_told(alloc, lexemes.as_slice(), want),
@@ -109,7 +109,7 @@ fn has_lexemes(alloc: Global, text: &[u8], want: &str) -> Result<bool, Memory> {
     }
 }
 
-// What is put of the lexeme that comes next behind a place, or of none, or of a fault.
+// Returns the text of the next lexeme after an offset, of its absence, or of a fault.
 fn next_told(alloc: Global, text: &[u8], from: usize) -> Result<String, Memory> {
     let mut told = String::new(alloc);
     if from > text.len() {
@@ -124,7 +124,7 @@ fn next_told(alloc: Global, text: &[u8], from: usize) -> Result<String, Memory> 
     Ok(told)
 }
 
-// The name and the place of the fault of a text.
+// Returns the name and the offset of the fault of a text.
 fn fault_of(alloc: Global, text: &[u8]) -> Result<(&'static str, usize), Memory> {
     match tokens(alloc, text) {
         Ok(_) => Ok(("none", 0)),
@@ -136,8 +136,8 @@ fn fault_of(alloc: Global, text: &[u8]) -> Result<(&'static str, usize), Memory>
     }
 }
 
-// The values and places that the lexer of OCaml 4.13.1 gives, and by hand those of the forms that
-// are not OCaml's or not read so by it.
+// The values and positions that the lexer of OCaml 4.13.1 gives. Forms that are not OCaml's, or
+// that it reads differently, are by hand.
 static LEXEMES: [(&str, &str); 44] = [
     (
         "type t = A of int * string | B",
@@ -196,7 +196,7 @@ static LEXEMES: [(&str, &str); 44] = [
     ("x(*y*)z", "lower x @0+1;lower z @6+1;"),
     ("(***)1", "int plus 1 Absent @5+1;"),
     ("\t\r\n\u{c}x", "lower x @4+1;"),
-    // Not OCaml's, or not read so by it.
+    // Forms that are not OCaml's, or that it reads differently.
     ("'a 'b", "variable a @0+2;variable b @3+2;"),
     ("'type", "variable type @0+5;"),
     ("`A `b `type", "tag A @0+2;tag b @3+2;tag type @6+5;"),
@@ -237,7 +237,7 @@ static FAULTS: [(&[u8], (&str, usize)); 11] = [
     (b"\xc3\xa9", ("BadByte", 0)),
 ];
 
-// A text, a place in it, and what comes next behind that. By hand.
+// A text, an offset in it, and the next lexeme after it. By hand.
 static NEXT: [(&[u8], usize, &str); 5] = [
     (b"(* a *) x 12l", 0, "lower x @8+1;"),
     (b"(* a *) x 12l", 9, "int plus 12 Int32 @10+3;"),

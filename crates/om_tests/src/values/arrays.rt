@@ -1,5 +1,5 @@
-//! Values with more than 2^16 parts, of which no stored question has the bytes: from there on the
-//! checker keeps the number of a part in more room.
+//! Tests of values with more than 2^16 parts, whose bytes no stored question contains. Beyond that
+//! number, the checker stores the index of a part in more bytes.
 
 ghost use Rattle.std.specs.Prelude.{◌<◌, length};
 ghost use Rattle.om_model.specs.Graph.{IsValue};
@@ -14,7 +14,7 @@ use om_types::fault::Fault;
 use std::alloc::{AllocError, Global};
 use std::test::Fail;
 
-// An array of 65,537 lists: all are empty but the last one, which has one string.
+// An array of 65,537 lists. All are empty except the last, which has one string.
 const FRONT: &[u8] =
     b"\x84\x95\xa6\xbe\0\x01\0\x09\0\0\0\x03\0\x01\0\x07\0\x01\0\x07\x08\x04\0\x04\0";
 
@@ -29,14 +29,14 @@ fn far_list(alloc: Global) -> Result<Vec<u8>, AllocError> {
     Ok(bytes)
 }
 
-// Whether a path has this text.
+// Returns true if a path has this text.
 fn is_path(alloc: Global, path: &Path, want: &[u8]) -> Result<bool, Memory> {
     let text = path.text(alloc)?;
     Ok(text.as_slice() == want)
 }
 
-// Whether a value has the type, with so many pairs, where no misfit is wanted; or else whether its
-// misfit stands at the wanted path.
+// If no mismatch is expected, returns true if a value has the type with this number of pairs.
+// Otherwise returns true if its mismatch is at the expected path.
 fn is_checked(
     alloc: Global,
     table: &TypeTable,
@@ -54,7 +54,7 @@ fn is_checked(
     }
 }
 
-// The same of the array with a far list, at the type of a text.
+// Makes the same test for the array with a far list, at the type of a text.
 fn is_far_checked(alloc: Global, text: &[u8], pairs: usize, misfit: &[u8]) -> Result<bool, Memory> {
     let bytes = far_list(alloc)?;
     let Some(value) = value_of(alloc, 100_000, bytes.as_slice())? else {
@@ -66,7 +66,7 @@ fn is_far_checked(alloc: Global, text: &[u8], pairs: usize, misfit: &[u8]) -> Re
     }
 }
 
-// By hand: the array, the list and the string are met each at one type.
+// By hand: the array, the list and the string each occur at one type.
 #[test]
 fn far_parts_are_checked(rt: HostRuntime) -> Result<(), Fail> {
     assert!(rt; is_far_checked(rt.alloc(), b"string list array", 3, b"")?);

@@ -1,4 +1,5 @@
-//! The section that shows a verdict, and certificates that are read whole, which no run does.
+//! Tests of the certificate entry that proves a verdict, and of certificates that are read as a
+//! whole, which no run does.
 
 ghost use Rattle.std.specs.Prelude.{◌<◌, length};
 ghost use Rattle.om_model.specs.Graph.{IsValue};
@@ -15,7 +16,7 @@ use om_type_table::TypeTable;
 use std::alloc::Global;
 use std::test::Fail;
 
-// Which verdict a section shows of a value, if it shows one.
+// Returns the verdict that an entry proves for a value, if it proves one.
 fn shown_by(
     alloc: Global,
     table: &TypeTable,
@@ -51,7 +52,7 @@ fn certified_in(alloc: Global, table: &TypeTable) -> Result<Option<bool>, Memory
     }
 }
 
-// Which verdict on the list is shown at a type by the section that is made for it.
+// Returns the verdict on the list at a type that its own entry proves.
 fn answer(alloc: Global, text: &[u8]) -> Result<Option<bool>, Memory> {
     match table_in(alloc, b"", text)? {
         Some(table) => certified_in(alloc, &table),
@@ -59,7 +60,7 @@ fn answer(alloc: Global, text: &[u8]) -> Result<Option<bool>, Memory> {
     }
 }
 
-// Which line of a text is the first that no certificate has.
+// Returns the first line of a text that is not valid in a certificate.
 fn faulty_line(alloc: Global, text: &[u8]) -> Result<Option<usize>, Memory> {
     match read_cert(alloc, text) {
         Ok(_) => Ok(None),

@@ -1,5 +1,5 @@
-//! Of doubles as decimals: the texts that Python's `repr` gives, but for how an exponent, a whole
-//! number and what is no number are written.
+//! Tests of doubles as decimals. The texts are those of Python's `repr`, except for the notation of
+//! exponents, whole numbers and values that are not numbers.
 
 use om_decimal::put_double;
 use std::test::Fail;

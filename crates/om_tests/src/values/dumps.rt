@@ -1,4 +1,5 @@
-//! Of the lines of a graph as it is: that they are put to a sink, which the program does by itself.
+//! Tests of the lines of a graph as they are written to a sink. The program does this in its own
+//! code.
 
 use om_edge::MemSink;
 use om_heap::{Heap, Rooted};

@@ -1,4 +1,4 @@
-//! The table of a type that a text names over declarations, and the value that bytes are.
+//! The table of a type that a text names over declarations, and the value that bytes encode.
 
 ghost use Rattle.std.specs.Prelude.{◌<◌, length, IfOk, IfSome};
 ghost use Rattle.om_model.specs.Graph.{IsValue};
@@ -13,11 +13,11 @@ use om_types::decl::Decl;
 use om_types::ty::Ty;
 use std::alloc::Global;
 
-// What OCaml writes for [1; 2], with the objects from the outermost in.
+// OCaml's encoding of [1; 2], with the objects from the outermost to the innermost.
 pub(crate) const LIST: &[u8] =
     b"\x84\x95\xa6\xbe\0\0\0\x05\0\0\0\x02\0\0\0\x06\0\0\0\x06\xa0\x41\xa0\x42\x40";
 
-// The table of a type over declarations.
+// Returns the table of a type over declarations.
 fn table_over(alloc: Global, decls: &[Decl], ty: &Ty) -> Result<Option<TypeTable>, Memory>
     requires well { AreWellFormed decls.now }
     requires sound { IsSoundType decls.now ty.now }
@@ -29,7 +29,7 @@ fn table_over(alloc: Global, decls: &[Decl], ty: &Ty) -> Result<Option<TypeTable
     }
 }
 
-// The table of a type over a text of declarations, if the texts are accepted.
+// Returns the table of a type over a text of declarations, if the texts are accepted.
 pub(crate) fn table_in(
     alloc: Global,
     file: &[u8],
@@ -47,7 +47,7 @@ pub(crate) fn table_in(
     }
 }
 
-// The value that the bytes are, if they are one of at most so many words.
+// Returns the value that the bytes encode, if it is one of at most `limit` 64-bit words.
 pub(crate) fn value_of(alloc: Global, limit: u64, bytes: &[u8]) -> Result<Option<Value>, Memory>
     ensures { IfOk result
         (λ found. IfSome found (λ value. IsValue (length value.heap) value.root)) }

@@ -1,5 +1,5 @@
-//! Of texts of values: a string whose bytes are at hand, which the program prints word by word
-//! (`om_conformance` shows that).
+//! Tests of the texts of values: a string whose bytes are in memory. The program prints strings
+//! word by word, which `om_conformance` tests.
 
 use om_leaves::put_string;
 use std::test::Fail;

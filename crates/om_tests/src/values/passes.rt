@@ -1,4 +1,5 @@
-//! Looks at bytes, in one piece or two: whether they begin with a value of a type.
+//! Tests of the streaming check on bytes in one chunk or two: it decides if they begin with a value
+//! of a type.
 
 ghost use Rattle.om_type_table.specs.Made.{table_of};
 ghost use Rattle.om_glance.specs.Glance.{IsGlance};
@@ -11,7 +12,7 @@ use om_type_table::TypeTable;
 use std::alloc::Global;
 use std::test::Fail;
 
-// How many bytes one look takes at a type.
+// Returns the number of bytes that one streaming check accepts at a type.
 fn looked(alloc: Global, file: &[u8], text: &[u8], bytes: &[u8]) -> Result<Option<usize>, Memory> {
     match table_in(alloc, file, text)? {
         Some(table) => pass(alloc, &table, bytes, 1000),
@@ -19,17 +20,17 @@ fn looked(alloc: Global, file: &[u8], text: &[u8], bytes: &[u8]) -> Result<Optio
     }
 }
 
-// The declaration of maps from strings, as the library of OCaml has it.
+// The declaration of maps from strings, as in OCaml's library.
 const MAPS: &[u8] =
     b"type 'a map = Empty | Node of {l: 'a map; v: string; d: 'a; r: 'a map; h: int}";
 
-// What OCaml writes for a map from one to four by their names.
+// OCaml's encoding of a map from one to four by their names.
 const MAP: &[u8] =
     b"\x84\x95\xa6\xbe\0\0\0\x24\0\0\0\x08\0\0\0\x22\0\0\0\x20\xd0\xd0\x40\x24four\x44\x40\x41\x23\
     one\x41\xd0\xd0\x40\x25three\x43\x40\x41\x23two\x42\x40\x42\x43";
 
-// "ab", 1000000 and -1000000, the array of nothing, a pair whose parts are one "ab", and a pair of
-// one record of 1 and 2.
+// "ab", 1000000 and -1000000, the empty array, a pair with the same "ab" twice, and a pair with the
+// same record of 1 and 2 twice.
 const TEXT: &[u8] = b"\x84\x95\xa6\xbe\0\0\0\x03\0\0\0\x01\0\0\0\x02\0\0\0\x02\x22ab";
 
 const LARGE: &[u8] = b"\x84\x95\xa6\xbe\0\0\0\x05\0\0\0\0\0\0\0\0\0\0\0\0\x02\0\x0f\x42\x40";
@@ -43,12 +44,12 @@ const TEXTS: &[u8] = b"\x84\x95\xa6\xbe\0\0\0\x06\0\0\0\x02\0\0\0\x05\0\0\0\x05\
 const RECORDS: &[u8] =
     b"\x84\x95\xa6\xbe\0\0\0\x06\0\0\0\x02\0\0\0\x06\0\0\0\x06\xa0\xa0\x41\x42\x04\x01";
 
-// "ab", and twice one record of 1, this "ab" and the array of nothing.
+// "ab", and twice the same record of 1, this "ab" and the empty array.
 const MIXED: &[u8] =
     b"\x84\x95\xa6\xbe\0\0\0\x0b\0\0\0\x03\0\0\0\x0a\0\0\0\x0a\xb0\x22ab\xb0\x41\x04\x02\x80\x04\
     \x01";
 
-// What OCaml 4.13.1 writes for 1.5, [|1.; 2.; 3.|], 0x12345678l, 0x123456789abcdef0L, 1n and `Blue
+// OCaml 4.13.1's encodings of 1.5, [|1.; 2.; 3.|], 0x12345678l, 0x123456789abcdef0L, 1n and `Blue
 // 3.
 const DOUBLE: &[u8] =
     b"\x84\x95\xa6\xbe\0\0\0\x09\0\0\0\x01\0\0\0\x03\0\0\0\x02\x0c\0\0\0\0\0\0\xf8\x3f";
@@ -70,8 +71,8 @@ const NATIVE: &[u8] =
 const BLUE: &[u8] =
     b"\x84\x95\xa6\xbe\0\0\0\x07\0\0\0\x01\0\0\0\x03\0\0\0\x03\xa0\x02\x2b\xf2\x6e\xba\x43";
 
-// FILE, TYPE, bytes, and how many of them are the value, where they are one of the type and one
-// look shows it. A record that is met at two types is shown where it is mutable at neither.
+// FILE, TYPE, bytes, and the length of the value in bytes if one streaming check shows that it has
+// the type. A record that occurs at two types passes if it is mutable at neither.
 static LOOKS: [(&[u8], &[u8], &[u8], Option<usize>); 27] = [
     (b"", b"int list", LIST, Some(25)),
     (b"", b"bool list", LIST, None),
@@ -122,8 +123,8 @@ static LOOKS: [(&[u8], &[u8], &[u8], Option<usize>); 27] = [
     ),
 ];
 
-// How many bytes are kept of the first of two pieces, how many of the second end the value, and
-// whether it has the type or one misfit, where neither piece has all of it.
+// Returns how many bytes of the first of two chunks are kept, how many of the second end the value,
+// and whether the value has the type or one mismatch. Neither chunk may contain the whole value.
 fn looked_on<'a>(
     alloc: Global,
     table: &'a TypeTable,
@@ -144,7 +145,7 @@ fn looked_on<'a>(
     }
 }
 
-// The same of a look that begins with the first piece.
+// Returns the same result for a streaming check that begins with the first chunk.
 fn looked_in_two(
     alloc: Global,
     table: &TypeTable,
@@ -155,8 +156,8 @@ fn looked_in_two(
     looked_on(alloc, table, &mut glance, first, second)
 }
 
-// The same of a look that goes on to the first piece from values with one misfit each. After eight
-// of them a value is searched before it is passed.
+// Returns the same result for a streaming check that has already read values with one mismatch
+// each. After eight of them, it searches a value for its mismatch before it checks the value.
 fn looked_after_misfits(
     alloc: Global,
     table: &TypeTable,
@@ -172,7 +173,7 @@ fn looked_after_misfits(
     looked_on(alloc, table, &mut glance, first, second)
 }
 
-// Whether both come to this at the type of a text.
+// Returns true if both give this result at the type of a text.
 fn are_looked_in_two(
     alloc: Global,
     text: &[u8],
@@ -188,9 +189,9 @@ fn are_looked_in_two(
     Ok(fresh == want && after == want)
 }
 
-// TYPE, two pieces, and what came of them: a string that is cut in its bytes and in its header, a
-// list that is cut between two tokens, a string at another type, a list with one in the place of an
-// integer, and one with two.
+// TYPE, two chunks, and the result. The cases are a string split in its bytes, a string split in
+// its header, a list split between two tokens, a string at another type, a list with one string
+// instead of an integer, and a list with two strings.
 static LOOKS_IN_TWO: [(&[u8], &[u8], &[u8], Option<(usize, usize, bool)>); 6] = [
     (
         b"string",

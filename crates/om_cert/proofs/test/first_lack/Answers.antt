@@ -79,7 +79,7 @@ returns c =
     let many : length (needs_in c.args.needs) ≤ c.loop-k.k = omega (arith, c.len-k-end.ensures, c.loop-k.auto.k-end, c.loop-k-test.false) in
     all_held (table_of c.args.stated.fitting.table.now) c.args.stated.heap.now c.args.stated.pairs.now c.args._object c.args._ty c.loop-k.k (needs_in c.args.needs) c.requires.needs many c.loop-k.invariant
 
--- ---- a field that is hidden
+-- ---- a field of the wildcard type
 
 pub shape-requires : goal.shape-requires
 shape-requires c =

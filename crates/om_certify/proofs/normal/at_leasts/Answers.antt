@@ -6,7 +6,7 @@ use Rattle.om_model.proofs.Options.{slice_get-Contains}
 use Rattle.om_certify.specs.Leasts.{at_least}
 use Rattle.om_certify.proofs.normal.at_leasts.Goals as goal
 
--- one pair more
+-- The image of a list with one more pair.
 one_more :
     (f : ℕ × ℕ → ℕ × ℕ) (xs : List (ℕ × ℕ)) (k : ℕ) (x : ℕ × ℕ) → slice_get xs k ≡ Some x
     → map f (take (k + 1) xs) ≡ map f (take k xs) ++ f x ∷ []

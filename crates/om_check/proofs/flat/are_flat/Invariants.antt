@@ -6,7 +6,7 @@ use Rattle.om_check.proofs.FlatLemmas.{IsPartly}
 use Rattle.om_check.specs.Flat.{last_of_all}
 use Rattle.om_check.proofs.flat.are_flat.Given as goal
 
--- the parts so far are justified, and the others have to be flat
+-- The parts so far are justified, and the others must be flat.
 abbrev pub invariant-loop-k : goal.invariant-loop-k
 invariant-loop-k l =
     let table = table_of l.table in

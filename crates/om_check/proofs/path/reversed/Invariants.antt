@@ -2,7 +2,7 @@ use Rattle.std.proofs.Common.{◌≡◌, ◌++◌}
 use Rattle.std.specs.Prelude.{reverse, vec_len}
 use Rattle.om_check.proofs.path.reversed.Given as goal
 
--- what is taken and what is left
+-- The steps that were taken and the remaining steps.
 abbrev pub invariant-loop-step : goal.invariant-loop-step
 invariant-loop-step l = l.path ++ reverse l.steps.items ≡ reverse l.initial.steps.items
 

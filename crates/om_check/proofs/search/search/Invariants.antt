@@ -6,6 +6,6 @@ use Rattle.om_check.proofs.search.search.Given as goal
 abbrev pub invariant-loop-fitting : goal.invariant-loop-fitting
 invariant-loop-fitting l = IsSearching (table_of l.fitting.table.now) l.heap l.taken l.fn.visits l.visits l.n l.fn.steps l.steps
 
--- no list is longer
+-- The number of visits is below 2^64.
 abbrev pub decreases-loop-fitting : goal.decreases-loop-fitting
 decreases-loop-fitting l = 2 ^ 64 - l.n

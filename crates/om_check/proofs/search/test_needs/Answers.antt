@@ -175,7 +175,7 @@ returns-clause-steps c =
     few_rest (size_of c.args.heap.now c.args.visit.object) c.loop-k.invariant.reached c.args.seen c.args.steps.now c.loop-k.steps
     c.loop-k.invariant.inside c.loop-k.invariant.small c.loop-k.invariant.few
 
--- ---- a field that is hidden
+-- ---- a field of an unconstrained type
 
 pub shape-requires : goal.shape-requires
 shape-requires c =

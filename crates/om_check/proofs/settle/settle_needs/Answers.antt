@@ -50,7 +50,7 @@ loop-k-preserved c =
     let finds = subst (λ test. OnTrue test (Finds t graph c.args.types.now c.loop-k.seconds c.settle_need.new.seconds (field_at graph c.args.object i) a)) c.if-not-branch.false c.in_ok-settle_need.ensures.finds in
     finds_more t graph c.args.types.now c.args.seconds.now c.loop-k.seconds c.settle_need.new.seconds c.args.object c.args.ty c.loop-k.k i a c.loop-k.invariant finds.over finds.extends (λ asked. finds.found) at_k
 
--- ---- a field that is hidden
+-- ---- a field of an unconstrained type
 
 pub shape-requires : goal.shape-requires
 shape-requires c =

@@ -6,7 +6,7 @@ use Rattle.om_decimal.proofs.NearestLemmas.{few_powers}
 use Rattle.om_decimal.proofs.TextLemmas.{is_double_text}
 use Rattle.om_decimal.proofs.write.put_double.Goals as goal
 
--- what was put is the text
+-- The appended bytes are the text.
 said : {X E : Type 0} (bits : ℕ) (old new written : List ℕ) (r : Result X E) → OnOk r (new ≡ old ++ written) → IsDoubleText bits written → OnOk r (new ≡ old ++ double_text bits)
 said bits old new written (Ok x) h t = h ∙ ap (λ l. old ++ l) (is_double_text bits written t)
 said bits old new written (Err e) h t = tt

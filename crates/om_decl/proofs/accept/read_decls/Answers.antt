@@ -26,7 +26,7 @@ Breaks tree = BreaksInFile (file_places tree)
 abbrev Hashes : FileTree → ℕ → List ℕ → List ℕ → Type 0
 Hashes tree = FileHashes (file_places tree)
 
--- what the rules say of places is said of those of the tree
+-- The results of the rules for the occurrences found are those for the occurrences of the tree.
 found_of_tree :
     (text : List ℕ) (named : Named) (is : IsNamed text named) (marks : List ℕ) (decls : List Decl) (found shown : Option HeadBreak)
     → marks ≡ named.marks.items → decls ≡ named.decls

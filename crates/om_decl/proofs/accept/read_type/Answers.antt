@@ -25,7 +25,7 @@ Breaks decls tree = BreaksInType decls (in_texpr 0 false tree)
 abbrev Hashes : List Decl → Texpr → ℕ → List ℕ → List ℕ → Type 0
 Hashes decls tree = TypeHashes decls (in_texpr 0 false tree)
 
--- what the rules say of places is said of those of the tree
+-- The results of the rules for the occurrences found are those for the occurrences of the tree.
 found_of_tree :
     (decls : List Decl) (text : List ℕ) (named : NamedType) (is : IsNamedType decls text named) (marks : List ℕ) (found shown : Option HeadBreak)
     → marks ≡ named.marks.items

@@ -4,7 +4,7 @@ use Rattle.om_outcome.specs.Outcome.{unasked}
 use Rattle.om_promises.proofs.TakeLemmas.{taken, took_more}
 use Rattle.om_declared.proofs.fetch.gather_file.Goals as goal
 
--- the last piece was taken too, though it could not be stored
+-- The last chunk was read, too, although it could not be stored.
 pub returns-in_err-store-clause-taken : goal.returns-in_err-store-clause-taken
 returns-in_err-store-clause-taken g c =
     MatchResult-from_err _ _ _ c.from_residual.ensures.0 (λ _. (

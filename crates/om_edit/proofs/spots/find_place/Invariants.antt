@@ -5,7 +5,7 @@ use Rattle.om_type_table.specs.Made.{table_of}
 use Rattle.om_edit.specs.Places.{place_at, place_from, StandsAt}
 use Rattle.om_edit.proofs.spots.find_place.Given as goal
 
--- from here the rest of the path leads where the whole path leads
+-- From the current location, the rest of the path leads where the whole path leads.
 abbrev pub invariant-loop-i : goal.invariant-loop-i
 invariant-loop-i l = record {
   leads : place_at (table_shapes (table_of l.table)) l.heap l.fn.root 0 l.path

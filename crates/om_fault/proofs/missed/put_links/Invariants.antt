@@ -4,7 +4,7 @@ use Rattle.om_model.specs.PathText.{steps_text}
 use Rattle.om_misfit.specs.declared.way.Link.{Link}
 use Rattle.om_fault.proofs.missed.put_links.Given as goal
 
--- the text of the links so far
+-- The text of the links so far.
 abbrev pub invariant-loop-link : goal.invariant-loop-link
 invariant-loop-link l =
     l.text.items ≡ l.initial.text.items

@@ -2,6 +2,6 @@ use Rattle.std.proofs.Common.{◌≡◌, ◌++◌, take}
 use Rattle.om_model.specs.PathText.{steps_text}
 use Rattle.om_fault.proofs.put.put_path.Given as goal
 
--- the text of the steps so far
+-- The text of the steps so far.
 abbrev pub invariant-loop-i : goal.invariant-loop-i
 invariant-loop-i l = l.text.items ≡ l.initial.text.items ++ steps_text (take l.i l.path)

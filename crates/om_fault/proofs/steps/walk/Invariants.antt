@@ -5,7 +5,7 @@ use Rattle.om_types.specs.Table.{table_shapes}
 use Rattle.om_type_table.specs.Made.{table_of}
 use Rattle.om_fault.proofs.steps.walk.Given as goal
 
--- from here the rest of the path leads where the whole path leads
+-- From here, the rest of the path leads where the whole path leads.
 abbrev pub invariant-loop-i : goal.invariant-loop-i
 invariant-loop-i l =
     (value_at (table_shapes (table_of l.table)) l.heap l.fn.value.root 0 l.path

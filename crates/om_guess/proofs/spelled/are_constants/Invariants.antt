@@ -3,7 +3,7 @@ use Rattle.std.specs.Prelude.{slice_get}
 use Rattle.om_literal_texts.specs.Readable.{IsConstantName}
 use Rattle.om_guess.proofs.spelled.are_constants.Given as goal
 
--- those before it are read back
+-- The earlier constants are readable.
 abbrev pub invariant-loop-i : goal.invariant-loop-i
 invariant-loop-i l =
     (l.i-end ≡ length l.names.constants)

@@ -4,7 +4,7 @@ use Rattle.om_types.specs.declared.names.ConstrNames.{ConstrNames}
 use Rattle.om_literal_texts.specs.Readable.{IsConstructorName}
 use Rattle.om_guess.proofs.spelled.are_constructors.Given as goal
 
--- those before it are read back
+-- The earlier constructors are readable.
 abbrev pub invariant-loop-tag : goal.invariant-loop-tag
 invariant-loop-tag l =
     (l.tag-end ≡ length l.names.constructors)

@@ -4,7 +4,7 @@ use Rattle.std.proofs.lemmas.List.Elements.{All-take}
 use Rattle.om_model.proofs.Numbers.{are_bytes, number_fits}
 use Rattle.om_headers.proofs.parsing.parse.Goals as goal
 
--- four bytes spell a number of 32 bits
+-- Four bytes encode a number of 32 bits.
 pub overflow_cast-big_endian : goal.overflow_cast-big_endian
 overflow_cast-big_endian c =
     omega (arith, c.big_endian.ensures, number_fits (take 4 c.args.bytes.now) 4 (All-take (λ b. b < 256) 4 c.args.bytes.now (are_bytes _ c.type_inv.bytes)) (omega (arith, length-take 4 c.args.bytes.now)))

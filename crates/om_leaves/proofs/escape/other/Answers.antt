@@ -6,7 +6,7 @@ use Rattle.om_leaves.specs.Leaves.{escaped}
 use Rattle.om_leaves.specs.declared.escape.TheConstants.{OTHERS}
 use Rattle.om_leaves.proofs.escape.other.Goals as goal
 
--- these bytes are this one
+-- The list consists of this one byte.
 abbrev is_one : List ℕ → ℕ → Bool
 is_one [] b = false
 is_one (x ∷ []) b = x == b
@@ -20,7 +20,7 @@ one_is (x ∷ y ∷ ys) b is = absurd (cc)
 abbrev mark : ℕ → ℕ
 mark b = cond (is_one (escaped 34 b) b) 0 1
 
--- the table has the mark of each byte
+-- The table contains the mark of each byte.
 table_is : OTHERS ≡ map mark (range_with_len 0 256)
 table_is = refl
 

@@ -3,7 +3,7 @@ use Rattle.std.specs.List.{flat_map, slice_range}
 use Rattle.om_leaves.specs.Leaves.{escaped}
 use Rattle.om_leaves.proofs.escape.put_escaped.Given as goal
 
--- the bytes from start on are still to be put
+-- The bytes from `start` on are not yet appended.
 abbrev pub invariant-loop-i : goal.invariant-loop-i
 invariant-loop-i l = record {
   behind : l.start ≤ l.i;

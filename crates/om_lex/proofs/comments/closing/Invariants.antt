@@ -2,7 +2,7 @@ use Rattle.std.proofs.Common.{◌≡◌, ◌-◌, ◌≤◌, length, drop}
 use Rattle.om_lex.specs.Scan.{plus, closing}
 use Rattle.om_lex.proofs.comments.closing.Given as goal
 
--- what is left of the text says where the comment ends
+-- The rest of the text determines the end of the comment.
 abbrev pub invariant-loop-at : goal.invariant-loop-at
 invariant-loop-at l = record {
   shallow : l.depth ≤ l.at;

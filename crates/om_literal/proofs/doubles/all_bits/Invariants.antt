@@ -3,7 +3,7 @@ use Rattle.om_grammar.specs.Lexemes.{kinds_of}
 use Rattle.om_literal.specs.Bits.{bits_of_nodes}
 use Rattle.om_literal.proofs.doubles.all_bits.Given as goal
 
--- with what is left of the nodes, those so far are those of all
+-- The bits so far and those of the remaining nodes are the bits of all nodes.
 abbrev pub invariant-loop-k : goal.invariant-loop-k
 invariant-loop-k l =
     bits_of_nodes (kinds_of l.lexemes) (Some l.all.items) (take (l.many - l.k) (drop (l.from + l.k) l.nodes))

@@ -3,7 +3,7 @@ use Rattle.om_grammar.specs.Lexemes.{kinds_of}
 use Rattle.om_literal.specs.FieldNames as specs
 use Rattle.om_literal.proofs.fields.names_from.Given as goal
 
--- the names so far, and those of what is left
+-- The names so far and the names still to be collected are all names.
 abbrev pub invariant-loop-left : goal.invariant-loop-left
 invariant-loop-left l =
     map (λ name. name.now) l.names.items ++ specs.names_from l.nodes l.ends (kinds_of l.lexemes) l.place l.left

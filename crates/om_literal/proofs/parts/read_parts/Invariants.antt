@@ -1,4 +1,4 @@
--- what comes of the open blocks is what came of the first
+-- The result of the open blocks is the result of the first block.
 use Rattle.std.proofs.Common.{◌-◌, length}
 use Rattle.std.specs.Prelude.{ℕ, List, Result, [], ◌∷◌}
 use Rattle.om_model.specs.declared.value.Obj.{Obj}

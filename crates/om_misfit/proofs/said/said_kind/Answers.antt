@@ -6,7 +6,7 @@ use Rattle.om_misfit.specs.Judge.{IsSaidAfter}
 use Rattle.om_misfit.proofs.SaidLemmas.{with_code}
 use Rattle.om_misfit.proofs.said.said_kind.Goals as goal
 
--- a code of this kind leaves it so much
+-- The precondition, by the code of this kind.
 pub piece_len-requires : goal.piece_len-requires
 piece_len-requires c = IsKind-kind_of (get_or c.args.bytes.now 0 0) c.args.kind c.requires.kind
 

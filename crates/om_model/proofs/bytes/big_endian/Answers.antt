@@ -2,7 +2,7 @@ use Rattle.std.proofs.Common.{arith}
 use Rattle.om_model.proofs.Numbers.{are_bytes, number_step}
 use Rattle.om_model.proofs.bytes.big_endian.Goals as goal
 
--- with one byte more it is still a number of at most eight
+-- One more byte still gives a number of at most eight bytes.
 pub overflow_mul-value : goal.overflow_mul-value
 overflow_mul-value c = omega (arith, number_step c.args.bytes.now c.loop-byte.byte-index (are_bytes _ c.type_inv.bytes) c.loop-byte-test.true c.requires)
 

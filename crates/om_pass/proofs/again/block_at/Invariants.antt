@@ -3,7 +3,7 @@ use Rattle.om_format.specs.Token.{Token}
 use Rattle.om_pass.specs.Again.{AreMarks, IsPlace}
 use Rattle.om_pass.proofs.again.block_at.Given as goal
 
--- so many objects were made before the byte that is reached
+-- The number of objects before the byte that was reached.
 abbrev pub invariant-skip : goal.invariant-skip
 invariant-skip l = (l.made ≤ l.object) × ((tokens : List Token) → AreMarks l.front l.marks tokens → IsPlace l.front tokens l.at l.made)
 

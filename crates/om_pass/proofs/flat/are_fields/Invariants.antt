@@ -4,7 +4,7 @@ use Rattle.om_type_table.specs.Made.{table_of}
 use Rattle.om_pass.specs.Again.{SpellAll, AreFields}
 use Rattle.om_pass.proofs.flat.are_fields.Given as goal
 
--- if what is left is so, the whole is
+-- If the remaining fields are valid, then all fields are.
 abbrev pub invariant-fields : goal.invariant-fields
 invariant-fields l =
     (l.at ≤ length l.front)

@@ -4,7 +4,8 @@ use Rattle.om_pass.specs.Hot.{held}
 use Rattle.om_pass.specs.State.{IsLeft}
 use Rattle.om_pass.proofs.listed.run_listed.Given as goal
 
--- the bytes before those that are left lead to what is held, and no more are left
+-- The bytes before the remaining bytes lead to the current state, and the number of remaining bytes
+-- does not grow.
 abbrev pub invariant-listed : goal.invariant-listed
 invariant-listed l =
     IsLeft (table_of l.table) l.limit l.bytes l.head l.start l.marks l.notes

@@ -2,7 +2,7 @@ use Rattle.std.proofs.Common.{◌≡◌, vec_len}
 use Rattle.om_pass.specs.Places.{waiting_needs}
 use Rattle.om_pass.proofs.places.first_waiting.Given as goal
 
--- what waits is all that is open
+-- The positions on the stack are all open positions.
 abbrev pub invariant-waiting : goal.invariant-waiting
 invariant-waiting l = waiting_needs l.waiting.items ≡ waiting_needs l.initial.waiting.items
 

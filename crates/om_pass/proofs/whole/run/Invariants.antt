@@ -3,7 +3,7 @@ use Rattle.om_type_table.specs.Made.{table_of}
 use Rattle.om_pass.specs.State.{IsLeft}
 use Rattle.om_pass.proofs.whole.run.Given as goal
 
--- the bytes before those that are left lead to what is held
+-- The bytes before the remaining bytes lead to the current state.
 abbrev pub invariant-tokens : goal.invariant-tokens
 invariant-tokens l =
     IsLeft (table_of l.table) l.limit l.bytes l.head l.start l.marks.items l.notes.items l.state

@@ -15,7 +15,7 @@ use Rattle.om_print.proofs.WalkLemmas.{block_open, block_goes, part_goes, word_i
 use Rattle.om_print.proofs.PlainLemmas.{one_text, put_goes, put_then, fewer_put, same_walk}
 use Rattle.om_print.proofs.plain.put_in.Goals as goal
 
--- where no element is there, the list ends before
+-- If there is no element at an index, then the list is at most that long.
 no_more : {X : Type 0} (xs : List X) (k : ℕ) (found : Option X) → found ≡ slice_get xs k → ((x : X) → found ≡ Some x → ⊥) → length xs ≤ k
 no_more xs k found is none = ⊎_elim (λ there. absurd (none there.0 (is ∙ there.2))) (λ past. past.0) (slice_get_cases xs k).1
 

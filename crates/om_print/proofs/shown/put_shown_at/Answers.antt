@@ -29,7 +29,7 @@ put_without_labels-requires c = record {
 pub put_with_labels-requires-clause-typed : goal.put_with_labels-requires-clause-typed
 put_with_labels-requires-clause-typed c = typed_at (table_of c.args.table.now) c.args.value.now.heap.now c.args.value.now.root c.args.at c.requires.number c.requires.typed
 
--- what is put in vain is taken away
+-- Truncation removes the bytes that were appended in vain.
 no_more : (old text back : List ℕ) (n : ℕ) → n ≡ length old → IsGrown old text → back ≡ take n text → back ≡ old
 no_more old text back n many grown is = is ∙ ap (λ k. take k text) many ∙ ap (take (length old)) grown.1 ∙ take_front old grown.0
 

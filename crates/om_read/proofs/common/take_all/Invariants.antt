@@ -3,7 +3,7 @@ use Rattle.om_read.specs.Pieces.{LeadsAs}
 use Rattle.om_read.specs.Left.{TakesAll}
 use Rattle.om_read.proofs.common.take_all.Given as goal
 
--- what led to the first place leads on with the tokens that were taken
+-- If bytes led to the first totals, then with the tokens read they lead to the current state.
 abbrev pub invariant-loop-at : goal.invariant-loop-at
 invariant-loop-at l = (limit : ℕ) (taken : List ℕ) → LeadsAs (Some l.fn.first) limit taken l.fn.builder [] → TakesAll l.fn.first 0 limit taken l.bytes l.left l.builder l.at
 

@@ -9,7 +9,7 @@ use Rattle.om_read.proofs.CommonLemmas.{front_taken}
 use Rattle.om_read.proofs.common.take_common.Goals as goal
 use Rattle.om_read.proofs.common.take_common.Goals.{After-count}
 
--- the place that is reached
+-- The totals that are reached.
 reached : (c : After-count) (limit : ℕ) (taken : List ℕ) → LeadsAs (Some c.args.totals.now) limit taken c.args.builder.now []
     → (place : Totals) × Leaves c.args.totals.now c.take_many-n.result place c.take_many-n.new.left × (c.count.result ≡ place.objects)
     × TakesCommon limit taken c.data_in.result.now place c.take_many-n.new.builder c.take_many-n.result

@@ -20,21 +20,21 @@ use Rattle.om_read.proofs.CommonLemmas.{advance_fits, common_taken, common_spell
 use Rattle.om_read.proofs.common.take_kind.Goals as goal
 use Rattle.om_read.proofs.common.take_kind.Goals.{After-is_sound}
 
--- a code of this kind leaves it so much
+-- The invariant of the kind, by its code.
 pub invariant_of-known : goal.invariant_of-known
 invariant_of-known c = record { known = IsKind-kind_of (get_or c.args.bytes.now 0 0) c.args.kind c.requires.kind }
 
--- the length, by the bytes after the code
+-- The length, by the bytes after the code.
 len_is : (c : After-is_sound) → c.in-Some.len ≡ fixed_bytes c.args.kind + variable_bytes c.args.kind (drop 1 c.args.bytes.now)
 len_is c = let e : c.in-Some.len ≡ fixed_bytes c.args.kind + variable_bytes c.args.kind c.skip-rest.result.now = search rules in
     subst (λ rest. c.in-Some.len ≡ fixed_bytes c.args.kind + variable_bytes c.args.kind rest) c.skip-rest.ensures e
 
--- the objects so far
+-- The objects so far.
 counted : (c : After-is_sound) (n : ℕ) (header : List ℕ) (before : List (List ℕ)) (place : Totals) → Stands c.args.first.now n header before place c.args.left.now c.args.builder.now
     → place.objects ≡ c.count-objects.result
 counted c n header before place h = sym (c.count-objects.ensures ∙ objects_built header before place c.args.builder.now h.builds ∙ h.builds.sums.objects)
 
--- the place goes on
+-- The totals advance.
 moved : (c : After-is_sound) → c.spend.result ≡ true → c.is_sound.result ≡ true → (n : ℕ) (header : List ℕ) (before : List (List ℕ)) (place : Totals) → Stands c.args.first.now n header before place c.args.left.now c.args.builder.now
     → (next : Totals) × Leaves c.args.first.now (n + (1 + c.in-Some.len)) next c.spend.new.self × Advances place (1 + c.in-Some.len) (measure_after c.args.kind c.skip-rest.result.now) next true
 moved c e sound n header before place h =
@@ -49,7 +49,7 @@ moved c e sound n header before place h =
     (subst (AreFew words32 (measure_after c.args.kind rest)) l (few_words32 c.args.kind rest))
     (subst (AreFew words64 (measure_after c.args.kind rest)) l (few_words64 c.args.kind rest))
 
--- the token passes
+-- The token passes.
 passes : (c : After-is_sound) → (n : ℕ) (header : List ℕ) (before : List (List ℕ)) (place next : Totals) → Stands c.args.first.now n header before place c.args.left.now c.args.builder.now
     → Advances place (1 + c.in-Some.len) (measure_after c.args.kind c.skip-rest.result.now) next true → PassesTo place (get_or c.args.bytes.now 0 0) c.args.kind (drop 1 c.args.bytes.now) next
 passes c n header before place next h advances =
@@ -63,7 +63,7 @@ passes c n header before place next h advances =
     subst (λ r. PassesTo place (get_or c.args.bytes.now 0 0) c.args.kind r next) c.skip-rest.ensures
     (passes_from place next (get_or c.args.bytes.now 0 0) c.args.kind rest c.in-Some.len (measure_after c.args.kind rest) l within plain sound refl advances)
 
--- the bytes after its code
+-- The bytes after the token's code.
 after_code : (c : After-is_sound) → take (fixed_bytes c.args.kind + variable_bytes c.args.kind (drop 1 c.args.bytes.now)) (drop 1 c.args.bytes.now) ≡ take c.in-Some.len c.skip-rest.result.now
 after_code c = ap (λ n. take n (drop 1 c.args.bytes.now)) (sym (len_is c)) ∙ ap (take c.in-Some.len) (sym c.skip-rest.ensures)
 

@@ -12,7 +12,7 @@ use Rattle.om_read.proofs.decode.decode.Goals as goal
 use Rattle.om_read.proofs.decode.decode.Goals.{In-Doubles}
 use Rattle.om_model.specs.Bytes.{number}
 
--- the content of an array has eight bytes for each double
+-- The contents of an array have eight bytes for each double.
 whole_doubles : (c : In-Doubles) → length (drop c.in-Doubles.width c.args.rest.now) ≡ 8 * number (take c.in-Doubles.width c.args.rest.now)
 whole_doubles c =
     let h = c.requires.spelled in

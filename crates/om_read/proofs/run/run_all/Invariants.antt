@@ -5,8 +5,8 @@ use Rattle.om_read.specs.Pieces.{LeadsAs}
 use Rattle.om_read.proofs.RunLemmas.{IsUnderway}
 use Rattle.om_read.proofs.run.run_all.Given as goal
 
--- what led to the first place leads on with the tokens that were taken, and there is enough for
--- those to come
+-- If bytes led to the first totals, then with the tokens read they lead to the current state, and
+-- the room suffices for the next tokens.
 abbrev pub invariant-loop-at : goal.invariant-loop-at
 invariant-loop-at l = (0 < l.now.pending) × ((limit : ℕ) (taken : List ℕ) (from : Left) → LeadsAs (Some l.fn.first) limit taken l.fn.builder [] → Leaves l.fn.first 0 l.fn.first from
     → Runs from from l.fn.begun → HasPlenty from l.fn.most → IsUnderway l.fn.first limit taken l.bytes from l.now l.builder l.at l.most)

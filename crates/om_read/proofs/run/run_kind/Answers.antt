@@ -20,7 +20,7 @@ use Rattle.om_read.proofs.CommonLemmas.{advance_fits, common_taken, common_spell
 use Rattle.om_read.proofs.run.run_kind.Goals as goal
 use Rattle.om_read.proofs.run.run_kind.Goals.{After-spend}
 
--- a code of this kind leaves it so much
+-- The invariant of the kind, by its code.
 pub invariant_of-known : goal.invariant_of-known
 invariant_of-known c = record { known = IsKind-kind_of (get_or c.args.bytes.now 0 0) c.args.kind c.requires.kind }
 
@@ -32,12 +32,12 @@ spend-requires-clause-room c =
     let words : of_object words32 (measure_after c.args.kind rest) ≤ r.5.w32 = omega (arith, r.8.1, few_words32 c.args.kind rest, c.in-Some.ensures.len, c.in-Some.ensures.few) in
     extra_room r.4 r.5 c.args.now.now (of_object words32 c.measure_at.result) r.7 (subst (λ o. of_object words32 o ≤ r.5.w32) (sym measure) words)
 
--- the length, by the bytes after the code
+-- The length, by the bytes after the code.
 len_is : (c : After-spend) → c.in-Some.len ≡ fixed_bytes c.args.kind + variable_bytes c.args.kind (drop 1 c.args.bytes.now)
 len_is c = let e : c.in-Some.len ≡ fixed_bytes c.args.kind + variable_bytes c.args.kind c.after_code-rest.result.now = search rules in
     subst (λ rest. c.in-Some.len ≡ fixed_bytes c.args.kind + variable_bytes c.args.kind rest) c.after_code-rest.ensures e
 
--- the place goes on
+-- The totals advance.
 moved : (c : After-spend) → c.spend.result ≡ true → (n : ℕ) (header : List ℕ) (before : List (List ℕ)) (place : Totals) (from left : Left) → Stands c.args.first.now n header before place left c.args.builder.now
     → Runs from left c.args.now.now → HasEnough left
     → (next : Totals) × (left' : Left) × Leaves c.args.first.now (n + (1 + c.in-Some.len)) next left' × Runs from left' c.spend.new.self × Keeps left (1 + c.in-Some.len) left'
@@ -51,7 +51,7 @@ moved c e n header before place from left h runs enough =
     (subst (AreFew words32 (measure_after c.args.kind rest)) l (few_words32 c.args.kind rest))
     (subst (AreFew words64 (measure_after c.args.kind rest)) l (few_words64 c.args.kind rest))
 
--- the token passes
+-- The token passes.
 passes : (c : After-spend) → (n : ℕ) (header : List ℕ) (before : List (List ℕ)) (place next : Totals) (left : Left) → Stands c.args.first.now n header before place left c.args.builder.now
     → Advances place (1 + c.in-Some.len) (measure_after c.args.kind c.after_code-rest.result.now) next true → PassesTo place (get_or c.args.bytes.now 0 0) c.args.kind (drop 1 c.args.bytes.now) next
 passes c n header before place next left h advances =
@@ -65,7 +65,7 @@ passes c n header before place next left h advances =
     subst (λ r. PassesTo place (get_or c.args.bytes.now 0 0) c.args.kind r next) c.after_code-rest.ensures
     (passes_from place next (get_or c.args.bytes.now 0 0) c.args.kind rest c.in-Some.len (measure_after c.args.kind rest) l within plain sound refl advances)
 
--- the bytes after its code
+-- The bytes after the token's code.
 after_code : (c : After-spend) → take (fixed_bytes c.args.kind + variable_bytes c.args.kind (drop 1 c.args.bytes.now)) (drop 1 c.args.bytes.now) ≡ take c.in-Some.len c.after_code-rest.result.now
 after_code c = ap (λ n. take n (drop 1 c.args.bytes.now)) (sym (len_is c)) ∙ ap (take c.in-Some.len) (sym c.after_code-rest.ensures)
 

@@ -4,7 +4,7 @@ use Rattle.std.specs.Int.{w32, w64, from_be_bytes, cast_signed}
 use Rattle.om_model.specs.Bytes.{number, twos_complement}
 use Rattle.om_read.proofs.token.signed_four.Goals as goal
 
--- four bytes, in both readings
+-- Four bytes in both byte orders.
 four_bytes : (a b c d : ℕ) → from_be_bytes w32 (a ∷ b ∷ c ∷ d ∷ []) ≡ number (a ∷ b ∷ c ∷ d ∷ [])
 four_bytes a b c d = omega arith
 

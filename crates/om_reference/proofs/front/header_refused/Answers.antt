@@ -3,7 +3,7 @@ use Rattle.om_format.specs.Step.{header_steps}
 use Rattle.om_format.specs.Front.{header_refusal}
 use Rattle.om_reference.proofs.front.header_refused.Goals as goal
 
--- no bytes are not refused
+-- The empty prefix is not refused.
 none_refused : (limit : ℕ) (bytes : List ℕ) (k : ℕ) → k ≤ 0 → header_refusal limit (take k bytes) ≡ None
 unfolding header_steps
 none_refused limit bytes zero l = refl

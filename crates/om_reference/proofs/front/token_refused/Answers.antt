@@ -4,7 +4,7 @@ use Rattle.om_reference.specs.Step.{context_of}
 use Rattle.om_reference.specs.Front.{refusal_at}
 use Rattle.om_reference.proofs.front.token_refused.Goals as goal
 
--- no bytes are not refused
+-- The empty prefix is not refused.
 none_refused : (c : Context) (bytes : List ℕ) (k : ℕ) → k ≤ 0 → refusal_at c (take k bytes) ≡ None
 unfolding token_steps
 none_refused c bytes zero l = refl

@@ -10,7 +10,7 @@ use Rattle.om_model.proofs.Numbers.{are_bytes}
 use Rattle.om_format.proofs.ContentLemmas.{data_at, native_at, fits_four}
 use Rattle.om_reference.proofs.token.custom_token.Goals as goal
 
--- what an identifier names
+-- The custom type that an identifier names.
 named : {first three : List ℕ} {found kind : Option CustomKind} → first ≡ three → found ≡ custom_of first → found ≡ kind → kind ≡ custom_of three
 named e f g = sym g ∙ (f ∙ ap custom_of e)
 

@@ -4,6 +4,6 @@ use Rattle.om_format.specs.Token.{Spells}
 use Rattle.om_reference.specs.Token.{token_of}
 use Rattle.om_reference.proofs.token.tokens_spelled.Given as goal
 
--- the tokens so far are spelled
+-- The byte strings so far encode the tokens so far.
 abbrev pub invariant-loop-piece : goal.invariant-loop-piece
 invariant-loop-piece l = AllZip Spells (map token_of l.tokens.items) (take l.piece-index l.pieces)

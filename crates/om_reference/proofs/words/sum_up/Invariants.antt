@@ -3,7 +3,7 @@ use Rattle.std.specs.Prelude.{sum_by}
 use Rattle.om_format.specs.Words.{words32, words64, fields, of_object}
 use Rattle.om_reference.proofs.words.sum_up.Given as goal
 
--- the sums so far, and that they are small
+-- The sums so far, and their bounds.
 abbrev pub invariant-loop-token : goal.invariant-loop-token
 invariant-loop-token l =
     (l.objects ≡ sum_by (of_object (λ _. 1)) (take l.token-index l.tokens)) × (l.objects ≤ l.token-index * 2 ^ 65)

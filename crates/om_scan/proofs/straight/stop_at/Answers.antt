@@ -14,7 +14,7 @@ use Rattle.om_scan.proofs.NeedLemmas.{increase, need_field}
 use Rattle.om_scan.proofs.StopLemmas.{before_taken, until_taken, until_few, field_sees, nothing_sees}
 use Rattle.om_scan.proofs.straight.stop_at.Goals as goal
 
--- the object stands in the row behind those before it
+-- The object's type follows the types of the objects before it.
 behind : (types : List ℕ) (o t : ℕ) → o < length types → slice_get types o ≡ Some t → take (o + 1) types ≡ take o types ++ t ∷ []
 behind types o t inside at_o = take_more types o 0 inside ∙ ap (λ u. take o types ++ u ∷ []) (get_or_from_slice_get types o t 0 at_o)
 

@@ -10,7 +10,7 @@ use Rattle.om_scan.proofs.NoteLemmas.{none_noted, first_stopped}
 use Rattle.om_scan.proofs.ScanLemmas.{all_scanned, all_noted, all_few, all_paths, types_paths}
 use Rattle.om_scan.proofs.straight.told.Goals as goal
 
--- all objects were taken
+-- All objects were checked.
 whole :
     (table : Table) (graph : List Obj) (marks : List ℕ) (noted : List (ℕ × ℕ)) (types : List ℕ) (steps : ℕ) → length types ≡ length graph
     → IsScanning table graph marks noted (take (length graph) types) (length graph) steps → IsScanning table graph marks noted types (length graph) steps

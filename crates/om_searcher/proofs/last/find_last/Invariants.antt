@@ -3,7 +3,7 @@ use Rattle.om_format.specs.Front.{IsFront}
 use Rattle.om_read.specs.Reader.{IsReader, Leads}
 use Rattle.om_searcher.proofs.last.find_last.Given as goal
 
--- so many bytes of the piece are a front still, with those that are held
+-- The held bytes and the first `taken` bytes of the chunk are still a prefix of a value.
 abbrev pub invariant-loop-taken : goal.invariant-loop-taken
 invariant-loop-taken l =
     (l.taken ≤ length l.piece) × IsReader l.reader

@@ -2,7 +2,7 @@ use Rattle.std.proofs.Common.{length}
 use Rattle.om_section.proofs.HeadLemmas.{AreSteps}
 use Rattle.om_section.proofs.heads.steps_of.Given as goal
 
--- some steps are there, and the rest is the text of the others
+-- The steps in `path` have been parsed, and `rest` is the text of the others.
 abbrev pub invariant-loop-rest : goal.invariant-loop-rest
 invariant-loop-rest l = AreSteps l.text l.path l.rest
 

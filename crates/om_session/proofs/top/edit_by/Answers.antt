@@ -7,7 +7,7 @@ use Rattle.om_declared.specs.Types.{GivesScript}
 use Rattle.om_session.proofs.AccountLemmas.{given_in_time, script_account}
 use Rattle.om_session.proofs.top.edit_by.Goals as goal
 
--- the same, where it is asked for so
+-- The same, with the requested options.
 asked_so : (name : List ℕ) (found : Found) (result : Result Script Stop) (l lines d decimal : Bool) → l ≡ lines → d ≡ decimal → GivesScript l d name found result → GivesScript lines decimal name found result
 asked_so name found result l lines d decimal same_lines same_decimal gives =
     subst (λ (b : Bool). GivesScript lines b name found result) same_decimal (subst (λ (b : Bool). GivesScript b d name found result) same_lines gives)

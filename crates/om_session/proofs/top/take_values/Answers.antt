@@ -10,7 +10,7 @@ use Rattle.om_session.specs.All.{on_values_after}
 use Rattle.om_session.specs.Values.{task_of}
 use Rattle.om_session.proofs.top.take_values.Goals as goal
 
--- what is done, with what is told of
+-- The operation, with the number given by `--only`.
 abbrev act_of : Option ℕ → Task TypeOver ScriptLine → Option ℕ × Task TypeOver ScriptLine
 act_of picked task = (picked, task)
 

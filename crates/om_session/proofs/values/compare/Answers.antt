@@ -7,7 +7,7 @@ use Rattle.om_session.proofs.ReadLemmas.{compares_alike, compares_none, last_fau
 use Rattle.om_promises.proofs.ValueLemmas.{comparison-well}
 use Rattle.om_session.proofs.values.compare.Goals as goal
 
--- two values are the first and the second
+-- A list of two values consists of its first and its second value.
 two :
     {X : Type 0} (xs : List X) (x y : X) → length xs ≡ 2 → x ≡ get_or xs 0 x → y ≡ get_or xs 1 y
     → xs ≡ x ∷ y ∷ []

@@ -5,7 +5,7 @@ use Rattle.om_sites.specs.Counted.{items_in}
 use Rattle.om_scope.specs.Brackets.{items_told}
 use Rattle.om_sites.proofs.items.items_of.Given as goal
 
--- the items that are left, and those so far, the last one first
+-- The remaining items, and the items so far in reverse order.
 abbrev pub invariant-loop-w : goal.invariant-loop-w
 invariant-loop-w l = record {
   below : l.n < length l.nodes;

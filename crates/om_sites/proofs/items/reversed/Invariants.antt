@@ -2,7 +2,7 @@ use Rattle.std.proofs.Common.{◌≡◌, ◌++◌}
 use Rattle.std.specs.Prelude.{reverse, vec_len}
 use Rattle.om_sites.proofs.items.reversed.Given as goal
 
--- what is taken and what is left
+-- The items moved so far and the remaining ones.
 abbrev pub invariant-loop-item : goal.invariant-loop-item
 invariant-loop-item l = l.all ++ reverse l.items.items ≡ reverse l.initial.items.items
 

@@ -6,7 +6,7 @@ use Rattle.om_scope.specs.Brackets.{brackets_told, brackets_among}
 use Rattle.om_sites.specs.Walk.{task_seen, stack_seen, stack_weight, AreBelow}
 use Rattle.om_sites.proofs.walk.walk.Given as goal
 
--- from what is there at hand, the tasks lead to where the first one leads from the start
+-- From the current result, the tasks give the result that the first task gives from the start.
 abbrev pub invariant-loop-task : goal.invariant-loop-task
 invariant-loop-task l = record {
   below : AreBelow (length l.nodes) l.tasks.items;

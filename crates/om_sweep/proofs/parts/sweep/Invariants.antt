@@ -3,7 +3,7 @@ use Rattle.om_sighting.specs.Parts.{AreRefused}
 use Rattle.om_sweep.specs.Swept.{Takes}
 use Rattle.om_sweep.proofs.parts.sweep.Given as goal
 
--- so many bytes are parts
+-- The first `decided` bytes are parts.
 abbrev pub invariant-loop-decided : goal.invariant-loop-decided
 invariant-loop-decided l =
     (rest : List ℕ) × Takes l.limit l.at l.bytes l.initial.text.items l.text.items

@@ -3,7 +3,7 @@ use Rattle.om_sighting.specs.Parts.{BeginNoValue}
 use Rattle.om_sweep.specs.Swept.{Takes}
 use Rattle.om_sweep.proofs.parts.sweep_all.Given as goal
 
--- so many bytes are parts
+-- The first `taken` bytes are parts.
 abbrev pub invariant-loop-taken : goal.invariant-loop-taken
 invariant-loop-taken l =
     (rest : List ℕ) × Takes l.limit l.at l.bytes l.initial.text.items l.text.items

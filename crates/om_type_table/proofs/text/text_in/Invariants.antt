@@ -4,7 +4,7 @@ use Rattle.om_types.specs.TypeText.{type_text}
 use Rattle.om_type_table.specs.Texts.{waiting_text, IsWithin}
 use Rattle.om_type_table.proofs.text.text_in.Given as goal
 
--- what is put and what waits are the text
+-- The text written and the texts that wait are the whole text.
 abbrev pub invariant-loop-turn : goal.invariant-loop-turn
 invariant-loop-turn l =
     All (IsWithin l.types) l.waiting.items

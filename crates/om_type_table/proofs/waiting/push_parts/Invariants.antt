@@ -3,7 +3,7 @@ use Rattle.om_types.specs.Nodes.{type_at}
 use Rattle.om_type_table.specs.Texts.{parts_text, waiting_text, IsWithin}
 use Rattle.om_type_table.proofs.waiting.push_parts.Given as goal
 
--- the parts before are still to come
+-- The parts before the current part are still to be pushed.
 abbrev pub invariant-loop-whole : goal.invariant-loop-whole
 invariant-loop-whole l =
     (l.at < length l.types) × All (IsWithin l.types) l.waiting.items

@@ -1,4 +1,4 @@
--- `add` has an empty body: the borrow is opened, and closed at the longer list.
+-- `add` has an empty body. The proof opens the borrow and closes it with the longer list.
 use Rattle.std.proofs.Common.{ℕ, ◌<◌, ◌^◌, List, [], ◌∷◌, ◌++◌, length, refl, MutBor}
 use seplogic.Ra.Ura.{Ura}
 use mir.Syntax.{named}

@@ -1,4 +1,4 @@
--- `nothing` makes a value of no bytes, at the empty list.
+-- `nothing` creates a value of size zero whose model is the empty list.
 use mathlib.Core.Path.{refl}
 use mathlib.Core.List.{[], ◌∷◌}
 use seplogic.Ra.Ura.{Ura}

@@ -14,7 +14,7 @@ use Rattle.om_heap.proofs.heap.Heap.add_block_of.Goals as goal
 pub begin-requires : goal.begin-requires
 begin-requires c = places_below _ _ _ (held _ _ _ c.self.invariant c.self.view_is)
 
--- with values that have these words
+-- The values that have these words.
 made_here : (c : goal.After-append_slice) (values : List Val) → All (IsValue (length c.args.self.now)) values → c.args.words.now ≡ map (word_of c.args.self.now) values
     → IsStored c.append_slice.new.self.words c.begin.new.places × (decode c.append_slice.new.self.words c.begin.new.places ≡ c.args.self.now ++ objects.Block c.args.tag values ∷ [])
 made_here c values valid same =

@@ -19,7 +19,7 @@ body_in-requires-clause-inside c =
     let at : c.args.word / 8 ≡ place c.args.self.now c.requires.0 = omega (arith, c.requires.2) in
     body_inside _ _ c.args.self.now (held _ _ c.args.self.now c.self.invariant c.self.view_is) c.requires.0 (c.args.word / 8) c.requires.1 at
 
--- they are the words of the fields
+-- The borrowed words are the words of the fields.
 fields_here : (c : goal.After-body_in) → c.body_in.result.now ≡ map (word_of c.args.self.now) (fields_of (object_at c.args.self.now c.requires.0))
 fields_here c =
     let at : c.args.word / 8 ≡ place c.args.self.now c.requires.0 = omega (arith, c.requires.2) in

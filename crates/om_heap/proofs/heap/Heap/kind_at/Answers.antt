@@ -27,7 +27,7 @@ body_in-requires-clause-inside c =
     let at : c.args.word / 8 ≡ place c.args.self.now c.requires.0 = omega (arith, c.requires.2) in
     body_inside _ _ c.args.self.now (held _ _ c.args.self.now c.self.invariant c.self.view_is) c.requires.0 (c.args.word / 8) c.requires.1 at
 
--- the words after the header
+-- The borrowed words are the words after the header.
 body_is : (c : goal.After-body_in) → c.body_in.result.now ≡ body_with (place c.args.self.now) (object_at c.args.self.now c.requires.0)
 body_is c =
     let at : c.args.word / 8 ≡ place c.args.self.now c.requires.0 = omega (arith, c.requires.2) in

@@ -18,7 +18,7 @@ set-requires c =
     let inside = inside_if fields_of graph c.args.o c.args.i refl c.requires.place in
     word_inside _ _ graph (held _ _ graph c.self.invariant c.self.view_is) c.args.o c.args.i c.place.result inside (words-fields (object_at graph c.args.o) c.args.i c.requires.place) c.place.ensures.place
 
--- with a value that has this word
+-- The value that has this word.
 made_here : (c : goal.After-set) (v : Val) → IsValue (length c.args.self.now) v → c.args.word ≡ word_of c.args.self.now v
     → IsStored c.set.new.self.words c.self.inside.places × (decode c.set.new.self.words c.self.inside.places ≡ set_field c.args.self.now c.args.o c.args.i v)
 made_here c v fits word =

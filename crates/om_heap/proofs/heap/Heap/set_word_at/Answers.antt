@@ -20,7 +20,7 @@ set-requires c =
     let at : c.args.block / 8 ≡ place graph named.0 = omega (arith, named.2) in
     word_inside _ _ graph (held _ _ graph c.self.invariant c.self.view_is) named.0 c.args.i (c.args.block / 8) named.1 (words-fields (object_at graph named.0) c.args.i named.3) at
 
--- with the block that is named, and a value that has this word
+-- The block to which the word refers, and the value that has the other word.
 made_here : (c : goal.After-set) (k : ℕ) (v : Val) → k < length c.args.self.now → c.args.block ≡ word_of c.args.self.now (vals.Ref k) → c.args.i < length (fields_of (object_at c.args.self.now k))
     → IsValue (length c.args.self.now) v → c.args.word ≡ word_of c.args.self.now v
     → IsStored c.set.new.self.words c.self.inside.places × (decode c.set.new.self.words c.self.inside.places ≡ set_field c.args.self.now k c.args.i v)

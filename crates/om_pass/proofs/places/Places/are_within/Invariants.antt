@@ -3,7 +3,7 @@ use Rattle.om_pass_law.specs.Asked.{values_in}
 use Rattle.om_pass.specs.Places.{open_needs, waiting_needs}
 use Rattle.om_pass.proofs.places.Places.are_within.Given as goal
 
--- what was counted, and what room is left
+-- The number of values counted so far, and the number still allowed.
 abbrev pub invariant-waiting : goal.invariant-waiting
 invariant-waiting l =
     values_in (open_needs l.self.now) + values_in (waiting_needs l.self.waiting.items) + l.room

@@ -6,7 +6,7 @@ use Rattle.om_places.proofs.BitLemmas.{pow_more}
 use Rattle.om_places.proofs.CellLemmas.{covers_all, clear_bits, IsIndexed-marked}
 use Rattle.om_places.proofs.places.Places.push_in_room.Goals as goal
 
--- the cells are those of the places, all of them low, and the last one is that of p
+-- The cells represent the offsets, all of which are low, and the last cell is the cell of `p`.
 covered : (cells covered : List Cell) (low high : List ℕ) (p n : ℕ) → IsIndexed cells (low ++ high) → All (λ q. q < p) (low ++ high) → high ≡ [] → n ≡ length low
     → covered ≡ take (p / 64 + 1) cells ++ replicate (p / 64 + 1 - length cells) (record { bits = 0; before = n }) → IsIndexed covered (low ++ high) × (length covered ≡ p / 64 + 1)
 covered cells whole low high p n indexed below none count made =

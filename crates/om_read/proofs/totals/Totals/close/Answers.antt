@@ -11,7 +11,7 @@ use Rattle.std.specs.Prelude.{IsErr}
 use Rattle.om_read.proofs.totals.Totals.close.Goals as goal
 use Rattle.om_read.proofs.totals.Totals.close.Goals.{After-end}
 
--- what the call of `end` answers is what all these steps answer
+-- The result of `end` is the result of all closing steps.
 closed : (c : After-end) → answered c.end.result ≡ progress (length c.args.rest.now + 1) (closing_steps (context_of c.args.self.now) c.args.kind.kind c.args.rest.now)
 closed c =
     let c' : Context = context_of c.args.self.now in

@@ -12,7 +12,7 @@ use Rattle.om_read.proofs.totals.Totals.judge.Goals.{After-steps, In_ok-next-in-
 kind_is : (c : After-steps) → kind_of (get_or c.args.bytes.now 0 0) ≡ Ok c.in-Ok.kind
 kind_is c = search rules
 
--- what the steps answer is what the token's steps come to
+-- The result of `steps` is the result of the token's steps.
 steps_are : (c : After-steps) → answered c.steps.result ≡ progress (length c.args.bytes.now) (token_steps (context_of c.args.self.now) c.args.bytes.now)
 steps_are c =
     c.steps.ensures.steps
@@ -33,7 +33,7 @@ returns-in-Err c =
     let r = c.code_refusal.ensures in
     cc
 
--- how many bytes the token has
+-- The length of the token in bytes.
 length_is : (c : In_ok-next-in-Ok) → c.in_ok-next-in-Ok.next.taken ≡ c.args.self.now.taken + raw_length c.args.bytes.now
 length_is c =
     let len = bytes_length c.args.bytes.now c.in-Ok.kind c.requires.some (search rules) in

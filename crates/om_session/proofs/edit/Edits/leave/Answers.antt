@@ -3,7 +3,7 @@ use Rattle.std.specs.Prelude.{unwrap_or}
 use Rattle.om_session.proofs.EarlierLemmas.{used_up_to, used_within}
 use Rattle.om_session.proofs.edit.Edits.leave.Goals as goal
 
--- no line of the value, and none that copies from it into a later one
+-- No line edits the value, and none copies from it into a later value.
 pub returns-in-None : goal.returns-in-None
 returns-in-None c =
     let lines = c.args.self.script.now.lines in
