@@ -1,11 +1,11 @@
 #!/usr/bin/env bash
-# Tries every wrong body that is written down: those of crates/*/must-fail, which the gate tries too, and those of
-# crates/*/edits, which it does not. The prover of its own crate has to refuse each.
+# Tries every mutant: those of crates/*/must-fail, which the gate tries too, and those of crates/*/edits, which it does not.
+# A mutant is a wrong body. The prover of its own crate has to refuse it.
 #
-#   tools/try_edits.sh [CRATE ..]        all crates that have edits, or these
+#   tools/try_edits.sh [CRATE ..]        all crates that have mutants, or these
 #
-# It works on a copy of what git tracks here, as it stands in the working tree, with the edits of both folders in must-fail/,
-# and begins with what `rt check` kept on this machine. The last line counts; the status is 1 where an edit is not refused,
+# It works on a copy of what git tracks here, as it stands in the working tree, with the mutants of both folders in must-fail/,
+# and begins with what `rt check` kept on this machine. The last line counts; the status is 1 where a mutant is not refused,
 # was not tried or cannot be applied, and 2 where there is no such crate.
 set -u
 cd "$(dirname "$0")/.." || exit 2
@@ -26,7 +26,7 @@ for folder in crates/*/edits; do
     [ -d "$folder" ] || continue
     mkdir -p "${folder%edits}must-fail"
     mv -n "$folder"/*.edit "${folder%edits}must-fail/"
-    rmdir "$folder" || { echo "try_edits: an edit of $folder has the name of one of must-fail" >&2; exit 1; }
+    rmdir "$folder" || { echo "try_edits: a mutant of $folder has the name of one of must-fail" >&2; exit 1; }
 done
 
 crates=("$@")
@@ -36,5 +36,5 @@ status=${PIPESTATUS[0]}
 refused=$(grep -c ': refused, as it must be' "$copy/told")
 names=$(grep -c 'only because a proof file names' "$copy/told")
 wrong=$(grep -cE ': (NOT REFUSED|NOT TRIED|BAD EDIT)' "$copy/told")
-echo "$refused edits refused ($names only since a name is gone), $wrong not"
+echo "$refused mutants refused ($names only since a name is gone), $wrong not"
 [ "$status" -eq 0 ] && [ "$wrong" -eq 0 ]
