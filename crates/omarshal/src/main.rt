@@ -1,21 +1,34 @@
-//! The program. It creates the real input, files and output sinks, and runs the command-line
-//! arguments.
+//! The program: makes the real input, files and outputs, and calls `run` with the arguments.
+//!
+//! It owns `main` and the few functions around it. It passes the arguments after the program's
+//! name to `run` of `session`, and ends with the status that `run` returns. If standard input is
+//! closed, each read of it fails (`MaybeClosed`).
+//!
+//! Promises: `arguments_after` returns the arguments in their order, without the first.
+//! `exit_code` returns the exit code whose number is the number of the status. `exit` writes the
+//! line of a run whose arguments could not be read and returns its status, or the status for a
+//! line that could not be written whole.
+//!
+//! Leaves out: everything about commands (`session`) and the implementations of input, files and
+//! outputs (`base_io`). `main`, `read_arguments` and `standard_input` have no contract: that
+//! `main` hands the arguments and the real environment to `run` and ends with its status is read
+//! in the code and trusted.
 #![tactic(auto)]
 
 ghost use Rattle.std.specs.Prelude.{◌≡◌, ◌≢◌, drop, IfOk};
 ghost use Rattle.std.specs.Process.{exit_status};
 ghost use Rattle.std.specs.Vec.Iter.{into_iter_items};
 ghost use Rattle.std.specs.declared.io.ErrorKind.TheVariants as kinds;
-ghost use Rattle.om_outcome.specs.declared.stop.Stop.TheVariants.{Usage as usage};
-ghost use Rattle.om_outcome.specs.declared.stop.Stop.TheVariants.{Memory as out_of_memory};
-ghost use Rattle.om_outcome.specs.Status.{code_of};
-ghost use Rattle.om_edge.specs.State.{change};
-ghost use Rattle.omarshal.specs.Ending.{Says};
+ghost use Rattle.cli_spec.specs.declared.exit.Exit.TheVariants.{Usage as usage};
+ghost use Rattle.cli_spec.specs.declared.exit.Exit.TheVariants.{Memory as out_of_memory};
+ghost use Rattle.cli_spec.specs.Status.{code_of};
+ghost use Rattle.base_io.specs.State.{change};
+ghost use Rattle.omarshal.specs.Ending.{Outputs};
 
-use om_edge::{DiskFiles, MaybeClosed, Sink, StdSink, StdSource};
-use om_outcome::status::Status;
-use om_session::run;
-use om_stops::report::report;
+use base_io::{DiskFiles, MaybeClosed, Sink, StdSink, StdSource};
+use cli_errors::report::report;
+use cli_spec::status::Status;
+use session::run;
 use std::alloc::{AllocError, Global};
 use std::env;
 use std::env::Args;
@@ -24,11 +37,11 @@ use std::os::fd::AsFd;
 use std::process::ExitCode;
 
 /// Writes the error line of a run whose arguments could not be read, and returns its status.
-fn stop<K: Sink>(err: &mut K, kind: ErrorKind) -> Status
+fn exit<K: Sink>(err: &mut K, kind: ErrorKind) -> Status
     ensures memory { kind ≡ kinds.OutOfMemory
-        → Says out_of_memory (change (K.state err.old) (K.state err.new)) result }
+        → Outputs out_of_memory (change (K.state err.old) (K.state err.new)) result }
     ensures others { kind ≢ kinds.OutOfMemory
-        → Says usage (change (K.state err.old) (K.state err.new)) result }
+        → Outputs usage (change (K.state err.old) (K.state err.new)) result }
 {
     match kind {
         ErrorKind::OutOfMemory => report(err, b"omarshal: out of memory\n", Status::Memory),
@@ -37,22 +50,22 @@ fn stop<K: Sink>(err: &mut K, kind: ErrorKind) -> Status
 }
 
 /// Returns the arguments after the first, in order.
-fn words_after(alloc: Global, mut args: Args) -> Result<Vec<String>, AllocError>
-    ensures { IfOk result (λ words. words.items ≡ drop 1 (into_iter_items args)) }
+fn arguments_after(alloc: Global, mut args: Args) -> Result<Vec<String>, AllocError>
+    ensures { IfOk result (λ arguments. arguments.items ≡ drop 1 (into_iter_items args)) }
 {
     let _name = args.next();
-    let mut words = Vec::new(alloc);
-    'words: while let Some(word) = args.next() {
-        words.push(word)?;
+    let mut arguments = Vec::new(alloc);
+    'arguments: while let Some(word) = args.next() {
+        arguments.push(word)?;
     }
-    Ok(words)
+    Ok(arguments)
 }
 
 /// Returns the arguments after the program name.
-fn read_words(rt: &HostRuntime) -> Result<Vec<String>, ErrorKind> {
+fn read_arguments(rt: &HostRuntime) -> Result<Vec<String>, ErrorKind> {
     match env::args(rt) {
-        Ok(args) => match words_after(rt.alloc(), args) {
-            Ok(words) => Ok(words),
+        Ok(args) => match arguments_after(rt.alloc(), args) {
+            Ok(arguments) => Ok(arguments),
             Err(_) => Err(ErrorKind::OutOfMemory),
         },
         Err(error) => Err(error.kind()),
@@ -78,16 +91,16 @@ fn exit_code(status: Status) -> ExitCode
 
 fn main(rt: HostRuntime) -> ExitCode {
     let mut err = StdSink::new(rt.stderr());
-    let words = match read_words(&rt) {
-        Ok(words) => words,
-        Err(kind) => return exit_code(stop(&mut err, kind)),
+    let arguments = match read_arguments(&rt) {
+        Ok(arguments) => arguments,
+        Err(kind) => return exit_code(exit(&mut err, kind)),
     };
     let mut input = StdSource::new(standard_input(&rt));
     let mut out = StdSink::new(rt.stdout());
     let mut files = DiskFiles::new(rt.alloc(), &rt);
     exit_code(run(
         rt.alloc(),
-        words.as_slice(),
+        arguments.as_slice(),
         &mut input,
         &mut files,
         &mut out,

@@ -1,0 +1,10 @@
+//! Converts the position of a byte in a text to a line and a column, both counted from 1, and
+//! prints positions. The law `LinesReportPositions` says that line and column determine the
+//! position. Columns count bytes, not characters.
+
+mod laws;
+mod positions;
+mod spot;
+
+pub use laws::{first_lines_count, lines_report_positions};
+pub use positions::Positions;

@@ -1,0 +1,89 @@
+//! The reasons why bytes are refused as a value.
+
+ghost use Rattle.std.specs.Prelude.{◌≡◌};
+ghost use Rattle.base_data.specs.declared.model.refusal.ReadRefusal.TheVariants as refusals;
+
+use crate::model::Memory;
+use std::alloc::{AllocError, AllocFailed};
+
+/// The number in a header that exceeds its limit.
+#[derive(Clone, Copy, Debug, PartialEq, Eq)]
+pub enum Stated {
+    Words,
+    Length,
+}
+
+/// The sum of words on 32 bits or on 64 bits.
+#[derive(Clone, Copy, Debug, PartialEq, Eq)]
+pub enum WordSum {
+    W32,
+    W64,
+}
+
+/// The reason why bytes are not a value. In a variant with an offset, the first number is the
+/// offset in bytes from the header's first byte.
+#[derive(Clone, Copy, Debug)]
+pub enum ReadRefusal {
+    /// The first four bytes are no magic number: those bytes.
+    BadMagic(u32),
+    /// The magic number is that of compressed data.
+    Compressed,
+    /// A number in the header is too large: which number, its value, and the limit.
+    TooLarge(Stated, u64, u64),
+    /// A code does not begin a token: the offset and the code.
+    BadCode(u64, u8),
+    /// A code of a code pointer or infix pointer: the offset and the code.
+    PointerCode(u64, u8),
+    /// A custom block that is not read: the offset and the code.
+    OtherCustom(u64, u8),
+    /// A block has a tag above 243: the offset and the tag.
+    BadTag(u64, u8),
+    /// A reference leads to no earlier object: the offset in bytes, the reference's offset, and the
+    /// number of objects so far.
+    BadShared(u64, u64, u64),
+    /// A reference occurs in a value whose header counts no objects.
+    NoTable(u64),
+    /// The kind byte of a `Nativeint` is invalid: the offset and the byte.
+    BadNative(u64, u8),
+    /// An integer does not fit 63 bits: the offset and the integer.
+    IntRange(u64, i64),
+    /// A double array has no elements.
+    ZeroArray(u64),
+    /// More is needed than there are data bytes left: the offset, the number needed, and the number
+    /// left.
+    Overlong(u64, u128, u64),
+    /// A sum of words differs from the header: the offset, which sum, the header's number, and the
+    /// sum.
+    SizeMismatch(u64, WordSum, u64, u64),
+    /// The number of objects differs from the header: the offset, the header's number, and the
+    /// objects found.
+    CountMismatch(u64, u64, u64),
+    /// Data bytes are left after the value: the offset and the number of bytes left.
+    LengthMismatch(u64, u64),
+    /// An allocation failed.
+    Memory,
+}
+
+impl From<Memory> for ReadRefusal {
+    ghost from_gives = { λ _ e. e ≡ refusals.Memory };
+
+    fn from(_: Memory) -> ReadRefusal {
+        ReadRefusal::Memory
+    }
+}
+
+impl From<AllocError> for ReadRefusal {
+    ghost from_gives = { λ _ e. e ≡ refusals.Memory };
+
+    fn from(_e: AllocError) -> ReadRefusal {
+        ReadRefusal::Memory
+    }
+}
+
+impl<T: Drop> From<AllocFailed<T>> for ReadRefusal {
+    ghost from_gives = { λ _ e. e ≡ refusals.Memory };
+
+    fn from(_e: AllocFailed<T>) -> ReadRefusal {
+        ReadRefusal::Memory
+    }
+}

@@ -1,0 +1,3 @@
+mod Write
+mod Lookup
+pub mod WritesLemmas

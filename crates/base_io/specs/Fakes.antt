@@ -1,0 +1,86 @@
+-- Models of the fakes in memory: the bytes, and the numbers of the calls that fail.
+use Rattle.std.specs.Prelude.{ℕ, ◌+◌, ◌<◌, ◌≤◌, min, Bool, List, [], map, drop, length}
+use Rattle.std.specs.Prelude.{slice_index_or, Contains, Option, Some, None, IfSome, String}
+use Rattle.std.specs.Prelude.{string_bytes, Vec}
+use Rattle.std.specs.declared.alloc.Global.{Global}
+use Rattle.base_io.specs.Faults.{last_count, count_after}
+use Rattle.base_io.specs.Files.{File}
+use Rattle.base_io.specs.State.{ByteState, FilesState}
+
+-- The calls of one kind: the numbers of the calls that fail, the number of the next call, and the
+-- number of failed calls.
+pub record Plan : Type 0 where
+  pub failing : List ℕ
+  pub calls : ℕ
+  pub faults : ℕ
+
+-- The next call fails.
+abbrev pub FailsNext : Plan → Type 0
+FailsNext plan = Contains plan.failing plan.calls
+
+-- The plan after one more call, which failed or not.
+abbrev pub after_call : Plan → Bool → Plan
+after_call plan failed = record {
+  failing = plan.failing;
+  calls = min (plan.calls + 1) last_count;
+  faults = count_after plan.faults failed;
+}
+
+-- A plan before the first call.
+abbrev pub plan_of : List ℕ → Plan
+plan_of failing = record { failing = failing; calls = 0; faults = 0 }
+
+-- A source in memory: the remaining bytes, and the maximum number of bytes that a call returns.
+pub record SourceValue : Type 0 where
+  pub left : List ℕ
+  pub chunk : ℕ
+  pub takes : Plan
+
+-- A sink in memory: the bytes written, and its capacity in bytes.
+pub record SinkValue : Type 0 where
+  pub written : List ℕ
+  pub room : ℕ
+  pub writes : Plan
+
+-- Files in memory: the map, the remaining bytes of the file fetched last, and the name of the last
+-- failed fetch.
+pub record FilesValue : Type 0 where
+  pub files : List File
+  pub left : List ℕ
+  pub fetches : Plan
+  pub reads : Plan
+  pub last_open_fault : Option (List ℕ)
+
+-- ---- as a source, a sink and files
+
+abbrev pub source_state : SourceValue → ByteState
+source_state source = record { bytes = Some source.left; faults = source.takes.faults }
+
+abbrev pub sink_state : SinkValue → ByteState
+sink_state sink = record { bytes = Some sink.written; faults = sink.writes.faults }
+
+abbrev pub files_state : FilesValue → FilesState
+files_state files = record {
+  map = Some files.files;
+  left = Some files.left;
+  open_faults = files.fetches.faults;
+  last_open_fault = files.last_open_fault;
+  read_faults = files.reads.faults;
+}
+
+-- ---- the files of the pairs
+
+-- The names and bytes of the pairs.
+abbrev pub files_of : List (String Global × Vec ℕ Global) → List File
+files_of pairs = map (λ pair. (string_bytes pair.0, pair.1.items)) pairs
+
+-- The bytes of the file at an index, from `offset` to the end. The result is empty if there is no
+-- file.
+abbrev pub left_at : List File → Option ℕ → ℕ → List ℕ
+left_at files None offset = []
+left_at files (Some index) offset = drop offset (slice_index_or files index ([], [])).1
+
+-- The index is that of a file, and the offset is within its bytes.
+abbrev pub IsWithin : List File → Option ℕ → ℕ → Type 0
+IsWithin files index offset =
+    IfSome index (λ k. (k < length files) × (offset ≤ length (slice_index_or files k ([], [])).1))

@@ -1,0 +1,44 @@
+-- The effect of `write` and `write_all` on the bytes written, if these are known.
+use Rattle.std.specs.Prelude.{◌≡◌, ℕ, ◌<◌, ◌≤◌, List, ◌++◌, length, take, Option, Some, is_some}
+use Rattle.std.specs.Prelude.{is_err, Result, Ok, Err, IfOk, OnErr, IfSome, true, false}
+use Rattle.base_io.specs.Faults.{HasCause}
+use Rattle.base_io.specs.State.{ByteState, Change}
+use Rattle.base_io.specs.declared.sink.WriteError.{WriteError}
+use Rattle.base_io.specs.declared.sink.WriteError.TheVariants.{Fault, Memory}
+
+-- A call returns a number `n` that is at most the length of the chunk. If the chunk is not empty,
+-- `n` is at least 1. If the bytes are known, the first `n` bytes of the chunk were appended. A
+-- failed call appends nothing. The count of faults shows whether the call failed.
+pub record AppendsPrefix {E : Type 0} (before after : ByteState) (result : Result ℕ E)
+    (chunk : List ℕ) : Type 0 where
+  pub within : IfOk result (λ n. n ≤ length chunk)
+  pub some : 0 < length chunk → IfOk result (λ n. 0 < n)
+  pub appended : IfOk result
+      (λ n. IfSome before.bytes (λ bytes. after.bytes ≡ Some (bytes ++ take n chunk)))
+  pub failed : OnErr result (after.bytes ≡ before.bytes)
+  pub known : is_some after.bytes ≡ is_some before.bytes
+  pub cause : HasCause before.faults after.faults (is_err result)
+
+-- The old bytes followed by a proper prefix of the chunk.
+abbrev pub AppendsPart : List ℕ → List ℕ → Option (List ℕ) → Type 0
+AppendsPart bytes chunk after =
+    (n : ℕ) × (n < length chunk) × (after ≡ Some (bytes ++ take n chunk))
+
+-- The whole text was written.
+pub record Writes (sink : Change ByteState) (text : List ℕ) : Type 0 where
+  pub appended : IfSome sink.before.bytes (λ bytes. sink.after.bytes ≡ Some (bytes ++ text))
+  pub known : is_some sink.after.bytes ≡ is_some sink.before.bytes
+  pub cause : HasCause sink.before.faults sink.after.faults false
+
+-- A call failed, and a proper prefix of the text was written.
+pub record WritesPart (sink : Change ByteState) (text : List ℕ) : Type 0 where
+  pub appended : IfSome sink.before.bytes (λ bytes. AppendsPart bytes text sink.after.bytes)
+  pub known : is_some sink.after.bytes ≡ is_some sink.before.bytes
+  pub cause : HasCause sink.before.faults sink.after.faults true
+
+-- Either the whole text was written, or a call failed and a proper prefix was written. If memory
+-- ran out, nothing is specified here.
+abbrev pub WritesOrFails : {A : Type 0} → Change ByteState → List ℕ → Result A WriteError → Type 0
+WritesOrFails sink text (Ok done) = Writes sink text
+WritesOrFails sink text (Err Fault) = WritesPart sink text
+WritesOrFails sink text (Err Memory) = Unit {0}

@@ -1,0 +1,24 @@
+-- The effect of `take` on the remaining bytes, if these are known.
+use Rattle.std.specs.Prelude.{◌≡◌, ◌↔◌, ℕ, ◌<◌, ◌≤◌, List, [], length, take, drop, Option, Some}
+use Rattle.std.specs.Prelude.{is_some, is_err, Result, IfOk, OnErr, IfSome}
+use Rattle.base_io.specs.Faults.{HasCause}
+use Rattle.base_io.specs.State.{ByteState}
+
+-- The next `n` bytes were moved to the start of the buffer. If the buffer is not empty, then `n` is
+-- 0 if and only if no bytes remain.
+pub record Moves (bytes : List ℕ) (n : ℕ) (buffer : List ℕ) (after : Option (List ℕ)) : Type 0 where
+  pub enough : n ≤ length bytes
+  pub prefix : take n buffer ≡ take n bytes
+  pub rest : after ≡ Some (drop n bytes)
+  pub ends : 0 < length buffer → (n ≡ 0 ↔ bytes ≡ [])
+
+-- A call returns a number `n` that is at most the length of the buffer. If the bytes are known, the
+-- next `n` bytes were moved. A failed call moves nothing. The count of faults shows whether the
+-- call failed.
+pub record TakesPrefix {E : Type 0} (before after : ByteState) (result : Result ℕ E)
+    (buffer : List ℕ) : Type 0 where
+  pub within : IfOk result (λ n. n ≤ length buffer)
+  pub moved : IfOk result (λ n. IfSome before.bytes (λ bytes. Moves bytes n buffer after.bytes))
+  pub failed : OnErr result (after.bytes ≡ before.bytes)
+  pub known : is_some after.bytes ≡ is_some before.bytes
+  pub cause : HasCause before.faults after.faults (is_err result)

@@ -1,0 +1,88 @@
+//! Access to files by name.
+
+ghost use Rattle.std.specs.Prelude.{◌≡◌, [], None, is_some, IsSome, IsSomeAnd, IfSome, OnOk, OnErr};
+ghost use Rattle.std.specs.Prelude.{IsErrOf};
+ghost use Rattle.std.specs.Bool.{OnTrue, OnFalse};
+ghost use Rattle.base_io.specs.Faults.{HasCause};
+ghost use Rattle.base_io.specs.Source.{TakesPrefix};
+ghost use Rattle.base_io.specs.State.{FilesState, as_source};
+
+use crate::Failed;
+use base_data::model::Memory;
+use std::alloc::AllocError;
+use thiserror::Error;
+
+/// The reason why a file was not opened. `Missing` means that there is no such file, `Failed` that
+/// it cannot be opened.
+#[derive(Clone, Copy, Debug, PartialEq, Eq, Error)]
+pub enum OpenError {
+    #[error("the file cannot be opened")]
+    Failed,
+    #[error("there is no such file")]
+    Missing,
+    #[error("out of memory")]
+    Memory,
+}
+
+impl From<Memory> for OpenError {
+    ghost use Rattle.std.specs.Prelude.{◌≡◌};
+    ghost use Rattle.base_io.specs.declared.files.OpenError.TheVariants.{Memory as OutOfMemory};
+
+    ghost from_gives = { λ _ e. e ≡ OutOfMemory };
+
+    fn from(_: Memory) -> Self {
+        OpenError::Memory
+    }
+}
+
+impl From<AllocError> for OpenError {
+    ghost use Rattle.std.specs.Prelude.{◌≡◌};
+    ghost use Rattle.base_io.specs.declared.files.OpenError.TheVariants.{Memory as OutOfMemory};
+
+    ghost from_gives = { λ _ e. e ≡ OutOfMemory };
+
+    fn from(_: AllocError) -> Self {
+        OpenError::Memory
+    }
+}
+
+/// Access to files by name. `fetch` opens one file at a time; then `take` reads its bytes.
+pub trait Opener {
+    ghost use Rattle.base_io.specs.Files.{contents_of, Opens, has_failed};
+
+    /// The map from names to bytes and the remaining bytes of the file fetched last, if they are
+    /// known; the number of failed fetches, the name of the last failed fetch, and the number of
+    /// failed takes.
+    ghost state: { Self → FilesState };
+
+    /// Reads the next bytes of the file fetched last, as `Source::take` does.
+    fn take(&mut self, buf: &mut [u8]) -> Result<usize, Failed>
+        ensures takes { TakesPrefix (as_source (state self.old)) (as_source (state self.new))
+            result buf.new }
+        ensures frame { state self.new ≡ record (state self.old) {
+          left = (state self.new).left;
+          read_faults = (state self.new).read_faults;
+        } };
+
+    /// Opens the file with this name, so that `take` reads its bytes. If `fetch` returns an error,
+    /// then no bytes remain.
+    fn fetch(&mut self, name: &str) -> Result<(), OpenError>
+        ensures opened { OnOk result
+            (IfSome (state self.old).map (λ all. Opens all name.now (state self.new).left)) }
+        ensures refused { OnErr result
+            (IsSome (state self.old).map → (state self.new).left ≡ Some []) }
+        ensures missing { IsErrOf result OpenError.Missing →
+            IsSomeAnd (state self.old).map (λ all. contents_of all name.now ≡ None) }
+        ensures cause { HasCause (state self.old).open_faults (state self.new).open_faults
+            (has_failed result) }
+        ensures named { OnTrue (has_failed result)
+            ((state self.new).last_open_fault ≡ Some name.now) }
+        ensures last { OnFalse (has_failed result)
+            ((state self.new).last_open_fault ≡ (state self.old).last_open_fault) }
+        ensures known { is_some (state self.new).left ≡ is_some (state self.old).left }
+        ensures frame { state self.new ≡ record (state self.old) {
+          left = (state self.new).left;
+          open_faults = (state self.new).open_faults;
+          last_open_fault = (state self.new).last_open_fault;
+        } };
+}

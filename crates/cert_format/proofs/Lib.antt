@@ -1,0 +1,13 @@
+pub mod NumberLemmas
+pub mod SectionLemmas
+pub mod CutLemmas
+pub mod TextLemmas
+pub mod LineLemmas
+pub mod FaultLemmas
+pub mod HeadLemmas
+pub mod ReadLemmas
+pub mod StemLemmas
+pub mod RunLemmas
+pub mod WriteLemmas
+pub mod SinkLemmas
+pub mod ComingLemmas

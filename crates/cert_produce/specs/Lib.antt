@@ -1,0 +1,3 @@
+pub mod LeastFaults
+pub mod Certified
+pub mod Laws

@@ -1,0 +1,15 @@
+//! The laws of this crate, as contracts of lemma functions.
+
+ghost use Rattle.cert_produce.specs.Laws.{CertifiedAreAccepted, CertifiedAreShown, CertifiedAreOne};
+
+/// If a certificate entry is that of a value, then the verifier accepts it, and the verifier's
+/// answer is what the entry shows.
+pub fn certified_sections_are_accepted()
+    ensures accepted { CertifiedAreAccepted }
+    ensures shown { CertifiedAreShown }
+{}
+
+/// A value has only one certificate entry.
+pub fn certified_sections_are_one()
+    ensures { CertifiedAreOne }
+{}

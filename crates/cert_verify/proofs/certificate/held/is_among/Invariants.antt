@@ -1,0 +1,10 @@
+use Rattle.std.proofs.Common.{◌-◌, length}
+use Rattle.types_table.specs.type_table.Made.{table_of}
+use Rattle.cert_verify.specs.certificate.Testing.{IsPassing, IsSame}
+use Rattle.cert_verify.proofs.certificate.held.is_among.Given as goal
+
+abbrev pub invariant-loop-at : goal.invariant-loop-at
+invariant-loop-at l = IsPassing l.pairs l.object l.at (λ u. IsSame (table_of l.table) u l.ty)
+
+abbrev pub decreases-loop-at : goal.decreases-loop-at
+decreases-loop-at l = length l.pairs - l.at

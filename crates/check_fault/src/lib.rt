@@ -1,0 +1,37 @@
+//! Follows paths in a value by a table of types, decides if something is a fault, and prints
+//! faults.
+//!
+//! It owns `Tried` (a value with the number of a type of a table), `Near` and `Way` (a mismatch
+//! near the root), and the functions that print. The text of a fault is defined in `types_spec`
+//! (`VerdictText`).
+//!
+//! Promises: `walk` returns the value at the end of a path and the number of its type, or `None`
+//! if the path leads nowhere; `step` does so for one step of a path. `is_fault` returns true if
+//! and only if the value has the fault at the type, and takes no memory. `fault_text` and
+//! `write_fault` print a fault of the value: the paths, the types and what was found there.
+//! `find_near` returns a mismatch only if it is the least fault; if it returns `None`, nothing is
+//! known. `write_missed` prints a mismatch that was found without a heap, and `write_near` one
+//! near the root. `texts_are_of_types`: the text of a fault by the numbers of a table is the text
+//! by their types.
+//!
+//! Leaves out: the search for the least fault (`check_heap`, `check_stream`), the `no` before
+//! the fault on the line (`run_types`), and the text of a value (`text_print`). `is_fault` does
+//! not decide if a fault is the least.
+#![tactic(auto)]
+
+mod fault;
+pub mod laws;
+mod missed;
+mod near;
+mod order;
+mod steps;
+mod text;
+mod tried;
+mod write;
+
+pub use fault::is_fault;
+pub use missed::write_missed;
+pub use near::{Near, Way, find_near};
+pub use steps::{step, walk};
+pub use text::{fault_text, write_fault, write_near};
+pub use tried::Tried;

@@ -1,0 +1,66 @@
+//! The text of a type mismatch that was found without building a heap.
+
+ghost use Rattle.std.specs.Prelude.{◌≡◌, ◌<◌, ◌++◌, length, map, OnOk};
+ghost use Rattle.base_data.specs.model.PathText.{path_text};
+ghost use Rattle.check_stream.specs.search.Judge.{summary_text};
+ghost use Rattle.check_stream.specs.search.Line.{found_text};
+ghost use Rattle.check_fault.specs.Text.{text_at};
+
+use crate::text::write_type;
+use crate::write::{write, write_atom, write_int, write_object, write_step};
+use base_data::model::Memory;
+use base_data::model::code::CustomKind;
+use check_stream::search::{Found, Link, Summary};
+use marshal_heap::heap::Kind;
+use std::alloc::Global;
+use types_table::type_table::TypeTable;
+
+/// Appends the path of the mismatch, the expected type, and what was found.
+pub fn write_missed(
+    text: &mut Vec<u8>,
+    alloc: Global,
+    table: &TypeTable,
+    found: &Found,
+) -> Result<(), Memory>
+    requires number { found.now.ty < length table.now.nodes }
+    ensures { OnOk result
+        (text.new.items ≡ text.old.items ++ found_text (text_at table.now) found.now) }
+{
+    write_links(text, found.links.as_slice())?;
+    write(text, b": expected ")?;
+    write_type(text, alloc, table, found.ty)?;
+    write(text, b", found ")?;
+    write_summary(text, found.summary)
+}
+
+/// Appends the path of these links.
+fn write_links(text: &mut Vec<u8>, links: &[Link]) -> Result<(), Memory>
+    ensures { OnOk result
+        (text.new.items ≡ text.old.items ++ path_text (map (λ link. link.field) links.now)) }
+{
+    if links.is_empty() {
+        return write(text, b".");
+    }
+    for link in links {
+        write_step(text, u64::from(link.field))?;
+    }
+    Ok(())
+}
+
+/// Appends the description of a token.
+fn write_summary(text: &mut Vec<u8>, summary: Summary) -> Result<(), Memory>
+    ensures { OnOk result (text.new.items ≡ text.old.items ++ summary_text summary) }
+{
+    match summary {
+        Summary::Integer(n) => write_int(text, n),
+        Summary::Atom(tag) => write_atom(text, tag),
+        Summary::Shared(_) => Ok(()),
+        Summary::Block(tag, size) => write_object(text, Kind::Block(tag, size)),
+        Summary::Bytes(len) => write_object(text, Kind::Bytes(len)),
+        Summary::Double => write_object(text, Kind::Double),
+        Summary::Doubles(len) => write_object(text, Kind::Doubles(len)),
+        Summary::Custom(CustomKind::Int32) => write(text, b"int32"),
+        Summary::Custom(CustomKind::Int64) => write(text, b"int64"),
+        Summary::Custom(CustomKind::Native) => write(text, b"nativeint"),
+    }
+}

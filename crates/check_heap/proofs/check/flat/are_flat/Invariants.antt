@@ -1,0 +1,15 @@
+use Rattle.std.proofs.Common.{◌≡◌, drop}
+use Rattle.base_data.specs.declared.model.value.Val.TheVariants as vals
+use Rattle.types_spec.specs.types.Table.{typed_fields}
+use Rattle.types_table.specs.type_table.Made.{table_of}
+use Rattle.check_heap.proofs.check.FlatLemmas.{IsPartly}
+use Rattle.check_heap.specs.check.Flat.{last_of_all}
+use Rattle.check_heap.proofs.check.flat.are_flat.Given as goal
+
+-- The parts so far are justified, and the others must be flat.
+abbrev pub invariant-loop-k : goal.invariant-loop-k
+invariant-loop-k l =
+    let table = table_of l.table in
+    let parts = typed_fields table l.heap (vals.Ref l.object) 0 in
+    IsPartly table l.heap l.object l.last l.k
+    × (last_of_all table l.heap l.object (drop l.k parts) l.last ≡ last_of_all table l.heap l.object parts l.object)

@@ -1,0 +1,14 @@
+pub mod PositionLemmas
+pub mod IncreaseLemmas
+pub mod RowLemmas
+pub mod FieldLemmas
+pub mod NeedLemmas
+pub mod PathLemmas
+pub mod MarkLemmas
+pub mod ScanLemmas
+pub mod StopLemmas
+pub mod NoteLemmas
+pub mod SizeLemmas
+pub mod SetLemmas
+pub mod ClassedLemmas
+pub mod SecondLemmas

@@ -1,0 +1,14 @@
+pub mod Asked
+pub mod Rest
+pub mod Trail
+pub mod Visits
+pub mod Known
+pub mod Explored
+pub mod Search
+pub mod Settled
+pub mod Typing
+pub mod Conflict
+pub mod Verdict
+pub mod ByHand
+pub mod Met
+pub mod Flat

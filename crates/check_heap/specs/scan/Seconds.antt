@@ -1,0 +1,28 @@
+-- Objects at the types at which they were referenced after the first one.
+use Rattle.std.specs.Prelude.{ℕ, ◌≡◌, ◌⊎◌, List, [], ◌∷◌, ◌++◌, map, Some, slice_get, Contains}
+use Rattle.base_data.specs.declared.model.value.Val.TheVariants as vals
+use Rattle.types_spec.specs.types.Table.{Table, table_shapes}
+use Rattle.types_spec.specs.types.Typing.{IsListed}
+use Rattle.types_theory.specs.typing.StepLaws.{AreApart, key_of}
+use Rattle.check_heap.specs.declared.scan.seconds.Seconds.{Seconds}
+use Rattle.check_heap.specs.scan.Classed.{Has}
+
+-- The pairs in the order in which they were added.
+abbrev pub noted_in : Seconds → List (ℕ × ℕ)
+noted_in seconds = seconds.listed
+
+-- `known` contains exactly the classes of the pairs. No object occurs twice at the same class.
+pub record AreSeconds (table : Table) (seconds : Seconds) : Type 0 where
+  pub known : (o t c : ℕ) → Contains (noted_in seconds) (o, t) → slice_get table.classes t ≡ Some c
+      → Has seconds.known o c
+  pub there :
+      (o c : ℕ) → Has seconds.known o c
+      → (t : ℕ) × Contains (noted_in seconds) (o, t) × (slice_get table.classes t ≡ Some c)
+  pub apart : AreApart (map (key_of table) (noted_in seconds))
+
+-- Either the object was present at an equal type and nothing changed, or it was not and the pair
+-- was appended.
+abbrev pub IsNoting : Table → List (ℕ × ℕ) → List (ℕ × ℕ) → ℕ → ℕ → Type 0
+IsNoting table old new o t =
+    (IsListed (table_shapes table) old (vals.Ref o) t × (new ≡ old))
+    ⊎ ((¬ IsListed (table_shapes table) old (vals.Ref o) t) × (new ≡ old ++ (o, t) ∷ []))

@@ -1,0 +1,28 @@
+//! Decides whether a value has a type, which is a number of a type table. `check` returns a typing
+//! that justifies the answer yes (`IsYes`), or the first fault (`IsLeastFault`); both directions
+//! are proved. Its steps are bounded by `most_steps`. `met` returns all objects that the paths of a
+//! well-typed value reach. The crate checks values in a heap, not bytes.
+
+mod asked;
+mod conflict;
+mod decide;
+mod flat;
+mod laws;
+mod meetings;
+mod path;
+mod rest;
+mod search;
+mod settle;
+mod settled;
+mod trail;
+mod typing;
+mod verdict;
+mod visits;
+
+pub use crate::scan::Steps;
+pub use decide::check;
+pub use flat::surely_has;
+pub use laws::items_take_61_steps;
+pub use meetings::{AllMet, met};
+pub use typing::Typing;
+pub use verdict::Verdict;

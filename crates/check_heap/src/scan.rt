@@ -1,0 +1,27 @@
+//! Linear scan of the heap: checks every object once, in address order, at the first type at which
+//! it is referenced. Objects that are referenced at a second type are collected for the caller.
+//! `scan` returns the type of each object (`IsScanned`, `IsScannedBut`). If the scan cannot decide,
+//! it returns what it has checked so far (`AreTaken`). The search that continues from there is not
+//! part of this crate.
+
+mod cells;
+mod classed;
+mod fitting;
+mod listed;
+mod notes;
+mod pairs;
+mod passed;
+mod rows;
+mod seconds;
+mod steps;
+mod straight;
+mod taken;
+
+pub use cells::Cells;
+pub use classed::Classed;
+pub use fitting::fits_type;
+pub use rows::{Fitting, rows_of};
+pub use seconds::Seconds;
+pub use steps::Steps;
+pub use straight::{Noted, Scanned, scan};
+pub use taken::{Taken, Unfit};

@@ -1,0 +1,6 @@
+pub mod PositionLemmas
+pub mod AgainLemmas
+pub mod Weaker
+pub mod ChunkLemmas
+pub mod StateLemmas
+pub mod RunLemmas

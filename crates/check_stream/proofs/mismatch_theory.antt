@@ -1,0 +1,15 @@
+pub mod WayLemmas
+pub mod BridgeLemmas
+pub mod MissLemmas
+pub mod FieldLemmas
+pub mod EndLemmas
+pub mod PlainLemmas
+pub mod PrefixLemmas
+pub mod UnaskedLemmas
+pub mod PlacedLemmas
+pub mod RealLemmas
+pub mod GoodLemmas
+pub mod ReadLemmas
+pub mod LawLemmas
+pub mod StatedLemmas
+pub mod LineLemmas

@@ -1,0 +1,6 @@
+pub mod WayLemmas
+pub mod SummaryLemmas
+pub mod JudgeLemmas
+pub mod ComesLemmas
+pub mod FindLemmas
+pub mod LineLemmas

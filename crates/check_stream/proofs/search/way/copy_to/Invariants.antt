@@ -1,0 +1,6 @@
+use Rattle.std.proofs.Common.{◌≡◌, take}
+use Rattle.check_stream.proofs.search.way.copy_to.Given as goal
+
+-- The links so far are copied.
+abbrev pub invariant-links : goal.invariant-links
+invariant-links l = l.copy.items ≡ take l.link-index l.links

@@ -1,0 +1,2 @@
+pub mod TruncatedLemmas
+pub mod PrefixLemmas

@@ -1,0 +1,5 @@
+use Rattle.check_stream.proofs.truncated.PrefixLemmas.{underway_is_prefix}
+use Rattle.check_stream.proofs.truncated.laws.underway_is_prefix.Goals as goal
+
+pub returns : goal.returns
+returns c = underway_is_prefix

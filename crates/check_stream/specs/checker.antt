@@ -1,0 +1,4 @@
+pub mod Again
+pub mod Fast
+pub mod Positions
+pub mod State

@@ -1,0 +1,21 @@
+-- The state of the pass while it is in local variables.
+use Rattle.std.specs.Prelude.{ℕ, ◌+◌, ◌≡◌, ◌++◌, ◌∷◌, []}
+use Rattle.std.specs.Global.{Vec}
+use Rattle.base_data.specs.declared.model.code.Measure.{Measure}
+use Rattle.marshal_spec.specs.format.Words.{words32, words64}
+use Rattle.check_stream.specs.declared.checker.positions.Open.{Open}
+use Rattle.check_stream.specs.declared.checker.state.State.{State}
+use Rattle.check_stream.specs.declared.checker.words.Words.{Words}
+
+-- The state that consists of the open positions, the types and the words.
+abbrev pub held : Open → Vec Open → Vec ℕ → Words → State
+held now waiting types words =
+    record { positions = record { now = now; waiting = waiting }; types = types; words = words }
+
+-- One more object has this type, and its words are subtracted.
+pub record IsLeafAdded
+    (type : ℕ) (measure : Measure) (old new : Vec ℕ) (before after : Words)
+    : Type 0 where
+  pub types : new.items ≡ old.items ++ type ∷ []
+  pub w32 : after.w32 + words32 measure ≡ before.w32
+  pub w64 : after.w64 + words64 measure ≡ before.w64

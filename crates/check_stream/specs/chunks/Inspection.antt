@@ -1,0 +1,42 @@
+-- The result of a check on the bytes of a value.
+use Rattle.std.specs.Prelude.{ℕ, ◌+◌, ◌<◌, ◌≤◌, ◌≡◌, true, List, length, drop, Option, Some}
+use Rattle.types_spec.specs.types.Table.{Table}
+use Rattle.marshal_spec.specs.format.Prefix.{IsPrefix}
+use Rattle.check_stream.specs.truncated.Truncated.{IsTruncated}
+use Rattle.check_stream.specs.theory.OnePass.{IsTypedPrefix}
+use Rattle.check_stream.specs.checker.State.{IsUnderway}
+use Rattle.check_stream.specs.search.Find.{IsFound, IsSought}
+use Rattle.check_stream.specs.declared.search.mismatch.Found.{Found}
+use Rattle.check_stream.specs.declared.chunks.inspect.Inspecting.{Inspecting}
+use Rattle.check_stream.specs.declared.chunks.inspect.Shown.{Shown}
+use Rattle.check_stream.specs.declared.chunks.inspect.Shown.TheVariants as shown
+
+-- If the pass has begun, then the bytes lead to its state. If the search has begun, then the bytes
+-- lead to its state.
+pub record IsInspecting (table : Table) (limit : ℕ) (bytes : List ℕ) (inspecting : Inspecting)
+    : Type 0 where
+  pub underway : inspecting.begun ≡ true → IsUnderway table limit bytes inspecting.passing
+  pub sought : inspecting.sought ≡ true → IsSought table limit bytes inspecting.seeking
+
+-- The mismatch that was found last.
+abbrev pub missed_in : Inspecting → Option Found
+missed_in inspecting = inspecting.seeking.finding.found
+
+-- What each result implies for all bytes of the value so far, and for the state of the check.
+abbrev pub IsShown : Table → ℕ → List ℕ → Inspecting → Shown → Type 0
+IsShown table limit bytes inspecting (shown.Typed n) = IsTypedPrefix table limit n bytes
+IsShown table limit bytes inspecting (shown.Missed n) =
+    (found : Found) × (missed_in inspecting ≡ Some found)
+    × IsFound table limit n bytes found × (found.ty < length table.nodes)
+IsShown table limit bytes inspecting shown.More =
+    IsPrefix limit bytes × IsInspecting table limit bytes inspecting
+IsShown table limit bytes inspecting shown.Inconclusive = Unit {0}
+
+-- After `n` bytes there is a part of a token. A header that states `stated` bytes has room for that
+-- token and for `most` pending values.
+pub record HasRoomAfter
+    (stated start n few32 few64 : ℕ) (bytes : List ℕ) (most : ℕ)
+    : Type 0 where
+  pub long : ℕ
+  pub truncated : IsTruncated long few32 few64 (drop n bytes)
+  pub room : n + long + most ≤ start + stated + 1

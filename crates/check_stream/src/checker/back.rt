@@ -1,0 +1,95 @@
+//! References back, and one token at the first open position.
+
+ghost use Rattle.std.specs.Prelude.{◌≤◌, ◌<◌, length, take, drop, IfOk, OnOk};
+ghost use Rattle.types_table.specs.type_table.Made.{table_of};
+ghost use Rattle.check_stream.specs.checker.Positions.{need_of};
+ghost use Rattle.check_stream.specs.checker.State.{types_in, IsMarked, TookBack, TookTurn};
+
+use crate::checker::again::reference_at;
+use crate::checker::flat::is_known;
+use crate::checker::positions::Asked;
+use crate::checker::state::State;
+use crate::checker::step::{Answer, step};
+use base_data::model::Memory;
+use types_table::type_table::TypeTable;
+
+/// Appends a mark if 64 more objects were created since the last mark.
+#[inline(always)]
+pub fn mark(marks: &mut Vec<usize>, at: usize, made: usize) -> Result<(), Memory>
+    ensures { OnOk result (IsMarked marks.old.items at made marks.new.items) }
+{
+    if made % 64 == 0 && made / 64 == marks.len() {
+        marks.push(at)?;
+    }
+    Ok(())
+}
+
+/// Checks a reference at this byte against the requirement. Returns its length in bytes, or 0 if
+/// the check fails or is inconclusive.
+#[inline(always)]
+fn back(
+    table: &TypeTable,
+    stated: u64,
+    state: &State<'_>,
+    asked: Asked<'_>,
+    marks: &[usize],
+    notes: &mut Vec<(usize, usize)>,
+    left: &mut u64,
+    bytes: &[u8],
+    at: usize,
+) -> Result<usize, Memory>
+    requires { at ≤ length bytes.now }
+    ensures { IfOk result
+        (λ n. 0 < n
+        → TookBack (table_of table.now) stated (types_in state.now) (take at bytes.now) marks.now
+        notes.old.items notes.new.items (need_of asked.entry) (drop at bytes.now) n) }
+{
+    let Asked::Type(ty) = asked else {
+        return Ok(0);
+    };
+    let Some((offset, n)) = reference_at(&bytes[at..]) else {
+        return Ok(0);
+    };
+    if stated == 0 {
+        return Ok(0);
+    }
+    let prefix = &bytes[..at];
+    let known = is_known(
+        table,
+        state.types.as_slice(),
+        prefix,
+        marks,
+        notes,
+        left,
+        ty,
+        offset,
+    )?;
+    if known { Ok(n) } else { Ok(0) }
+}
+
+/// Checks the token at this byte against the requirement, and adds it to the state. Returns its
+/// length in bytes, or 0 if the check fails or is inconclusive.
+#[inline(never)]
+pub fn turn<'a>(
+    table: &'a TypeTable,
+    stated: u64,
+    state: &mut State<'a>,
+    asked: Asked<'a>,
+    marks: &[usize],
+    notes: &mut Vec<(usize, usize)>,
+    left: &mut u64,
+    bytes: &[u8],
+    at: usize,
+) -> Result<usize, Memory>
+    requires { at ≤ length bytes.now }
+    ensures { IfOk result
+        (λ n. 0 < n
+        → TookTurn (table_of table.now) stated state.old state.new (need_of asked.entry)
+        bytes.now marks.now notes.old.items notes.new.items at n) }
+{
+    match step(table, stated, state, asked, &bytes[at..])? {
+        Answer::Took(n) => Ok(n),
+        Answer::Back => back(table, stated, state, asked, marks, notes, left, bytes, at),
+        Answer::Unfit => Ok(0),
+    }
+}

@@ -1,0 +1,485 @@
+//! The fast path for common tokens. The open positions and the remaining words stay in local
+//! variables, and nothing is allocated.
+
+ghost use Rattle.std.specs.Prelude.{◌≡◌, ◌<◌, ◌≤◌, ◌+◌, ◌++◌, [], ◌^◌, ℕ, List, length, Ok};
+ghost use Rattle.std.specs.Prelude.{◌∷◌, map, IfSome, IsTrue, MatchOption, slice_index};
+ghost use Rattle.std.specs.Prelude.{vec_len, vec_capacity};
+ghost use Rattle.std.specs.Bool.{OnTrue};
+ghost use Rattle.base_data.specs.declared.model.value.Obj.TheVariants as objects;
+ghost use Rattle.types_spec.specs.types.Fitting as fitting;
+ghost use Rattle.marshal_spec.specs.format.Code.{IsKind, kind_of};
+ghost use Rattle.marshal_spec.specs.format.Raw.{fixed_bytes, variable_bytes};
+ghost use Rattle.marshal_spec.specs.format.Token.{block, leaf};
+ghost use Rattle.marshal_codec.specs.headers.Counting.{IsCountable};
+ghost use Rattle.types_table.specs.type_table.Made.{table_of};
+ghost use Rattle.check_stream.specs.theory.Asked.{of_type, shape_at, IsBackAt};
+ghost use Rattle.check_stream.specs.checker.State.{Took, TookChunk, TookPrefix, TookFirst};
+ghost use Rattle.std.specs.Global.{Vec};
+ghost use Rattle.check_stream.specs.declared.checker.positions.Open.{Open};
+ghost use Rattle.check_stream.specs.checker.Fast.{held, IsLeafAdded};
+ghost use Rattle.check_stream.specs.checker.Positions.{open_needs, need_of, waiting_needs};
+ghost use Rattle.check_stream.specs.declared.checker.positions.Open.TheVariants as opens;
+
+use crate::checker::chunk::chunk_len;
+use crate::checker::fits::{
+    fast_positions, fits_fast_int, is_equal, is_wildcard, shape_of, type_at,
+};
+use crate::checker::positions::{Asked, Open, is_done};
+use crate::checker::words::{Words, offset_of, signed_few};
+use base_data::model::code::{CodeKind, Measure};
+use types_spec::types::shape::ShapeOf;
+use types_table::type_table::TypeTable;
+
+/// Returns true if the type of one more object can be stored without allocation, and no mark is
+/// due. The first mark is set when the pass begins.
+#[inline(always)]
+fn has_room(types: &Vec<u16>, ty: usize) -> bool
+    ensures { OnTrue result ((ty < 2 ^ 16) × (vec_len types.now < vec_capacity types.now)) }
+{
+    if ty >= 1 << 16 || types.len() > 0 && types.len() % 64 == 0 {
+        return false;
+    }
+    types.len() < types.capacity()
+}
+
+/// Pushes the open positions on the stack if there are any. Returns false if the stack is full.
+#[tactic(auto, using(crate::proofs::checker::PositionLemmas::waiting_needs_push))]
+#[inline(always)]
+fn keep_reserved<'a>(waiting: &mut Vec<Open<'a>>, others: Open<'a>) -> bool
+    ensures added { IsTrue result
+        → waiting_needs waiting.new.items
+        ≡ open_needs others.entry ++ waiting_needs waiting.old.items }
+    ensures kept { (IsTrue result → ⊥) → waiting.new ≡ waiting.old }
+{
+    if is_done(others) {
+        return true;
+    }
+    if waiting.len() >= waiting.capacity() {
+        return false;
+    }
+    waiting.push_reserved(others);
+    true
+}
+
+/// Reads a block. The positions of its fields precede all others.
+#[inline(always)]
+fn fast_block<'a>(
+    table: &'a TypeTable,
+    ty: usize,
+    others: Open<'a>,
+    tag: u8,
+    size: u64,
+    types: &mut Vec<u16>,
+    waiting: &mut Vec<Open<'a>>,
+    words: &mut Words,
+) -> Option<Open<'a>>
+    requires { size < 2 ^ 60 }
+    ensures { MatchOption result
+        (held others.entry waiting.new types.new words.new
+        ≡ held others.entry waiting.old types.old words.old)
+        (λ now. Took (table_of table.now) (held others.entry waiting.old types.old words.old)
+        (held now waiting.new types.new words.new) (of_type ty) (block tag size)) }
+{
+    let Some(shape) = shape_of(table, ty) else {
+        return None;
+    };
+    let Some(inside) = fast_positions(shape, ty, tag, size) else {
+        return None;
+    };
+    if words.w32 <= size || words.w64 <= size || !has_room(types, ty) {
+        return None;
+    }
+    if !keep_reserved(waiting, others) {
+        return None;
+    }
+    types.push_reserved(ty as u16);
+    words.w32 -= 1 + size;
+    words.w64 -= 1 + size;
+    Some(inside)
+}
+
+/// Returns true if an integer has the type.
+#[inline(always)]
+fn is_fast_int(table: &TypeTable, ty: usize, z: i64) -> bool
+    ensures { OnTrue result (IsTrue (fitting.fits_int (shape_at (table_of table.now) ty) z)) }
+{
+    match shape_of(table, ty) {
+        Some(shape) => fits_fast_int(shape, z),
+        None => false,
+    }
+}
+
+/// Reads an object without fields, if there is room for it.
+#[inline(always)]
+fn fast_leaf(ty: usize, measure: Measure, types: &mut Vec<u16>, words: &mut Words) -> bool
+    requires { IsCountable measure }
+    ensures added { IsTrue result → IsLeafAdded ty measure types.old types.new words.old words.new }
+    ensures kept { (IsTrue result → ⊥) → (types.new ≡ types.old) × (words.new ≡ words.old) }
+{
+    if !has_room(types, ty) {
+        return false;
+    }
+    let Some(left) = words.after(measure) else {
+        return false;
+    };
+    *words = left;
+    types.push_reserved(ty as u16);
+    true
+}
+
+/// Reads a string of `size` bytes.
+#[inline(always)]
+fn fast_bytes(
+    table: &TypeTable,
+    ty: usize,
+    size: u64,
+    types: &mut Vec<u16>,
+    words: &mut Words,
+) -> bool
+    requires { size < 2 ^ 60 }
+    ensures took { IsTrue result
+        → (now : Open) (waiting : Vec Open) (all : List ℕ) → length all ≡ size
+        → Took (table_of table.now) (held now waiting types.old words.old)
+        (held now waiting types.new words.new) (of_type ty) (leaf (objects.Bytes all)) }
+    ensures kept { (IsTrue result → ⊥) → (types.new ≡ types.old) × (words.new ≡ words.old) }
+{
+    let Some(shape) = shape_of(table, ty) else {
+        return false;
+    };
+    match shape {
+        ShapeOf::Bytes(_) => fast_leaf(ty, Measure::Bytes(size), types, words),
+        _ => is_wildcard(table, ty) && fast_leaf(ty, Measure::Bytes(size), types, words),
+    }
+}
+
+/// Reads a double.
+#[inline(always)]
+fn fast_double(table: &TypeTable, ty: usize, types: &mut Vec<u16>, words: &mut Words) -> bool
+    ensures took { IsTrue result
+        → (now : Open) (waiting : Vec Open) (bits : ℕ)
+        → Took (table_of table.now) (held now waiting types.old words.old)
+        (held now waiting types.new words.new) (of_type ty) (leaf (objects.Double bits)) }
+    ensures kept { (IsTrue result → ⊥) → (types.new ≡ types.old) × (words.new ≡ words.old) }
+{
+    let Some(shape) = shape_of(table, ty) else {
+        return false;
+    };
+    match shape {
+        ShapeOf::Double => fast_leaf(ty, Measure::Double, types, words),
+        _ => is_wildcard(table, ty) && fast_leaf(ty, Measure::Double, types, words),
+    }
+}
+
+/// Returns true if the reference with this offset leads to an object of an equal type, or if the
+/// position is a wildcard.
+#[inline(always)]
+fn is_fast_back(table: &TypeTable, types: &[u16], ty: usize, offset: u64) -> bool
+    ensures { OnTrue result
+        ((1 ≤ offset) × (offset ≤ length types.now)
+        × IsBackAt [] (table_of table.now) types.now ty offset) }
+{
+    let made = types.len() as u64;
+    if offset == 0 || made < offset {
+        return false;
+    }
+    is_equal(table, type_at(types, (made - offset) as usize), ty) || is_wildcard(table, ty)
+}
+
+/// Reads a token of this kind from the bytes after its code. Returns the positions that are then
+/// open in the innermost block, or `None` if the token was not accepted.
+#[inline(always)]
+fn fast_chunk<'a>(
+    table: &'a TypeTable,
+    stated: u64,
+    ty: usize,
+    others: Open<'a>,
+    kind: CodeKind,
+    chunk: &[u8],
+    types: &mut Vec<u16>,
+    waiting: &mut Vec<Open<'a>>,
+    words: &mut Words,
+) -> Option<Open<'a>>
+    requires known { IsKind kind }
+    requires whole { length chunk.now ≡ fixed_bytes kind + variable_bytes kind chunk.now }
+    ensures { MatchOption result
+        (held others.entry waiting.new types.new words.new
+        ≡ held others.entry waiting.old types.old words.old)
+        (λ now. TookChunk (table_of table.now) stated
+        (held others.entry waiting.old types.old words.old)
+        (held now waiting.new types.new words.new) (of_type ty) kind chunk.now) }
+{
+    match kind {
+        CodeKind::SmallBlock(tag, size) => {
+            if size == 0 {
+                return None;
+            }
+            fast_block(
+                table,
+                ty,
+                others,
+                tag,
+                u64::from(size),
+                types,
+                waiting,
+                words,
+            )
+        }
+        CodeKind::SmallInt(value) => {
+            if is_fast_int(table, ty, i64::from(value)) {
+                Some(others)
+            } else {
+                None
+            }
+        }
+        CodeKind::SmallString(len) => {
+            if fast_bytes(table, ty, u64::from(len), types, words) {
+                Some(others)
+            } else {
+                None
+            }
+        }
+        CodeKind::Int(_) => {
+            let z = signed_few(chunk);
+            if z >= -(1 << 62) && z < 1 << 62 && is_fast_int(table, ty, z) {
+                Some(others)
+            } else {
+                None
+            }
+        }
+        CodeKind::Shared(_) => {
+            let offset = offset_of(chunk);
+            if stated > 0 && is_fast_back(table, types.as_slice(), ty, offset) {
+                Some(others)
+            } else {
+                None
+            }
+        }
+        CodeKind::Double(_) => {
+            if fast_double(table, ty, types, words) {
+                Some(others)
+            } else {
+                None
+            }
+        }
+        CodeKind::Str(width) => {
+            let len = (chunk.len() - usize::from(width)) as u64;
+            if len < 1 << 60 && fast_bytes(table, ty, len, types, words) {
+                Some(others)
+            } else {
+                None
+            }
+        }
+        _ => None,
+    }
+}
+
+/// Reads the token of this kind at the beginning of `rest`. Returns its length in bytes and the
+/// positions that are then open in the innermost block, or `None` if the token was not accepted.
+#[inline(always)]
+fn fast_kind<'a>(
+    table: &'a TypeTable,
+    stated: u64,
+    ty: usize,
+    others: Open<'a>,
+    kind: CodeKind,
+    rest: &[u8],
+    types: &mut Vec<u16>,
+    waiting: &mut Vec<Open<'a>>,
+    words: &mut Words,
+) -> Option<(usize, Open<'a>)>
+    requires some { 0 < length rest.now }
+    requires kind { kind_of (slice_index rest.now 0) ≡ Ok kind }
+    requires known { IsKind kind }
+    ensures { MatchOption result
+        (held others.entry waiting.new types.new words.new
+        ≡ held others.entry waiting.old types.old words.old)
+        (λ took. TookPrefix (table_of table.now) stated
+        (held others.entry waiting.old types.old words.old)
+        (held took.1 waiting.new types.new words.new) (of_type ty) rest.now took.0) }
+{
+    let after = &rest[1..];
+    let Some(len) = chunk_len(kind, after) else {
+        return None;
+    };
+    match fast_chunk(
+        table,
+        stated,
+        ty,
+        others,
+        kind,
+        &after[..len],
+        types,
+        waiting,
+        words,
+    ) {
+        Some(now) => Some((1 + len, now)),
+        None => None,
+    }
+}
+
+/// Reads the first token of `rest` for the other codes below 0x20. Like `fast_typed`, this function
+/// has one caller for each value of `LISTED`.
+#[tactic(auto, unfolding(marshal_spec::specs::format::Code::kind_of))]
+#[inline(always)]
+fn fast_large<'a, const LISTED: bool>(
+    table: &'a TypeTable,
+    stated: u64,
+    ty: usize,
+    others: Open<'a>,
+    code: u8,
+    rest: &[u8],
+    types: &mut Vec<u16>,
+    waiting: &mut Vec<Open<'a>>,
+    words: &mut Words,
+) -> Option<(usize, Open<'a>)>
+    requires some { 0 < length rest.now }
+    requires code { slice_index rest.now 0 ≡ code }
+    ensures { MatchOption result
+        (held others.entry waiting.new types.new words.new
+        ≡ held others.entry waiting.old types.old words.old)
+        (λ took. TookPrefix (table_of table.now) stated
+        (held others.entry waiting.old types.old words.old)
+        (held took.1 waiting.new types.new words.new) (of_type ty) rest.now took.0) }
+{
+    match code {
+        0x00 => {
+            let kind = CodeKind::Int(1);
+            fast_kind(table, stated, ty, others, kind, rest, types, waiting, words)
+        }
+        0x01 => {
+            let kind = CodeKind::Int(2);
+            fast_kind(table, stated, ty, others, kind, rest, types, waiting, words)
+        }
+        0x02 => {
+            let kind = CodeKind::Int(4);
+            fast_kind(table, stated, ty, others, kind, rest, types, waiting, words)
+        }
+        0x04 => {
+            let kind = CodeKind::Shared(1);
+            fast_kind(table, stated, ty, others, kind, rest, types, waiting, words)
+        }
+        0x05 => {
+            let kind = CodeKind::Shared(2);
+            fast_kind(table, stated, ty, others, kind, rest, types, waiting, words)
+        }
+        0x06 => {
+            let kind = CodeKind::Shared(4);
+            fast_kind(table, stated, ty, others, kind, rest, types, waiting, words)
+        }
+        0x09 => {
+            let kind = CodeKind::Str(1);
+            fast_kind(table, stated, ty, others, kind, rest, types, waiting, words)
+        }
+        _ => None,
+    }
+}
+
+/// Reads the first token of `rest` if it is a common one and has the type. `LISTED` distinguishes
+/// the two callers. This function is large, so the compiler inlines it only if each instance has
+/// one caller.
+#[tactic(auto, unfolding(marshal_spec::specs::format::Code::kind_of))]
+#[inline(always)]
+fn fast_typed<'a, const LISTED: bool>(
+    table: &'a TypeTable,
+    stated: u64,
+    ty: usize,
+    others: Open<'a>,
+    rest: &[u8],
+    types: &mut Vec<u16>,
+    waiting: &mut Vec<Open<'a>>,
+    words: &mut Words,
+) -> Option<(usize, Open<'a>)>
+    ensures { MatchOption result
+        (held others.entry waiting.new types.new words.new
+        ≡ held others.entry waiting.old types.old words.old)
+        (λ took. TookPrefix (table_of table.now) stated
+        (held others.entry waiting.old types.old words.old)
+        (held took.1 waiting.new types.new words.new) (of_type ty) rest.now took.0) }
+{
+    if rest.is_empty() {
+        return None;
+    }
+    let code = rest[0];
+    // Each of these codes has its own branch, and blocks come first. The test of the length in
+    // between keeps the compiler from merging the test for a double with the choice among the other
+    // codes.
+    if code >= 0x80 {
+        let kind = CodeKind::SmallBlock(code % 16, code / 16 % 8);
+        fast_kind(table, stated, ty, others, kind, rest, types, waiting, words)
+    } else if code >= 0x40 {
+        let kind = CodeKind::SmallInt(code % 64);
+        fast_kind(table, stated, ty, others, kind, rest, types, waiting, words)
+    } else if code >= 0x20 {
+        let kind = CodeKind::SmallString(code % 32);
+        fast_kind(table, stated, ty, others, kind, rest, types, waiting, words)
+    } else if code == 0x0c {
+        let kind = CodeKind::Double(true);
+        fast_kind(table, stated, ty, others, kind, rest, types, waiting, words)
+    } else if rest.len() < 2 {
+        None
+    } else {
+        fast_large::<LISTED>(table, stated, ty, others, code, rest, types, waiting, words)
+    }
+}
+
+/// Reads the first token of `rest` if it is a common one and satisfies the requirement.
+#[inline(always)]
+pub fn fast<'a>(
+    table: &'a TypeTable,
+    stated: u64,
+    asked: Asked<'a>,
+    others: Open<'a>,
+    rest: &[u8],
+    types: &mut Vec<u16>,
+    waiting: &mut Vec<Open<'a>>,
+    words: &mut Words,
+) -> Option<(usize, Open<'a>)>
+    ensures { MatchOption result
+        (held others.entry waiting.new types.new words.new
+        ≡ held others.entry waiting.old types.old words.old)
+        (λ took. TookPrefix (table_of table.now) stated
+        (held others.entry waiting.old types.old words.old)
+        (held took.1 waiting.new types.new words.new) (need_of asked.entry) rest.now took.0) }
+{
+    let Asked::Type(ty) = asked else {
+        return None;
+    };
+    fast_typed::<false>(table, stated, ty, others, rest, types, waiting, words)
+}
+
+/// Returns the type of the first of these positions, and the others.
+#[inline(always)]
+fn split_listed<'a>(positions: &'a [usize]) -> Option<(usize, Open<'a>)>
+    ensures { IfSome result
+        (λ first. map of_type positions.now ≡ of_type first.0 ∷ open_needs first.1) }
+{
+    if positions.is_empty() {
+        return None;
+    }
+    Some((positions[0], Open::Listed(&positions[1..])))
+}
+
+/// Reads the first token of `rest` if it is a common one and the innermost block has a list of
+/// types for its positions. This case has its own copy of the code.
+#[inline(always)]
+pub fn fast_listed<'a>(
+    table: &'a TypeTable,
+    stated: u64,
+    positions: &'a [usize],
+    rest: &[u8],
+    types: &mut Vec<u16>,
+    waiting: &mut Vec<Open<'a>>,
+    words: &mut Words,
+) -> Option<(usize, Open<'a>)>
+    ensures { MatchOption result
+        (held (opens.Listed positions.entry) waiting.new types.new words.new
+        ≡ held (opens.Listed positions.entry) waiting.old types.old words.old)
+        (λ took. TookFirst (table_of table.now) stated
+        (held (opens.Listed positions.entry) waiting.old types.old words.old)
+        (held took.1 waiting.new types.new words.new) rest.now took.0) }
+{
+    let Some((ty, others)) = split_listed(positions) else {
+        return None;
+    };
+    fast_typed::<true>(table, stated, ty, others, rest, types, waiting, words)
+}

@@ -1,0 +1,158 @@
+//! The loop over the tokens of a value.
+
+ghost use Rattle.std.specs.Prelude.{◌≡◌, ◌≤◌, ◌∷◌, [], IfOk, IfSome};
+ghost use Rattle.std.specs.Bool.{OnTrue};
+ghost use Rattle.types_table.specs.type_table.Made.{table_of};
+ghost use Rattle.check_stream.specs.checker.Positions.{need_of, open_needs};
+ghost use Rattle.check_stream.specs.checker.State.{Leads, IsSpent, BeginsAs, StopsAt};
+
+use crate::checker::back::{mark, turn};
+use crate::checker::chunk::chunk_len;
+use crate::checker::fast::fast;
+use crate::checker::listed::take_listed;
+use crate::checker::positions::{Asked, Open, first_position};
+use crate::checker::state::State;
+use base_data::model::Memory;
+use base_data::model::header::Head;
+use marshal_codec::codes::code_kind;
+use marshal_codec::headers::{HeaderStep, parse};
+use types_table::type_table::TypeTable;
+
+/// Parses the header. Returns `None` if it is incomplete or invalid, or states more words or data
+/// than the limits allow.
+#[inline(always)]
+pub fn head_of(bytes: &[u8], limit: u64) -> Option<Head>
+    ensures { IfSome result (λ head. BeginsAs limit bytes.now head) }
+{
+    match parse(bytes) {
+        Ok(HeaderStep::Head(head)) if head.w64 <= limit && head.length < 1 << 48 => Some(head),
+        _ => None,
+    }
+}
+
+/// Returns true if the value has all the data, words and objects that the header states.
+fn is_spent(head: &Head, start: usize, at: usize, state: &State<'_>) -> bool
+    requires { start ≤ at }
+    ensures { OnTrue result (IsSpent head.now start at state.now) }
+{
+    (at - start) as u64 == head.length
+        && (head.big || state.words.w32 == 0)
+        && state.words.w64 == 0
+        && (head.objects == 0 || head.objects == state.types.len() as u64)
+}
+
+/// The reason why the pass stopped.
+#[derive(Clone, Copy)]
+pub enum Stop {
+    /// A value of the type ends here. The number is its length in bytes.
+    Typed(usize),
+    /// The token at this offset is truncated.
+    Truncated(usize),
+    /// The check is inconclusive because of the bytes at this offset.
+    Inconclusive(usize),
+}
+
+/// Returns true if no complete token begins the bytes, but they may be the beginning of one.
+#[inline(never)]
+fn is_truncated(bytes: &[u8]) -> bool {
+    if bytes.is_empty() {
+        return true;
+    }
+    match code_kind(bytes[0]) {
+        Ok(kind) => chunk_len(kind, &bytes[1..]).is_none(),
+        Err(_) => false,
+    }
+}
+
+/// Returns a position with this requirement.
+fn again(asked: Asked<'_>) -> Open<'_>
+    ensures { open_needs result ≡ need_of asked.entry ∷ [] }
+{
+    match asked {
+        Asked::Type(ty) => Open::Each(1, ty),
+        Asked::Hash(tags) => Open::Tagged(tags),
+    }
+}
+
+/// Reads tokens from offset `first` on, up to the end of the value, a truncated token, or a token
+/// for which the check is inconclusive. Subtracts re-read tokens and inspected blocks from `left`.
+/// This function is not inlined, so that its loop can use all registers.
+#[inline(never)]
+pub fn run<'a>(
+    table: &'a TypeTable,
+    limit: u64,
+    head: &Head,
+    start: usize,
+    first: usize,
+    state: &mut State<'a>,
+    marks: &mut Vec<usize>,
+    notes: &mut Vec<(usize, usize)>,
+    left: &mut u64,
+    bytes: &[u8],
+) -> Result<Stop, Memory>
+    requires leads { Leads (table_of table.now) limit bytes.now head.now start first
+        marks.old.items notes.old.items state.old }
+    ensures { IfOk result
+        (StopsAt (table_of table.now) limit bytes.now head.now start marks.new.items
+        notes.new.items state.new) }
+{
+    table.holds();
+    let mut rest = &bytes[first..];
+    'tokens: loop {
+        rest = take_listed(
+            table,
+            limit,
+            head,
+            start,
+            state,
+            marks.as_slice(),
+            notes.as_slice(),
+            bytes,
+            rest,
+        );
+        let now = state.positions.now;
+        let Some((asked, others)) = first_position(now, &mut state.positions.waiting) else {
+            let at = bytes.len() - rest.len();
+            if is_spent(head, start, at, state) {
+                return Ok(Stop::Typed(at));
+            }
+            return Ok(Stop::Inconclusive(at));
+        };
+        if let Some((n, next)) = fast(
+            table,
+            head.objects,
+            asked,
+            others,
+            rest,
+            &mut state.types,
+            &mut state.positions.waiting,
+            &mut state.words,
+        ) {
+            rest = &rest[n..];
+            state.positions.now = next;
+            continue;
+        }
+        state.positions.now = others;
+        let at = bytes.len() - rest.len();
+        if is_truncated(rest) {
+            state.positions.open(again(asked))?;
+            return Ok(Stop::Truncated(at));
+        }
+        mark(marks, at, state.types.len())?;
+        let n = turn(
+            table,
+            head.objects,
+            state,
+            asked,
+            marks.as_slice(),
+            notes,
+            left,
+            bytes,
+            at,
+        )?;
+        if n == 0 {
+            return Ok(Stop::Inconclusive(at));
+        }
+        rest = &rest[n..];
+    }
+}

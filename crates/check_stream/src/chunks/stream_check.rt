@@ -1,0 +1,164 @@
+//! The streaming check of the current value, whose bytes arrive in chunks.
+
+use crate::chunks::inspect::{Inspecting, Shown};
+use crate::search::Found;
+use base_data::model::Memory;
+use std::alloc::Global;
+use types_table::type_table::TypeTable;
+
+/// The result of a chunk.
+#[derive(Clone, Copy)]
+pub enum Answer {
+    /// This many bytes of the chunk complete a value that has the type.
+    Typed(usize),
+    /// This many bytes of the chunk complete a value with exactly one mismatch. The mismatch is
+    /// available until the next chunk is fed.
+    Missed(usize),
+    /// The whole chunk was consumed, and the value needs more bytes.
+    More,
+    /// The result is inconclusive, and nothing of the chunk was consumed. The next chunk is checked
+    /// from the value's first byte on.
+    Inconclusive,
+}
+
+/// The buffered bytes of the current value, and the state of the check.
+#[derive(Drop)]
+pub struct StreamCheck<'a> {
+    kept: Vec<u8>,
+    inspecting: Inspecting<'a>,
+}
+
+impl<'a> StreamCheck<'a> {
+    ghost use Rattle.std.specs.Prelude.{ℕ, ◌≡◌, [], None, Some, IfOk, MatchOption};
+    ghost use Rattle.types_spec.specs.types.Table.{Table};
+    ghost use Rattle.types_table.specs.type_table.Made.{table_of};
+    ghost use Rattle.check_stream.specs.chunks.StreamCheck.{IsStreamCheck, Glances, held};
+
+    /// Creates a check without buffered bytes. It allocates no memory.
+    pub fn new(alloc: Global) -> StreamCheck<'a>
+        ensures none { result.kept.items ≡ [] }
+        ensures stream_check { (table : Table) (limit : ℕ) → IsStreamCheck table limit result }
+    {
+        StreamCheck {
+            kept: Vec::new(alloc),
+            inspecting: Inspecting::new(alloc),
+        }
+    }
+
+    /// Returns the buffered bytes of the current value.
+    pub fn kept(&self) -> &[u8]
+        ensures { result.now ≡ self.now.kept.items }
+    {
+        self.kept.as_slice()
+    }
+
+    /// Returns the mismatch that was found last, if it is still available.
+    pub fn missed(&self) -> Option<&Found>
+        ensures { MatchOption result (held self.now ≡ None)
+            (λ found. held self.now ≡ Some found.now) }
+    {
+        self.inspecting.missed()
+    }
+
+    /// Ends a value and starts the next one. It keeps its memory.
+    fn end(&mut self)
+        ensures none { self.new.kept.items ≡ [] }
+        ensures found { held self.new ≡ held self.old }
+        ensures stream_check { (table : Table) (limit : ℕ) → IsStreamCheck table limit self.new }
+    {
+        self.kept.clear();
+        self.inspecting.restart();
+    }
+
+    /// Feeds a chunk while no byte of the value is buffered.
+    #[inline(always)]
+    fn first(
+        &mut self,
+        alloc: Global,
+        table: &'a TypeTable,
+        limit: u64,
+        chunk: &[u8],
+    ) -> Result<Answer, Memory>
+        requires stream_check { IsStreamCheck (table_of table.now) limit self.old }
+        requires none { self.old.kept.items ≡ [] }
+        ensures { IfOk result
+            (Glances (table_of table.now) limit self.old chunk.now self.new) }
+    {
+        match self.inspecting.inspect(alloc, table, limit, chunk)? {
+            Shown::Typed(n) if n > 0 => {
+                self.end();
+                Ok(Answer::Typed(n))
+            }
+            Shown::Missed(n) if n > 0 => {
+                self.end();
+                Ok(Answer::Missed(n))
+            }
+            Shown::More => {
+                self.kept.extend_from_slice(chunk)?;
+                Ok(Answer::More)
+            }
+            _ => {
+                self.inspecting.forget(alloc);
+                Ok(Answer::Inconclusive)
+            }
+        }
+    }
+
+    /// Feeds a chunk while bytes of the value are buffered.
+    #[inline(never)]
+    fn next(
+        &mut self,
+        alloc: Global,
+        table: &'a TypeTable,
+        limit: u64,
+        chunk: &[u8],
+    ) -> Result<Answer, Memory>
+        requires stream_check { IsStreamCheck (table_of table.now) limit self.old }
+        ensures { IfOk result
+            (Glances (table_of table.now) limit self.old chunk.now self.new) }
+    {
+        let before = self.kept.len();
+        self.kept.extend_from_slice(chunk)?;
+        match self
+            .inspecting
+            .inspect(alloc, table, limit, self.kept.as_slice())?
+        {
+            Shown::Typed(n) if n > before => {
+                self.end();
+                Ok(Answer::Typed(n - before))
+            }
+            Shown::Missed(n) if n > before => {
+                self.end();
+                Ok(Answer::Missed(n - before))
+            }
+            Shown::More => Ok(Answer::More),
+            _ => {
+                self.kept.truncate(before);
+                self.inspecting.forget(alloc);
+                Ok(Answer::Inconclusive)
+            }
+        }
+    }
+
+    /// Feeds a chunk. Consumes it up to the end of the current value, or all of it, or nothing.
+    /// Does not copy the bytes of a value that lies completely in the chunk. Fails with `Memory` if
+    /// memory runs out.
+    #[inline(always)]
+    pub fn feed(
+        &mut self,
+        alloc: Global,
+        table: &'a TypeTable,
+        limit: u64,
+        chunk: &[u8],
+    ) -> Result<Answer, Memory>
+        requires stream_check { IsStreamCheck (table_of table.now) limit self.old }
+        ensures { IfOk result
+            (Glances (table_of table.now) limit self.old chunk.now self.new) }
+    {
+        if self.kept.is_empty() {
+            self.first(alloc, table, limit, chunk)
+        } else {
+            self.next(alloc, table, limit, chunk)
+        }
+    }
+}

@@ -1,0 +1,697 @@
+//! Searches for the only mismatch of a value, token by token up to its end.
+
+ghost use Rattle.std.specs.Prelude.{◌≡◌, ◌<◌, ◌≤◌, ℕ, List, length, IfOk, IsTrue, Ok};
+ghost use Rattle.std.specs.Prelude.{slice_index};
+ghost use Rattle.std.specs.Bool.{OnTrue};
+ghost use Rattle.types_table.specs.type_table.Made.{table_of};
+ghost use Rattle.types_spec.specs.types.Table.{Table};
+ghost use Rattle.marshal_spec.specs.format.Code.{kind_of};
+ghost use Rattle.marshal_spec.specs.format.Token.{Token};
+ghost use Rattle.check_stream.specs.mismatch_theory.PassedBut.{Misses, values_at};
+ghost use Rattle.check_stream.specs.declared.search.summary.Summary.TheVariants as sayings;
+ghost use Rattle.check_stream.specs.declared.search.way.Asked.TheVariants as asks;
+ghost use Rattle.check_stream.specs.search.Judge.{IsSummary, IsFair, summary_fields};
+ghost use Rattle.check_stream.specs.search.Way.{IsWay, IsAfterHash, IsSplit, OnHash, left_values};
+ghost use Rattle.check_stream.specs.search.Way.{way_positions};
+ghost use Rattle.check_stream.specs.search.Find.{Begins, HasRoom, Passes, Adds, Comes, IsSpent};
+ghost use Rattle.check_stream.specs.search.Find.{Ends};
+ghost use Rattle.check_stream.specs.search.Find.{unasked_in, IsFirst, IsSought, Seeks, Hastens};
+ghost use Rattle.check_stream.specs.search.Find.{HastensBy};
+
+use crate::checker::Words;
+use crate::checker::fits::{fits_int, is_equal, is_wildcard, shape_of, tag_of_hash, type_at};
+use crate::checker::whole::head_of;
+use crate::search::again::Again;
+use crate::search::judge::{Judged, judge};
+use crate::search::push::push;
+use crate::search::second::Seconds;
+use crate::search::summary::{Summary, fields_of, first_token, measure_of, summary_kind};
+use crate::search::way::{Asked, Left, Link, Way, copy_to, first_type, split_listed};
+use base_data::model::Memory;
+use base_data::model::code::CodeKind;
+use base_data::model::header::Head;
+use std::alloc::Global;
+use std::mem;
+use types_spec::types::shape::PolyTag;
+use types_table::type_table::TypeTable;
+
+/// A number that stands for "no type".
+const NO_TYPE: usize = 65535;
+
+/// A mismatch: the links of the path to it, the expected type, and the summary of its token.
+#[derive(Drop)]
+pub struct Found {
+    pub links: Vec<Link>,
+    pub ty: usize,
+    pub summary: Summary,
+}
+
+/// The state of the search. It contains the open positions, the types of the objects so far, and
+/// the objects that are targets of references. It also contains what is known about objects with a
+/// second type, the remaining words, and the mismatch, if one was found. The last field is spare
+/// memory for the links of a mismatch.
+#[derive(Drop)]
+pub struct Finding<'a> {
+    pub way: Way<'a>,
+    pub types: Vec<u16>,
+    pub again: Again,
+    pub seconds: Seconds,
+    pub words: Words,
+    pub found: Option<Found>,
+    pub room: Vec<Link>,
+}
+
+/// The result of the fast path for one token.
+#[derive(Clone, Copy)]
+pub enum Fast {
+    /// The token was consumed. It has this many bytes.
+    Took(usize),
+    /// The token was not consumed, and nothing changed.
+    Kept,
+    /// The result is inconclusive.
+    Inconclusive,
+}
+
+/// Returns the fields of a token below a mismatch. They have no expected types.
+#[inline(always)]
+fn unasked<'a>(summary: Summary) -> Left<'a>
+    ensures fields { (token : Token) → IsSummary summary token → unasked_in result token }
+    ensures none { HasRoom summary result }
+    ensures many { left_values result ≡ summary_fields summary }
+{
+    Left::Unasked(fields_of(summary))
+}
+
+impl<'a> Finding<'a> {
+    /// Creates the state before the first token.
+    fn new(alloc: Global, head: &Head) -> Finding<'a>
+        ensures { Begins head.now result }
+    {
+        Finding {
+            way: Way::root(alloc),
+            types: Vec::new(alloc),
+            again: Again::new(alloc),
+            seconds: Seconds::new(alloc),
+            words: Words::stated(head),
+            found: None,
+            room: Vec::new(alloc),
+        }
+    }
+
+    /// Resets the state to the one before the first token of another value. It keeps its memory.
+    fn restart(&mut self, head: &Head)
+        ensures { Begins head.now self.new }
+    {
+        self.way.restart();
+        self.types.clear();
+        self.again.restart();
+        self.seconds.restart();
+        self.words = Words::stated(head);
+        if let Some(found) = self.found.take() {
+            self.room = found.links;
+        }
+    }
+
+    /// Consumes the token if it is an integer of the type that the first open position expects. The
+    /// links do not point to that position afterwards.
+    #[inline(always)]
+    fn fill(
+        &mut self,
+        table: &TypeTable,
+        ty: usize,
+        others: Left<'a>,
+        values: u32,
+        summary: Summary,
+    ) -> bool
+        requires is_way { IsWay self.old.way }
+        requires first { IsSplit self.old.way.now.left (asks.Type ty) others values }
+        ensures passed { IsTrue result → Passes (table_of table.now) self.old summary self.new }
+        ensures kept { (IsTrue result → ⊥) → self.new ≡ self.old }
+    {
+        let Summary::Integer(z) = summary else {
+            return false;
+        };
+        let Some(shape) = shape_of(table, ty) else {
+            return false;
+        };
+        if !fits_int(shape, z) {
+            return false;
+        }
+        self.way.now.next += values;
+        self.way.now.left = others;
+        true
+    }
+
+    /// Consumes the token if it is an integer of the type that the first open position expects.
+    /// Returns whether it did; otherwise nothing changes.
+    #[inline(always)]
+    fn pass(&mut self, table: &TypeTable, summary: Summary) -> bool
+        requires { IsWay self.old.way }
+        ensures passed { IsTrue result → Passes (table_of table.now) self.old summary self.new }
+        ensures kept { (IsTrue result → ⊥) → self.new ≡ self.old }
+    {
+        let Summary::Integer(_) = summary else {
+            return false;
+        };
+        let Some((ty, others, values)) = first_type(self.way.now.left) else {
+            return false;
+        };
+        self.fill(table, ty, others, values, summary)
+    }
+
+    /// Adds the object that the token makes, if it makes one, with this type, and opens the
+    /// positions of its fields, in which `values` values are pending. Returns false if the words or
+    /// the numbers do not suffice.
+    #[inline(always)]
+    fn add(
+        &mut self,
+        ty: usize,
+        summary: Summary,
+        left: Left<'a>,
+        values: u64,
+    ) -> Result<bool, Memory>
+        requires room { HasRoom summary left }
+        requires many { left_values left ≡ values }
+        requires fair { IsFair summary }
+        ensures { IfOk result
+            (λ added. OnTrue added (Adds self.old ty summary left.entry self.new)) }
+    {
+        let Some(measure) = measure_of(summary) else {
+            return Ok(true);
+        };
+        if ty > NO_TYPE {
+            return Ok(false);
+        }
+        if !self.words.spend(measure) {
+            return Ok(false);
+        }
+        // The positions are opened first, while the position taken last is still the current one.
+        let object = self.types.len();
+        let opened = self.way.open(object, left, values)?;
+        if !opened {
+            return Ok(false);
+        }
+        push(&mut self.types, ty as u16)?;
+        Ok(true)
+    }
+
+    /// Consumes the token at the first open position: it matches the expected type, or it is the
+    /// mismatch. Does not consume references, integers that do not match, objects at types whose
+    /// numbers are not recorded, and every 64th object, whose offset must be marked. (The first
+    /// object's offset is marked at the start.) If the words do not suffice, or if there already is
+    /// a mismatch, then the result is inconclusive.
+    #[inline(always)]
+    fn settle(
+        &mut self,
+        alloc: Global,
+        table: &'a TypeTable,
+        ty: usize,
+        others: Left<'a>,
+        summary: Summary,
+        len: usize,
+    ) -> Result<Fast, Memory>
+        requires is_way { IsWay self.old.way }
+        requires first { IsSplit self.old.way.now.left (asks.Type ty) others 1 }
+        requires fair { IsFair summary }
+        ensures { IfOk result
+            (λ fast. Hastens (table_of table.now) self.old summary len self.new fast) }
+    {
+        if let Summary::Integer(_) = summary {
+            if self.fill(table, ty, others, 1, summary) {
+                return Ok(Fast::Took(len));
+            }
+            return Ok(Fast::Kept);
+        }
+        let made = self.types.len();
+        if ty >= NO_TYPE || made > 0 && made % 64 == 0 {
+            return Ok(Fast::Kept);
+        }
+        match judge(table, ty, summary) {
+            Judged::Fits => {
+                self.way.take_type(ty, others);
+                if self.add(ty, summary, Left::Unasked(0), 0)? {
+                    return Ok(Fast::Took(len));
+                }
+            }
+            Judged::Opens(positions) => {
+                self.way.take_type(ty, others);
+                if self.add(ty, summary, Left::Asked(positions), fields_of(summary))? {
+                    return Ok(Fast::Took(len));
+                }
+            }
+            Judged::Misses => {
+                self.way.take_type(ty, others);
+                if self.miss(alloc, ty, summary)? {
+                    return Ok(Fast::Took(len));
+                }
+            }
+            _ => return Ok(Fast::Kept),
+        }
+        Ok(Fast::Inconclusive)
+    }
+
+    /// Consumes the token of this kind at the start of the bytes, if `settle` consumes it.
+    #[inline(always)]
+    fn fast_kind(
+        &mut self,
+        alloc: Global,
+        table: &'a TypeTable,
+        ty: usize,
+        others: Left<'a>,
+        kind: CodeKind,
+        rest: &[u8],
+    ) -> Result<Fast, Memory>
+        requires is_way { IsWay self.old.way }
+        requires first { IsSplit self.old.way.now.left (asks.Type ty) others 1 }
+        requires some { 0 < length rest.now }
+        requires kind { kind_of (slice_index rest.now 0) ≡ Ok kind }
+        ensures { IfOk result
+            (λ fast. HastensBy (table_of table.now) rest.now self.old self.new fast) }
+    {
+        let Some((summary, len)) = summary_kind(kind, rest) else {
+            return Ok(Fast::Kept);
+        };
+        let fast = self.settle(alloc, table, ty, others, summary, len)?;
+        Ok(fast)
+    }
+
+    /// As `fast_kind`, for the codes of doubles and of integers of several bytes.
+    #[tactic(auto, unfolding(marshal_spec::specs::format::Code::kind_of))]
+    #[inline(always)]
+    fn fast_large(
+        &mut self,
+        alloc: Global,
+        table: &'a TypeTable,
+        ty: usize,
+        others: Left<'a>,
+        code: u8,
+        rest: &[u8],
+    ) -> Result<Fast, Memory>
+        requires is_way { IsWay self.old.way }
+        requires first { IsSplit self.old.way.now.left (asks.Type ty) others 1 }
+        requires code { (0 < length rest.now) × (slice_index rest.now 0 ≡ code) }
+        ensures { IfOk result
+            (λ fast. HastensBy (table_of table.now) rest.now self.old self.new fast) }
+    {
+        match code {
+            0x00 => self.fast_kind(alloc, table, ty, others, CodeKind::Int(1), rest),
+            0x01 => self.fast_kind(alloc, table, ty, others, CodeKind::Int(2), rest),
+            0x0c => self.fast_kind(alloc, table, ty, others, CodeKind::Double(true), rest),
+            _ => Ok(Fast::Kept),
+        }
+    }
+
+    /// As `fast_kind`, for the codes below those of small blocks.
+    #[tactic(auto, unfolding(marshal_spec::specs::format::Code::kind_of))]
+    #[inline(always)]
+    fn fast_other(
+        &mut self,
+        alloc: Global,
+        table: &'a TypeTable,
+        ty: usize,
+        others: Left<'a>,
+        code: u8,
+        rest: &[u8],
+    ) -> Result<Fast, Memory>
+        requires is_way { IsWay self.old.way }
+        requires first { IsSplit self.old.way.now.left (asks.Type ty) others 1 }
+        requires code { (0 < length rest.now) × (slice_index rest.now 0 ≡ code) }
+        requires small { code < 128 }
+        ensures { IfOk result
+            (λ fast. HastensBy (table_of table.now) rest.now self.old self.new fast) }
+    {
+        if code >= 0x40 {
+            self.fast_kind(
+                alloc,
+                table,
+                ty,
+                others,
+                CodeKind::SmallInt(code % 64),
+                rest,
+            )
+        } else if code >= 0x20 {
+            self.fast_kind(
+                alloc,
+                table,
+                ty,
+                others,
+                CodeKind::SmallString(code % 32),
+                rest,
+            )
+        } else {
+            self.fast_large(alloc, table, ty, others, code, rest)
+        }
+    }
+
+    /// Fast path. Consumes the first token of the bytes, if `settle` consumes it. The token must be
+    /// common, and the types of the innermost block's fields must be listed one by one. Each kind
+    /// gets specialized code.
+    #[tactic(auto, unfolding(marshal_spec::specs::format::Code::kind_of))]
+    #[inline(always)]
+    fn run_fast(&mut self, alloc: Global, table: &'a TypeTable, rest: &[u8]) -> Result<Fast, Memory>
+        requires { IsWay self.old.way }
+        ensures { IfOk result
+            (λ fast. HastensBy (table_of table.now) rest.now self.old self.new fast) }
+    {
+        let Some((ty, others)) = split_listed(self.way.now.left) else {
+            return Ok(Fast::Kept);
+        };
+        if rest.is_empty() {
+            return Ok(Fast::Kept);
+        }
+        let code = rest[0];
+        if code >= 0x80 {
+            let kind = CodeKind::SmallBlock(code % 16, code / 16 % 8);
+            self.fast_kind(alloc, table, ty, others, kind, rest)
+        } else {
+            self.fast_other(alloc, table, ty, others, code, rest)
+        }
+    }
+
+    /// Returns true if the type is equal to the first type of the object.
+    fn is_first(&self, table: &TypeTable, object: usize, ty: usize) -> bool
+        requires { object < length self.now.types.items }
+        ensures { OnTrue result
+            (IsFirst (table_of table.now) self.now.types.items object ty) }
+    {
+        let own = type_at(self.types.as_slice(), object);
+        if own == NO_TYPE {
+            return false;
+        }
+        is_equal(table, own, ty)
+    }
+
+    /// Consumes a reference at a position that expects type `ty`. Returns false if the result is
+    /// inconclusive.
+    #[inline(never)]
+    fn back(
+        &mut self,
+        table: &TypeTable,
+        stated: u64,
+        prefix: &[u8],
+        ty: usize,
+        offset: u64,
+    ) -> Result<bool, Memory>
+        ensures { IfOk result
+            (λ came. OnTrue came
+            (Comes (table_of table.now) stated prefix.now self.old (asks.Type ty)
+            (sayings.Shared offset) self.new)) }
+    {
+        let made = self.types.len();
+        if stated == 0 || offset == 0 || offset > made as u64 {
+            return Ok(false);
+        }
+        if is_wildcard(table, ty) {
+            return Ok(true);
+        }
+        let object = made - offset as usize;
+        self.again.mark(object, made)?;
+        if self.is_first(table, object, ty) {
+            return Ok(true);
+        }
+        self.seconds.show(table, prefix, object, ty)
+    }
+
+    /// Consumes a token at a position without an expected type. Returns false if the result is
+    /// inconclusive.
+    #[inline(always)]
+    fn below(&mut self, stated: u64, summary: Summary) -> Result<bool, Memory>
+        requires { IsFair summary }
+        ensures { IfOk result
+            (λ came. OnTrue came
+            ((table : Table) (prefix : List ℕ)
+            → Comes table stated prefix self.old asks.Nothing summary self.new)) }
+    {
+        if let Summary::Shared(offset) = summary {
+            let made = self.types.len() as u64;
+            if stated == 0 || offset == 0 || offset > made {
+                return Ok(false);
+            }
+            return Ok(true);
+        }
+        self.add(NO_TYPE, summary, unasked(summary), fields_of(summary))
+    }
+
+    /// Consumes a token that does not match the expected type. It becomes the mismatch. Returns
+    /// false if there already is one.
+    #[inline(never)]
+    fn miss(&mut self, alloc: Global, ty: usize, summary: Summary) -> Result<bool, Memory>
+        requires { IsFair summary }
+        ensures { IfOk result
+            (λ came. OnTrue came
+            ((table : Table) (stated : ℕ) (prefix : List ℕ)
+            → ((token : Token) → IsSummary summary token → Misses table ty token)
+            → Comes table stated prefix self.old (asks.Type ty) summary self.new)) }
+    {
+        if self.found.is_some() {
+            return Ok(false);
+        }
+        let mut links = mem::replace(&mut self.room, Vec::new(alloc));
+        copy_to(&mut links, self.way.links.as_slice())?;
+        self.found = Some(Found { links, ty, summary });
+        self.add(NO_TYPE, summary, unasked(summary), fields_of(summary))
+    }
+
+    /// Consumes the hash of a tag (`btype.ml`, `hash_variant`). The next position expects the
+    /// argument of that tag.
+    fn hash(&mut self, tags: &'a [PolyTag<usize>], summary: Summary) -> bool
+        requires { IsAfterHash self.old.way }
+        ensures { OnTrue result
+            ((table : Table) (stated : ℕ) (prefix : List ℕ)
+            → Comes table stated prefix self.old (asks.Hash tags.entry) summary self.new) }
+    {
+        let Summary::Integer(z) = summary else {
+            return false;
+        };
+        let Some(tag) = tag_of_hash(tags, z) else {
+            return false;
+        };
+        let Some(ty) = tag.arg else {
+            return false;
+        };
+        self.way.argument(ty);
+        true
+    }
+
+    /// Consumes the token at a position that expects a type. Returns false if the result is
+    /// inconclusive.
+    #[inline(always)]
+    fn typed(
+        &mut self,
+        alloc: Global,
+        table: &'a TypeTable,
+        stated: u64,
+        prefix: &[u8],
+        ty: usize,
+        summary: Summary,
+    ) -> Result<bool, Memory>
+        requires { IsFair summary }
+        ensures { IfOk result
+            (λ came. OnTrue came
+            (Comes (table_of table.now) stated prefix.now self.old
+            (asks.Type ty) summary self.new)) }
+    {
+        if ty >= NO_TYPE {
+            return Ok(false);
+        }
+        match judge(table, ty, summary) {
+            Judged::Fits => self.add(ty, summary, Left::Unasked(0), 0),
+            Judged::Opens(positions) => {
+                self.add(ty, summary, Left::Asked(positions), fields_of(summary))
+            }
+            Judged::Back(offset) => self.back(table, stated, prefix, ty, offset),
+            Judged::Misses => self.miss(alloc, ty, summary),
+            Judged::Unknown => Ok(false),
+        }
+    }
+
+    /// Consumes the token at the position taken last. Returns false if the result is inconclusive.
+    #[inline(always)]
+    fn come(
+        &mut self,
+        alloc: Global,
+        table: &'a TypeTable,
+        stated: u64,
+        prefix: &[u8],
+        asked: Asked<'a>,
+        summary: Summary,
+    ) -> Result<bool, Memory>
+        requires hash { OnHash asked (IsAfterHash self.old.way) }
+        requires fair { IsFair summary }
+        ensures { IfOk result
+            (λ came. OnTrue came
+            (Comes (table_of table.now) stated prefix.now self.old asked.entry summary self.new)) }
+    {
+        match asked {
+            Asked::Type(ty) => match summary {
+                // Blocks get specialized code.
+                Summary::Block(tag, size) => {
+                    let block = Summary::Block(tag, size);
+                    self.typed(alloc, table, stated, prefix, ty, block)
+                }
+                _ => self.typed(alloc, table, stated, prefix, ty, summary),
+            },
+            Asked::Hash(tags) => Ok(self.hash(tags, summary)),
+            Asked::Nothing => self.below(stated, summary),
+        }
+    }
+
+    /// Tests the state at the end, when no position is open. Returns true if there is a mismatch,
+    /// if all that the header states was read, and if no reference leads back to a block on its
+    /// path.
+    fn end(&self, head: &Head, start: usize, at: usize) -> bool
+        requires { start ≤ at }
+        ensures { OnTrue result ((found : Found) × Ends head.now start at self.now found) }
+    {
+        if !self.is_spent(head, start, at) {
+            return false;
+        }
+        let Some(found) = &self.found else {
+            return false;
+        };
+        self.again.are_alone(found.links.as_slice())
+    }
+
+    /// Returns true if exactly what the header states was read.
+    fn is_spent(&self, head: &Head, start: usize, at: usize) -> bool
+        requires { start ≤ at }
+        ensures { OnTrue result (IsSpent head.now start at self.now) }
+    {
+        (at - start) as u64 == head.length
+            && (head.big || self.words.w32 == 0)
+            && self.words.w64 == 0
+            && (head.objects == 0 || head.objects == self.types.len() as u64)
+    }
+}
+
+/// A search for the only mismatch of a value whose bytes arrive in chunks. `head` is the header,
+/// `start` is the offset in bytes of the first token, and `at` is the offset up to which the bytes
+/// were read.
+#[derive(Drop)]
+pub struct Seeking<'a> {
+    pub head: Head,
+    pub start: usize,
+    pub at: usize,
+    pub finding: Finding<'a>,
+    /// The number of bytes received.
+    pub seen: usize,
+    /// The number of open blocks that may still be counted again. It grows by one for each byte
+    /// received.
+    pub left: u64,
+}
+
+/// The result of a search step.
+#[derive(Clone, Copy)]
+pub enum End {
+    /// The value has this many bytes, and its only mismatch was found. It is the value's first
+    /// fault: all other parts have their types, and no reference leads back to a block on the path
+    /// to it.
+    Found(usize),
+    /// The bytes end before a complete token, or no token begins there.
+    Truncated,
+    /// The result is inconclusive.
+    Inconclusive,
+}
+
+impl<'a> Seeking<'a> {
+    /// Creates a search that has read nothing. It allocates no memory.
+    pub fn new(alloc: Global) -> Seeking<'a> {
+        let head = Head {
+            big: false,
+            length: 0,
+            objects: 0,
+            w32: 0,
+            w64: 0,
+        };
+        Seeking {
+            start: 20,
+            at: 20,
+            finding: Finding::new(alloc, &head),
+            seen: 0,
+            left: 0,
+            head,
+        }
+    }
+
+    /// Starts a search at the value whose header begins the bytes, and reuses the memory. Returns
+    /// false if the header is incomplete or states more than the limit of 64-bit words allows.
+    pub fn begin(&mut self, bytes: &[u8], limit: u64) -> Result<bool, Memory>
+        ensures { IfOk result
+            (λ begun. OnTrue begun ((table : Table) → IsSought table limit bytes.now self.new)) }
+    {
+        let Some(head) = head_of(bytes, limit) else {
+            return Ok(false);
+        };
+        let start = if head.big { 32 } else { 20 };
+        self.finding.restart(&head);
+        self.finding.seconds.mark(start, 0)?;
+        self.start = start;
+        self.at = start;
+        self.seen = 0;
+        self.left = 0;
+        self.head = head;
+        Ok(true)
+    }
+
+    /// Continues the search. `bytes` are all bytes of the value so far.
+    pub fn go(
+        &mut self,
+        alloc: Global,
+        table: &'a TypeTable,
+        limit: u64,
+        bytes: &[u8],
+    ) -> Result<End, Memory>
+        requires sought { IsSought (table_of table.now) limit bytes.now self.old }
+        ensures { IfOk result (Seeks (table_of table.now) limit bytes.now self.new) }
+    {
+        table.holds();
+        let more = bytes.len().saturating_sub(self.seen) as u64;
+        let more = more.min(self.head.length);
+        self.left = self.left.saturating_add(more);
+        self.finding.seconds.left = self.finding.seconds.left.saturating_add(more);
+        self.seen = bytes.len();
+        'tokens: loop {
+            if !self.finding.way.ready() {
+                if self.finding.end(&self.head, self.start, self.at) {
+                    return Ok(End::Found(self.at));
+                }
+                return Ok(End::Inconclusive);
+            }
+            let rest = &bytes[self.at..];
+            match self.finding.run_fast(alloc, table, rest)? {
+                Fast::Took(len) => {
+                    self.at += len;
+                    continue;
+                }
+                Fast::Kept => {}
+                Fast::Inconclusive => return Ok(End::Inconclusive),
+            }
+            let Some((first, len)) = first_token(rest) else {
+                return Ok(End::Truncated);
+            };
+            if self.finding.pass(table, first) {
+                self.at += len;
+                continue;
+            }
+            let made = self.finding.types.len();
+            self.finding.seconds.mark(self.at, made)?;
+            let asked = self.finding.way.take();
+            let prefix = &bytes[..self.at];
+            let came = self
+                .finding
+                .come(alloc, table, self.head.objects, prefix, asked, first)?;
+            if !came {
+                return Ok(End::Inconclusive);
+            }
+            self.at += len;
+        }
+    }
+
+    /// Returns true if at most `most` values are pending. Subtracts the blocks that it counts from
+    /// `left`, and returns false if `left` does not suffice.
+    pub fn are_within(&self, most: u64, left: &mut u64) -> bool
+        ensures { OnTrue result (values_at (way_positions self.now.finding.way) ≤ most) }
+    {
+        self.finding.way.are_within(most, left)
+    }
+}

@@ -1,0 +1,379 @@
+//! The open positions of a value, and the path to each.
+
+ghost use Rattle.std.specs.Prelude.{◌≡◌, ◌<◌, ◌≤◌, ◌∷◌, [], MatchBool, MatchOption, IfOk, OnOk};
+ghost use Rattle.std.specs.Prelude.{IfSome};
+ghost use Rattle.std.specs.Bool.{OnTrue};
+ghost use Rattle.check_stream.specs.theory.Asked.{values_in};
+ghost use Rattle.check_stream.specs.checker.Positions.{open_needs};
+ghost use Rattle.check_stream.specs.mismatch_theory.PassedBut.{field_after, values_at};
+ghost use Rattle.check_stream.specs.declared.search.way.Asked.TheVariants as asks;
+ghost use Rattle.check_stream.specs.declared.search.way.Left.TheVariants as lefts;
+ghost use Rattle.check_stream.specs.search.Way.{position_of, left_values, root_position};
+ghost use Rattle.check_stream.specs.search.Way.{way_positions, trail_in};
+ghost use Rattle.check_stream.specs.search.Way.{IsWay, IsSplit, PointsTo, IsAfterHash, OpensAt};
+ghost use Rattle.check_stream.specs.search.Way.{Keeps};
+ghost use Rattle.check_stream.specs.search.Way.{OnHash};
+
+use crate::checker::Open;
+use crate::search::push::push;
+use base_data::model::Memory;
+use std::alloc::Global;
+use types_spec::types::shape::PolyTag;
+
+/// What a position expects: a type, the hash of a tag, or nothing (below a mismatch).
+#[derive(Clone, Copy)]
+pub enum Asked<'a> {
+    Type(usize),
+    Hash(&'a [PolyTag<usize>]),
+    Nothing,
+}
+
+/// What the open positions of a block expect.
+#[derive(Clone, Copy)]
+pub enum Left<'a> {
+    Asked(Open<'a>),
+    /// This many positions expect nothing: the block is the mismatch or is below it.
+    Unasked(u64),
+}
+
+/// An open block and the index of its current field.
+#[derive(Clone, Copy)]
+pub struct Link {
+    pub object: u32,
+    pub field: u32,
+}
+
+/// The open positions of one block. `depth` is the number of links that lead to them; the last of
+/// these links belongs to this block. `next` is the index of the first open position, and `left` is
+/// what the positions expect.
+#[derive(Clone, Copy)]
+pub struct Wait<'a> {
+    pub depth: usize,
+    pub next: u32,
+    pub left: Left<'a>,
+}
+
+/// The open positions of all blocks. `now` contains those of the innermost block, `waiting` those
+/// of the enclosing blocks. `links` leads from the root to the position taken last. The link of a
+/// block without open positions stays as long as a block inside it has some.
+#[derive(Drop)]
+pub struct Way<'a> {
+    pub now: Wait<'a>,
+    pub waiting: Vec<Wait<'a>>,
+    pub links: Vec<Link>,
+}
+
+/// Returns what the first remaining position expects, the other positions, and the number of values
+/// before them.
+fn split<'a>(left: Left<'a>) -> Option<(Asked<'a>, Left<'a>, u32)>
+    ensures { MatchOption result
+        (left_values left.entry ≡ 0)
+        (λ first. IsSplit left.entry first.0 first.1 first.2) }
+{
+    match left {
+        Left::Asked(positions) => split_asked(positions),
+        Left::Unasked(count) => {
+            if count == 0 {
+                return None;
+            }
+            Some((Asked::Nothing, Left::Unasked(count - 1), 1))
+        }
+    }
+}
+
+/// As `split`, for positions with expected types.
+fn split_asked<'a>(positions: Open<'a>) -> Option<(Asked<'a>, Left<'a>, u32)>
+    ensures { MatchOption result
+        (left_values (lefts.Asked positions.entry) ≡ 0)
+        (λ first. IsSplit (lefts.Asked positions.entry) first.0 first.1 first.2) }
+{
+    match positions {
+        Open::Listed(types) => {
+            if types.is_empty() {
+                return None;
+            }
+            let others = Left::Asked(Open::Listed(&types[1..]));
+            Some((Asked::Type(types[0]), others, 1))
+        }
+        Open::Each(count, ty) => {
+            if count == 0 {
+                return None;
+            }
+            let others = Left::Asked(Open::Each(count - 1, ty));
+            Some((Asked::Type(ty), others, 1))
+        }
+        Open::Tagged(tags) => Some((Asked::Hash(tags), Left::Asked(Open::Each(0, 0)), 2)),
+    }
+}
+
+/// If the first remaining position expects a type, returns that type, the other positions, and the
+/// number of values before them.
+#[inline(always)]
+pub fn first_type<'a>(left: Left<'a>) -> Option<(usize, Left<'a>, u32)>
+    ensures { IfSome result (λ first. IsSplit left.entry (asks.Type first.0) first.1 first.2) }
+{
+    match split(left) {
+        Some((Asked::Type(ty), others, values)) => Some((ty, others, values)),
+        _ => None,
+    }
+}
+
+/// If the types of the remaining positions are listed one by one, returns the first of these types
+/// and the other positions.
+#[inline(always)]
+pub fn split_listed<'a>(left: Left<'a>) -> Option<(usize, Left<'a>)>
+    ensures { IfSome result (λ first. IsSplit left.entry (asks.Type first.0) first.1 1) }
+{
+    let Left::Asked(Open::Listed(types)) = left else {
+        return None;
+    };
+    if types.is_empty() {
+        return None;
+    }
+    Some((types[0], Left::Asked(Open::Listed(&types[1..]))))
+}
+
+/// Returns true if values are pending in the remaining positions. Tests the frequent case of listed
+/// types first.
+#[tactic(auto, using(crate::proofs::theory::BlockLemmas::values_of_types))]
+#[inline(always)]
+fn is_open(left: Left<'_>) -> bool
+    ensures { MatchBool result (0 < left_values left.entry) (left_values left.entry ≡ 0) }
+{
+    if let Left::Asked(Open::Listed(types)) = left {
+        if types.is_empty() {
+            return false;
+        }
+        return true;
+    }
+    values_left(left) > 0
+}
+
+/// Returns the number of pending values in the remaining positions.
+pub fn values_left(left: Left<'_>) -> u64
+    ensures { result ≡ left_values left.entry }
+{
+    match left {
+        Left::Asked(positions) => values_asked(positions),
+        Left::Unasked(count) => count,
+    }
+}
+
+/// As `values_left`, for positions with expected types.
+fn values_asked(positions: Open<'_>) -> u64
+    ensures { result ≡ values_in (open_needs positions.entry) }
+{
+    match positions {
+        Open::Listed(types) => types.len() as u64,
+        Open::Each(count, _) => count,
+        Open::Tagged(_) => 2,
+    }
+}
+
+/// Replaces the contents of `copy` by the links. Fails with `Memory` if memory runs out.
+pub fn copy_to(copy: &mut Vec<Link>, links: &[Link]) -> Result<(), Memory>
+    ensures { OnOk result (copy.new.items ≡ links.now) }
+{
+    copy.clear();
+    'links: for link in links {
+        push(copy, *link)?;
+    }
+    Ok(())
+}
+
+impl<'a> Way<'a> {
+    /// Creates the position of the root, which expects type 0. No link leads to it.
+    pub fn root(alloc: Global) -> Way<'a>
+        ensures is_way { IsWay result }
+        ensures positions { way_positions result ≡ root_position ∷ [] }
+    {
+        Way {
+            now: Wait {
+                depth: 0,
+                next: 0,
+                left: Left::Asked(Open::Listed(&[0])),
+            },
+            waiting: Vec::new(alloc),
+            links: Vec::new(alloc),
+        }
+    }
+
+    /// Makes the links lead to field `field` of the innermost block.
+    #[inline(always)]
+    fn point(&mut self, field: u32)
+        requires { IsWay self.old }
+        ensures { PointsTo self.old field self.new }
+    {
+        let depth = self.now.depth;
+        self.links.truncate(depth);
+        if depth == 0 {
+            return;
+        }
+        self.links[depth - 1].field = field;
+    }
+
+    /// Resets to the position of the root of another value. It keeps its memory.
+    pub fn restart(&mut self)
+        ensures is_way { IsWay self.new }
+        ensures positions { way_positions self.new ≡ root_position ∷ [] }
+    {
+        self.now = Wait {
+            depth: 0,
+            next: 0,
+            left: Left::Asked(Open::Listed(&[0])),
+        };
+        self.waiting.clear();
+        self.links.clear();
+    }
+
+    /// Returns true if a position is open. Discards blocks without open positions.
+    #[inline(always)]
+    pub fn ready(&mut self) -> bool
+        requires { IsWay self.old }
+        ensures is_way { IsWay self.new }
+        ensures same { way_positions self.new ≡ way_positions self.old }
+        ensures ready { MatchBool result
+            (0 < left_values self.new.now.left)
+            (way_positions self.new ≡ []) }
+    {
+        'waiting: loop {
+            if is_open(self.now.left) {
+                return true;
+            }
+            match self.waiting.pop() {
+                Some(block) => self.now = block,
+                None => return false,
+            }
+        }
+    }
+
+    /// Takes the first open position and returns what it expects. The links lead to that position
+    /// afterwards.
+    #[inline(always)]
+    pub fn take(&mut self) -> Asked<'a>
+        requires is_way { IsWay self.old }
+        requires some { 0 < left_values self.old.now.left }
+        ensures is_way { IsWay self.new }
+        ensures first { way_positions self.old
+            ≡ position_of result (trail_in self.new) ∷ way_positions self.new }
+        ensures hash { OnHash result (IsAfterHash self.new) }
+    {
+        let Some((asked, others, values)) = split(self.now.left) else {
+            unreachable!()
+        };
+        let next = self.now.next;
+        self.point(next);
+        self.now = Wait {
+            depth: self.now.depth,
+            next: next + values,
+            left: others,
+        };
+        asked
+    }
+
+    /// Takes the first open position, which expects the type. The links lead to that position
+    /// afterwards.
+    #[inline(always)]
+    pub fn take_type(&mut self, ty: usize, others: Left<'a>)
+        requires is_way { IsWay self.old }
+        requires first { IsSplit self.old.now.left (asks.Type ty) others 1 }
+        ensures is_way { IsWay self.new }
+        ensures first { way_positions self.old
+            ≡ position_of (asks.Type ty) (trail_in self.new) ∷ way_positions self.new }
+    {
+        let next = self.now.next;
+        self.point(next);
+        self.now.next = next + 1;
+        self.now.left = others;
+    }
+
+    /// Returns true if at most `most` values are pending in the open positions. Subtracts the
+    /// blocks that it counts from `left`, and returns false if `left` does not suffice.
+    pub fn are_within(&self, most: u64, left: &mut u64) -> bool
+        ensures { OnTrue result (values_at (way_positions self.entry.now) ≤ most) }
+    {
+        let blocks = self.waiting.len() as u64;
+        if *left < blocks {
+            return false;
+        }
+        *left -= blocks;
+        let Some(mut room) = most.checked_sub(values_left(self.now.left)) else {
+            return false;
+        };
+        'waiting: for block in self.waiting.as_slice() {
+            let Some(less) = room.checked_sub(values_left(block.left)) else {
+                return false;
+            };
+            room = less;
+        }
+        true
+    }
+
+    /// Moves the open positions of the innermost block to `waiting`, if it has any.
+    #[inline(always)]
+    fn keep(&mut self) -> Result<(), Memory>
+        ensures { OnOk result (IsWay self.old → Keeps self.old self.new) }
+    {
+        let left = values_left(self.now.left);
+        if left == 0 {
+            return Ok(());
+        }
+        if self.waiting.len() < self.waiting.capacity() {
+            self.waiting.push_reserved(self.now);
+            return Ok(());
+        }
+        self.keep_more()
+    }
+
+    /// As `keep`, when the capacity does not suffice.
+    #[inline(never)]
+    fn keep_more(&mut self) -> Result<(), Memory>
+        ensures { OnOk result (IsWay self.old → Keeps self.old self.new) }
+    {
+        self.waiting.push(self.now)?;
+        Ok(())
+    }
+
+    /// Places the object with this number at the position taken last, and opens its positions, in
+    /// which `values` values are pending, before all others. Returns false if the numbers do not
+    /// fit in 32 bits.
+    #[inline(always)]
+    pub fn open(&mut self, object: usize, left: Left<'a>, values: u64) -> Result<bool, Memory>
+        requires { left_values left ≡ values }
+        ensures { IfOk result
+            (λ opened. OnTrue opened
+            (IsWay self.old → IsWay self.new × OpensAt self.old object left.entry self.new)) }
+    {
+        if values == 0 {
+            return Ok(true);
+        }
+        if object >= 1 << 32 || values >= 1 << 32 {
+            return Ok(false);
+        }
+        self.keep()?;
+        let link = Link {
+            object: object as u32,
+            field: 0,
+        };
+        push(&mut self.links, link)?;
+        self.now = Wait {
+            depth: self.links.len(),
+            next: 0,
+            left,
+        };
+        Ok(true)
+    }
+
+    /// Opens the position of the argument of a tag, next. It is the field after the hash, which was
+    /// taken last.
+    pub fn argument(&mut self, ty: usize)
+        requires { IsAfterHash self.old }
+        ensures is_way { IsWay self.old → IsWay self.new }
+        ensures argument { way_positions self.new
+            ≡ position_of (asks.Type ty) (field_after (trail_in self.old))
+            ∷ way_positions self.old }
+    {
+        self.now.next -= 1;
+        self.now.left = Left::Asked(Open::Each(1, ty));
+    }
+}

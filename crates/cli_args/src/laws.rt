@@ -1,0 +1,18 @@
+//! Laws over the definitions, as contracts of lemma functions.
+
+ghost use Rattle.cli_args.specs.Laws.{AcceptedArgumentsAreRead, HasOneRequest, PlainArgumentsAsk};
+
+/// States that arguments make at most one request.
+pub fn one_request()
+    ensures { HasOneRequest }
+{}
+
+/// States that a command line in plain form is accepted and makes the request that it spells out.
+pub fn plain_arguments_ask()
+    ensures { PlainArgumentsAsk }
+{}
+
+/// States that arguments without a clap error parse to some request.
+pub fn accepted_arguments_are_read()
+    ensures { AcceptedArgumentsAreRead }
+{}

@@ -1,0 +1,5 @@
+use Rattle.std.proofs.Common.{rules, append_assoc}
+use Rattle.cli_errors.proofs.compat_text.sized_compat.Goals as goal
+
+pub returns : goal.returns
+returns c = search (rules, append_assoc)

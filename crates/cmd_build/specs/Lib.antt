@@ -1,0 +1,3 @@
+pub mod spec
+pub mod command
+pub mod guess

@@ -1,0 +1,13 @@
+//! Implements `build`: parses each line of the input as a literal at a declared type, and writes
+//! the canonical bytes of its value. A line that is not such a literal, or whose value lacks the
+//! type, ends the run. The law `declared_texts_are_read_once` proves that a line has only one
+//! meaning.
+
+mod fault;
+mod given;
+mod guessed;
+pub mod laws;
+mod line;
+mod texts;
+
+pub use texts::Texts;

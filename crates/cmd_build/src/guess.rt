@@ -1,0 +1,17 @@
+//! Guesses the value with a given text, by a fast parser for texts that `show` writes. The
+//! contracts promise only that the guess is a valid value. To decide whether the guess is right,
+//! the caller prints it and compares the texts (`has_text`). The comparison is conclusive if the
+//! names of the types are readable (`is_encoded`, law `EncodedAreReadable`).
+
+mod begun;
+mod encoded;
+mod guessed;
+mod known;
+mod laws;
+mod open;
+mod scan;
+
+pub use encoded::is_encoded;
+pub use guessed::guess;
+pub use known::has_text;
+pub use laws::encoded_are_readable;

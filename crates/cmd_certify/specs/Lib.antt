@@ -1,0 +1,3 @@
+pub mod spec
+pub mod values
+pub mod command

@@ -1,0 +1,69 @@
+-- The certificate entry of a value at a declared type.
+use Rattle.std.specs.Prelude.{ℕ, ◌≡◌, Bool, true, false, List}
+use Rattle.base_data.specs.declared.model.value.Val.{Val}
+use Rattle.base_data.specs.declared.model.value.Obj.{Obj}
+use Rattle.types_spec.specs.declared.types.fault.Fault.{Fault}
+use Rattle.types_spec.specs.declared.types.fault.Fault.TheVariants as faults
+use Rattle.types_spec.specs.types.Equal.{declared_shapes}
+use Rattle.types_spec.specs.types.LeastFault.{IsLeastFault}
+use Rattle.types_spec.specs.types.Typing.{HasType}
+use Rattle.types_theory.specs.type_variables.TypeVariables.{HasEachInstance}
+use Rattle.marshal_spec.specs.format.Tree.{root, objects_of}
+use Rattle.cert_format.specs.declared.section.Section.{Section}
+use Rattle.cert_format.specs.declared.section.Section.TheVariants as sections
+use Rattle.cert_format.specs.Format.{section_text}
+use Rattle.cert_verify.specs.agreement.Agree.{AreReachedAt}
+use Rattle.cli_spec.specs.Outcome.{Output}
+use Rattle.run_spec.specs.runs.Commands.{Commands}
+use Rattle.run_types.specs.Language.{TypeOver, declared_types}
+use Rattle.cmd_certify.specs.spec.Certification.{Certification, OutputsSections, certifying}
+use Rattle.opt_skip_only.specs.skip_spec.Asked.{passed_by}
+use Rattle.opt_skip_only.specs.skip_spec.Skipping.{Passed, skipping}
+
+module _ (t : TypeOver) (graph : List Obj) (v : Val) where
+  -- The value has the type and each of its closed instances. By a table of the types that the type
+  -- reaches, these are the pairs that paths reach. Each has the least number of its class, and they
+  -- are in the order of an entry.
+  pub record CertifiesType (pairs : List (ℕ × ℕ)) : Type 0 where
+    pub has : HasType (declared_shapes t.decls) graph v t.type
+    pub each : HasEachInstance t.decls graph v t.type
+    pub are : AreReachedAt t.decls t.type graph v pairs
+
+  -- The value lacks the type and some closed instance of it, and this is its first fault.
+  pub record CertifiesFault (fault : Fault) : Type 0 where
+    pub least : IsLeastFault (declared_shapes t.decls) graph v t.type fault
+    pub some_not : ¬ HasEachInstance t.decls graph v t.type
+
+  -- The certificate entry of the value.
+  abbrev pub IsSectionOf : Section → Type 0
+  IsSectionOf (sections.Pairs pairs) = CertifiesType pairs
+  IsSectionOf (sections.Mismatch path) = CertifiesFault (faults.Mismatch path)
+  IsSectionOf (sections.Conflict first second) = CertifiesFault (faults.Conflict first second)
+
+-- True if the entry is that of a value that has the type.
+abbrev pub is_yes : Section → Bool
+is_yes (sections.Pairs pairs) = true
+is_yes (sections.Mismatch path) = false
+is_yes (sections.Conflict first second) = false
+
+-- The text of an entry with its number, and whether its value is ok.
+abbrev pub section_output : ℕ → Section → Output
+section_output number section =
+    record { text = section_text number section; ok = is_yes section }
+
+-- The output for the value is its entry, with its number.
+abbrev pub OutputsSection : TypeOver → ℕ → List Obj → Val → Output → Type 0
+OutputsSection t number graph v output =
+    (section : Section) × IsSectionOf t graph v section × (output ≡ section_output number section)
+
+-- The output for the value of a tree.
+abbrev pub declared_certificates : OutputsSections TypeOver
+declared_certificates t number tree output =
+    OutputsSection t number (objects_of tree 0) (root tree 0) output
+
+-- The command at declared types, and the same command after skipped bytes.
+abbrev pub on_certified : Commands (Certification TypeOver)
+on_certified = certifying declared_types declared_certificates
+
+abbrev pub on_certified_after : Commands (Passed × Certification TypeOver)
+on_certified_after = skipping passed_by on_certified

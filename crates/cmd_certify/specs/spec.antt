@@ -1,0 +1,4 @@
+pub mod Ends
+pub mod Certification
+pub mod Laws
+pub mod ExitStatuses

@@ -1,0 +1,64 @@
+-- For a command with an output for each value by its number: how the input ends, what is refused of
+-- it, and what the tables of such a command state about it.
+use Rattle.std.specs.Prelude.{ℕ, ◌≡◌, ◌⊎◌, List, [], length}
+use Rattle.base_data.specs.declared.model.refusal.ReadRefusal.{ReadRefusal}
+use Rattle.marshal_spec.specs.format.Stream.{EncodeAll, End, clean, refused, cut, IsTail}
+use Rattle.marshal_spec.specs.format.Tree.{Tree}
+use Rattle.cli_spec.specs.declared.status.Status.{Status}
+use Rattle.cli_spec.specs.declared.status.Status.TheVariants.{Value}
+use Rattle.cli_spec.specs.Outcome.{Reply, exits}
+use Rattle.cli_spec.specs.RefusalText.{refusal_text, truncated_text}
+use Rattle.cli_spec.specs.declared.exit.Exit.{Exit}
+use Rattle.cli_spec.specs.declared.exit.Exit.TheVariants.{Value as value}
+use Rattle.run_spec.specs.runs.Commands.{Item}
+use Rattle.run_spec.specs.exit_statuses.Numbered.{HoldsOfAll}
+
+-- After this many values the following bytes are refused.
+pub record ComesRefused (limit number : ℕ) (bytes : List ℕ) (exit : Exit) : Type 0 where
+  pub refusal : ReadRefusal
+  pub tail : IsTail limit bytes (refused refusal)
+  pub is : exit ≡ value number (refusal_text refusal)
+
+module _ (limit : ℕ) (EndsClean : ℕ → Reply → Type 0) where
+  -- The final reply if the bytes end after this many values, or inside one more value.
+  abbrev pub EndsBy : ℕ → End → Reply → Type 0
+  EndsBy number clean last = EndsClean number last
+  EndsBy number (refused refusal) last = ⊥
+  EndsBy number (cut n) last = last ≡ exits (value number (truncated_text n))
+
+  abbrev pub EndsHere : List Item → List ℕ → Reply → Type 0
+  EndsHere items bytes last =
+      (end : End) × IsTail limit bytes end × EndsBy (length items) end last
+
+-- ---- the tables, for values that have a property
+
+module _ (limit : ℕ) (Has : ℕ → Tree → Type 0) where
+  -- After values with the property the next bytes are refused.
+  pub record HoldRefusal (bytes : List ℕ) : Type 0 where
+    pub trees : List Tree
+    pub rest : List ℕ
+    pub refusal : ReadRefusal
+    pub encoded : EncodeAll limit bytes trees rest
+    pub certified : HoldsOfAll Has 0 trees
+    pub tail : IsTail limit rest (refused refusal)
+
+  -- After values with the property the bytes end inside one more value.
+  pub record AreSplit (bytes : List ℕ) : Type 0 where
+    pub trees : List Tree
+    pub rest : List ℕ
+    pub n : ℕ
+    pub encoded : EncodeAll limit bytes trees rest
+    pub certified : HoldsOfAll Has 0 trees
+    pub tail : IsTail limit rest (cut n)
+
+  module _ (Finish : List Tree → Status → Type 0) where
+    -- The bytes are values up to their end, and the run has this status there.
+    pub record AreFinished (bytes : List ℕ) (status : Status) : Type 0 where
+      pub trees : List Tree
+      pub encoded : EncodeAll limit bytes trees []
+      pub finishes : Finish trees status
+
+    -- If the input is these bytes, then the run has this status at its end. The status is 4 if a
+    -- value is truncated.
+    abbrev pub EndWith : List ℕ → Status → Type 0
+    EndWith bytes status = AreFinished bytes status ⊎ ((status ≡ Value) × AreSplit bytes)

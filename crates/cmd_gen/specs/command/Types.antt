@@ -1,0 +1,14 @@
+-- The meaning of TYPE over the declarations of the items.
+use Rattle.std.specs.Prelude.{ℕ, ◌≡◌, ◌⊎◌, List, Result, Ok, Err}
+use Rattle.cli_spec.specs.declared.exit.Exit.{Exit}
+use Rattle.cli_spec.specs.declared.exit.Exit.TheVariants.{Memory as out_of_memory}
+use Rattle.run_types.specs.declared.requested.Prepared.{Prepared}
+use Rattle.run_types.specs.Language.{declared_types}
+use Rattle.run_types.specs.Types.{type_over, IsReady}
+use Rattle.cmd_gen.specs.spec.GenSpec.{ReadsItemType}
+
+-- The type, or the exit reason if there is none. Memory may also run out.
+abbrev pub GivesItemType : List ℕ → Result Prepared Exit → Type 0
+GivesItemType text (Ok r) = ReadsItemType declared_types text (Ok (type_over r)) × IsReady r
+GivesItemType text (Err exit) =
+    ReadsItemType declared_types text (Err exit) ⊎ (exit ≡ out_of_memory)

@@ -1,0 +1,12 @@
+-- Valid items.
+use Rattle.std.specs.Prelude.{ℕ, ◌^◌, ◌<◌}
+use Rattle.cmd_gen.specs.declared.generator.item.Item.{Item}
+use Rattle.cmd_gen.specs.declared.generator.item.Item.TheVariants.{Nil, Num, Text, Pair, Cell}
+
+-- Item `i`: its numbers are in range, and it refers only to earlier items.
+abbrev pub IsItem : ℕ → Item → Type 0
+IsItem i Nil = Unit {0}
+IsItem i (Num n) = n < 2 ^ 23
+IsItem i (Text len byte) = (len < 40) × (byte < 2 ^ 8)
+IsItem i (Pair j k) = (j < i) × (k < i)
+IsItem i (Cell j) = j < i

@@ -1,0 +1,3 @@
+pub mod GenSpec
+pub mod ExitStatuses
+pub mod Laws

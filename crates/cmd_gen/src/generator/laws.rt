@@ -1,0 +1,9 @@
+//! Laws over the definitions, as contracts of lemma functions.
+
+ghost use Rattle.cmd_gen.specs.generator.Worked.{Worked};
+
+/// States worked examples: the values that certain numbers generate, and the lines for these
+/// values.
+pub fn worked_values_are_generated()
+    ensures { Worked }
+{}

@@ -1,0 +1,4 @@
+pub mod found
+pub mod spec
+pub mod sweep
+pub mod command

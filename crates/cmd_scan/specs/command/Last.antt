@@ -1,0 +1,49 @@
+-- The byte that decides what some bytes begin with.
+use Rattle.std.specs.Prelude.{ℕ, ◌<◌, ◌≤◌, ◌≡◌, ◌≢◌, Bool, true, false, List, [], ◌∷◌, ◌++◌, length}
+use Rattle.std.specs.Prelude.{take, Result, Ok, Err}
+use Rattle.base_data.specs.declared.model.refusal.ReadRefusal.{ReadRefusal}
+use Rattle.base_data.specs.declared.model.refusal.ReadRefusal.TheVariants as refusals
+use Rattle.marshal_spec.specs.format.Prefix.{IsPrefix}
+use Rattle.marshal_read.specs.declared.reader.Reader.{Reader}
+use Rattle.marshal_read.specs.Reader.{IsReader, Leads}
+use Rattle.cmd_scan.specs.declared.command.last.Taken.{Taken}
+
+-- The last of the bytes decides what they begin with.
+pub record IsDecided (limit : ℕ) (bytes : List ℕ) : Type 0 where
+  pub none : IsPrefix limit bytes → ⊥
+  pub prefix : List ℕ
+  pub last : ℕ
+  pub bytes_are : bytes ≡ prefix ++ last ∷ []
+  pub before : IsPrefix limit prefix
+
+-- A refusal other than out of memory decides.
+abbrev pub IsRefusal : ReadRefusal → Bool → Type 0
+IsRefusal refusal goes_on = (goes_on ≡ false) × (refusal ≢ refusals.Memory)
+
+-- The bytes are still a prefix of a value, and the reader has taken them. Or the byte decides. Or
+-- memory ran out.
+abbrev pub TakesByte : {E : Type 0} → ℕ → List ℕ → List ℕ → Reader → Result Bool E → Type 0
+TakesByte limit taken byte new (Ok true) =
+    IsReader new × Leads limit (taken ++ byte) new × IsPrefix limit (taken ++ byte)
+TakesByte limit taken byte new (Ok false) = IsDecided limit (taken ++ byte)
+TakesByte limit taken byte new (Err e) = Unit {0}
+
+-- This many bytes of the chunk decide.
+abbrev pub FindsLast : {E : Type 0} → ℕ → List ℕ → List ℕ → Result ℕ E → Type 0
+FindsLast limit held chunk (Ok n) =
+    (0 < n) × (n ≤ length chunk) × IsDecided limit (held ++ take n chunk)
+FindsLast limit held chunk (Err e) = Unit {0}
+
+-- Some bytes are taken after the held ones. Either the last of them decides what all begin with, or
+-- they are still a prefix of a value and the reader has taken them.
+pub record TakesBytes (limit : ℕ) (held chunk : List ℕ) (new : Reader) (t : Taken) : Type 0 where
+  pub some : 0 < t.bytes
+  pub within : t.bytes ≤ length chunk
+  pub more : t.decided ≡ false → IsPrefix limit (held ++ take t.bytes chunk)
+      × Leads limit (held ++ take t.bytes chunk) new
+  pub last : t.decided ≡ true → IsDecided limit (held ++ take t.bytes chunk)
+
+-- The bytes are taken, or memory ran out.
+abbrev pub ReadsSome : {E : Type 0} → ℕ → List ℕ → List ℕ → Reader → Result Taken E → Type 0
+ReadsSome limit held chunk new (Ok t) = TakesBytes limit held chunk new t
+ReadsSome limit held chunk new (Err e) = Unit {0}

@@ -1,0 +1,162 @@
+//! The search, while the bytes of the input arrive.
+
+ghost use Rattle.std.specs.Prelude.{◌≡◌, ◌++◌, ◌<◌, ◌≤◌, ◌^◌, ◌+◌, ℕ, List, [], length, take, drop};
+ghost use Rattle.std.specs.Prelude.{IfOk, OnOk};
+ghost use Rattle.cli_spec.specs.Outcome.{Output};
+ghost use Rattle.base_io.specs.State.{change};
+ghost use Rattle.cmd_scan.specs.command.Searched.{HasSearched, HasStretch, TakesSome, WritesNext};
+
+use crate::command::last::{Taken, read_some};
+use crate::spec::laws::Searches;
+use crate::sweep::{sweep, sweep_all};
+use base_data::model::Memory;
+use base_data::model::bytes::skip;
+use base_io::{Sink, write_all};
+use cli_errors::exit::Error;
+use marshal_read::Reader;
+use run_loop::work::Work;
+use std::alloc::Global;
+use std::marker::PhantomData;
+
+/// While fewer bytes than this are held, bytes are taken one by one. At most offsets no value
+/// begins, and this many bytes nearly always decide it.
+const FEW: usize = 32;
+
+// Appends bytes.
+fn keep(held: &mut Vec<u8>, bytes: &[u8]) -> Result<(), Memory>
+    ensures { OnOk result (held.new.items ≡ held.old.items ++ bytes.now) }
+{
+    Ok(held.extend_from_slice(bytes)?)
+}
+
+// Returns the bytes after the first `n` ones.
+fn left_of(alloc: Global, bytes: &[u8], n: usize) -> Result<Vec<u8>, Memory>
+    ensures { IfOk result (λ left. left.items ≡ drop n bytes.now) }
+{
+    let mut left = Vec::new(alloc);
+    keep(&mut left, skip(bytes, n))?;
+    Ok(left)
+}
+
+// Returns the bytes to take next: all buffered bytes, or one.
+fn next_chunk(buffered: &[u8], held: usize) -> &[u8]
+    requires { 0 < length buffered.now }
+    ensures { (n : ℕ) × (0 < n) × (n ≤ length buffered.now) × (result.now ≡ take n buffered.now) }
+{
+    if held < FEW { &buffered[..1] } else { buffered }
+}
+
+/// The state of the search: the held bytes, from the first offset at which a value may still begin,
+/// the reader that has taken them, and the number of bytes before them.
+#[derive(Drop)]
+pub struct Searching<S> {
+    pub limit: u64,
+    held: Vec<u8>,
+    reader: Reader,
+    at: u64,
+    asked: PhantomData<S>,
+}
+
+impl<S: Searches> Searching<S> {
+    /// Creates the state before any byte is taken. `limit` is the greatest number of 64-bit words
+    /// in a value.
+    pub fn new(alloc: Global, limit: u64) -> Searching<S>
+        ensures limit { result.limit ≡ limit }
+        ensures has { HasSearched S.limit_by result.limit result.held.items result.reader result.at
+            [] [] }
+    {
+        Searching {
+            limit,
+            held: Vec::new(alloc),
+            reader: Reader::new(alloc, limit),
+            at: 0,
+            asked: PhantomData,
+        }
+    }
+
+    // Takes some of the buffered bytes. Afterwards a prefix of a value is held, or a stretch.
+    fn take_some(&mut self, alloc: Global, buffered: &[u8]) -> Result<Taken, Memory>
+        requires some { 0 < length buffered.now }
+        requires has { (bytes : List ℕ) × (output : List Output)
+            × HasSearched S.limit_by self.old.limit self.old.held.items self.old.reader self.old.at
+            bytes output }
+        ensures limit { self.new.limit ≡ self.old.limit }
+        ensures takes { (bytes : List ℕ) (output : List Output)
+            → HasSearched S.limit_by self.old.limit self.old.held.items self.old.reader self.old.at
+            bytes output
+            → TakesSome S.limit_by self.old.limit self.new.held.items self.new.reader self.new.at
+            buffered.now bytes output result }
+    {
+        let chunk = next_chunk(buffered, self.held.len());
+        let held = self.held.as_slice();
+        let taken = read_some(alloc, self.limit, held, &mut self.reader, chunk)?;
+        keep(&mut self.held, &chunk[..taken.bytes])?;
+        Ok(taken)
+    }
+
+    // Writes the output for the decided stretch, and holds the bytes that remain of it.
+    fn write_stretch<K: Sink>(&mut self, alloc: Global, out: &mut K) -> Result<(), Error>
+        requires { (bytes : List ℕ) × (output : List Output)
+            × HasStretch S.limit_by self.old.limit self.old.held.items self.old.at bytes output
+            × (length bytes < 2 ^ 63) }
+        ensures limit { self.new.limit ≡ self.old.limit }
+        ensures writes { (bytes : List ℕ) (output : List Output)
+            → HasStretch S.limit_by self.old.limit self.old.held.items self.old.at bytes output
+            → WritesNext S.limit_by self.old.limit self.new.held.items self.new.reader self.new.at
+            bytes output (change (K.state out.old) (K.state out.new)) result }
+    {
+        self.reader = Reader::new(alloc, self.limit);
+        let mut text = Vec::new(alloc);
+        let held = self.held.as_slice();
+        let swept = sweep(alloc, self.limit, held, self.at, &mut text)?;
+        let left = left_of(alloc, held, swept.decided)?;
+        let lines = text.as_slice();
+        write_all(out, lines)?;
+        self.at += swept.decided as u64;
+        self.reader = swept.reader;
+        self.held = left;
+        Ok(())
+    }
+}
+
+impl<S: Searches> Work for Searching<S> {
+    ghost use Rattle.cmd_scan.specs.spec.Searching.{searching};
+
+    ghost Act = { ℕ };
+
+    ghost commands = { searching S.limit_by };
+
+    ghost act = { λ w. w.limit };
+
+    ghost has = { λ w bytes output. HasSearched S.limit_by w.limit w.held.items w.reader w.at bytes
+        output };
+
+    fn reads(&self) -> bool {
+        true
+    }
+
+    fn feed<K: Sink>(
+        &mut self,
+        alloc: Global,
+        buffered: &[u8],
+        out: &mut K,
+    ) -> Result<usize, Error> {
+        let taken = self.take_some(alloc, buffered)?;
+        if !taken.decided {
+            return Ok(taken.bytes);
+        }
+        self.write_stretch(alloc, out)?;
+        Ok(taken.bytes)
+    }
+
+    fn end<K: Sink>(&mut self, alloc: Global, out: &mut K) -> Result<bool, Error> {
+        let mut text = Vec::new(alloc);
+        let held = self.held.as_slice();
+        sweep_all(alloc, self.limit, held, self.at, &mut text)?;
+        let lines = text.as_slice();
+        write_all(out, lines)?;
+        Ok(true)
+    }
+
+    fn laws(&self) {}
+}

@@ -1,0 +1,7 @@
+use Rattle.cmd_verify.proofs.spec.FindLemmas.{in_turns}
+use Rattle.cmd_verify.proofs.spec.laws.verifying_takes_turns.Goals as goal
+
+pub returns : goal.returns
+returns g c =
+    in_turns g.V.Verifies.language g.V.Verifies.Reads g.V.Verifies.ShownBy c.requires.language
+    c.requires.once.sections

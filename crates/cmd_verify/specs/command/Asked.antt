@@ -1,0 +1,19 @@
+-- The arguments of `verify`, after the type was read.
+use Rattle.std.specs.Prelude.{ℕ, Bool, List, Ok}
+use Rattle.cli_spec.specs.declared.reading.Reading.{Reading}
+use Rattle.cli_spec.specs.Outcome.{Found, asked_type, own, verify, Asks}
+use Rattle.base_io.specs.State.{FilesState, Change}
+use Rattle.run_spec.specs.runs.Given.{Fetched}
+use Rattle.run_types.specs.declared.requested.Prepared.{Prepared}
+use Rattle.run_types.specs.Types.{GivesType}
+
+-- FILE and TYPE gave this type, and CERT is read next.
+pub record AsksToVerify (arguments : List (List ℕ)) (r : Prepared) (certificate : List ℕ)
+    (reading : Reading) (files : Change FilesState) : Type 0 where
+  pub file : List ℕ
+  pub type : List ℕ
+  pub lines : Bool
+  pub asks : Asks arguments (own (verify file type certificate lines reading))
+  pub found : Found
+  pub fetched : Fetched files file found
+  pub gives : GivesType file (asked_type type lines) found (Ok r)

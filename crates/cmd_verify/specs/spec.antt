@@ -1,0 +1,3 @@
+pub mod Verification
+pub mod ExitStatuses
+pub mod Laws

@@ -1,0 +1,33 @@
+use Rattle.std.specs.Prelude.{List, Contains}
+use Rattle.base_data.specs.declared.model.value.Val.{Val}
+use Rattle.base_data.specs.declared.model.value.Obj.{Obj}
+use Rattle.types_spec.specs.declared.types.decl.Decl.{Decl}
+use Rattle.types_spec.specs.declared.types.fault.Fault.{Fault}
+use Rattle.types_spec.specs.types.Accepted.{AreWellFormed, IsSoundType}
+use Rattle.types_spec.specs.types.Fault.{IsFault}
+use Rattle.types_spec.specs.types.Reached.{IsReached}
+use Rattle.types_spec.specs.types.Ty.{Ty}
+use Rattle.types_spec.specs.types.Typing.{HasType}
+use Rattle.types_spec.specs.types.Equal.{Equal, declared_shapes}
+use Rattle.types_spec.specs.types.Names.{names_of}
+use Rattle.types_spec.specs.types.Shape.{shape}
+use Rattle.types_spec.proofs.types.FaultLemmas.{fault_excludes_type}
+use Rattle.types_theory.proofs.equality.LawfulLemmas.{reached_lawful}
+use Rattle.types_theory.proofs.equality.ReachedLemmas.{root_listed}
+use Rattle.types_theory.proofs.equality.SoundLemmas.{known_by_hash}
+use Rattle.edit_values.proofs.GraftAnswers.{graft_known_once, grafts_once}
+use Rattle.edit_values.proofs.laws.grafts_have_one_answer.Goals as goal
+
+never_both : (decls : List Decl) (t : Ty) (types : List Ty) → AreWellFormed decls → IsSoundType decls t → IsReached decls t types
+    → (graph : List Obj) (v : Val) (fault : Fault) → IsFault (declared_shapes decls) graph v t fault → HasType (declared_shapes decls) graph v t → ⊥
+never_both decls t types well sound reached graph v fault =
+    fault_excludes_type (declared_shapes decls) (λ u. Contains types u)
+    (reached_lawful decls well.sound t types reached (known_by_hash decls well t sound types reached))
+    graph v t fault (root_listed decls t types reached)
+
+pub returns : goal.returns
+returns c = record {
+  by_numbers = λ table lawful path other source graph root. graft_known_once table path other source graph root lawful;
+  by_types = λ decls t types well sound reached path other source graph root.
+      grafts_once (shape decls) (names_of decls) (Equal decls) t path other source graph root (never_both decls t types well sound reached);
+}

@@ -1,0 +1,5 @@
+use Rattle.edit_values.proofs.AgreeLemmas.{answer_agree}
+use Rattle.edit_values.proofs.laws.tables_edit_agree.Goals as goal
+
+pub returns : goal.returns
+returns c = λ decls t table is. answer_agree decls t table is

@@ -1,0 +1,87 @@
+-- Grafts: a copy of a part of another value is written at a location, generic in representations.
+-- Both values have the same type, and a value is a graph and a root.
+use Rattle.std.specs.Prelude.{ℕ, ◌≡◌, Option, Some, None, Result, Ok, Err, List, ◌++◌, length, ⊤}
+use Rattle.base_data.specs.declared.model.value.Val.{Val}
+use Rattle.base_data.specs.declared.model.value.Obj.{Obj}
+use Rattle.types_spec.specs.declared.types.fault.Fault.{Fault}
+use Rattle.types_spec.specs.declared.types.shape.ShapeOf.{ShapeOf}
+use Rattle.types_spec.specs.types.Fitting.{shaped}
+use Rattle.types_spec.specs.types.LeastFault.{IsLeastFault}
+use Rattle.types_spec.specs.types.Typing.{HasType}
+use Rattle.types_table.specs.declared.type_table.tabled.Tabled.{Tabled}
+use Rattle.text_literal.specs.parser.LiteralAnswers.{shape_in}
+use Rattle.marshal_write.specs.graft.Copies.{IsCopy}
+use Rattle.edit_values.specs.declared.spots.Position.{Position}
+use Rattle.edit_values.specs.declared.refusal.EditRefusal.{EditRefusal}
+use Rattle.edit_values.specs.declared.refusal.Side.TheVariants.{Left, Right}
+use Rattle.edit_values.specs.EditedValues.{Answer, write_at}
+use Rattle.edit_values.specs.Positions.{position_at}
+use Rattle.edit_values.specs.Reasons.{Reason, no_field, ill_typed, reason_of}
+use Rattle.edit_values.specs.Tables.{SameClass}
+
+-- The value from which a part is copied.
+abbrev pub Other : Type 0
+Other = List Obj × Val
+
+module _ {T : Type 0} where
+  -- A copy of the value at the location of the other value is written at the location of this
+  -- value.
+  abbrev pub IsGraftAt : List Obj → Val → Position T → List Obj → Position T → Answer T → Type 0
+  IsGraftAt graph root p from part (Ok made) =
+      (copied : List Obj) × (value : Val)
+      × IsCopy from part.value (length graph) copied value
+      × (made ≡ write_at p.spot value (graph ++ copied) root)
+  IsGraftAt graph root p from part (Err reason) = ⊥
+
+  -- The left path is checked first.
+  abbrev pub IsGraft : List Obj → Val → Result (Position T) ℕ → List Obj → Result (Position T) ℕ
+      → Answer T → Type 0
+  IsGraft graph root (Err step) from part made = made ≡ Err (no_field Left step)
+  IsGraft graph root (Ok p) from (Err step) made = made ≡ Err (no_field Right step)
+  IsGraft graph root (Ok p) from (Ok part) made = IsGraftAt graph root p from part made
+
+  module _ (shape : T → ShapeOf T) (Equal : T → T → Type 0) (t : T) where
+    -- The result of a graft, without regard to its type.
+    abbrev pub IsGrafted : List ℕ → Other → List ℕ → List Obj → Val → Answer T → Type 0
+    IsGrafted path other source graph root made =
+        IsGraft graph root (position_at (shaped shape Equal) graph root t path) other.0
+        (position_at (shaped shape Equal) other.0 other.1 t source) made
+
+    -- The result of the graft does not have the type, and this is its first fault.
+    abbrev pub IsIllGrafted : List ℕ → Other → List ℕ → List Obj → Val → Fault → Type 0
+    IsIllGrafted path other source graph root fault =
+        (made : List Obj × Val) × IsGrafted path other source graph root (Ok made)
+        × IsLeastFault (shaped shape Equal) made.0 made.1 t fault
+
+    -- The answer to a graft.
+    abbrev pub IsGraftAnswer : List ℕ → Other → List ℕ → List Obj → Val → Answer T → Type 0
+    IsGraftAnswer path other source graph root (Ok made) =
+        IsGrafted path other source graph root (Ok made)
+        × HasType (shaped shape Equal) made.0 made.1 t
+    IsGraftAnswer path other source graph root (Err (ill_typed fault)) =
+        IsIllGrafted path other source graph root fault
+    IsGraftAnswer path other source graph root (Err reason) =
+        IsGrafted path other source graph root (Err reason)
+
+-- ---- the result of a call, by the numbers of a table
+
+-- The answer to a graft at the type with number 0.
+abbrev pub IsGraftAnswerIn : Tabled → List ℕ → Other → List ℕ → List Obj → Val → Answer ℕ
+    → Type 0
+IsGraftAnswerIn table path other source graph root answer =
+    IsGraftAnswer (shape_in table) (SameClass table) 0 path other source graph root answer
+
+abbrev pub IsNotGraftedFor : Tabled → List ℕ → Other → List ℕ → List Obj → Val
+    → Option (Reason ℕ) → Type 0
+IsNotGraftedFor table path other source graph root None = ⊤
+IsNotGraftedFor table path other source graph root (Some reason) =
+    IsGraftAnswerIn table path other source graph root (Err reason)
+
+-- The value is grafted. Otherwise it is unchanged, and there is a reason, or memory ran out.
+abbrev pub IsGraftApplied : Tabled → List ℕ → Other → List ℕ → List Obj → Val → List Obj → Val
+    → Result (Unit {0}) EditRefusal → Type 0
+IsGraftApplied table path other source old old_root new new_root (Ok unit) =
+    IsGraftAnswerIn table path other source old old_root (Ok (new, new_root))
+IsGraftApplied table path other source old old_root new new_root (Err refusal) =
+    (new ≡ old) × (new_root ≡ old_root)
+    × IsNotGraftedFor table path other source old old_root (reason_of refusal)

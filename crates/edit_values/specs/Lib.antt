@@ -1,0 +1,11 @@
+pub mod Reasons
+pub mod Positions
+pub mod EditedValues
+pub mod Tables
+pub mod Laws
+pub mod Grafts
+pub mod EditedLines
+pub mod GraftLaws
+pub mod LineLaws
+pub mod WorkedEdits
+pub mod WildcardLaws

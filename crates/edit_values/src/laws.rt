@@ -1,0 +1,52 @@
+//! Laws of the definitions. Each function is a lemma function: it has no effect and exists only for
+//! its contract.
+
+ghost use Rattle.edit_values.specs.GraftLaws.{GraftsAreTheSame, GraftsHaveOneAnswer};
+ghost use Rattle.edit_values.specs.GraftLaws.{TablesGraftAgree};
+ghost use Rattle.edit_values.specs.WildcardLaws.{EditsLeaveWildcards};
+ghost use Rattle.edit_values.specs.Laws.{EditsHaveOneAnswer, TablesEditAgree};
+ghost use Rattle.edit_values.specs.LineLaws.{TablesAnswerLinesAgree};
+ghost use Rattle.edit_values.specs.WorkedEdits.{Rows};
+
+/// Each edit of a value has at most one answer.
+pub fn edits_have_one_answer()
+    ensures { EditsHaveOneAnswer }
+{}
+
+/// The answer to an edit by the numbers of a table corresponds to the answer by the types.
+pub fn tables_edit_agree()
+    ensures { TablesEditAgree }
+{}
+
+/// Worked edits have the expected results, or the expected reasons for a refusal.
+pub fn worked_edits_are_made()
+    ensures { Rows }
+{}
+
+/// A graft writes a value that is isomorphic to the copied part and consists of new objects, and
+/// the whole value has its type.
+pub fn grafts_are_the_same()
+    ensures { GraftsAreTheSame }
+{}
+
+/// Each graft has at most one answer.
+pub fn grafts_have_one_answer()
+    ensures { GraftsHaveOneAnswer }
+{}
+
+/// The answer to a graft by the numbers of a table corresponds to the answer by the types.
+pub fn tables_graft_agree()
+    ensures { TablesGraftAgree }
+{}
+
+/// The answer to a line of a script by the numbers of a table corresponds to the answer by the
+/// types.
+pub fn tables_answer_lines_agree()
+    ensures { TablesAnswerLinesAgree }
+{}
+
+/// Script lines, including grafts, do not change an object to which no path leads. In particular
+/// they do not change objects under wildcards only.
+pub fn edits_leave_wildcards()
+    ensures { EditsLeaveWildcards }
+{}

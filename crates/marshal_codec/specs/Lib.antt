@@ -1,0 +1,3 @@
+pub mod codes
+pub mod headers
+pub mod customs

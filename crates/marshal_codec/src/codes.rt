@@ -1,0 +1,14 @@
+//! The codes that begin the tokens of a marshalled value (`intext.h`). `code_kind` decodes a code
+//! byte. `encode_int`, `encode_block` and similar functions encode tokens as OCaml's runtime writes
+//! them (`extern.c`).
+
+mod encode;
+mod kind;
+mod known;
+
+pub use base_data::model::code::{CodeFault, CodeKind};
+pub use encode::{
+    encode_block, encode_double_array_len, encode_int, encode_shared, encode_string_len,
+};
+pub use kind::code_kind;
+pub use known::Known;

@@ -1,0 +1,32 @@
+use Rattle.std.proofs.Common.{◌≡◌, ◌*◌, ◌<◌, List, [], ◌∷◌, ◌++◌, length, refl, sym, ap, ◌∙◌, arith}
+use Rattle.base_data.specs.declared.model.value.Val.TheVariants as vals
+use Rattle.base_data.specs.declared.model.value.Obj.{Obj}
+use Rattle.base_data.specs.declared.model.value.Obj.TheVariants as objects
+use Rattle.std.proofs.lemmas.List.Elements.{All-from_get_or}
+use Rattle.marshal_heap.specs.heap.Heap.{word_of}
+use Rattle.marshal_heap.specs.heap.Stored.{decode, IsStored}
+use Rattle.marshal_heap.proofs.heap.StoredLemmas.{held}
+use Rattle.marshal_heap.proofs.heap.ChangeLemmas.{positions_below, many_words, made}
+use Rattle.marshal_heap.proofs.heap.NewLemmas.{IsNew-bytes}
+use Rattle.marshal_heap.proofs.heap.ReadLemmas.{word_of-next}
+use Rattle.marshal_heap.proofs.heap.heap.Heap.add_bytes_in_room.Goals as goal
+
+pub begin_in_room-requires : goal.begin_in_room-requires
+begin_in_room-requires c = positions_below _ _ _ (held _ _ _ c.self.invariant c.self.view_is)
+
+made_here : (c : goal.After-append_string) → IsStored c.append_string.new.region.words c.begin_in_room.new.positions × (decode c.append_string.new.region.words c.begin_in_room.new.positions ≡ c.args.self.now ++ objects.Bytes c.args.content.now ∷ [])
+made_here c =
+    let begun = c.if-not-begin_in_room.ensures in
+    made _ _ c.args.self.now c.self.invariant c.self.view_is c.self.inside.region.words _ _ _ _ _ _ _ (IsNew-bytes (length c.args.self.now) _ c.args.content.now (All-from_get_or (λ b. b < 256) c.args.content.now 0 (λ i inside. omega (arith, c.type_inv.content i))) c.requires.small) begun.small refl c.append_reserved.ensures.words c.header_word.ensures c.append_string.ensures begun.positions
+
+pub invariant_of-self-2 : goal.invariant_of-self-2
+invariant_of-self-2 c = (made_here c).0
+
+pub returns : goal.returns
+returns c =
+    let graph : List Obj = c.args.self.now in
+    let made_is = (made_here c).1 in (
+      ap (λ n. 8 * n) (c.len-position.ensures.len ∙ many_words _ _ graph (held _ _ graph c.self.invariant c.self.view_is))
+          ∙ sym (ap (λ (all : List Obj). word_of all (vals.Ref (length graph))) made_is ∙ word_of-next graph (objects.Bytes c.args.content.now)),
+      made_is,
+    )

@@ -1,0 +1,4 @@
+pub mod arena
+pub mod offsets
+pub mod heap
+pub mod isomorphism

@@ -1,0 +1,6 @@
+//! An arena of 64-bit words: a growable array whose capacity contracts can see (`spare`). Callers
+//! reserve room once and then append words without further checks. All code that uses pointers is
+//! in the module `block`.
+
+mod block;
+pub mod region;

@@ -1,0 +1,9 @@
+//! Decides whether two values are isomorphic, that is, equal up to the numbers of their objects.
+//! `same` returns true if and only if the values satisfy `Isomorphism`. The result includes
+//! sharing and cycles: a shared object never agrees with two copies.
+
+mod compare;
+mod content;
+mod pairing;
+
+pub use compare::same;

@@ -1,0 +1,17 @@
+pub mod TotalsLemmas
+pub mod SizeLemmas
+pub mod StepLemmas
+pub mod PassingLemmas
+pub mod FieldLemmas
+pub mod TreeLemmas
+pub mod BuildLemmas
+pub mod RoomLemmas
+pub mod AbsorbLemmas
+pub mod HeadLemmas
+pub mod LeftLemmas
+pub mod NextLemmas
+pub mod ReadingLemmas
+pub mod ChunksLemmas
+pub mod CommonLemmas
+pub mod RunLemmas
+pub mod ReaderLemmas

@@ -1,0 +1,58 @@
+-- Totals with one more token.
+use Rattle.std.proofs.Common.{ℕ, ◌≡◌, List, [], ◌∷◌, ◌++◌, Bool, true, false, Option, Some, None, Result, Ok, Err, ap, subst, sym, ◌∙◌, refl, ltb}
+use Rattle.base_data.specs.declared.model.refusal.ReadRefusal.{ReadRefusal}
+use Rattle.marshal_spec.specs.format.Step.{Context, Step, or_else}
+use Rattle.marshal_read.specs.declared.totals.Totals.{Totals}
+use Rattle.marshal_read.specs.Totals.{AreTotals, IsNext, context_of, sums}
+use Rattle.marshal_read.specs.declared.unread.Unread.{Unread}
+use Rattle.marshal_read.specs.declared.unread.Unread.TheVariants.{NeedMore, Refused}
+use Rattle.std.specs.Prelude.{IsErr}
+use Rattle.marshal_read.specs.Progress.{Progress, passed, waiting, failed, and_then, once, of_refusal, answered, progress}
+
+-- Three steps are decided and passed; the rest decides.
+pub go_on : (b : Bool) (o w v : Option ReadRefusal) (p more : Progress) → b ≡ false → o ≡ None → or_else w v ≡ None → p ≡ more
+    → p ≡ and_then (once b o) (and_then (once b w) (and_then (once b v) more))
+go_on true o w v p more d e f g = cc
+go_on false (Some r) w v p more d e f g = cc
+go_on false None (Some r) v p more d e f g = cc
+go_on false None None (Some r) p more d e f g = cc
+go_on false None None None p more d e f g = g
+
+-- One step is decided and passed; then the first of two steps that are decided and not both passed
+-- decides.
+pub stops_at : (b : Bool) (o w v e : Option ReadRefusal) (p more : Progress) → b ≡ false → o ≡ None → e ≡ or_else w v → p ≡ of_refusal e → (p ≡ passed → ⊥)
+    → p ≡ and_then (once b o) (and_then (once b w) (and_then (once b v) more))
+stops_at true o w v e p more d n f g h = cc
+stops_at false (Some r) w v e p more d n f g h = cc
+stops_at false None (Some r) v e p more d n f g h = g ∙ ap of_refusal f
+stops_at false None None (Some r) e p more d n f g h = g ∙ ap of_refusal f
+stops_at false None None None e p more d n f g h = absurd (h (g ∙ ap of_refusal f))
+
+-- Two lists of steps, one after the other.
+pub progress-append : (n : ℕ) (xs ys : List Step) → progress n (xs ++ ys) ≡ and_then (progress n xs) (progress n ys)
+progress-append n [] ys = refl
+progress-append n (x ∷ xs) ys = ap (and_then (once (ltb n x.ends) x.refusal)) (progress-append n xs ys) ∙ regroup (once (ltb n x.ends) x.refusal) (progress n xs) (progress n ys)
+  where
+    regroup : (p q r : Progress) → and_then p (and_then q r) ≡ and_then (and_then p q) r
+    regroup passed q r = refl
+    regroup waiting q r = refl
+    regroup (failed s) q r = refl
+
+-- If the totals have the sums of a context, then they describe that context.
+pub totals_are : (position : Totals) (c : Context) → AreTotals position c → c ≡ context_of position
+totals_are position c h = λ i. record {
+  head = h.head i;
+  start = h.start i;
+  taken = h.taken i;
+  sums = sums (h.objects i) (h.pending i) (h.w32 i) (h.w64 i);
+}
+
+-- The next token at the totals is the next token in the context.
+pub next_there : (position : Totals) (c : Context) (bytes : List ℕ) (x : Result Totals Unread) → AreTotals position c → IsNext (context_of position) bytes x → IsNext c bytes x
+next_there position c bytes x h n = subst (λ (y : Context). IsNext y bytes x) (sym (totals_are position c h)) n
+
+-- If the result is an error, then not all steps passed.
+pub not_passed : {X : Type 0} (x : Result X Unread) → IsErr x → answered x ≡ passed → ⊥
+not_passed (Ok x) e h = cc
+not_passed (Err NeedMore) e h = cc
+not_passed (Err (Refused r)) e h = cc

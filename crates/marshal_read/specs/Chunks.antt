@@ -1,0 +1,79 @@
+-- The state after some bytes of a value: the header, the complete tokens and the graph that they
+-- build, and the buffered part of the next token.
+use Rattle.std.specs.Prelude.{ℕ, ◌+◌, ◌-◌, ◌<◌, ◌≤◌, ◌≡◌, List, [], ◌++◌, length, take, Option}
+use Rattle.std.specs.Prelude.{Some, None, Result, Ok, Err}
+use Rattle.std.specs.List.{concat}
+use Rattle.base_data.specs.declared.model.refusal.ReadRefusal.{ReadRefusal}
+use Rattle.marshal_spec.specs.format.Raw.{IsPart}
+use Rattle.marshal_spec.specs.format.Prefix.{token_refusal, HeaderPasses, TokensPass, InHeader}
+use Rattle.marshal_read.specs.declared.unread.Unread.{Unread}
+use Rattle.marshal_read.specs.declared.unread.Unread.TheVariants.{NeedMore, Refused}
+use Rattle.marshal_read.specs.declared.totals.Totals.{Totals}
+use Rattle.marshal_read.specs.declared.reading.Reading.{Reading}
+use Rattle.marshal_read.specs.declared.chunks.Chunks.{Chunks}
+use Rattle.marshal_read.specs.Build.{Bounded, start}
+use Rattle.marshal_read.specs.Reading.{Builds, RefusedIn}
+
+-- The header and the tokens pass, the totals are their sums, and the state is the graph that they
+-- build. The rest is a part of the next token and passes every step that it decides. After the last
+-- token the rest is empty.
+pub record LeadsTokens (limit : ℕ) (taken header : List ℕ) (before : List (List ℕ))
+    (totals : Totals) (state : Bounded) (part : List ℕ) : Type 0 where
+  pub bytes_are : taken ≡ header ++ (concat before ++ part)
+  pub header_passes : HeaderPasses limit header
+  pub tokens_pass : TokensPass header [] before
+  pub builds : Builds header before totals state
+  pub is_part : IsPart part
+  pub passes : token_refusal header before part ≡ None
+  pub ends : totals.pending ≡ 0 → part ≡ []
+
+-- Either the bytes are a part of a header that passes every step that it decides, or they are a
+-- header and what follows it.
+abbrev pub LeadsAs : Option Totals → ℕ → List ℕ → Bounded → List ℕ → Type 0
+LeadsAs None limit taken state part = (taken ≡ part) × InHeader limit part × (state.built ≡ start)
+LeadsAs (Some totals) limit taken state part =
+    (header : List ℕ) × (before : List (List ℕ))
+    × LeadsTokens limit taken header before totals state part
+
+-- All tokens are read.
+abbrev pub IsWhole : Option Totals → Type 0
+IsWhole None = ⊥
+IsWhole (Some totals) = totals.pending ≡ 0
+
+-- ---- the next header or token, of which a part was read before
+
+abbrev pub NextRead : ℕ → List ℕ → List ℕ → List ℕ → Reading → Result ℕ Unread → Type 0
+NextRead limit taken part more new (Ok len) =
+    (length part < len) × (len ≤ length part + length more)
+    × LeadsAs new.totals limit (taken ++ take (len - length part) more) new.builder []
+NextRead limit taken part more new (Err NeedMore) =
+    LeadsAs new.totals limit (taken ++ more) new.builder (part ++ more)
+NextRead limit taken part more new (Err (Refused refusal)) = RefusedIn limit (taken ++ more) refusal
+
+-- Tokens of `n` bytes are read. After the last token of the value, all of its data are read.
+abbrev pub TakesCommon : ℕ → List ℕ → List ℕ → Totals → Bounded → ℕ → Type 0
+TakesCommon limit taken bytes next new n =
+    (n ≤ length bytes)
+    × (next.pending ≡ 0 → (0 < n) × (next.taken ≡ next.head.length))
+    × LeadsAs (Some next) limit (taken ++ take n bytes) new []
+
+-- ---- chunks
+
+-- The bytes lead to this reading and this buffered part.
+abbrev pub LeadsChunks : ℕ → List ℕ → Chunks → Type 0
+LeadsChunks limit taken chunks =
+    (chunks.reading.limit ≡ limit)
+    × LeadsAs chunks.reading.totals limit taken chunks.reading.builder chunks.part.items
+
+-- At least one of the bytes is consumed, or some prefix of them is refused.
+abbrev pub Takes : ℕ → List ℕ → List ℕ → Chunks → Result ℕ ReadRefusal → Type 0
+Takes limit taken rest new (Ok n) =
+    (0 < n) × (n ≤ length rest) × LeadsChunks limit (taken ++ take n rest) new
+Takes limit taken rest new (Err refusal) = RefusedIn limit (taken ++ rest) refusal
+
+-- The whole chunk is consumed, or the prefix of it that ends the value, or some prefix is refused.
+abbrev pub TakesChunk : ℕ → List ℕ → List ℕ → Chunks → Result ℕ ReadRefusal → Type 0
+TakesChunk limit taken chunk new (Ok n) =
+    (n ≤ length chunk) × LeadsChunks limit (taken ++ take n chunk) new
+    × ((IsWhole new.reading.totals → ⊥) → n ≡ length chunk)
+TakesChunk limit taken chunk new (Err refusal) = RefusedIn limit (taken ++ chunk) refusal

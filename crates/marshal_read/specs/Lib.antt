@@ -1,0 +1,9 @@
+pub mod Totals
+pub mod Progress
+pub mod Build
+pub mod Head
+pub mod Left
+pub mod Reading
+pub mod Contents
+pub mod Chunks
+pub mod Reader

@@ -1,0 +1,95 @@
+-- The relation of the totals to the contexts of marshal_spec::format, and the totals after one
+-- more token.
+use Rattle.std.specs.Prelude.{ℕ, ◌≡◌, ◌+◌, ◌*◌, List, length, ◌<◌, ◌≤◌, Bool, true, false, Option}
+use Rattle.std.specs.Prelude.{Some, None, Result, Ok, Err}
+use Rattle.base_data.specs.declared.model.code.CodeKind.{CodeKind}
+use Rattle.base_data.specs.declared.model.code.CodeKind.TheVariants as kinds
+use Rattle.base_data.specs.declared.model.code.Measure.{Measure}
+use Rattle.marshal_spec.specs.format.Raw.{fixed_bytes, variable_bytes, measure_after, raw_length}
+use Rattle.marshal_spec.specs.format.Raw.{raw_measure}
+use Rattle.marshal_spec.specs.format.Words.{Sums, one_more, of_object, fields}
+use Rattle.marshal_spec.specs.format.Step.{Context, first_refusal, field_refusal, token_steps}
+use Rattle.marshal_read.specs.declared.unread.Unread.{Unread}
+use Rattle.marshal_read.specs.declared.unread.Unread.TheVariants.{NeedMore, Refused}
+use Rattle.marshal_read.specs.declared.totals.Totals.{Totals}
+
+-- The record of the four sums.
+abbrev pub sums : ℕ → ℕ → ℕ → ℕ → Sums
+sums objects pending w32 w64 = record { objects = objects; pending = pending; w32 = w32; w64 = w64 }
+
+-- The context that the totals describe.
+abbrev pub context_of : Totals → Context
+context_of position = record {
+  head = position.head;
+  start = position.start;
+  taken = position.taken;
+  sums = sums position.objects position.pending position.w32 position.w64;
+}
+
+-- The totals describe this context, stated field by field.
+pub record AreTotals (position : Totals) (c : Context) : Type 0 where
+  pub head : c.head ≡ position.head
+  pub start : c.start ≡ position.start
+  pub taken : c.taken ≡ position.taken
+  pub objects : c.sums.objects ≡ position.objects
+  pub pending : c.sums.pending ≡ position.pending
+  pub w32 : c.sums.w32 ≡ position.w32
+  pub w64 : c.sums.w64 ≡ position.w64
+
+-- The context after the token with which these bytes begin.
+abbrev pub after : Context → List ℕ → Context
+after c bytes =
+    record c { taken = c.taken + raw_length bytes; sums = one_more c.sums (raw_measure bytes) }
+
+-- The result of the steps of a token in bytes that begin with it: a refusal, or an incomplete
+-- token, or the totals after it.
+abbrev pub IsNext : Context → List ℕ → Result Totals Unread → Type 0
+IsNext c bytes (Err (Refused r)) = first_refusal (length bytes) (token_steps c bytes) ≡ Some r
+IsNext c bytes (Err NeedMore) =
+    (first_refusal (length bytes) (token_steps c bytes) ≡ None) × (length bytes < raw_length bytes)
+IsNext c bytes (Ok next) =
+    (first_refusal (length bytes) (token_steps c bytes) ≡ None) × (raw_length bytes ≤ length bytes)
+    × AreTotals next (after c bytes)
+
+-- The context after a token of `n` bytes whose object has this measure.
+abbrev pub moved : Context → ℕ → Option Measure → Context
+moved c n measure = record c { taken = c.taken + n; sums = one_more c.sums measure }
+
+-- The context after a token of this kind.
+abbrev pub after_kind : Context → CodeKind → List ℕ → Context
+after_kind c kind rest =
+    moved c (1 + fixed_bytes kind + variable_bytes kind rest) (measure_after kind rest)
+
+-- The words of an object (on 32 or on 64 bits) are fewer than three for each byte of its token and
+-- one for each field.
+abbrev pub AreFew : (Measure → ℕ) → Option Measure → ℕ → Type 0
+AreFew words measure n = of_object words measure + 1 ≤ 3 * n + of_object fields measure
+
+-- All data, words and objects that the header states are consumed.
+pub record Ends (position : Totals) : Type 0 where
+  pub taken : position.taken ≡ position.head.length
+  pub w32 : position.head.big ≡ false → position.w32 ≡ position.head.w32
+  pub w64 : position.w64 ≡ position.head.w64
+  pub count : 0 < position.head.objects → position.head.objects ≡ position.objects
+
+-- If the result is true, then the totals advance by this token, and after the last value all that
+-- the header states is consumed. If it is false, the totals do not change.
+abbrev pub Advances : Totals → ℕ → Option Measure → Totals → Bool → Type 0
+Advances old n measure new true =
+    (new.pending ≡ 0 → Ends new) × AreTotals new (moved (context_of old) n measure)
+Advances old n measure new false = new ≡ old
+
+-- All kinds but customs.
+abbrev pub IsPlain : CodeKind → Type 0
+IsPlain (kinds.Custom old) = ⊥
+IsPlain kind = Unit {0}
+
+-- A token of this kind is complete in the bytes after its code, its fields are sound, and it leads
+-- to the totals `next`. After the last value, all that the header states is consumed.
+pub record PassesTo (position : Totals) (code : ℕ) (kind : CodeKind) (rest : List ℕ) (next : Totals)
+    : Type 0 where
+  pub whole : fixed_bytes kind + variable_bytes kind rest ≤ length rest
+  pub plain : IsPlain kind
+  pub sound : field_refusal (context_of position) code kind rest ≡ None
+  pub ends : next.pending ≡ 0 → Ends next
+  pub next_is : AreTotals next (after_kind (context_of position) kind rest)

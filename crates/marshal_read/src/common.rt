@@ -1,0 +1,209 @@
+//! Fast path. Most tokens surely pass, which a few tests decide, and need no new memory. This
+//! module reads such tokens one after another. It leaves every other token to the full check
+//! (`judge`).
+
+ghost use Rattle.std.specs.Prelude.{◌≡◌, ◌≤◌, ◌<◌, ◌+◌, ◌-◌, ℕ, List, [], length, take};
+ghost use Rattle.std.specs.Prelude.{slice_index, Some, None, Ok, IfSome, OnSome};
+ghost use Rattle.marshal_spec.specs.format.Code.{kind_of};
+ghost use Rattle.marshal_spec.specs.format.Raw.{fixed_bytes, variable_bytes, measure_after};
+ghost use Rattle.marshal_spec.specs.format.Words.{of_object, fields};
+ghost use Rattle.marshal_spec.specs.format.Step.{Context, field_refusal};
+ghost use Rattle.marshal_read.specs.declared.totals.Totals.{Totals};
+ghost use Rattle.marshal_read.specs.Totals.{IsPlain};
+ghost use Rattle.marshal_read.specs.Left.{Leaves, Stands, TakesLeft, TakesAll};
+ghost use Rattle.marshal_read.specs.Chunks.{LeadsAs, TakesCommon};
+
+use crate::build::Builder;
+use crate::decode::decode_in_room;
+use crate::left::Left;
+use crate::run::run;
+use crate::token::{measure_at, number_at};
+use crate::totals::Totals;
+use base_data::model::bytes::skip;
+use base_data::model::code::CodeKind;
+use marshal_codec::codes::{Known, code_kind};
+
+/// Returns the number of bytes after the code of a token, if the token is of a common kind,
+/// complete, and its fields are sound. A reference is sound if it refers to one of the `objects`
+/// objects so far and the header states some objects.
+#[tactic(auto, using(crate::proofs::RunLemmas::few_fields))]
+#[inline(always)]
+pub fn sound_len(stated: u64, objects: u64, kind: Known, rest: &[u8]) -> Option<usize>
+    ensures len { IfSome result
+        (λ len. (len ≡ fixed_bytes kind.kind + variable_bytes kind.kind rest.now) × (len < 32)
+        × (len ≤ length rest.now) × IsPlain kind.kind) }
+    ensures few { OnSome result (of_object fields (measure_after kind.kind rest.now) < 8) }
+    ensures sound { (c : Context) (code : ℕ) → c.head.objects ≡ stated → c.sums.objects ≡ objects
+        → OnSome result (field_refusal c code kind.kind rest.now ≡ None) }
+{
+    let len = match kind.kind {
+        CodeKind::SmallBlock(_, _) | CodeKind::SmallInt(_) => 0,
+        CodeKind::SmallString(len) => usize::from(len),
+        CodeKind::Int(width) if width < 8 => usize::from(width),
+        CodeKind::Shared(width) => {
+            if rest.len() < usize::from(width) {
+                return None;
+            }
+            let offset = number_at(rest, width);
+            if offset == 0 || objects < offset || stated == 0 {
+                return None;
+            }
+            usize::from(width)
+        }
+        CodeKind::Double(_) => 8,
+        _ => return None,
+    };
+    if rest.len() < len {
+        return None;
+    }
+    Some(len)
+}
+
+/// Reads the next token, which has this kind, if it surely passes and needs no new memory.
+#[tactic(auto, using(crate::proofs::SizeLemmas::measure_small))]
+#[inline(always)]
+fn take_kind(
+    first: &Totals,
+    left: &mut Left,
+    builder: &mut Builder,
+    kind: CodeKind,
+    bytes: &[u8],
+) -> usize
+    requires some { 0 < length bytes.now }
+    requires kind { kind_of (slice_index bytes.now 0) ≡ Ok kind }
+    requires open { 0 < left.old.pending }
+    requires stands { (n : ℕ) × (header : List ℕ) × (before : List (List ℕ)) × (position : Totals)
+        × Stands first.now n header before position left.old builder.old }
+    ensures { (n : ℕ) (header : List ℕ) (before : List (List ℕ)) (position : Totals)
+        → Stands first.now n header before position left.old builder.old
+        → TakesLeft first.now n header before bytes.now position left.old builder.old left.new
+        builder.new result }
+{
+    let rest = skip(bytes, 1);
+    let known = Known { kind };
+    let objects = builder.count();
+    let Some(len) = sound_len(first.head.objects, objects, known, rest) else {
+        return 0;
+    };
+    let measure = measure_at(known, rest);
+    let mut next = *left;
+    if !next.spend(1 + len as u64, measure) {
+        return 0;
+    }
+    if !next.is_sound(first, objects, measure) {
+        return 0;
+    }
+    if !decode_in_room(builder, known, &rest[..len]) {
+        return 0;
+    }
+    *left = next;
+    1 + len
+}
+
+/// Reads the next token, if it surely passes and needs no new memory. Returns its length in bytes,
+/// or 0 if it was not read.
+#[inline(always)]
+fn take_one(first: &Totals, left: &mut Left, builder: &mut Builder, bytes: &[u8]) -> usize
+    requires some { 0 < length bytes.now }
+    requires open { 0 < left.old.pending }
+    requires stands { (n : ℕ) × (header : List ℕ) × (before : List (List ℕ)) × (position : Totals)
+        × Stands first.now n header before position left.old builder.old }
+    ensures { (n : ℕ) (header : List ℕ) (before : List (List ℕ)) (position : Totals)
+        → Stands first.now n header before position left.old builder.old
+        → TakesLeft first.now n header before bytes.now position left.old builder.old left.new
+        builder.new result }
+{
+    // Each kind that is listed gets specialized code.
+    match code_kind(bytes[0]) {
+        Ok(CodeKind::SmallBlock(tag, size)) => {
+            take_kind(first, left, builder, CodeKind::SmallBlock(tag, size), bytes)
+        }
+        Ok(CodeKind::SmallInt(value)) => {
+            take_kind(first, left, builder, CodeKind::SmallInt(value), bytes)
+        }
+        Ok(CodeKind::SmallString(len)) => {
+            take_kind(first, left, builder, CodeKind::SmallString(len), bytes)
+        }
+        Ok(CodeKind::Int(1)) => take_kind(first, left, builder, CodeKind::Int(1), bytes),
+        Ok(CodeKind::Int(2)) => take_kind(first, left, builder, CodeKind::Int(2), bytes),
+        Ok(CodeKind::Int(4)) => take_kind(first, left, builder, CodeKind::Int(4), bytes),
+        Ok(CodeKind::Shared(1)) => take_kind(first, left, builder, CodeKind::Shared(1), bytes),
+        Ok(CodeKind::Shared(2)) => take_kind(first, left, builder, CodeKind::Shared(2), bytes),
+        Ok(CodeKind::Shared(4)) => take_kind(first, left, builder, CodeKind::Shared(4), bytes),
+        Ok(CodeKind::Double(true)) => {
+            take_kind(first, left, builder, CodeKind::Double(true), bytes)
+        }
+        _ => 0,
+    }
+}
+
+/// Reads tokens that surely pass and need no new memory, and returns their length in bytes. All the
+/// bytes are data of the value, so no bytes remain after its last token.
+#[inline(always)]
+fn take_all(first: &Totals, left: &mut Left, builder: &mut Builder, bytes: &[u8]) -> usize
+    requires open { 0 < first.now.pending }
+    requires within { first.now.taken + length bytes.now ≤ first.now.head.length }
+    requires leaves { Leaves first.now 0 first.now left.old }
+    requires leads { (limit : ℕ) × (taken : List ℕ)
+        × LeadsAs (Some first.now) limit taken builder.old [] }
+    ensures { (limit : ℕ) (taken : List ℕ) → LeadsAs (Some first.now) limit taken builder.old [] →
+        TakesAll first.now 0 limit taken bytes.now left.new builder.new result }
+{
+    let mut at = 0;
+    while at < bytes.len() {
+        let n = take_one(first, left, builder, &bytes[at..]);
+        if n == 0 {
+            return at;
+        }
+        at += n;
+    }
+    at
+}
+
+/// Returns the prefix of the bytes that is data of the value.
+#[inline(always)]
+fn data_in<'a>(first: &Totals, bytes: &'a [u8]) -> &'a [u8]
+    ensures { result.now ≡ take (first.now.head.length - first.now.taken) bytes.now }
+{
+    let left = (first.head.length - first.taken) as usize;
+    if bytes.len() < left {
+        bytes
+    } else {
+        &bytes[..left]
+    }
+}
+
+/// Reads tokens that surely pass and need no new memory, and returns their length in bytes. While
+/// there is enough room for every token, the room is not checked at each token.
+#[inline(always)]
+fn take_many(first: &Totals, left: &mut Left, builder: &mut Builder, bytes: &[u8]) -> usize
+    requires open { 0 < first.now.pending }
+    requires within { first.now.taken + length bytes.now ≤ first.now.head.length }
+    requires leaves { Leaves first.now 0 first.now left.old }
+    requires leads { (limit : ℕ) × (taken : List ℕ)
+        × LeadsAs (Some first.now) limit taken builder.old [] }
+    ensures { (limit : ℕ) (taken : List ℕ) → LeadsAs (Some first.now) limit taken builder.old [] →
+        TakesAll first.now 0 limit taken bytes.now left.new builder.new result }
+{
+    let most = left.plenty(bytes.len());
+    if most == 0 {
+        take_all(first, left, builder, bytes)
+    } else {
+        run(first, left, builder, bytes, most)
+    }
+}
+
+/// Reads tokens that surely pass and need no new memory. Returns their length in bytes.
+pub fn take_common(totals: &mut Totals, builder: &mut Builder, bytes: &[u8]) -> usize
+    requires open { 0 < totals.old.pending }
+    requires leads { (limit : ℕ) × (taken : List ℕ)
+        × LeadsAs (Some totals.old) limit taken builder.old [] }
+    ensures { (limit : ℕ) (taken : List ℕ) → LeadsAs (Some totals.old) limit taken builder.old [] →
+        TakesCommon limit taken bytes.now totals.new builder.new result }
+{
+    let first = *totals;
+    let mut left = Left::at(&first);
+    let n = take_many(&first, &mut left, builder, data_in(&first, bytes));
+    *totals = left.position(&first, n as u64, builder.count());
+    n
+}

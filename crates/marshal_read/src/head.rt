@@ -1,0 +1,59 @@
+//! Checks a header (its format is in `intext.h`).
+
+ghost use Rattle.std.specs.Prelude.{◌≤◌, IfOk};
+ghost use Rattle.marshal_read.specs.Head.{JudgedHeader, Begins};
+
+use crate::totals::Totals;
+use crate::unread::Unread;
+use base_data::model::header::Head;
+use base_data::model::refusal::{ReadRefusal, Stated};
+use marshal_codec::headers::{HeadFault, HeaderStep, parse};
+
+/// The maximum length in bytes of a value's data.
+const LENGTH_LIMIT: u64 = (1 << 48) - 1;
+
+/// Checks the header on all bytes that are there. Returns the totals after the header if it is
+/// complete and passes. Fails with `NeedMore` if the header is incomplete, and with `Refused` if a
+/// step fails. `limit` is the maximum number of 64-bit words.
+pub fn judge_header(bytes: &[u8], limit: u64) -> Result<Totals, Unread>
+    ensures judged { JudgedHeader limit bytes.now result }
+    ensures limited { IfOk result (λ position. position.head.w64 ≤ limit) }
+{
+    match parse(bytes) {
+        Err(HeadFault::BadMagic(magic)) => Err(Unread::Refused(ReadRefusal::BadMagic(magic))),
+        Err(HeadFault::Compressed) => Err(Unread::Refused(ReadRefusal::Compressed)),
+        Ok(HeaderStep::More(_)) => Err(Unread::NeedMore),
+        Ok(HeaderStep::Head(head)) => begin(head, limit),
+    }
+}
+
+/// Checks that the header states at least one byte of data and no more words and bytes than the
+/// limits. Returns the totals after the header.
+fn begin(head: Head, limit: u64) -> Result<Totals, Unread>
+    ensures begins { Begins limit head result }
+    ensures limited { IfOk result (λ position. position.head.w64 ≤ limit) }
+{
+    let start = if head.big { 32 } else { 20 };
+    if limit < head.w64 {
+        return Err(Unread::Refused(ReadRefusal::TooLarge(Stated::Words, head.w64, limit)));
+    }
+    if LENGTH_LIMIT < head.length {
+        return Err(Unread::Refused(ReadRefusal::TooLarge(
+            Stated::Length,
+            head.length,
+            LENGTH_LIMIT,
+        )));
+    }
+    if head.length == 0 {
+        return Err(Unread::Refused(ReadRefusal::Overlong(start, 1, 0)));
+    }
+    Ok(Totals {
+        head,
+        start,
+        taken: 0,
+        objects: 0,
+        pending: 1,
+        w32: 0,
+        w64: 0,
+    })
+}

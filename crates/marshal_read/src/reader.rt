@@ -1,0 +1,149 @@
+//! A reader of one value whose bytes arrive in chunks.
+
+ghost use Rattle.std.specs.Prelude.{◌≡◌, ℕ, List, [], true, OnOk, IfOk, IfErr, ◌++◌};
+ghost use Rattle.base_data.specs.declared.model.refusal.ReadRefusal.{ReadRefusal};
+ghost use Rattle.marshal_read.specs.Reading.{RefusedIn};
+
+use crate::chunks::Chunks;
+use crate::value::{Borrowed, Value};
+use base_data::model::refusal::ReadRefusal;
+use marshal_heap::heap::Heap;
+use std::alloc::Global;
+
+/// The result of a chunk: the number of bytes consumed, and whether they complete the value.
+#[derive(Clone, Copy)]
+pub struct Fed {
+    pub taken: usize,
+    pub done: bool,
+}
+
+/// The error for input that ends inside a value, with the number of bytes of the value that were
+/// there.
+#[derive(Clone, Copy)]
+pub struct Truncated {
+    pub taken: u64,
+}
+
+/// A reader of one value. It contains the graph so far and, after an error, the refusal. Of the
+/// consumed bytes it keeps only an incomplete header or token.
+#[derive(Drop)]
+pub struct Reader {
+    alloc: Global,
+    chunks: Chunks,
+    refusal: Option<ReadRefusal>,
+}
+
+impl Reader {
+    ghost use Rattle.marshal_read.specs.Reader.{Leads, IsReader, IsReading, IsStopped, IsDone};
+    ghost use Rattle.marshal_read.specs.Reader.{Feeds};
+    ghost use Rattle.marshal_read.specs.Reader.{IsWithin, Finishes, EndsInput};
+
+    /// Creates a reader for a value of at most `limit` 64-bit words. It allocates no memory.
+    pub fn new(alloc: Global, limit: u64) -> Reader
+        ensures reader { IsReader result }
+        ensures leads { Leads limit [] result }
+        ensures only { (other : ℕ) (taken : List ℕ) → Leads other taken result → taken ≡ [] }
+    {
+        Reader::over(alloc, limit, Heap::new(alloc))
+    }
+
+    /// Creates a reader that reuses the memory of a discarded heap. This serves to read many values
+    /// one after another.
+    pub fn over(alloc: Global, limit: u64, heap: Heap) -> Reader
+        ensures reader { IsReader result }
+        ensures leads { Leads limit [] result }
+        ensures only { (other : ℕ) (taken : List ℕ) → Leads other taken result → taken ≡ [] }
+    {
+        Reader {
+            alloc,
+            chunks: Chunks::over(alloc, limit, heap),
+            refusal: None,
+        }
+    }
+
+    /// Resets the reader, to read the next value in the same memory.
+    pub fn restart(&mut self, limit: u64)
+        ensures reader { IsReader self.new }
+        ensures leads { Leads limit [] self.new }
+        ensures only { (other : ℕ) (taken : List ℕ) → Leads other taken self.new → taken ≡ [] }
+    {
+        self.chunks.restart(limit);
+        self.refusal = None;
+    }
+
+    /// Consumes the chunk, or the prefix of it up to the value's last byte (`intern.c`). A reader
+    /// that is done consumes nothing. Fails with a refusal if some prefix of the bytes is refused,
+    /// or if memory runs out; the reader then returns that refusal for ever.
+    pub fn feed(&mut self, chunk: &[u8]) -> Result<Fed, ReadRefusal>
+        // Every reader that `new` made and `feed` kept satisfies `IsReader`.
+        requires { IsReader self.old }
+        ensures reader { IsReader self.new }
+        ensures feeds { (limit : ℕ) (taken : List ℕ) → Leads limit taken self.old
+            → IfOk result (Feeds limit taken chunk.now self.new) }
+        ensures done { IfOk result (λ fed. fed.done ≡ true → IsDone self.new) }
+        ensures reads { OnOk result (IsReading self.new) }
+        // If the result is a refusal, then some prefix of the bytes is refused for that reason, or
+        // memory ran out.
+        ensures refuses { (limit : ℕ) (taken : List ℕ) → Leads limit taken self.old
+            → IfErr result (RefusedIn limit (taken ++ chunk.now)) }
+        // Every later call returns the same refusal.
+        ensures stops { IfErr result (λ refusal. IsStopped refusal self.new) }
+        ensures again { (refusal : ReadRefusal) → IsStopped refusal self.old
+            → result ≡ Err refusal }
+        ensures within { (limit : ℕ) (taken : List ℕ) → Leads limit taken self.old
+            → OnOk result
+            (IsWithin limit self.new.chunks.reading.totals self.new.chunks.reading.builder) }
+    {
+        if let Some(refusal) = self.refusal {
+            return Err(refusal);
+        }
+        match self.chunks.feed(self.alloc, chunk) {
+            Ok(taken) => Ok(Fed {
+                taken,
+                done: self.chunks.reading.is_done(),
+            }),
+            Err(refusal) => {
+                self.refusal = Some(refusal);
+                Err(refusal)
+            }
+        }
+    }
+
+    /// Borrows the complete value.
+    pub fn borrow(&self) -> Borrowed<'_>
+        requires reader { IsReader self.now }
+        requires done { IsDone self.now }
+        ensures { (limit : ℕ) (taken : List ℕ) → Leads limit taken self.now
+            → Finishes limit taken
+            (record { heap = result.heap.now; root = result.root }) }
+    {
+        self.chunks.borrow()
+    }
+
+    /// Returns the complete value.
+    pub fn finish(self) -> Value
+        requires reader { IsReader self }
+        requires done { IsDone self }
+        ensures { (limit : ℕ) (taken : List ℕ) → Leads limit taken self
+            → Finishes limit taken result }
+    {
+        self.chunks.finish()
+    }
+
+    /// Handles the end of the input. Fails with `Truncated` if the input ends inside a value.
+    pub fn at_end(&self) -> Result<(), Truncated>
+        requires { IsReading self.now }
+        ensures { (limit : ℕ) (taken : List ℕ) → Leads limit taken self.now
+            → EndsInput limit taken result }
+    {
+        if self.chunks.reading.is_done() {
+            return Ok(());
+        }
+        let taken = self.chunks.taken();
+        if taken == 0 {
+            Ok(())
+        } else {
+            Err(Truncated { taken })
+        }
+    }
+}

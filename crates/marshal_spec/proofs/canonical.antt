@@ -1,0 +1,9 @@
+pub mod ByteLemmas
+pub mod CanonLemmas
+pub mod HeaderLemmas
+pub mod IsomorphismLemmas
+pub mod ListLemmas
+pub mod SameTree
+pub mod EncodingLemmas
+pub mod TreeGraphs
+pub mod Walk

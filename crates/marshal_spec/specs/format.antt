@@ -1,0 +1,16 @@
+pub mod Canonical
+pub mod Code
+pub mod Compat
+pub mod Prefix
+pub mod Header
+pub mod Isomorphism
+pub mod Judgement
+pub mod Laws
+pub mod Preorder
+pub mod Raw
+pub mod Encoded
+pub mod Step
+pub mod Stream
+pub mod Token
+pub mod Tree
+pub mod Words

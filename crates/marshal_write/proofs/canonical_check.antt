@@ -1,0 +1,3 @@
+pub mod DoublesLemmas
+pub mod HeaderLemmas
+pub mod CanonicalLemmas

@@ -1,0 +1,3 @@
+pub mod write
+pub mod canonical_check
+pub mod graft

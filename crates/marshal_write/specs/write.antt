@@ -1,0 +1,9 @@
+pub mod Laws
+pub mod Marks
+pub mod Numbers
+pub mod Step
+pub mod Sums
+pub mod Reports
+pub mod Text
+pub mod Walking
+pub mod Written

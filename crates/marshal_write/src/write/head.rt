@@ -1,0 +1,26 @@
+//! The header of a value, without its data.
+
+ghost use Rattle.std.specs.Prelude.{◌≡◌, length, IfOk};
+ghost use Rattle.base_data.specs.model.Graph.{IsValue};
+ghost use Rattle.marshal_spec.specs.format.Canonical.{canonical_head};
+ghost use Rattle.marshal_spec.specs.format.Isomorphism.{IsTreeOf};
+ghost use Rattle.marshal_spec.specs.format.Tree.{Tree, tokens};
+
+use crate::write::measure::measure;
+use crate::write::walk::Walk;
+use base_data::model::Memory;
+use base_data::model::value::Val;
+use marshal_codec::headers::Head;
+use marshal_heap::heap::Heap;
+use std::alloc::Global;
+
+/// Returns the header that `write` writes before a value: the length of its data in bytes, the
+/// number of objects that it reaches, each counted once, and their size in words.
+pub fn head_of(alloc: Global, heap: &Heap, root: Val) -> Result<Head, Memory>
+    requires { IsValue (length heap.now) root }
+    ensures { (tree : Tree) → IsTreeOf heap.now root tree
+        → IfOk result (λ head. head ≡ canonical_head (tokens tree)) }
+{
+    let mut walk = Walk::new(alloc, heap, root)?;
+    measure(heap, &mut walk)
+}

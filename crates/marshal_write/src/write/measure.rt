@@ -1,0 +1,157 @@
+//! Computes the header of a value.
+
+ghost use Rattle.std.specs.Prelude.{◌≡◌, ◌<◌, length, IfOk, OnOk};
+ghost use Rattle.marshal_spec.specs.format.Isomorphism.{IsTreeOf};
+ghost use Rattle.marshal_spec.specs.format.Tree.{Tree, tokens};
+ghost use Rattle.marshal_spec.specs.format.Token.{leaf};
+ghost use Rattle.marshal_spec.specs.format.Canonical.{canonical_head};
+ghost use Rattle.marshal_codec.specs.headers.Counting.{IsCountable};
+ghost use Rattle.base_data.specs.declared.model.value.Val.TheVariants as vals;
+ghost use Rattle.marshal_heap.specs.heap.Heap.{IsHeap, object_at, word_of};
+ghost use Rattle.marshal_write.specs.write.Step.{token_in, IsHeld};
+ghost use Rattle.marshal_write.specs.write.Sums.{token_totals, object_totals, plus, head_of_totals};
+ghost use Rattle.marshal_write.specs.write.Sums.{measure_of_custom, FitTotals};
+ghost use Rattle.marshal_write.specs.write.Walking.{IsWalk};
+
+use crate::write::walk::{Step, Walk, kind_at};
+use base_data::model::Memory;
+use base_data::model::code::Custom;
+use marshal_codec::codes::{
+    encode_block, encode_double_array_len, encode_int, encode_shared, encode_string_len,
+};
+use marshal_codec::headers::{Head, Measure, words_of};
+use marshal_heap::heap::{Heap, Kind};
+
+/// Totals for tokens: the number of bytes, the number of objects, and the sizes of these objects in
+/// 32-bit words and in 64-bit words.
+#[derive(Clone, Copy)]
+pub struct Totals {
+    length: u64,
+    objects: u64,
+    w32: u64,
+    w64: u64,
+}
+
+impl Totals {
+    // Returns the totals of a token that creates no object.
+    #[inline(always)]
+    fn of_bytes(length: usize) -> Totals
+        ensures { result ≡ record { length = length; objects = 0; w32 = 0; w64 = 0 } }
+    {
+        Totals {
+            length: length as u64,
+            objects: 0,
+            w32: 0,
+            w64: 0,
+        }
+    }
+
+    // Returns the totals of a token that creates an object.
+    #[inline(always)]
+    fn of_object(length: u64, measure: Measure) -> Totals
+        requires { IsCountable measure }
+        ensures { result ≡ object_totals length measure }
+    {
+        let (w32, w64) = words_of(measure);
+        Totals {
+            length,
+            objects: 1,
+            w32,
+            w64,
+        }
+    }
+
+    #[inline(always)]
+    fn add(&mut self, other: Totals)
+        requires { FitTotals (plus self.old other) }
+        ensures { self.new ≡ plus self.old other }
+    {
+        self.length += other.length;
+        self.objects += other.objects;
+        self.w32 += other.w32;
+        self.w64 += other.w64;
+    }
+
+    // Returns the header of a value with these totals.
+    fn head(self) -> Head
+        ensures { result ≡ head_of_totals self }
+    {
+        Head {
+            big: self.length >= 1 << 32 || self.w32 >= 1 << 32 || self.w64 >= 1 << 32,
+            length: self.length,
+            objects: self.objects,
+            w32: self.w32,
+            w64: self.w64,
+        }
+    }
+}
+
+/// Returns the header of the value at whose start the walk is.
+pub fn measure<'a>(heap: &'a Heap, walk: &mut Walk<'a>) -> Result<Head, Memory>
+    requires walk { IsWalk heap.now walk.old }
+    requires first { walk.old.given ≡ 0 }
+    ensures walk { OnOk result (IsWalk heap.now walk.new) }
+    ensures root { OnOk result (walk.new.root ≡ walk.old.root) }
+    ensures head { (tree : Tree) → IsTreeOf heap.now walk.old.root tree
+        → IfOk result (λ head. head ≡ canonical_head (tokens tree)) }
+    ensures end { (tree : Tree) → IsTreeOf heap.now walk.old.root tree
+        → OnOk result (walk.new.given ≡ length (tokens tree)) }
+{
+    let mut totals = Totals::of_bytes(0);
+    'tokens: while let Some(step) = walk.next(heap)? {
+        totals.add(step_totals(heap, step));
+    }
+    Ok(totals.head())
+}
+
+// Returns the totals of one token.
+#[inline(always)]
+fn step_totals(heap: &Heap, step: Step) -> Totals
+    requires heap { IsHeap heap.now }
+    requires held { IsHeld heap.now step }
+    ensures { result ≡ token_totals (token_in heap.now step) }
+{
+    match step {
+        Step::Integer(z) => Totals::of_bytes(encode_int(z).1),
+        Step::Atom(tag) => Totals::of_bytes(encode_block(tag, 0).1),
+        Step::Shared(offset) => Totals::of_bytes(encode_shared(offset).1),
+        Step::Block(tag, size) => {
+            Totals::of_object(encode_block(tag, size).1 as u64, Measure::Block(size))
+        }
+        Step::Leaf(k, word) => leaf_totals(heap, k, word),
+    }
+}
+
+#[inline(always)]
+fn leaf_totals(heap: &Heap, k: u64, word: u64) -> Totals
+    requires heap { IsHeap heap.now }
+    requires inside { k < length heap.now }
+    requires word { word ≡ word_of heap.now (vals.Ref k) }
+    ensures { result ≡ token_totals (leaf (object_at heap.now k)) }
+{
+    match kind_at(heap, k, word) {
+        Kind::Block(..) => Totals::of_bytes(0),
+        Kind::Bytes(n) => Totals::of_object(encode_string_len(n).1 as u64 + n, Measure::Bytes(n)),
+        Kind::Double => Totals::of_object(9, Measure::Double),
+        Kind::Doubles(n) => {
+            let prefix = encode_double_array_len(n).1 as u64;
+            Totals::of_object(prefix + 8 * n, Measure::Doubles(n))
+        }
+        Kind::Custom(c) => {
+            Totals::of_object(
+                marshal_codec::customs::encode(c).1 as u64,
+                custom_measure(c),
+            )
+        }
+    }
+}
+
+fn custom_measure(c: Custom) -> Measure
+    ensures { result ≡ measure_of_custom c }
+{
+    match c {
+        Custom::I32(_) => Measure::Custom(4, 4),
+        Custom::I64(_) => Measure::Custom(8, 8),
+        Custom::Native(_) => Measure::Custom(4, 8),
+    }
+}

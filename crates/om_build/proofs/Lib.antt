@@ -1,6 +1,0 @@
-pub mod AlikeLemmas
-pub mod OnceLemmas
-pub mod StepLemmas
-pub mod TextsLemmas
-pub mod FeedLemmas
-pub mod GuessLemmas

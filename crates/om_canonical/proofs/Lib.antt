@@ -1,9 +1,0 @@
-pub mod ByteLemmas
-pub mod CanonLemmas
-pub mod HeaderLemmas
-pub mod IsoLemmas
-pub mod ListLemmas
-pub mod SameTree
-pub mod SpellingLemmas
-pub mod TreeGraphs
-pub mod Walk

@@ -1,9 +1,0 @@
-use Rattle.std.proofs.Common.{◌-◌}
-use Rattle.om_cert.specs.Testing.{IsBetween}
-use Rattle.om_cert.proofs.held.start_of.Given as goal
-
-abbrev pub invariant-loop-low : goal.invariant-loop-low
-invariant-loop-low l = IsBetween l.pairs l.object l.low l.high
-
-abbrev pub decreases-loop-low : goal.decreases-loop-low
-decreases-loop-low l = l.high - l.low

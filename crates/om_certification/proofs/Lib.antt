@@ -1,7 +1,0 @@
-pub mod EndLemmas
-pub mod ItemLemmas
-pub mod LawfulLemmas
-pub mod IdleLemmas
-pub mod SaidLemmas
-pub mod TableLemmas
-pub mod NeverLemmas

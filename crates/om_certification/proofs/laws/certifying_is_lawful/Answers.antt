@@ -1,7 +1,0 @@
-use Rattle.om_certification.proofs.LawfulLemmas.{certifying_lawful}
-use Rattle.om_certification.proofs.laws.certifying_is_lawful.Goals as goal
-
-pub returns : goal.returns
-returns g c =
-    certifying_lawful g.V.Certifies.language g.V.Certifies.SectionOf
-    c.requires.language c.requires.once

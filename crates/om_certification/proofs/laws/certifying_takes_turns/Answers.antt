@@ -1,7 +1,0 @@
-use Rattle.om_certification.proofs.LawfulLemmas.{certifying_turns}
-use Rattle.om_certification.proofs.laws.certifying_takes_turns.Goals as goal
-
-pub returns : goal.returns
-returns g c =
-    certifying_turns g.V.Certifies.language g.V.Certifies.SectionOf
-    c.requires.language

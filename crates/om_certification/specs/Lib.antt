@@ -1,4 +1,0 @@
-pub mod Ends
-pub mod Certification
-pub mod Laws
-pub mod Meanings

@@ -1,6 +1,0 @@
-//! Proves that `verify` accepts what `check --cert` wrote. For the same input, FILE and TYPE, the
-//! certificate is accepted, and `verify` prints the lines of `check`. This is the law
-//! `put_certificates_are_accepted`; the crate contains no executable code of its own.
-#![tactic(auto)]
-
-pub mod laws;

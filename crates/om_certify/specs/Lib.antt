@@ -1,3 +1,0 @@
-pub mod Leasts
-pub mod Certified
-pub mod Laws

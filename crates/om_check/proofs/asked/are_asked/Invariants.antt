@@ -1,8 +1,0 @@
-use Rattle.std.specs.Prelude.{ℕ, ◌≡◌, ◌<◌, Some, slice_get, IsTrue}
-use Rattle.om_types.specs.Table.{is_asked_in}
-use Rattle.om_type_table.specs.Made.{table_of}
-use Rattle.om_check.proofs.asked.are_asked.Given as goal
-
-abbrev pub invariant-loop-o : goal.invariant-loop-o
-invariant-loop-o l =
-    (p t : ℕ) → p < l.o → slice_get l.types p ≡ Some t → IsTrue (is_asked_in (table_of l.table) t)

@@ -1,8 +1,0 @@
-use Rattle.std.proofs.Common.{inl, inr, ◌∙◌}
-use Rattle.om_check.proofs.asked.told_typing.Goals as goal
-
-pub returns-then-are_asked : goal.returns-then-are_asked
-returns-then-are_asked c = inl (c.scanned.ensures, c.are_asked.ensures c.if-are_asked.true)
-
-pub returns : goal.returns
-returns c = inr (c.listed.ensures ∙ c.in_ok-pairs.ensures)

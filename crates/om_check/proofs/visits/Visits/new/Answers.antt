@@ -1,9 +1,0 @@
-use Rattle.std.proofs.Common.{length, refl}
-use Rattle.om_type_table.specs.Made.{table_of}
-use Rattle.om_check.proofs.NotedLemmas.{linked_none}
-use Rattle.om_check.proofs.visits.Visits.new.Goals as goal
-
-pub enter-requires-clause-linked : goal.enter-requires-clause-linked
-enter-requires-clause-linked c =
-    linked_none (table_of c.args.table.now) (length c.in_ok-new.field-0) _ _ c.new.ensures
-    refl c.in_ok-new.ensures c.none.ensures

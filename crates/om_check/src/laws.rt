@@ -1,9 +1,0 @@
-//! The bound on the steps of a check for an example, as the contract of a lemma function.
-
-ghost use Rattle.om_check.specs.ByHand.{TakesSixtyOne};
-
-/// Proves that checking a list of three items takes at most 61 steps. The list has five objects
-/// with seven fields, and its table has five classes of types. This is a lemma function.
-pub fn items_take_61_steps()
-    ensures { TakesSixtyOne }
-{}

@@ -1,4 +1,0 @@
-pub mod ChoiceLemmas
-pub mod AlikeLemmas
-pub mod PartLemmas
-pub mod BesideLemmas

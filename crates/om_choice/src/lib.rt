@@ -1,7 +1,0 @@
-//! Combines two command sets into one, so that each command can have its definitions, its theorems
-//! and its own type of tasks in a separate crate. Proves that the sum of disjoint lawful sets is
-//! lawful (`choices_are_lawful`), and that a request behaves as in the set to which it belongs.
-//! Nothing here does anything.
-#![tactic(auto)]
-
-pub mod laws;

@@ -1,9 +1,0 @@
-pub mod FormLemmas
-pub mod SetLemmas
-pub mod SignLemmas
-pub mod Loops
-pub mod ListLemmas
-pub mod LoopLemmas
-pub mod LookLemmas
-pub mod TurnLemmas
-pub mod EndLemmas

@@ -1,8 +1,0 @@
-use Rattle.std.proofs.Common.{subst}
-use Rattle.om_classes.specs.Start.{IsParted}
-use Rattle.om_classes.proofs.EndLemmas.{ended}
-use Rattle.om_classes.proofs.all_classes.classes.Goals as goal
-
-pub returns : goal.returns
-returns c = ended c.args.all.now c.in_ok-forms.forms _ c.in_ok-forms.ensures c.requires
-    (subst (λ l. IsParted l c.in_ok-found.found.items) c.as_slice-2.ensures c.in_ok-found.ensures)

@@ -1,6 +1,0 @@
-use Rattle.std.proofs.Common.{◌≡◌, ◌++◌, map, take}
-use Rattle.std.specs.Prelude.{slice_index}
-use Rattle.om_classes.proofs.sign.add_classes.Given as goal
-
-abbrev pub invariant-loop-part : goal.invariant-loop-part
-invariant-loop-part l = l.sign.items ≡ l.initial.sign.items ++ map (slice_index l.class) (take l.part-index l.parts)

@@ -1,7 +1,0 @@
-use Rattle.std.proofs.Common.{take}
-use Rattle.om_classes.proofs.Loops.{UserMarksSoFar}
-use Rattle.om_classes.proofs.waits.mark_users.Given as goal
-
-abbrev pub invariant-loop-number : goal.invariant-loop-number
-invariant-loop-number l =
-    UserMarksSoFar l.fn.waiting.items l.waiting.items l.todo.items l.class l.users l.left (take l.number-index l.looked)

@@ -1,8 +1,0 @@
-use Rattle.std.proofs.Common.{◌≡◌, ◌*◌, ◌^◌}
-use Rattle.om_decimal.proofs.big.Big.times_tens.Given as goal
-
-abbrev pub invariant-loop-left : goal.invariant-loop-left
-invariant-loop-left l = l.self * 10 ^ l.left ≡ l.fn.self * 10 ^ l.n
-
-abbrev pub decreases-loop-left : goal.decreases-loop-left
-decreases-loop-left l = l.left

@@ -1,8 +1,0 @@
-use Rattle.om_decimal.specs.Doubles.{Reads, IsNoBetterAbove}
-use Rattle.om_decimal.proofs.nearest.down.Given as goal
-
-abbrev pub invariant-loop-size : goal.invariant-loop-size
-invariant-loop-size l = Reads l.size.bits l.digits l.power × IsNoBetterAbove l.size.bits l.digits l.power
-
-abbrev pub decreases-loop-size : goal.decreases-loop-size
-decreases-loop-size l = l.digits

@@ -1,9 +1,0 @@
-use Rattle.std.proofs.Common.{◌≤◌, drop, length}
-use Rattle.om_lex.specs.LexText.{SpansWithin}
-use Rattle.om_decimal_texts.proofs.ReplacedLemmas.{IsSoFar}
-use Rattle.om_decimal_texts.proofs.texts.put_replaced.Given as goal
-
-abbrev pub invariant-loop-lexeme : goal.invariant-loop-lexeme
-invariant-loop-lexeme l =
-    (l.at ≤ length l.text) × SpansWithin l.at (drop l.lexeme-index l.lexemes) (length l.text)
-    × IsSoFar l.text l.lexemes l.at (drop l.lexeme-index l.lexemes) l.fn.new.items l.new.items

@@ -1,6 +1,0 @@
-pub mod Answer
-pub mod Fault
-pub mod Named
-pub mod Read
-pub mod Text
-pub mod Told

@@ -1,3 +1,0 @@
-mod Put
-mod Lookup
-pub mod PutsLemmas

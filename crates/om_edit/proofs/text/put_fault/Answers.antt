@@ -1,7 +1,0 @@
-use Rattle.om_edit.proofs.text.put_fault.Goals as goal
-
-pub returns-in-Syntax : goal.returns-in-Syntax
-returns-in-Syntax c = rw c.in-Syntax.is c.put_at.ensures
-
-pub returns-in-Label : goal.returns-in-Label
-returns-in-Label c = rw c.in-Label.is c.put_at-in-Label.ensures

@@ -1,5 +1,0 @@
-use Rattle.om_equal.proofs.LawfulLemmas.{reached_lawful}
-use Rattle.om_equal.proofs.equal.equal_types_mean_the_same.Goals as goal
-
-pub returns : goal.returns
-returns c decls t types sound reached known = reached_lawful decls sound t types reached known

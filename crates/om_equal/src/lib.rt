@@ -1,9 +1,0 @@
-//! Laws of equality of declared types: heads (`equal`), sound types (`sound`), partition refinement
-//! (`classes`) and tables of types (`table`). The functions are lemma functions: they do nothing
-//! and exist only for their contracts.
-#![tactic(auto)]
-
-pub mod classes;
-pub mod equal;
-pub mod sound;
-pub mod table;

@@ -1,8 +1,0 @@
-pub mod ClashTexts
-pub mod KindTexts
-pub mod OrderLemmas
-pub mod TypeTexts
-pub mod StepLemmas
-pub mod NearLemmas
-pub mod NamedTexts
-pub mod MisfitTexts

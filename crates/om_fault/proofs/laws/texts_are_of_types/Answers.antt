@@ -1,5 +1,0 @@
-use Rattle.om_fault.proofs.TypeTexts.{text_is_of_types}
-use Rattle.om_fault.proofs.laws.texts_are_of_types.Goals as goal
-
-pub returns : goal.returns
-returns c decls t table is graph v fault text spelled = text_is_of_types decls t table is graph v fault text spelled

@@ -1,8 +1,0 @@
-use Rattle.om_type_table.specs.Made.{table_of}
-use Rattle.om_fault.proofs.NearLemmas.{near_part}
-use Rattle.om_fault.proofs.near.near_part.Goals as goal
-
-pub returns-in-Some : goal.returns-in-Some
-returns-in-Some c =
-    near_part (table_of c.args.table.now) c.args.value.now.heap.now c.args.value.now.root c.in-Some.i c.in-Some.unfit c.requires.fits
-    c.requires.fields c.in-Some.ensures

@@ -1,9 +1,0 @@
-//! Laws over the definitions, as contracts of lemma functions.
-
-ghost use Rattle.om_generate.specs.Worked.{Worked};
-
-/// States worked examples: the values that certain numbers generate, and the lines for these
-/// values.
-pub fn worked_values_are_generated()
-    ensures { Worked }
-{}

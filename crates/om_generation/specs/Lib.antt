@@ -1,3 +1,0 @@
-pub mod Generation
-pub mod Meanings
-pub mod Laws

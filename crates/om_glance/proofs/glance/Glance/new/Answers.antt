@@ -1,5 +1,0 @@
-use Rattle.om_glance.proofs.GlanceLemmas.{fresh_glance}
-use Rattle.om_glance.proofs.glance.Glance.new.Goals as goal
-
-pub returns-clause-glance : goal.returns-clause-glance
-returns-clause-glance c = fresh_glance _ c.new.ensures.items c.new-2.ensures

@@ -1,3 +1,0 @@
-pub mod Look
-pub mod Glance
-pub mod Laws

@@ -1,4 +1,0 @@
-pub mod Heap
-pub mod Lent
-pub mod Stored
-pub mod Words

@@ -1,9 +1,0 @@
-use Rattle.std.proofs.Common.{arith}
-use Rattle.om_heap.specs.Heap.{object_at, doubles_of}
-use Rattle.om_iso.proofs.FieldLemmas.{same_content}
-use Rattle.om_iso.proofs.content.same_doubles.Goals as goal
-
-pub returns : goal.returns
-returns c =
-    same_content (doubles_of (object_at c.args.left.now c.args.k)) (doubles_of (object_at c.args.right.now c.args.l)) c.args.n c.requires.left c.requires.right
-    (λ j less. c.loop-i.invariant j (omega arith))

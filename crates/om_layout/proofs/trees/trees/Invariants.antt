@@ -1,6 +1,0 @@
-use Rattle.std.proofs.Common.{◌≡◌, map, take}
-use Rattle.om_types.specs.Nodes.{type_at}
-use Rattle.om_layout.proofs.trees.trees.Given as goal
-
-abbrev pub invariant-loop-number : goal.invariant-loop-number
-invariant-loop-number l = l.found.items ≡ map (type_at l.types) (take l.number-index l.numbers)

@@ -1,8 +1,0 @@
-use Rattle.std.proofs.Common.{◌≡◌, ◌++◌, take}
-use Rattle.std.specs.List.{flat_map}
-use Rattle.om_heap.specs.Heap.{object_at, doubles_of}
-use Rattle.om_leaves.specs.Dumped.{spaced_float}
-use Rattle.om_leaves.proofs.dump.put_doubles.Given as goal
-
-abbrev pub invariant-loop-i : goal.invariant-loop-i
-invariant-loop-i l = l.text.items ≡ l.fn.text.items ++ flat_map spaced_float (take l.i (doubles_of (object_at l.placed.heap.now l.placed.object)))

@@ -1,7 +1,0 @@
-use Rattle.std.proofs.Common.{arith}
-use Rattle.om_leaves.proofs.NumberLemmas.{digit_more}
-use Rattle.om_leaves.proofs.leaves.put_eight.Goals as goal
-
-pub returns-else-n-lt10000000 : goal.returns-else-n-lt10000000
-returns-else-n-lt10000000 c =
-    digit_more c.args.n c.args.text.now.items c.put_seven-else-n-lt10000000.new.text.items c.push_reserved.new.self.items (omega arith) (omega arith) c.put_seven-else-n-lt10000000.ensures.items c.push_reserved.ensures.items

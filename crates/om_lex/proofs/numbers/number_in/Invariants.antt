@@ -1,6 +1,0 @@
-use Rattle.std.proofs.Common.{◌≡◌, ◌-◌, ◌^◌, min, take}
-use Rattle.om_lex.specs.Lexeme.{number_in}
-use Rattle.om_lex.proofs.numbers.number_in.Given as goal
-
-abbrev pub invariant-loop-digit : goal.invariant-loop-digit
-invariant-loop-digit l = l.number ≡ min (number_in l.base (take l.digit-index l.digits)) (2 ^ 64 - 1)

@@ -1,8 +1,0 @@
-//! Defines texts that consist of given lexemes, under a condition on the bytes that follow
-//! (`IsLexed`). The law `texts_are_lexemes` proves that the texts of strings, characters, doubles
-//! and integers are one lexeme each. The crate contains no code besides a lemma function.
-#![tactic(auto)]
-
-mod laws;
-
-pub use laws::texts_are_lexemes;

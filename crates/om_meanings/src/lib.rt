@@ -1,7 +1,0 @@
-//! The exit status specification of the commands on values: what each status means in terms of the
-//! values of the input, the texts of the files, and the arguments. The crate consists of
-//! definitions and one theorem, that the tables are exact (`values_have_meanings`). Nothing here
-//! does anything.
-#![tactic(auto)]
-
-pub mod laws;

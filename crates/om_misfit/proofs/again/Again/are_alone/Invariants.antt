@@ -1,8 +1,0 @@
-use Rattle.std.proofs.Common.{take}
-use Rattle.std.specs.Prelude.{All}
-use Rattle.om_misfit.specs.Find.{IsAlone}
-use Rattle.om_misfit.proofs.again.Again.are_alone.Given as goal
-
--- No reference leads back to the blocks of the links so far.
-abbrev pub invariant-links : goal.invariant-links
-invariant-links l = All (IsAlone l.self.marks.items) (take l.link-index l.links)

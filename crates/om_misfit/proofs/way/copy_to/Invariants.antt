@@ -1,6 +1,0 @@
-use Rattle.std.proofs.Common.{◌≡◌, take}
-use Rattle.om_misfit.proofs.way.copy_to.Given as goal
-
--- The links so far are copied.
-abbrev pub invariant-links : goal.invariant-links
-invariant-links l = l.copy.items ≡ take l.link-index l.links

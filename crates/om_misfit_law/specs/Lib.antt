@@ -1,6 +1,0 @@
-pub mod OnlyWay
-pub mod Laws
-pub mod PassedBut
-pub mod MissedLaw
-pub mod MissedFront
-pub mod MissedLine

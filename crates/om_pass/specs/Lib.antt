@@ -1,4 +1,0 @@
-pub mod Again
-pub mod Hot
-pub mod Places
-pub mod State

@@ -1,5 +1,0 @@
-use Rattle.om_path.proofs.TimeLemmas.{lines_in_time}
-use Rattle.om_path.proofs.laws.lines_in_time.Goals as goal
-
-pub returns : goal.returns
-returns c = lines_in_time

@@ -1,5 +1,0 @@
-use Rattle.om_path.proofs.AnswerLemmas.{one_answer}
-use Rattle.om_path.proofs.laws.one_answer.Goals as goal
-
-pub returns : goal.returns
-returns c = one_answer

@@ -1,5 +1,0 @@
-use Rattle.om_path.proofs.ScriptLemmas.{one_script_answer}
-use Rattle.om_path.proofs.laws.one_script_answer.Goals as goal
-
-pub returns : goal.returns
-returns c = one_script_answer

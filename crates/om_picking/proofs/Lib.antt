@@ -1,5 +1,0 @@
-pub mod ToldLemmas
-pub mod PickingLemmas
-pub mod EachLemmas
-pub mod FetchLemmas
-pub mod TableLemmas

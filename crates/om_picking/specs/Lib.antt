@@ -1,4 +1,0 @@
-pub mod Picking
-pub mod Told
-pub mod Asked
-pub mod Tables

@@ -1,4 +1,0 @@
-use Rattle.om_plain_table.proofs.heads.+add_parts.Given as goal
-
-abbrev pub decreases-add_parts : goal.decreases-add_parts
-decreases-add_parts l = l.deep

@@ -1,5 +1,0 @@
-pub mod Lexemes
-pub mod Meaning
-pub mod Progress
-pub mod Trees
-pub mod Twice

@@ -1,5 +1,0 @@
-use Rattle.om_pretty.proofs.PartLemmas.{parts_are_regular_lem}
-use Rattle.om_pretty.proofs.laws.parts_are_regular.Goals as goal
-
-pub returns : goal.returns
-returns c = parts_are_regular_lem

@@ -1,8 +1,0 @@
-pub mod Sites
-pub mod Stack
-pub mod Fit
-pub mod Lines
-pub mod Laws
-pub mod WorkedLines
-pub mod Narrow
-pub mod Parts

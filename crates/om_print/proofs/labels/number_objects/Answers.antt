@@ -1,6 +1,0 @@
-use Rattle.std.proofs.Common.{arith}
-use Rattle.om_print.proofs.LabelLemmas.{numbers_all}
-use Rattle.om_print.proofs.labels.number_objects.Goals as goal
-
-pub returns : goal.returns
-returns c = numbers_all c.args.objects.now c.args.first c.args.end c.loop-k.k c.loop-k.numbers.items (omega arith) c.requires c.loop-k.invariant.2

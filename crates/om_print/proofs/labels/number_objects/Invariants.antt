@@ -1,9 +1,0 @@
-use Rattle.std.proofs.Common.{◌≡◌, ◌≤◌, ◌-◌, length}
-use Rattle.om_print.proofs.LabelLemmas.{AreNumbersFrom}
-use Rattle.om_print.proofs.labels.number_objects.Given as goal
-
-abbrev pub invariant-loop-k : goal.invariant-loop-k
-invariant-loop-k l = (l.k ≤ length l.objects) × (length l.numbers.items ≡ l.end - l.first) × AreNumbersFrom l.k l.objects l.first l.numbers.items
-
-abbrev pub decreases-loop-k : goal.decreases-loop-k
-decreases-loop-k l = l.k

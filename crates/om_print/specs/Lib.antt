@@ -1,8 +1,0 @@
-pub mod Flat
-pub mod Labels
-pub mod Levels
-pub mod Plain
-pub mod Put
-pub mod Row
-pub mod Typed
-pub mod Walking

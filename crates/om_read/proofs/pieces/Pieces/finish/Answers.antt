@@ -1,7 +1,0 @@
-use Rattle.om_read.proofs.ReaderLemmas.{pieces_done, root_is_there}
-use Rattle.om_read.proofs.pieces.Pieces.finish.Goals as goal
-
-pub finish-requires : goal.finish-requires
-finish-requires c =
-    let h = c.requires.leads in
-    root_is_there h.0 h.1 c.args.self.reading.builder (pieces_done h.0 h.1 c.args.self h.2 h.3 c.requires.whole)

@@ -1,9 +1,0 @@
-pub mod Totals
-pub mod Progress
-pub mod Build
-pub mod Head
-pub mod Left
-pub mod Reading
-pub mod Contents
-pub mod Pieces
-pub mod Reader

@@ -1,3 +1,0 @@
-pub mod FrontLemmas
-pub mod GraphLemmas
-pub mod TokenLemmas

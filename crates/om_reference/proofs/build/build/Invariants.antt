@@ -1,9 +1,0 @@
-use Rattle.std.proofs.Common.{vec_len}
-use Rattle.om_reference.proofs.GraphLemmas.{After}
-use Rattle.om_reference.proofs.build.build.Given as goal
-
-abbrev pub invariant-next : goal.invariant-next
-invariant-next l = After l.fn.tokens.items l.tokens.items l.values.items l.objects.items
-
-abbrev pub decreases-next : goal.decreases-next
-decreases-next l = vec_len l.tokens

@@ -1,6 +1,0 @@
-use Rattle.std.proofs.Common.{subst, sym}
-use Rattle.om_format.proofs.KindLemmas.{InRange, kind_of-in_range}
-use Rattle.om_reference.proofs.code.kind_of.Goals as goal
-
-pub returns-clause-known : goal.returns-clause-known
-returns-clause-known c = subst InRange (sym c.large_kind.ensures) (kind_of-in_range c.args.code)

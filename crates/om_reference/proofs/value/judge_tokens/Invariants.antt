@@ -1,9 +1,0 @@
-use Rattle.std.proofs.Common.{length}
-use Rattle.om_format.proofs.StandLemmas.{Stands}
-use Rattle.om_reference.proofs.value.judge_tokens.Given as goal
-
-abbrev pub invariant-next : goal.invariant-next
-invariant-next l = Stands l.limit l.bytes l.header l.tokens.items l.rest
-
-abbrev pub decreases-next : goal.decreases-next
-decreases-next l = length l.rest

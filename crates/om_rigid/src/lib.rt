@@ -1,8 +1,0 @@
-//! Explains types with variables: a value has such a type if and only if it has every closed
-//! instance of the type (`variables_stand_for_all`). The function is a lemma function: it does
-//! nothing, and its contract states the theorem.
-#![tactic(auto)]
-
-mod laws;
-
-pub use laws::variables_stand_for_all;

@@ -1,4 +1,0 @@
-use Rattle.om_scan.proofs.straight.note.Goals as goal
-
-pub returns-clause-noted : goal.returns-clause-noted
-returns-clause-noted c = (c.number.result, c.number.ensures.in_range, c.number.ensures.named, c.in_ok-note.ensures.notes)

@@ -1,8 +1,0 @@
-use Rattle.std.proofs.Common.{length, refl}
-use Rattle.std.proofs.lemmas.Option.{slice_get_read}
-use Rattle.om_scope.proofs.environment.nth.Goals as goal
-
-pub returns : goal.returns
-returns c =
-    slice_get_read c.args.decls.now (length c.args.decls.now) c.args.place c.index-decls-place.result refl c.requires
-    c.index-decls-place.is

@@ -1,4 +1,0 @@
-use Rattle.om_scope.proofs.sites.least_break.Given as goal
-
-abbrev pub ghost-least_cyclic : goal.ghost-least_cyclic
-ghost-least_cyclic g a = g.all

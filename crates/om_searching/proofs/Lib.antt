@@ -1,6 +1,0 @@
-pub mod SaidLemmas
-pub mod LawfulLemmas
-pub mod EndLemmas
-pub mod TableLemmas
-pub mod NeverLemmas
-pub mod TellLemmas

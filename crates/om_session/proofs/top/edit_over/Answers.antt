@@ -1,4 +1,0 @@
-use Rattle.om_session.proofs.top.edit_over.Goals as goal
-
-pub returns : goal.returns
-returns g c = c.edit_by.ensures

@@ -1,7 +1,0 @@
-pub mod Pieces
-pub mod Shown
-pub mod Dumped
-pub mod WorkedTexts
-pub mod Tables
-pub mod Laws
-pub mod Named

@@ -1,5 +1,0 @@
-pub mod WellLemmas
-pub mod ShownLemmas
-pub mod LineLemmas
-pub mod BuiltLemmas
-pub mod AllLemmas

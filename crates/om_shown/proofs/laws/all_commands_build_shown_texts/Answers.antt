@@ -1,7 +1,0 @@
-use Rattle.om_shown.proofs.AllLemmas.{all_build_shown_texts}
-use Rattle.om_shown.proofs.laws.all_commands_build_shown_texts.Goals as goal
-
-pub returns : goal.returns
-returns c =
-    all_build_shown_texts c.all_commands_have_parts.ensures.values
-    c.all_commands_have_parts.ensures.texts c.shown_texts_are_built.ensures

@@ -1,5 +1,0 @@
-use Rattle.std.proofs.Common.{rules, append_assoc}
-use Rattle.om_stops.proofs.refusal_text.number_text.Goals as goal
-
-pub returns : goal.returns
-returns c = search (rules, append_assoc)

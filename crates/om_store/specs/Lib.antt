@@ -1,5 +1,0 @@
-pub mod Held
-pub mod Instance
-pub mod Lent
-pub mod Texts
-pub mod View

@@ -1,3 +1,0 @@
-pub mod MadeLemmas
-pub mod TextLemmas
-pub mod PutLemmas

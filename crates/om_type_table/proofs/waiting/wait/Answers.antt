@@ -1,6 +1,0 @@
-use Rattle.om_type_table.proofs.TextLemmas.{waiting_text-push}
-use Rattle.om_type_table.proofs.waiting.wait.Goals as goal
-
-pub returns-clause-text : goal.returns-clause-text
-returns-clause-text c types =
-    rw c.in_ok-push.ensures.items (waiting_text-push types c.args.waiting.now.items c.args.next)

@@ -1,9 +1,0 @@
-//! The theorem about tables of types, as the contract of a lemma function.
-
-ghost use Rattle.om_type_table.specs.Laws.{MadeAreLawful};
-
-/// States that the table of a sound type over well-formed declarations is lawful: values can be
-/// checked against it.
-pub fn tables_are_lawful()
-    ensures { MadeAreLawful }
-{}

@@ -1,7 +1,0 @@
-pub mod ItemLemmas
-pub mod FindLemmas
-pub mod LawfulLemmas
-pub mod SaidLemmas
-pub mod TableLemmas
-pub mod IdleLemmas
-pub mod NeverLemmas

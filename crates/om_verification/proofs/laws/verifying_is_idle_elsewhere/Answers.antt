@@ -1,6 +1,0 @@
-use Rattle.om_verification.proofs.IdleLemmas.{certificates_idle}
-use Rattle.om_verification.proofs.laws.verifying_is_idle_elsewhere.Goals as goal
-
-pub returns : goal.returns
-returns g c =
-    certificates_idle g.V.Verifies.language g.V.Verifies.Reads g.V.Verifies.ShownBy

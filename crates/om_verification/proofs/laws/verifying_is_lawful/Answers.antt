@@ -1,7 +1,0 @@
-use Rattle.om_verification.proofs.LawfulLemmas.{verifying_lawful}
-use Rattle.om_verification.proofs.laws.verifying_is_lawful.Goals as goal
-
-pub returns : goal.returns
-returns g c =
-    verifying_lawful g.V.Verifies.language g.V.Verifies.Reads g.V.Verifies.ShownBy
-    c.requires.language c.requires.once

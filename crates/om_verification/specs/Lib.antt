@@ -1,3 +1,0 @@
-pub mod Verification
-pub mod Meanings
-pub mod Laws

@@ -1,7 +1,0 @@
-//! An arena of 64-bit words: a growable array whose capacity contracts can see (`spare`). Callers
-//! reserve room once and then append words without further checks. All code that uses pointers is
-//! in the module `block`.
-#![tactic(auto)]
-
-mod block;
-pub mod region;

@@ -1,4 +1,0 @@
-pub mod TellingLemmas
-pub mod LinesLemmas
-pub mod BytesLemmas
-pub mod LawfulLemmas

@@ -1,6 +1,0 @@
-use Rattle.std.proofs.Common.{◌∙◌}
-use Rattle.om_write.proofs.MarkLemmas.{mark_ordered}
-use Rattle.om_write.proofs.marks.Marks.get.Goals as goal
-
-pub returns-then-self : goal.returns-then-self
-returns-then-self c = c.mark_of.ensures ∙ (mark_ordered c.args.self.now c.args.k c.if-self.true c.requires).1

@@ -1,9 +1,0 @@
-pub mod Laws
-pub mod Marks
-pub mod Numbers
-pub mod Step
-pub mod Sums
-pub mod Tells
-pub mod Text
-pub mod Walking
-pub mod Written

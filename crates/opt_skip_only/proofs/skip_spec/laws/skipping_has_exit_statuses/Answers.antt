@@ -1,0 +1,6 @@
+use Rattle.opt_skip_only.proofs.skip_spec.TableLemmas.{exact}
+use Rattle.opt_skip_only.proofs.skip_spec.laws.skipping_has_exit_statuses.Goals as goal
+
+pub returns : goal.returns
+returns g c =
+    exact g.P.PassesOver.passed_by g.M.Meant.commands g.M.Meant.tables c.requires

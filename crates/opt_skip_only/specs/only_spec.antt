@@ -1,0 +1,4 @@
+pub mod OnlyCommand
+pub mod Known
+pub mod Asked
+pub mod Tables

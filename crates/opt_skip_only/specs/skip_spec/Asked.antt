@@ -1,0 +1,12 @@
+-- The option `--skip`: the number of bytes to skip. `edit` writes these bytes unchanged.
+use Rattle.std.specs.Prelude.{Bool, true, false}
+use Rattle.cli_spec.specs.CommandLine.{reading_of}
+use Rattle.cli_spec.specs.Outcome.{Request, edit}
+use Rattle.opt_skip_only.specs.skip_spec.Skipping.{Passed}
+
+abbrev pub copied_by : Request → Bool
+copied_by (edit file type script compat lines decimal reading) = true
+copied_by request = false
+
+abbrev pub passed_by : Request → Passed
+passed_by request = record { bytes = (reading_of request).skip; copied = copied_by request }

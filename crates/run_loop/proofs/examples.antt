@@ -1,0 +1,4 @@
+pub mod ReportingLemmas
+pub mod LinesLemmas
+pub mod BytesLemmas
+pub mod LawfulLemmas

@@ -1,0 +1,116 @@
+//! Collects the output for several items and writes it with one call.
+
+ghost use Rattle.std.specs.Prelude.{◌≡◌, ◌<◌, ◌+◌, ◌^◌, ℕ, List, [], length};
+ghost use Rattle.cli_spec.specs.Outcome.{Output};
+ghost use Rattle.base_io.specs.State.{change};
+ghost use Rattle.run_loop.specs.work.Gathered.{GathersOne, Gathers};
+ghost use Rattle.run_loop.specs.work.Works.{ItemsStay, FeedsSome};
+
+use crate::work::Work;
+use base_io::{Failed, Sink, write_all};
+use cli_errors::exit::Error;
+use cli_spec::exit::Exit;
+use std::alloc::Global;
+
+/// If more bytes than this are collected, then they are written.
+const GATHERED: usize = 1 << 20;
+
+/// A sink in memory.
+#[derive(Drop)]
+struct Text {
+    bytes: Vec<u8>,
+}
+
+impl Sink for Text {
+    ghost use Rattle.run_loop.specs.work.Gathered.{text_state};
+
+    ghost state = { λ t. text_state t.bytes.items };
+
+    fn write(&mut self, chunk: &[u8]) -> Result<usize, Failed> {
+        match self.bytes.extend_from_slice(chunk) {
+            Ok(()) => Ok(chunk.len()),
+            Err(_) => Err(Failed),
+        }
+    }
+}
+
+/// Consumes some of the current bytes. If an item ends with them, appends its output to a text.
+fn gather_one<W: Work>(
+    alloc: Global,
+    work: &mut W,
+    buffered: &[u8],
+    text: &mut Text,
+) -> Result<usize, Error>
+    requires some { 0 < length buffered.now }
+    requires reads { W.commands.Reads (W.act work.old) }
+    requires has { (bytes : List ℕ) × (output : List Output) × W.has work.old bytes output
+        × (length bytes + length buffered.now < 2 ^ 63) }
+    ensures kept { W.act work.new ≡ W.act work.old }
+    ensures gathers { GathersOne W.commands (W.act work.old) (W.has work.old) (W.has work.new)
+        buffered.now text.old.bytes.items text.new.bytes.items result }
+    ensures stay { ItemsStay W.commands (W.act work.old) }
+{
+    work.laws();
+    let before = text.bytes.len();
+    match work.feed(alloc, buffered, text) {
+        Ok(taken) => {
+            work.laws();
+            Ok(taken)
+        }
+        Err(Error::Exit(exit)) => Err(Error::Exit(exit)),
+        Err(Error::WriteFault) => {
+            text.bytes.truncate(before);
+            Err(Error::Exit(Exit::Memory))
+        }
+    }
+}
+
+/// Consumes the current bytes to their end, or until enough output is collected.
+fn gather<W: Work>(
+    alloc: Global,
+    work: &mut W,
+    buffered: &[u8],
+    text: &mut Text,
+) -> Result<usize, Error>
+    requires some { 0 < length buffered.now }
+    requires reads { W.commands.Reads (W.act work.old) }
+    requires has { (bytes : List ℕ) × (output : List Output) × W.has work.old bytes output
+        × (length bytes + length buffered.now < 2 ^ 63) }
+    requires none { text.old.bytes.items ≡ [] }
+    ensures kept { W.act work.new ≡ W.act work.old }
+    ensures gathers { Gathers W.commands (W.act work.old) (W.has work.old) (W.has work.new)
+        buffered.now text.new.bytes.items result }
+{
+    let mut taken = gather_one(alloc, work, buffered, text)?;
+    while taken < buffered.len() && text.bytes.len() <= GATHERED {
+        taken += gather_one(alloc, work, &buffered[taken..], text)?;
+    }
+    Ok(taken)
+}
+
+/// Consumes some of the current bytes, and writes the output for the items that end in them with
+/// one call. Returns the number of bytes consumed. Fails if the run ends, if memory runs out, or if
+/// writing fails.
+pub fn feed_some<W: Work, K: Sink>(
+    alloc: Global,
+    work: &mut W,
+    buffered: &[u8],
+    out: &mut K,
+) -> Result<usize, Error>
+    requires some { 0 < length buffered.now }
+    requires reads { W.commands.Reads (W.act work.old) }
+    requires has { (bytes : List ℕ) × (output : List Output) × W.has work.old bytes output
+        × (length bytes + length buffered.now < 2 ^ 63) }
+    ensures kept { W.act work.new ≡ W.act work.old }
+    ensures feeds { FeedsSome W.commands (W.act work.old) (W.has work.old) (W.has work.new)
+        buffered.now (change (K.state out.old) (K.state out.new)) result }
+{
+    let mut text = Text {
+        bytes: Vec::new(alloc),
+    };
+    let gathered = gather(alloc, work, buffered, &mut text);
+    match write_all(out, text.bytes.as_slice()) {
+        Ok(()) => gathered,
+        Err(_) => Err(Error::WriteFault),
+    }
+}

@@ -1,0 +1,56 @@
+//! A run, and the line on err that reports its exit reason.
+
+ghost use Rattle.std.specs.Prelude.{◌≡◌, []};
+ghost use Rattle.base_io.specs.State.{change};
+ghost use Rattle.run_loop.specs.work.Reported.{ending_status, IsReported, HasAccount};
+ghost use Rattle.run_loop.specs.work.Reported.{ReportsEnvironment};
+
+use crate::work::{Work, run_work};
+use base_io::{Sink, Source};
+use cli_errors::exit::{Error, report_exit};
+use cli_spec::status::Status;
+use std::alloc::Global;
+
+/// Returns the status of a run that reached the end of its input: 0 if it was without errors, and 1
+/// otherwise.
+fn status_of_all(ok: bool) -> Status
+    ensures { result ≡ ending_status ok }
+{
+    if ok { Status::AllOk } else { Status::No }
+}
+
+/// If the run ended early, writes the line of its exit reason to err. Returns the exit status.
+fn report<E: Sink>(alloc: Global, err: &mut E, ended: Result<bool, Error>) -> Status
+    ensures { IsReported ended (change (E.state err.old) (E.state err.new)) result }
+{
+    match ended {
+        Ok(ok) => status_of_all(ok),
+        Err(Error::Exit(exit)) => report_exit(alloc, err, &exit),
+        Err(Error::WriteFault) => Status::WriteFault,
+    }
+}
+
+/// Runs the command on the input, reports on err why it ended early, and returns the exit status.
+pub fn run_reported<W: Work, S: Source, K: Sink, E: Sink>(
+    alloc: Global,
+    work: &mut W,
+    input: &mut S,
+    out: &mut K,
+    err: &mut E,
+) -> Status
+    requires { W.has work.old [] [] }
+    ensures account { HasAccount W.commands (W.act work.old)
+        (change (S.state input.old) (S.state input.new))
+        (change (K.state out.old) (K.state out.new))
+        (change (E.state err.old) (E.state err.new)) result }
+    ensures unread { (W.commands.Reads (W.act work.old) → ⊥) → input.new ≡ input.old }
+{
+    let ended = run_work(alloc, work, input, out);
+    report(alloc, err, ended)
+}
+
+/// Proves that a lawful command returns a status of the environment (6 to 10) only if the
+/// environment caused it. This is a lemma function: it does nothing at run time.
+pub fn environment_is_known<W: Work>()
+    ensures { ReportsEnvironment W.commands }
+{}

@@ -1,0 +1,4 @@
+pub mod CommandSumLemmas
+pub mod AgreeLemmas
+pub mod PartLemmas
+pub mod BesideLemmas

@@ -1,0 +1,5 @@
+use Rattle.run_spec.proofs.runs.ExampleLemmas.{lawful}
+use Rattle.run_spec.proofs.runs.example.example_has_one_outcome.Goals as goal
+
+pub lawful_commands-requires : goal.lawful_commands-requires
+lawful_commands-requires c = lawful

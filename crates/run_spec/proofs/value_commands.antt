@@ -1,0 +1,10 @@
+pub mod GivenLemmas
+pub mod StayLemmas
+pub mod FindLemmas
+pub mod ItemLemmas
+pub mod FetchLemmas
+pub mod PrefixLemmas
+pub mod FirstLemmas
+pub mod LawfulLemmas
+pub mod TurnLemmas
+pub mod FinishedLemmas

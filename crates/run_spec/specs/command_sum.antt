@@ -1,0 +1,2 @@
+pub mod CommandSum
+pub mod Beside

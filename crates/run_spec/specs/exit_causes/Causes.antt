@@ -1,0 +1,172 @@
+-- The exit status specification of commands that read their input, given by tables for the
+-- arguments and the files, and for the input. If the tables are exact, then each status has its
+-- cause, and each cause leads to its status.
+use Rattle.std.specs.Prelude.{ℕ, ◌^◌, ◌<◌, ◌≡◌, ◌≢◌, ◌↔◌, ◌⊎◌, List, length, take, Some, IfSome, Ok}
+use Rattle.std.specs.Prelude.{Err}
+use Rattle.base_data.specs.model.Bytes.{AreBytes}
+use Rattle.cli_spec.specs.declared.status.Status.{Status}
+use Rattle.cli_spec.specs.declared.status.Status.TheVariants.{Usage, ReadFault, Memory, TooLong}
+use Rattle.cli_spec.specs.Outcome.{whole, opened, Request, Asks, IsUsage, status_of, ending_of}
+use Rattle.cli_spec.specs.Outcome.{Replies}
+use Rattle.cli_spec.specs.declared.exit.Exit.{Exit}
+use Rattle.cli_spec.specs.declared.exit.Exit.TheVariants.{BadPath as bad_path}
+use Rattle.base_io.specs.Files.{File, contents_of}
+use Rattle.run_spec.specs.runs.Account.{FetchesFor}
+use Rattle.run_spec.specs.runs.Call.{Call}
+use Rattle.run_spec.specs.runs.Causes.{AreShortBefore}
+use Rattle.run_spec.specs.runs.Commands.{Fetches, Commands, Prepares, HaveExit}
+use Rattle.run_spec.specs.runs.Environment.{IsHonest, IsWriteOrMemoryError, IsEnvironment, AreShort}
+use Rattle.run_spec.specs.runs.RunSpec.{known_files, HoldEnd, Gives, AtInput}
+
+pub record Tables (A : Type 0) : Type 1 where
+  -- The request alone ends the run with status 2.
+  pub BadArguments : Request → Type 0
+  -- The request and its fetched files end the run before the input is read, with this status.
+  pub Bar : Request → Fetches → Status → Type 0
+  -- The bytes end the run with this status, whatever follows them.
+  pub ExitWith : A → List ℕ → Status → Type 0
+  -- If the input is these bytes, then the status at its end is this status.
+  pub EndWith : A → List ℕ → Status → Type 0
+
+module _ {A : Type 0} (c : Commands A) (tables : Tables A) where
+  -- An input leads to this status.
+  abbrev pub Show : A → List ℕ → Status → Type 0
+  Show a input status = tables.ExitWith a input status ⊎ tables.EndWith a input status
+
+  -- ---- exact tables
+
+  -- Bytes contain an exit reason with a status if and only if `ExitWith` holds for the bytes and
+  -- the status.
+  abbrev pub HaveExits : Type 0
+  HaveExits = (a : A) (bytes : List ℕ) (status : Status)
+      → ((exit : Exit) × (status_of exit ≡ status) × HaveExit c a bytes exit)
+      ↔ tables.ExitWith a bytes status
+
+  -- Bytes end with a reply that has a status if and only if `EndWith` holds for the bytes and the
+  -- status.
+  abbrev pub HaveEnds : Type 0
+  HaveEnds = (a : A) (bytes : List ℕ) (status : Status) → AreBytes bytes
+      → ((all : Replies) × ((ending_of all).status ≡ status)
+      × HoldEnd c a bytes all.output all.last)
+      ↔ tables.EndWith a bytes status
+
+  -- An input determines a status if and only if `Show` holds for the input and the status.
+  abbrev pub HaveShown : Type 0
+  HaveShown = (a : A) (input : List ℕ) (status : Status) → AreBytes input
+      → Gives c a input status ↔ Show a input status
+
+  -- A request and its files end the run with a status if and only if `Bar` holds for them.
+  abbrev pub HaveBars : Type 0
+  HaveBars = (request : Request) (files : Fetches) (status : Status)
+      → ((exit : Exit) × (status_of exit ≡ status) × c.Finds request files (Err exit))
+      ↔ tables.Bar request files status
+
+  -- If the request alone ends the run, then PATH is no valid path.
+  abbrev pub HaveBadArguments : Type 0
+  HaveBadArguments = (request : Request) → tables.BadArguments request → (files : Fetches)
+      → c.Finds request files (Err bad_path)
+
+  -- The tables are exact, and the commands read their input.
+  pub record AreExact : Type 0 where
+    pub read : (a : A) → c.Reads a
+    pub exits : HaveExits
+    pub ends : HaveEnds
+    pub bars : HaveBars
+    pub bad_arguments : HaveBadArguments
+
+  module _ (arguments : List (List ℕ)) where
+    -- ---- statuses that the arguments, the files or the input cause
+
+    -- The fetched files end the run with this status before the input is read.
+    pub record IsBarred (call : Call) (status : Status) : Type 0 where
+      pub found : Fetches
+      pub fetches : FetchesFor c arguments call.files found
+      pub request : Request
+      pub asks : Asks arguments request
+      pub bar : tables.Bar request found status
+      -- If the file map is known, then the text of a requested file is what the map has for its
+      -- name.
+      pub is_known : (turn : ℕ) (name text : List ℕ) → c.Wants request found turn name
+          → found turn name ≡ opened (whole text)
+          → IfSome call.files.before.map (λ all. contents_of all name ≡ Some text)
+
+    -- The arguments are no request, the files end the run with this status, or the whole input
+    -- leads to it.
+    abbrev pub IsCaused : Call → Status → Type 0
+    IsCaused call status =
+        (IsUsage arguments × (status ≡ Usage))
+        ⊎ (IsBarred call status
+        ⊎ AtInput c arguments call (λ a input. AreBytes input × Show a input status))
+
+    -- A status other than 6, 7, 9 and 10 is returned only if it has such a cause.
+    abbrev pub OnlyCaused : Call → Type 0
+    OnlyCaused call = (status : Status) → status ≢ ReadFault → status ≢ TooLong
+        → (IsWriteOrMemoryError status → ⊥) → call.status ≡ status → IsCaused call status
+
+    -- ---- when a status must be returned
+
+    -- The arguments are a request that alone ends the run.
+    abbrev pub AsksBadly : Type 0
+    AsksBadly = (request : Request) × Asks arguments request × tables.BadArguments request
+
+    -- If the arguments are no request, or a request that alone ends the run, then the status is 2,
+    -- or 7 or 9.
+    abbrev pub IfBadArguments : Call → Type 0
+    IfBadArguments call =
+        IsUsage arguments ⊎ AsksBadly → (call.status ≡ Usage) ⊎ IsWriteOrMemoryError call.status
+
+    -- If known files end the run with a status, and the requested files are short enough, then this
+    -- status is returned, or 6 to 9.
+    abbrev pub IfBarred : Call → Type 0
+    IfBarred call = (files : List File) (request : Request) (status : Status)
+        → call.files.before.map ≡ Some files
+        → ((turn : ℕ) → AreShortBefore c arguments files turn)
+        → Asks arguments request → tables.Bar request (known_files files) status
+        → (call.status ≡ status) ⊎ IsEnvironment call.status
+
+    -- This is the task, whatever the files are, or the known files determine it and are short
+    -- enough.
+    abbrev pub IsToBeDone : Call → A → Type 0
+    IsToBeDone call a =
+        ((files : Fetches) → Prepares c arguments files (Ok a))
+        ⊎ ((files : List File) × (call.files.before.map ≡ Some files) × AreShort files
+        × Prepares c arguments (known_files files) (Ok a))
+
+    -- The status, or 6 to 9, is returned if the first 2^48 bytes of a known input end the run with
+    -- it. The same holds if the known input is short enough and ends with the status.
+    abbrev pub IfShown : Call → Type 0
+    IfShown call = (a : A) (bytes : List ℕ) (status : Status) → IsToBeDone call a
+        → call.input.before.bytes ≡ Some bytes
+        → tables.ExitWith a (take (2 ^ 48) bytes) status
+        ⊎ ((length bytes < 2 ^ 48) × tables.EndWith a bytes status)
+        → (call.status ≡ status) ⊎ IsEnvironment call.status
+
+    -- ---- fault-free runs
+
+    -- The arguments are no request, the files end the run with this status, or the input leads to
+    -- it.
+    abbrev pub IsDue : List ℕ → Fetches → Status → Type 0
+    IsDue input files status =
+        (IsUsage arguments × (status ≡ Usage))
+        ⊎ (((request : Request) × Asks arguments request × tables.Bar request files status)
+        ⊎ ((a : A) × Prepares c arguments files (Ok a) × Show a input status))
+
+    -- Unless memory ran out, a fault-free run has exactly the status that is due.
+    abbrev pub HasWhatIsDue : Call → Type 0
+    HasWhatIsDue call = (input : List ℕ) (files : List File) → IsHonest call input files
+        → (call.status ≡ Memory)
+        ⊎ ((status : Status) → (call.status ≡ status) ↔ IsDue input (known_files files) status)
+
+    -- ---- the whole specification
+
+    pub record Causes (call : Call) : Type 0 where
+      -- Statuses 0 to 5, 8, 11 and 12: the arguments, the files or the whole input cause them.
+      pub only : OnlyCaused call
+      -- Status 2 is returned if the arguments are no request, or a request that alone ends the run.
+      pub bad_arguments : IfBadArguments call
+      -- Status 3, 5, 8 or 12 is returned if known files are refused or missing.
+      pub barred : IfBarred call
+      -- Status 0, 1, 2, 4, 5, 11 or 12 is returned if a known input leads to it.
+      pub shown : IfShown call
+      -- Unless memory ran out, a fault-free run has a status if and only if it is due.
+      pub due : HasWhatIsDue call

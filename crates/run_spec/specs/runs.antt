@@ -1,0 +1,12 @@
+pub mod Call
+pub mod Given
+pub mod Environment
+pub mod LawfulLanguage
+pub mod StreamLaws
+pub mod Commands
+pub mod Lawful
+pub mod Account
+pub mod RunSpec
+pub mod Causes
+pub mod CommandLaws
+pub mod Example

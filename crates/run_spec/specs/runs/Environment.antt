@@ -1,0 +1,108 @@
+-- The environment of a run, for any command: failed operations, and how they change the state.
+use Rattle.std.specs.Prelude.{ℕ, ◌^◌, ◌<◌, ◌≤◌, ◌≡◌, ◌⊎◌, List, length, Some, None, IsSomeAnd}
+use Rattle.cli_spec.specs.declared.status.Status.{Status}
+use Rattle.cli_spec.specs.declared.status.Status.TheVariants.{ReadFault, WriteFault, OpenFault}
+use Rattle.cli_spec.specs.declared.status.Status.TheVariants.{Memory}
+use Rattle.cli_spec.specs.Outcome.{InputEnd, fault_of, status_of, exit_line, Ending}
+use Rattle.cli_spec.specs.declared.exit.Exit.{Exit}
+use Rattle.base_io.specs.Faults.{RoseOrLast, last_count}
+use Rattle.base_io.specs.Files.{File, contents_of}
+use Rattle.base_io.specs.Sink.{Writes, WritesPart}
+use Rattle.base_io.specs.State.{ByteState, FilesState, Change, change}
+use Rattle.run_spec.specs.runs.Call.{Call}
+
+-- The file map stays the same, and no count of faults decreases.
+pub record KeepFiles (files : Change FilesState) : Type 0 where
+  pub map : files.after.map ≡ files.before.map
+  pub opening : files.before.open_faults ≤ files.after.open_faults
+  pub opening_at_last : files.before.open_faults ≡ last_count → files.after.open_faults ≡ last_count
+  pub reading : files.before.read_faults ≤ files.after.read_faults
+  pub reading_at_last : files.before.read_faults ≡ last_count → files.after.read_faults ≡ last_count
+
+-- The line of the ending is written to `err`, and its status is returned. Otherwise the line could
+-- not be written completely, and the status is 7.
+abbrev pub WritesLine : Change ByteState → Status → Ending → Type 0
+WritesLine err status ending =
+    (Writes err ending.err × (status ≡ ending.status))
+    ⊎ (WritesPart err ending.err × (status ≡ WriteFault))
+
+-- One text was written completely, and the next one was not.
+abbrev pub WritesPartAfter : Change ByteState → List ℕ → List ℕ → Type 0
+WritesPartAfter sink text next =
+    (between : ByteState) × Writes (change sink.before between) text
+    × WritesPart (change between sink.after) next
+
+-- ---- failed operations
+
+-- Each file has fewer than 2^48 bytes.
+abbrev pub AreShort : List File → Type 0
+AreShort files = (name bytes : List ℕ) → contents_of files name ≡ Some bytes → length bytes < 2 ^ 48
+
+-- The input and the files are known and short enough, and no operation on them failed.
+pub record IsOkRead (call : Call) (input : List ℕ) (files : List File) : Type 0 where
+  pub input_known : call.input.before.bytes ≡ Some input
+  pub files_known : call.files.before.map ≡ Some files
+  pub input_short : length input < 2 ^ 48
+  pub files_short : AreShort files
+  pub takes : ¬ RoseOrLast call.input.before.faults call.input.after.faults
+  pub opens : ¬ RoseOrLast call.files.before.open_faults call.files.after.open_faults
+  pub reads : ¬ RoseOrLast call.files.before.read_faults call.files.after.read_faults
+
+-- A fault-free run: in addition, no operation on `out` or `err` failed.
+pub record IsHonest (call : Call) (input : List ℕ) (files : List File) : Type 0 where
+  pub ok_read : IsOkRead call input files
+  pub out : ¬ RoseOrLast call.out.before.faults call.out.after.faults
+  pub err : ¬ RoseOrLast call.err.before.faults call.err.after.faults
+
+-- The reply could not be completed: memory ran out, or `out` or `err` failed.
+abbrev pub IsWriteOrMemoryError : Status → Type 0
+IsWriteOrMemoryError status = (status ≡ Memory) ⊎ (status ≡ WriteFault)
+
+-- Statuses 6 to 9, which a failed operation or exhausted memory causes, replace every other status.
+abbrev pub IsEnvironment : Status → Type 0
+IsEnvironment status = (status ≡ ReadFault) ⊎ ((status ≡ OpenFault) ⊎ IsWriteOrMemoryError status)
+
+-- Status 6 is returned only if a fault count increased or is at its last value: that of the input,
+-- or the count of the files' read faults.
+abbrev pub OnlyReadFault : Call → Type 0
+OnlyReadFault call = call.status ≡ ReadFault
+    → RoseOrLast call.input.before.faults call.input.after.faults
+    ⊎ RoseOrLast call.files.before.read_faults call.files.after.read_faults
+
+-- Status 7 is returned only if the fault count of `out` or `err` did so.
+abbrev pub OnlyWriteFault : Call → Type 0
+OnlyWriteFault call = call.status ≡ WriteFault
+    → RoseOrLast call.out.before.faults call.out.after.faults
+    ⊎ RoseOrLast call.err.before.faults call.err.after.faults
+
+-- A failed operation is never reported as success: if a fault count increased, the status is 6, 7,
+-- 8 or 9.
+pub record ReportsWriteFault (call : Call) : Type 0 where
+  pub out : call.out.before.faults < call.out.after.faults → call.status ≡ WriteFault
+  pub err : call.err.before.faults < call.err.after.faults → call.status ≡ WriteFault
+
+abbrev pub ReportsOpenFault : Call → Type 0
+ReportsOpenFault call =
+    call.files.before.open_faults < call.files.after.open_faults
+    → (call.status ≡ OpenFault) ⊎ IsWriteOrMemoryError call.status
+
+pub record ReportsReadFault (call : Call) : Type 0 where
+  pub input : call.input.before.faults < call.input.after.faults
+      → (call.status ≡ ReadFault) ⊎ IsWriteOrMemoryError call.status
+  pub file : call.files.before.read_faults < call.files.after.read_faults
+      → (call.status ≡ ReadFault) ⊎ IsWriteOrMemoryError call.status
+
+-- Opening the file with this name failed, or the file map is known and does not have the name.
+abbrev pub CannotOpen : Change FilesState → List ℕ → Type 0
+CannotOpen files name =
+    (RoseOrLast files.before.open_faults files.after.open_faults
+    × (files.after.last_open_fault ≡ Some name))
+    ⊎ IsSomeAnd files.before.map (λ all. contents_of all name ≡ None)
+
+-- The bytes ended at a fault, or were too many. The status reports the reason, and `err` has its
+-- line.
+pub record ReportsFault (until : InputEnd) (call : Call) : Type 0 where
+  pub exit : Exit
+  pub is_fault : fault_of until ≡ Some exit
+  pub status : call.status ≡ status_of exit
+  pub err : Writes call.err (exit_line exit)

@@ -1,0 +1,17 @@
+-- Bytes are exactly one stream of values.
+use Rattle.std.specs.Prelude.{ℕ, ◌≡◌, List}
+use Rattle.base_data.specs.model.Bytes.{AreBytes}
+use Rattle.marshal_spec.specs.format.Tree.{Tree}
+use Rattle.marshal_spec.specs.format.Stream.{End, Stream}
+
+-- The bytes are these values followed by this end, and nothing else.
+pub record IsStream (limit : ℕ) (bytes : List ℕ) (trees : List Tree) (end : End) : Type 0 where
+  pub holds : Stream bytes limit trees end
+  pub only : (others : List Tree) (other : End) → Stream bytes limit others other
+      → (others ≡ trees) × (other ≡ end)
+
+-- For each limit, each list of bytes is exactly one stream.
+abbrev pub HasOneStream : Type 0
+HasOneStream =
+    (limit : ℕ) (bytes : List ℕ) → AreBytes bytes
+    → (trees : List Tree) × (end : End) × IsStream limit bytes trees end

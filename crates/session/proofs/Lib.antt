@@ -1,0 +1,12 @@
+pub mod VerdictLemmas
+pub mod ReadLemmas
+pub mod FastCheckLemmas
+pub mod ProgressLemmas
+pub mod TypedLemmas
+pub mod EarlierLemmas
+pub mod EditLemmas
+pub mod AccountLemmas
+pub mod CopyLemmas
+pub mod OutputLemmas
+pub mod PartLemmas
+pub mod TextLemmas

@@ -1,0 +1,26 @@
+use Rattle.base_io.specs.State.{change}
+use Rattle.session.proofs.AccountLemmas.{file_account}
+use Rattle.session.proofs.top.edit.Goals as goal
+
+pub returns-in-Ok : goal.returns-in-Ok
+returns-in-Ok g c = λ arguments asks.
+    let found = c.in-Ok.ensures in
+    c.edit_over.ensures arguments (g.O.Opener.state c.args.files.now) (record {
+      file = c.args.file.now;
+      type = c.args.type_text.now;
+      lines = c.args.lines;
+      decimal = c.args.decimal;
+      asks = asks;
+      found = found.0;
+      fetched = found.1;
+      gives = found.2;
+    })
+
+pub returns-in-Err : goal.returns-in-Err
+returns-in-Err g c = λ arguments asks.
+    let found = c.in-Err.ensures in
+    file_account arguments c.args.file.now c.args.type_text.now c.args.script.now c.args.compat c.args.lines c.args.decimal c.args.reading asks
+    (change (g.O.Opener.state c.args.files.now) (g.O.Opener.state c.find_type.new.files))
+    found.0 found.1 c.in-Err.exit found.2
+    (g.S.Source.state c.args.input.now) (g.K.Sink.state c.args.out.now)
+    (change (g.E.Sink.state c.args.err.now) (g.E.Sink.state c.report.new.err)) c.report.result c.report.ensures

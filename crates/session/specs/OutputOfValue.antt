@@ -1,0 +1,21 @@
+-- The output for a value, written.
+use Rattle.std.specs.Prelude.{ℕ, ◌≡◌, Bool, List, [], Result, Ok, Err}
+use Rattle.cli_spec.specs.declared.exit.Exit.TheVariants.{Memory as out_of_memory}
+use Rattle.base_data.specs.declared.model.value.Val.{Val}
+use Rattle.base_data.specs.declared.model.value.Obj.{Obj}
+use Rattle.base_io.specs.Sink.{Writes, WritesPart}
+use Rattle.base_io.specs.State.{ByteState, Change}
+use Rattle.cli_errors.specs.declared.exit.Error.{Error}
+use Rattle.cli_errors.specs.declared.exit.Error.TheVariants as aborts
+use Rattle.session.specs.declared.verdict.Printing.{Printing}
+use Rattle.session.specs.Verdict.{IsOutputOf}
+
+-- The text is written, and the result is whether the value is ok. Or memory ran out and nothing is
+-- written. Or writing the output fails.
+abbrev pub WritesOutput : Printing → List Obj → Val → Change ByteState → Result Bool Error → Type 0
+WritesOutput printing graph root out (Ok ok) =
+    (text : List ℕ) × IsOutputOf printing graph root text ok × Writes out text
+WritesOutput printing graph root out (Err (aborts.Exit exit)) =
+    (exit ≡ out_of_memory) × Writes out []
+WritesOutput printing graph root out (Err aborts.WriteFault) =
+    (text : List ℕ) × (ok : Bool) × IsOutputOf printing graph root text ok × WritesPart out text

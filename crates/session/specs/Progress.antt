@@ -1,0 +1,34 @@
+-- The bytes taken from the input, if values are given to the streaming check before they are read.
+use Rattle.std.specs.Prelude.{ℕ, ◌≡◌, ◌⊎◌, List, [], ◌++◌}
+use Rattle.types_table.specs.type_table.Made.{table_of}
+use Rattle.cli_spec.specs.Outcome.{Output}
+use Rattle.check_stream.specs.declared.chunks.stream_check.StreamCheck.{StreamCheck}
+use Rattle.check_stream.specs.chunks.StreamCheck.{IsStreamCheck}
+use Rattle.session.specs.declared.values.Values.{Values}
+use Rattle.session.specs.declared.values.ValueTask.{ValueTask}
+use Rattle.session.specs.declared.values.ValueTask.TheVariants as value_tasks
+use Rattle.session.specs.declared.verdict.Query.TheVariants as queries
+use Rattle.session.specs.declared.verdict.Printing.TheVariants as printings
+use Rattle.session.specs.FastCheck.{IsBetween}
+use Rattle.session.specs.Values.{HasRead}
+
+-- The streaming check keeps bytes only for verdicts and edits, and only of a value of which the
+-- reader has taken none. They are a prefix of that value.
+abbrev pub IsGlanced : ValueTask → Values → StreamCheck → Type 0
+IsGlanced (value_tasks.Print (printings.Report r queries.Verdict) limit) values stream_check =
+    IsStreamCheck (table_of r.now.table) limit stream_check
+    × ((stream_check.kept.items ≡ []) ⊎ IsBetween values)
+IsGlanced (value_tasks.Edit e limit) values stream_check =
+    IsStreamCheck (table_of e.requested.now.table) limit stream_check
+    × ((stream_check.kept.items ≡ []) ⊎ IsBetween values)
+IsGlanced value_task values stream_check = stream_check.kept.items ≡ []
+
+-- All bytes except the kept ones were read, and this is the output for their values.
+pub record HasTaken
+    (value_task : ValueTask) (values : Values) (stream_check : StreamCheck) (taken : List ℕ)
+    (output : List Output)
+    : Type 0 where
+  pub before : List ℕ
+  pub whole : taken ≡ before ++ stream_check.kept.items
+  pub read : HasRead value_task values before output
+  pub glanced : IsGlanced value_task values stream_check

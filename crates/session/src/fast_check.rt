@@ -1,0 +1,184 @@
+//! Fast paths by the streaming check, which reads a value's bytes without building a heap. It
+//! reports the verdict on a value. It also recognizes a value that has its type and whose bytes are
+//! exactly those that the runtime writes for it.
+
+ghost use Rattle.std.specs.Bool.{OnTrue};
+ghost use Rattle.std.specs.Prelude.{◌≡◌, ◌≤◌, ◌<◌, ℕ, List, [], length, take, IfOk, OnOk};
+ghost use Rattle.check_stream.specs.chunks.StreamCheck.{IsStreamCheck};
+ghost use Rattle.types_table.specs.type_table.Made.{table_of};
+ghost use Rattle.check_stream.specs.search.Find.{IsFound};
+ghost use Rattle.session.specs.FastCheck.{IsFastCheck, IsUnchangedFastCheck, IsVerdictOn, no_in};
+ghost use Rattle.marshal_write.specs.canonical_check.Canonicity.{IsCanonicalBytes};
+
+use base_data::model::Memory;
+use check_stream::chunks::{Answer, StreamCheck};
+use check_stream::search::Found;
+use marshal_write::canonical_check::is_canonical_bytes;
+use run_types::{Requested, write_missed_no};
+use std::alloc::Global;
+use types_theory::table::tables_decide;
+
+/// After this many useless streaming checks in a row, most values are not checked in this way.
+const USELESS: u8 = 8;
+
+/// The number of values that are then read without a streaming check before the next one is
+/// checked.
+const SKIPPED: u8 = 64;
+
+/// The number of useless streaming checks in a row, and the number of values still to be read
+/// without one.
+#[derive(Clone, Copy)]
+pub struct Inspects {
+    useless: u8,
+    skipped: u8,
+}
+
+impl Inspects {
+    /// Creates the initial counters. The first values are checked.
+    pub fn new() -> Inspects {
+        Inspects {
+            useless: 0,
+            skipped: 0,
+        }
+    }
+
+    /// Returns true if the next value should be checked. Otherwise counts the skipped value.
+    pub fn is_due(&mut self) -> bool {
+        if self.skipped == 0 {
+            return true;
+        }
+        self.skipped -= 1;
+        false
+    }
+
+    /// Counts a useful streaming check.
+    pub fn count_useful(&mut self) {
+        self.useless = 0;
+    }
+
+    /// Counts a useless streaming check.
+    pub fn count_useless(&mut self) {
+        if self.useless < USELESS {
+            self.useless += 1;
+        }
+        if self.useless == USELESS {
+            self.skipped = SKIPPED;
+        }
+    }
+}
+
+/// The result of a streaming check of the current value.
+#[derive(Clone, Copy)]
+pub enum Seen {
+    /// The first bytes of the chunk, this many, complete the value, and its verdict is `yes`.
+    Yes(usize),
+    /// The first bytes of the chunk, this many, complete the value. Its verdict is `no`, and its
+    /// line is in the line buffer.
+    No(usize),
+    /// All bytes of the chunk were taken, and the value needs more bytes.
+    More,
+    /// The check is inconclusive, and no byte of the chunk was taken.
+    Inconclusive,
+}
+
+/// Replaces the line by that of a value with exactly one type mismatch.
+#[inline(never)]
+fn write_missed_line(
+    line: &mut Vec<u8>,
+    alloc: Global,
+    requested: &Requested,
+    found: &Found,
+) -> Result<(), Memory>
+    requires number { found.now.ty < length requested.now.table.nodes }
+    ensures { OnOk result ((limit n : ℕ) (bytes : List ℕ)
+        → IsFound (table_of requested.now.table) limit n bytes found.now
+        → IsVerdictOn requested.now limit n bytes (no_in line.new.items)) }
+{
+    line.clear();
+    write_missed_no(line, alloc, requested, found)?;
+    Ok(line.push(b'\n')?)
+}
+
+/// Continues the streaming check of the current value with a chunk. Returns the verdict, or that
+/// more bytes are needed, or that the check is inconclusive. If the verdict is `no`, replaces
+/// `line` by the line of the value.
+#[inline(always)]
+pub fn fast_check<'a>(
+    alloc: Global,
+    requested: &'a Requested,
+    limit: u64,
+    stream_check: &mut StreamCheck<'a>,
+    chunk: &[u8],
+    line: &mut Vec<u8>,
+) -> Result<Seen, Memory>
+    requires stream_check { IsStreamCheck (table_of requested.now.table) limit stream_check.old }
+    ensures { IfOk result (IsFastCheck requested.now limit stream_check.old chunk.now
+        stream_check.new line.new.items) }
+{
+    requested.holds();
+    tables_decide();
+    let answer = stream_check.feed(alloc, requested.table(), limit, chunk)?;
+    match answer {
+        Answer::Typed(n) => Ok(Seen::Yes(n)),
+        Answer::Missed(n) => {
+            let Some(found) = stream_check.missed() else {
+                unreachable!()
+            };
+            write_missed_line(line, alloc, requested, found)?;
+            Ok(Seen::No(n))
+        }
+        Answer::More => Ok(Seen::More),
+        Answer::Inconclusive => Ok(Seen::Inconclusive),
+    }
+}
+
+/// Returns true if the first `n` bytes are exactly what the runtime writes for the value that they
+/// encode.
+fn is_canonical_prefix(bytes: &[u8], n: usize) -> bool
+    requires { n ≤ length bytes.now }
+    ensures { OnTrue result (IsCanonicalBytes (take n bytes.now)) }
+{
+    is_canonical_bytes(&bytes[..n])
+}
+
+/// The result of a streaming check of a value that could be written unchanged.
+#[derive(Clone, Copy)]
+pub enum Unchanged {
+    /// The first bytes of the chunk, this many, are a value that has the type, and exactly what the
+    /// runtime writes for it.
+    Whole(usize),
+    /// All bytes of the chunk were taken, and the value needs more bytes.
+    More,
+    /// The check is inconclusive, and no byte of the chunk was taken.
+    Inconclusive,
+}
+
+/// Checks a value that begins with this chunk: whether it lies completely in the chunk, has the
+/// type, and consists of exactly the bytes that the runtime writes for it.
+pub fn fast_check_unchanged<'a>(
+    alloc: Global,
+    requested: &'a Requested,
+    limit: u64,
+    stream_check: &mut StreamCheck<'a>,
+    chunk: &[u8],
+) -> Result<Unchanged, Memory>
+    requires stream_check { IsStreamCheck (table_of requested.now.table) limit stream_check.old }
+    requires none { stream_check.old.kept.items ≡ [] }
+    ensures { IfOk result (IsUnchangedFastCheck requested.now limit chunk.now stream_check.new) }
+{
+    requested.holds();
+    tables_decide();
+    let answer = stream_check.feed(alloc, requested.table(), limit, chunk)?;
+    match answer {
+        Answer::Typed(n) => {
+            if is_canonical_prefix(chunk, n) {
+                Ok(Unchanged::Whole(n))
+            } else {
+                Ok(Unchanged::Inconclusive)
+            }
+        }
+        Answer::Missed(_) => Ok(Unchanged::Inconclusive),
+        Answer::More => Ok(Unchanged::More),
+        Answer::Inconclusive => Ok(Unchanged::Inconclusive),
+    }
+}

@@ -1,0 +1,62 @@
+//! A test program that compares results of the crates and of whole runs with stored answers.
+//!
+//! It reads questions from standard input, one a line, and prints each question with its answer.
+//! The files `stdin` and `stdout` of the crate store the questions and the answers; `README.md`
+//! says where the answers come from. The kinds of questions are:
+//!
+//! - `stream`, `value`: what `run` prints for streams that OCaml wrote.
+//! - `prefixes`: what becomes of each prefix of some bytes.
+//! - `again`: the bytes written for values that were read.
+//! - `decls`, `type`, `table`: texts of declarations and types, and the table of a type.
+//! - `steps`: the steps of a check.
+//! - `run`: a whole run in memory with its files, its input and the calls that fail.
+//!
+//! Promises: nothing by contract; the comparison with the stored answers is the test. If
+//! `test_oracles` gives another result for a prefix, the answer says so.
+//!
+//! Leaves out: tests of single functions (`test_units`) and the scripts that run the comparison
+//! (`tools`). No crate depends on this program.
+#![tactic(auto)]
+
+mod again;
+mod compare;
+mod prefixes;
+mod rows;
+mod runs;
+mod steps;
+mod streams;
+mod tables;
+mod texts;
+mod values;
+mod written;
+
+use std::io;
+use std::io::ErrorKind;
+
+// Prints the answer to a question.
+fn answer(rt: &HostRuntime, question: &str) -> io::Result<()> {
+    let Some((kind, rest)) = question.split_once(' ') else {
+        return Err(ErrorKind::InvalidInput.into());
+    };
+    match kind {
+        "stream" => streams::answer(rt, rest),
+        "value" => values::answer(rt, rest),
+        "again" => again::answer(rt, rest),
+        "prefixes" => prefixes::answer(rt, rest),
+        "decls" => texts::answer(rt, rest),
+        "type" => texts::answer_type(rt, rest),
+        "table" => tables::answer(rt, rest),
+        "steps" => steps::answer(rt, rest),
+        "run" => runs::answer(rt, rest),
+        _ => Err(ErrorKind::InvalidInput.into()),
+    }
+}
+
+fn main(rt: HostRuntime) -> io::Result<()> {
+    for line in rt.stdin().lines(rt.alloc()) {
+        let question = line?;
+        println!(rt; "{question}")?;
+        answer(&rt, question.as_str())?;
+    }
+    Ok(())
+}

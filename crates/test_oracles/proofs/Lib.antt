@@ -1,0 +1,3 @@
+pub mod PrefixLemmas
+pub mod GraphLemmas
+pub mod TokenLemmas

@@ -1,0 +1,7 @@
+pub mod Sums
+pub mod Refusal
+pub mod Step
+pub mod Prefix
+pub mod Judgement
+pub mod Token
+pub mod Graph

@@ -1,0 +1,30 @@
+//! Unit tests of the other crates, which have none of their own.
+//!
+//! A crate that has tests is proved a second time for them, so the tests are collected here. Each
+//! test compares a result with test vectors from outside the repository, or calls once what no
+//! stored question of `test_conformance` reaches.
+//!
+//! - `bytes`: Codes, headers, custom blocks, hashes of tags, heaps and readers.
+//! - `environment`: The implementations of `base_io`, the loop with the small commands, and the
+//!   writer.
+//! - `laws`: Calls of lemma functions, whose contracts are theorems.
+//! - `syntax`: Lexemes.
+//! - `values`: Arrays, doubles, certificates, printed atoms, graphs, and values checked from
+//!   bytes.
+//!
+//! Promises: nothing beyond the tests; the crate has no code outside them.
+//!
+//! Leaves out: whole runs and stored answers (`test_conformance`), and the oracle for bytes
+//! (`test_oracles`). A passing test is no proof: what the functions do is in their contracts.
+#![tactic(auto)]
+
+#[cfg(test)]
+mod bytes;
+#[cfg(test)]
+mod environment;
+#[cfg(test)]
+mod laws;
+#[cfg(test)]
+mod syntax;
+#[cfg(test)]
+mod values;

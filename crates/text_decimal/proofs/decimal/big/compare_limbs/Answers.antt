@@ -1,0 +1,38 @@
+use Rattle.std.proofs.Common.{◌≡◌, ◌+◌, ◌-◌, ◌*◌, ◌<◌, get_or}
+use mathlib.Core.Path.{ap}
+use native.Mathlib.Omega.{arith}
+use borrow.Author.Tests.{lt-ltb, le-ltb, eq-eqb, ne_eqb}
+use Rattle.text_decimal.specs.decimal.Limbs.{limb_weight, number_below}
+use Rattle.text_decimal.proofs.decimal.LimbsLemmas.{number_below-zero, number_below-suc, number_below_less}
+use Rattle.text_decimal.proofs.decimal.big.compare_limbs.Goals as goal
+
+pub returns-then-a-i : goal.returns-then-a-i
+returns-then-a-i c =
+    let a = c.args.a.now in
+    let b = c.args.b.now in
+    let i = c.loop-i.i - 1 in
+    let e : i + 1 ≡ c.loop-i.i = omega arith in
+    let l : number_below a c.args.len < number_below b c.args.len = omega (arith, rw e at (number_below_less a b i (λ k. (c.type_inv.a k).fits) c.if-a-i.true)) in
+    rw (lt-ltb _ _ l)
+
+pub returns-then-a-i-2 : goal.returns-then-a-i-2
+returns-then-a-i-2 c =
+    let a = c.args.a.now in
+    let b = c.args.b.now in
+    let i = c.loop-i.i - 1 in
+    let e : i + 1 ≡ c.loop-i.i = omega arith in
+    let l : number_below b c.args.len < number_below a c.args.len = omega (arith, rw e at (number_below_less b a i (λ k. (c.type_inv.b k).fits) c.if-a-i-2.true)) in
+    rw (le-ltb (number_below a c.args.len) (number_below b c.args.len) (omega arith), ne_eqb (number_below a c.args.len) (number_below b c.args.len) (λ x. omega arith))
+
+pub loop-i-preserved : goal.loop-i-preserved
+loop-i-preserved c =
+    let i = c.loop-i.i - 1 in
+    let e : i + 1 ≡ c.loop-i.i = omega arith in
+    let same : get_or c.args.a.now i 0 ≡ get_or c.args.b.now i 0 = omega arith in
+    (omega arith, omega (arith, rw e at (number_below-suc c.args.a.now i), rw e at (number_below-suc c.args.b.now i), ap (λ x. x * limb_weight i) same))
+
+pub returns : goal.returns
+returns c =
+    let e : c.loop-i.i ≡ 0 = omega arith in
+    let same : number_below c.args.a.now c.args.len ≡ number_below c.args.b.now c.args.len = omega (arith, rw e at c.loop-i.invariant.1, number_below-zero c.args.a.now, number_below-zero c.args.b.now) in
+    rw (le-ltb (number_below c.args.a.now c.args.len) (number_below c.args.b.now c.args.len) (omega arith), eq-eqb _ _ same)

@@ -1,0 +1,11 @@
+pub mod LexedLemmas
+pub mod ReplacedLemmas
+pub mod PlainLemmas
+pub mod PositionsLemmas
+pub mod EncodedLemmas
+pub mod NoneLemmas
+pub mod PartsLemmas
+pub mod BackLemmas
+pub mod FoundLemmas
+pub mod PrefixLemmas
+pub mod FeedLemmas

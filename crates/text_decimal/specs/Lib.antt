@@ -1,0 +1,4 @@
+pub mod decimal
+pub mod texts
+pub mod scripts
+pub mod readback

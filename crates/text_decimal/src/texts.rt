@@ -1,0 +1,17 @@
+//! Converts texts of values between two notations of doubles: decimals, and the digits of their
+//! bits (the plain text). `write_decimal_text` writes decimals and `write_plain_text` removes
+//! them. The law `TextsAreReadBack` proves that the second undoes the first. Single decimals are in
+//! `decimal`.
+
+mod decimals;
+mod find;
+mod laws;
+mod plain;
+mod prefix;
+mod texts;
+
+pub use decimals::{Decimal, given_position};
+pub use find::{find_decimals, write_plain_text};
+pub use laws::{decimals_are_by_lexemes, decimals_stay_on_one_line, texts_are_read_back};
+pub use plain::write_plain;
+pub use texts::write_decimal_text;

@@ -1,0 +1,10 @@
+use Rattle.std.proofs.Common.{◌≡◌}
+use Rattle.text_literal.specs.parser.Ends as specs
+use Rattle.text_literal.proofs.parser.siblings.sibling.Given as goal
+
+-- The remaining steps lead to the same node.
+abbrev pub invariant-loop-left : goal.invariant-loop-left
+invariant-loop-left l = specs.sibling l.ends l.position l.left ≡ specs.sibling l.ends l.from l.many
+
+abbrev pub decreases-loop-left : goal.decreases-loop-left
+decreases-loop-left l = l.left

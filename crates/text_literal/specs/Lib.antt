@@ -1,0 +1,3 @@
+pub mod grammar
+pub mod parser
+pub mod agreement

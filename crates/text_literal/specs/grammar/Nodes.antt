@@ -1,0 +1,130 @@
+-- A literal as a list of nodes in preorder: each node comes before its parts, and the nodes are in
+-- the order of their first lexemes.
+use Rattle.std.specs.Prelude.{ℕ, suc, ◌+◌, ◌≡◌, ◌<◌, Option, Some, Result, Ok, Err, List, [], ◌∷◌}
+use Rattle.std.specs.Prelude.{◌++◌, length, ⊤}
+use Rattle.std.specs.List.{AllByRecursion}
+use Rattle.types_lex.specs.declared.lexeme.Lexeme.{Lexeme}
+use Rattle.types_lex.specs.declared.lexeme.Symbol.{Symbol}
+use Rattle.types_lex.specs.declared.lexeme.Symbol.TheVariants as symbols
+use Rattle.types_parse.specs.grammar.Grammar.{mark}
+use Rattle.types_parse.specs.grammar.Lexemes.{kinds_of}
+use Rattle.types_parse.specs.grammar.Refusals.{IsSyntax}
+use Rattle.text_literal.specs.declared.grammar.node.Form.{Form}
+use Rattle.text_literal.specs.declared.grammar.node.Form.TheVariants as forms
+use Rattle.text_literal.specs.declared.grammar.node.Node.{Node}
+use Rattle.text_literal.specs.declared.grammar.node.TreeFault.{TreeFault}
+use Rattle.text_literal.specs.declared.grammar.node.TreeFault.TheVariants as faults
+use Rattle.text_literal.specs.grammar.Literal.{Literal, labelled, again, Plain, integer, character}
+use Rattle.text_literal.specs.grammar.Literal.{string, double, truth, unit, constant, applied}
+use Rattle.text_literal.specs.grammar.Literal.{fields}
+use Rattle.text_literal.specs.grammar.Literal.{tuple, empty_array, array, Parts, no_parts}
+use Rattle.text_literal.specs.grammar.Literal.{more_parts}
+use Rattle.text_literal.specs.grammar.Literal.{Rows, no_rows, more_rows, label_kinds, head_kinds}
+use Rattle.text_literal.specs.grammar.Literal.{owner_kinds, row_start, literal_kinds, parts_kinds}
+use Rattle.text_literal.specs.grammar.Literal.{rows_kinds}
+
+abbrev pub node : Form → Option ℕ → ℕ → ℕ → Node
+node form label first parts = record { form = form; label = label; first = first; parts = parts }
+
+abbrev pub count : Parts → ℕ
+count no_parts = 0
+count (more_parts ps v) = suc (count ps)
+
+abbrev pub rows_count : Rows → ℕ
+rows_count no_rows = 0
+rows_count (more_rows rs x v) = suc (rows_count rs)
+
+abbrev mutual
+  -- The nodes of a literal whose first lexeme has this index.
+  pub literal_nodes : ℕ → Literal → List Node
+  literal_nodes k (labelled l p) = plain_nodes k l p
+  literal_nodes k (again n) = node forms.Again (Some n) k 0 ∷ []
+
+  pub plain_nodes : ℕ → Option ℕ → Plain → List Node
+  plain_nodes k l (integer i) = node forms.Integer l k 0 ∷ []
+  plain_nodes k l (character c) = node forms.Character l k 0 ∷ []
+  plain_nodes k l (string s) = node forms.Text l k 0 ∷ []
+  plain_nodes k l (double d) = node forms.Double l k 0 ∷ []
+  plain_nodes k l (truth b) = node forms.Truth l k 0 ∷ []
+  plain_nodes k l unit = node forms.Unit l k 0 ∷ []
+  plain_nodes k l (constant h) = node forms.Named l k 0 ∷ []
+  plain_nodes k l (applied h ps v) =
+      node forms.Named l k (suc (count ps))
+      ∷
+      (parts_nodes symbols.Comma
+      (k + length (label_kinds l ++ (head_kinds h ++ mark symbols.OpenParen))) ps
+      ++ literal_nodes
+      (k
+      + length
+      (label_kinds l
+      ++ (head_kinds h ++ mark symbols.OpenParen ++ parts_kinds symbols.Comma ps)))
+      v)
+  plain_nodes k l (fields o rs x v) =
+      node forms.Fields l k (suc (rows_count rs))
+      ∷ (rows_nodes (k + length (label_kinds l ++ (owner_kinds o ++ mark symbols.OpenBrace))) rs
+      ++ literal_nodes
+      (k
+      + length
+      (label_kinds l
+      ++ (owner_kinds o ++ mark symbols.OpenBrace ++ rows_kinds rs ++ row_start x)))
+      v)
+  plain_nodes k l (tuple ps u v) =
+      node forms.Tuple l k (suc (suc (count ps)))
+      ∷ (parts_nodes symbols.Comma (k + length (label_kinds l ++ mark symbols.OpenParen)) ps
+      ++ literal_nodes
+      (k + length (label_kinds l ++ mark symbols.OpenParen) + length (parts_kinds symbols.Comma ps))
+      u
+      ++ literal_nodes
+      (k
+      + length
+      (label_kinds l
+      ++
+      (mark symbols.OpenParen
+      ++
+      (parts_kinds symbols.Comma ps ++ literal_kinds u
+      ++ mark symbols.Comma))))
+      v)
+  plain_nodes k l empty_array = node forms.Array l k 0 ∷ []
+  plain_nodes k l (array ps v) =
+      node forms.Array l k (suc (count ps))
+      ∷ (parts_nodes symbols.Semicolon (k + length (label_kinds l ++ mark symbols.OpenArray)) ps
+      ++ literal_nodes
+      (k + length (label_kinds l ++ (mark symbols.OpenArray ++ parts_kinds symbols.Semicolon ps)))
+      v)
+
+  pub parts_nodes : Symbol → ℕ → Parts → List Node
+  parts_nodes separator k no_parts = []
+  parts_nodes separator k (more_parts ps v) =
+      parts_nodes separator k ps ++ literal_nodes (k + length (parts_kinds separator ps)) v
+
+  pub rows_nodes : ℕ → Rows → List Node
+  rows_nodes k no_rows = []
+  rows_nodes k (more_rows rs x v) =
+      rows_nodes k rs ++ literal_nodes (k + length (rows_kinds rs ++ row_start x)) v
+
+-- ---- the result of parsing lexemes
+
+-- The lexemes are a literal, and these are its nodes.
+abbrev pub IsTreeOf : List Lexeme → List Node → Type 0
+IsTreeOf lexemes nodes =
+    (v : Literal) × (literal_kinds v ≡ kinds_of lexemes) × (nodes ≡ literal_nodes 0 v)
+
+abbrev pub IsTreeFault : List Lexeme → TreeFault → Type 0
+IsTreeFault lexemes (faults.Syntax k) = IsSyntax literal_kinds (kinds_of lexemes) k
+IsTreeFault lexemes faults.Memory = ⊤
+
+-- A call returns these nodes, unless memory runs out.
+abbrev pub GivesTree : List Node → Result (List Node) TreeFault → Type 0
+GivesTree nodes (Ok all) = all ≡ nodes
+GivesTree nodes (Err (faults.Syntax k)) = ⊥
+GivesTree nodes (Err faults.Memory) = ⊤
+
+-- A call returns this position, unless memory runs out.
+abbrev pub GivesSyntax : ℕ → Result (List Node) TreeFault → Type 0
+GivesSyntax k (Ok all) = ⊥
+GivesSyntax k (Err (faults.Syntax j)) = j ≡ k
+GivesSyntax k (Err faults.Memory) = ⊤
+
+-- The index of each node's first lexeme is below this number.
+abbrev pub FirstsBelow : ℕ → List Node → Type 0
+FirstsBelow m nodes = AllByRecursion (λ (n : Node). n.first < m) nodes

@@ -1,0 +1,42 @@
+-- The meaning of a `Leaf` of the code.
+use Rattle.std.specs.Prelude.{ℕ, pos, ◌==◌}
+use Rattle.base_data.specs.model.Graph.{IsValue}
+use Rattle.base_data.specs.declared.model.value.Val.TheVariants as vals
+use Rattle.base_data.specs.declared.model.value.Obj.TheVariants as objects
+use Rattle.types_spec.specs.declared.types.shape.ShapeOf.{ShapeOf}
+use Rattle.types_spec.specs.declared.types.shape.ShapeOf.TheVariants as shapes
+use Rattle.marshal_heap.specs.heap.Heap.{custom_object}
+use Rattle.types_lex.specs.declared.lexeme.LexemeKind.{LexemeKind}
+use Rattle.types_lex.specs.declared.lexeme.LexemeKind.TheVariants as kinds
+use Rattle.types_lex.specs.declared.lexeme.Symbol.TheVariants as symbols
+use Rattle.text_literal.specs.grammar.Literal.{Head, upper_head, tag_head, cons_head, empty_head}
+use Rattle.text_literal.specs.grammar.Literal.{ref_head, ref_name}
+use Rattle.text_literal.specs.declared.parser.leaf.Leaf.{Leaf}
+use Rattle.text_literal.specs.declared.parser.leaf.Leaf.TheVariants as leaves
+use Rattle.text_literal.specs.parser.Starts.{Start, mismatch, out_of_range, small, whole, if_fits}
+
+abbrev pub leaf_in : Leaf → Start ℕ
+leaf_in leaves.Mismatch = mismatch
+leaf_in leaves.OutOfRange = out_of_range
+leaf_in (leaves.Small v) = small v
+leaf_in (leaves.Bytes bytes) = whole (objects.Bytes bytes.now)
+leaf_in (leaves.Double bits) = whole (objects.Double bits)
+leaf_in (leaves.Custom c) = whole (custom_object c)
+
+-- A leaf is sound if its integer has at most 63 bits and its atom exists.
+abbrev pub IsSound : Leaf → Type 0
+IsSound (leaves.Small v) = IsValue 0 v
+IsSound leaf = Unit {0}
+
+-- An integer from 0, if the shape has exactly this number of integers.
+abbrev pub below_of : ShapeOf ℕ → ℕ → ℕ → Start ℕ
+below_of (shapes.Below limit) many n = if_fits (limit == many) (small (vals.Int (pos n)))
+below_of shape many n = mismatch
+
+-- The first lexeme of a head.
+abbrev pub lead_of : Head → LexemeKind
+lead_of (upper_head x) = kinds.Upper x
+lead_of (tag_head x) = kinds.Tag x
+lead_of cons_head = kinds.Symbol symbols.DoubleColon
+lead_of empty_head = kinds.Symbol symbols.OpenBracket
+lead_of ref_head = kinds.Lower ref_name

@@ -1,0 +1,23 @@
+//! Reads a literal, the text of a value, at a type of a table. The result is the value with the new
+//! objects that it consists of, or the first fault. The law `one_literal_answer` says that each
+//! text has exactly one answer. The law `worked_literals_fit` covers worked examples.
+
+mod doubles;
+mod fault;
+mod fields;
+mod laws;
+mod leaf;
+mod named;
+mod opening;
+mod part;
+mod parts;
+mod read;
+mod rows;
+mod siblings;
+mod stack;
+mod start;
+mod text;
+
+pub use fault::LiteralFault;
+pub use laws::{one_literal_answer, worked_literals_fit};
+pub use read::{read_literal, read_placed};

@@ -1,0 +1,297 @@
+//! The parser for a line of a script.
+
+ghost use Rattle.std.specs.Prelude.{◌≡◌, ◌<◌, ◌≤◌, IfOk, IfErr, Option, Some, None, Ok, Err};
+ghost use Rattle.std.specs.Prelude.{length, drop};
+ghost use Rattle.types_parse.specs.grammar.Lexemes.{number_of};
+ghost use Rattle.text_path.specs.Machine.{at};
+ghost use Rattle.text_path.specs.LineMachine.{named_role, role_of, valued, begun, is_equals};
+ghost use Rattle.text_path.specs.LineMachine.{after_equals, with_other, steps_next, next_of};
+ghost use Rattle.text_path.specs.ScriptAnswer.{IsRead, IsLineAnswer, UnlessMemory};
+ghost use Rattle.text_path.specs.LineCode.{IsKnown, action_of, ended_line, in_time};
+ghost use Rattle.text_path.specs.declared.edits.Action.TheVariants as actions;
+ghost use Rattle.text_path.specs.declared.edits.Edit.TheVariants as edits;
+
+use crate::edits::{Action, Edit, ScriptFault, ScriptLine, line_fault};
+use crate::prefix::{Known, Next, Prefix, Role};
+use crate::read::{is_whole, number_of, step};
+use base_data::model::Memory;
+use base_data::model::list::List;
+use base_data::model::path::Path;
+use std::alloc::Global;
+use types_lex::lexeme::{Lexeme, LexemeKind, Symbol};
+use types_lex::tokens;
+use types_parse::parse::byte_of;
+
+/// Returns the role of the path after a command word, or `None` if the name is not a command.
+fn named_role(name: &[u8]) -> Option<Role>
+    ensures { result ≡ named_role name.now }
+{
+    if name == b"set".as_slice() {
+        Some(Role::Set)
+    } else if name == b"link".as_slice() {
+        Some(Role::Link)
+    } else if name == b"unshare".as_slice() {
+        Some(Role::Unshare)
+    } else if name == b"graft".as_slice() {
+        Some(Role::Graft)
+    } else {
+        None
+    }
+}
+
+/// Returns the role of the path after this lexeme, or `None` if the lexeme is not one of the four
+/// commands.
+fn role_of(kind: &LexemeKind) -> Option<Role>
+    ensures { result ≡ role_of kind.now }
+{
+    match kind {
+        LexemeKind::Lower(name) => named_role(name.as_slice()),
+        _ => None,
+    }
+}
+
+/// Parses the number of the edited value.
+fn valued(kind: &LexemeKind) -> Next
+    ensures { result ≡ valued (number_of kind.now) }
+{
+    match number_of(kind) {
+        Some(value) => Next::Onward(Prefix::Value(value)),
+        None => Next::Nowhere,
+    }
+}
+
+/// Parses the command word.
+fn begun(alloc: Global, value: u64, kind: &LexemeKind) -> Next
+    ensures { result ≡ begun value (role_of kind.now) }
+{
+    match role_of(kind) {
+        Some(role) => Next::Onward(Prefix::Steps(value, role, Path::new(alloc), false)),
+        None => Next::Nowhere,
+    }
+}
+
+/// Returns true if the lexeme is an equals sign.
+fn is_equals(kind: &LexemeKind) -> bool
+    ensures { result ≡ is_equals kind.now }
+{
+    match kind {
+        LexemeKind::Symbol(Symbol::Equals) => true,
+        _ => false,
+    }
+}
+
+/// Returns the state after a complete path and an equals sign.
+fn after_equals(alloc: Global, value: u64, role: Role, path: Path) -> Next
+    ensures { result ≡ after_equals value role (Some path) }
+{
+    match role {
+        Role::Set => Next::Literal(value, path),
+        Role::Link => {
+            Next::Onward(Prefix::Steps(value, Role::Source(path), Path::new(alloc), false))
+        }
+        Role::Graft => Next::Onward(Prefix::Other(value, path)),
+        _ => Next::Nowhere,
+    }
+}
+
+/// Parses the number of the value that `graft` copies from.
+fn with_other(alloc: Global, value: u64, path: Path, kind: &LexemeKind) -> Next
+    ensures { result ≡ with_other value path (number_of kind.now) }
+{
+    match number_of(kind) {
+        Some(other) => {
+            let role = Role::Part(path, other);
+            Next::Onward(Prefix::Steps(value, role, Path::new(alloc), false))
+        }
+        None => Next::Nowhere,
+    }
+}
+
+/// Parses a lexeme inside a path or after it.
+fn steps_next(
+    alloc: Global,
+    value: u64,
+    role: Role,
+    mut path: Path,
+    after_dot: bool,
+    kind: &LexemeKind,
+) -> Result<Next, Memory>
+    ensures { IfOk result (λ next. steps_next value role (at path after_dot) kind.now ≡ next) }
+{
+    if is_equals(kind) {
+        if is_whole(&path, after_dot) {
+            return Ok(after_equals(alloc, value, role, path));
+        }
+        return Ok(Next::Nowhere);
+    }
+    if step(&mut path, after_dot, kind)? {
+        Ok(Next::Onward(Prefix::Steps(value, role, path, !after_dot)))
+    } else {
+        Ok(Next::Nowhere)
+    }
+}
+
+/// Parses one lexeme and returns the next state.
+fn next_of(alloc: Global, prefix: Prefix, kind: &LexemeKind) -> Result<Next, Memory>
+    ensures { IfOk result (λ next. next_of prefix kind.now ≡ next) }
+{
+    match prefix {
+        Prefix::Start => Ok(valued(kind)),
+        Prefix::Value(value) => Ok(begun(alloc, value, kind)),
+        Prefix::Steps(value, role, path, after_dot) => {
+            steps_next(alloc, value, role, path, after_dot, kind)
+        }
+        Prefix::Other(value, path) => Ok(with_other(alloc, value, path, kind)),
+    }
+}
+
+/// Reads lexemes until the `=` of `set`, until a syntax error, or to the end.
+fn known(alloc: Global, lexemes: &[Lexeme]) -> Result<Known, Memory>
+    ensures { IfOk result (IsKnown lexemes.now) }
+{
+    let mut prefix = Prefix::Start;
+    for (position, lexeme) in lexemes.iter().enumerate() {
+        match next_of(alloc, prefix, &lexeme.kind)? {
+            Next::Onward(next) => prefix = next,
+            Next::Literal(value, path) => return Ok(Known::Literal(value, path, position + 1)),
+            Next::Nowhere => return Ok(Known::Stuck(position)),
+        }
+    }
+    Ok(Known::All(prefix))
+}
+
+/// Returns the request of a line that ends after a complete path, or `None` if a line with this
+/// role cannot end here.
+fn action_of(role: Role, path: Path) -> Option<Action>
+    ensures { result ≡ action_of role path }
+{
+    match role {
+        Role::Source(target) => Some(Action::Edit(Edit::Link(target, path))),
+        Role::Unshare => Some(Action::Edit(Edit::Unshare(path))),
+        Role::Part(target, other) => Some(Action::Graft(target, other, path)),
+        _ => None,
+    }
+}
+
+/// Returns the line that ends here, or `None` if no line can end here.
+fn ended(prefix: Prefix, number: usize) -> Option<ScriptLine>
+    ensures { result ≡ ended_line number prefix }
+{
+    let Prefix::Steps(value, role, path, after_dot) = prefix else {
+        return None;
+    };
+    if !is_whole(&path, after_dot) {
+        return None;
+    }
+    match action_of(role, path) {
+        Some(action) => Some(ScriptLine {
+            number,
+            value,
+            action,
+        }),
+        None => None,
+    }
+}
+
+/// Returns a `set` line whose literal consists of the lexemes from index `position` on.
+fn set_line(
+    number: usize,
+    value: u64,
+    path: Path,
+    mut lexemes: Vec<Lexeme>,
+    position: usize,
+    end: usize,
+) -> Result<ScriptLine, Memory>
+    requires { position ≤ length lexemes.items }
+    ensures { IfOk result
+        (λ line. line
+        ≡ record {
+          number = number;
+          value = value;
+          action = actions.Edit (edits.Set path (drop position lexemes.items) end);
+        }) }
+{
+    let literal = List::of(lexemes.split_off(position)?);
+    Ok(ScriptLine {
+        number,
+        value,
+        action: Action::Edit(Edit::Set(path, literal, end)),
+    })
+}
+
+/// Returns the line. If it copies from a value that does not come before the edited one, returns
+/// `ScriptFault::Later`.
+fn in_time(line: ScriptLine) -> Result<ScriptLine, ScriptFault>
+    ensures { result ≡ in_time line }
+{
+    match &line.action {
+        Action::Graft(_, other, _) if line.value <= *other => Err(ScriptFault::Later(line.number)),
+        _ => Ok(line),
+    }
+}
+
+/// Returns the line for the result of reading its lexemes. The line must not be blank.
+fn line_of(
+    known: Known,
+    lexemes: Vec<Lexeme>,
+    number: usize,
+    end: usize,
+) -> Result<ScriptLine, ScriptFault>
+    requires some { 0 < length lexemes.items }
+    requires known { IsKnown lexemes.items known }
+    ensures line { IfOk result (λ line. IsRead number lexemes.items end (Ok (Some line))) }
+    ensures fault { IfErr result
+        (UnlessMemory (λ fault. IsRead number lexemes.items end (Err fault))) }
+{
+    match known {
+        Known::All(prefix) => match ended(prefix, number) {
+            Some(line) => in_time(line),
+            None => Err(ScriptFault::Syntax(number, end)),
+        },
+        Known::Literal(value, path, position) => {
+            Ok(set_line(number, value, path, lexemes, position, end)?)
+        }
+        Known::Stuck(position) => Err(ScriptFault::Syntax(
+            number,
+            byte_of(lexemes.as_slice(), end, position),
+        )),
+    }
+}
+
+/// Parses the lexemes of a line. Returns `None` if there are none.
+fn read_lexemes(
+    alloc: Global,
+    lexemes: Vec<Lexeme>,
+    number: usize,
+    end: usize,
+) -> Result<Option<ScriptLine>, ScriptFault>
+    ensures line { IfOk result (λ line. IsRead number lexemes.items end (Ok line)) }
+    ensures fault { IfErr result
+        (UnlessMemory (λ fault. IsRead number lexemes.items end (Err fault))) }
+{
+    if lexemes.is_empty() {
+        return Ok(None);
+    }
+    let known = known(alloc, lexemes.as_slice())?;
+    match line_of(known, lexemes, number, end) {
+        Ok(line) => Ok(Some(line)),
+        Err(fault) => Err(fault),
+    }
+}
+
+/// Parses line `number` of a script. Returns `None` if the line has no lexemes. Lexical errors come
+/// before syntax errors.
+pub fn read_line(
+    alloc: Global,
+    text: &[u8],
+    number: usize,
+) -> Result<Option<ScriptLine>, ScriptFault>
+    ensures line { IfOk result (λ line. IsLineAnswer number text.now (Ok line)) }
+    ensures fault { IfErr result
+        (UnlessMemory (λ fault. IsLineAnswer number text.now (Err fault))) }
+{
+    match tokens(alloc, text) {
+        Ok(lexemes) => read_lexemes(alloc, lexemes, number, text.len()),
+        Err(fault) => Err(line_fault(number, fault)),
+    }
+}

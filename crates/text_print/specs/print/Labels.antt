@@ -1,0 +1,50 @@
+-- The numbers of labels, by the numbers of objects.
+use Rattle.std.specs.Prelude.{ℕ, ◌<◌, ◌≤◌, ◌-◌, ◌≡◌, ◌||◌, Bool, true, false, List, [], ◌∷◌, ◌++◌}
+use Rattle.std.specs.Prelude.{length, slice_index_or, slice_set}
+use Rattle.base_data.specs.declared.model.value.Obj.{Obj}
+use Rattle.types_table.specs.declared.type_table.tabled.Tabled.{Tabled}
+use Rattle.text_print.specs.show.Chunks.{Chunk, has, firsts, agains, number_in}
+use Rattle.text_print.specs.print.Walking.{IsWalk, chunks_left}
+use Rattle.text_print.specs.declared.print.walk.Step.{Step}
+use Rattle.text_print.specs.declared.print.walk.Step.TheVariants as steps
+use Rattle.text_print.specs.declared.print.labels.Labels.{Labels}
+use Rattle.text_print.specs.declared.print.walk.Walk.{Walk}
+
+-- The number is in the range from `first` up to `end`, exclusive.
+abbrev pub IsBetween : ℕ → ℕ → ℕ → Type 0
+IsBetween first end o = (first ≤ o) × (o < end)
+
+-- `numbers` has the index of each object among these, for the objects from `first` on. An object
+-- before the range or beyond it is none of these.
+pub record AreNumbers (objects : List ℕ) (first : ℕ) (numbers : List ℕ) : Type 0 where
+  pub before : (o : ℕ) → o < first → length objects ≡ number_in objects o
+  pub from_first : (o : ℕ) → first ≤ o
+      → slice_index_or numbers (o - first) (length objects) ≡ number_in objects o
+
+abbrev pub AreLabels : Labels → Type 0
+AreLabels labels = AreNumbers labels.objects.items labels.first labels.numbers.items
+
+-- The objects that a step visits again.
+abbrev pub agains_of : Step → List ℕ
+agains_of (steps.Again o) = o ∷ []
+agains_of step = []
+
+-- The marks of the objects that occur again, after a step.
+abbrev pub marks_after : Step → List Bool → List Bool
+marks_after (steps.Again o) marks = slice_set marks o true
+marks_after step marks = marks
+
+-- There is a mark for the object.
+abbrev pub IsMarkable : ℕ → Step → Type 0
+IsMarkable n (steps.Again o) = o < n
+IsMarkable n step = Unit {0}
+
+-- The marks and visits so far, with those of the remaining chunks, are those of all chunks.
+pub record AreCounted (table : Tabled) (graph : List Obj) (all : List Chunk) (walk : Walk)
+    (again : List Bool) : Type 0 where
+  pub is_walk : IsWalk table graph walk
+  pub many : length again ≡ length graph
+  pub met_again : (x : ℕ)
+      → has (agains all) x
+      ≡ (slice_index_or again x false || has (agains (chunks_left table graph walk)) x)
+  pub met_first : firsts all ≡ walk.order ++ firsts (chunks_left table graph walk)

@@ -1,0 +1,14 @@
+-- A text that is appended if no object has a label.
+use Rattle.std.specs.Prelude.{ℕ, ◌≡◌, List, ◌++◌, Option, Some, None}
+use Rattle.std.specs.Global.{Vec}
+use Rattle.text_print.specs.show.Chunks.{Chunk, labelled, text_of}
+
+-- Only bytes were appended.
+abbrev pub IsGrown : List ℕ → List ℕ → Type 0
+IsGrown old new = (more : List ℕ) × (new ≡ old ++ more)
+
+-- The text of the chunks was appended; or some bytes were, and the objects with labels are
+-- returned.
+abbrev pub IsWritten : Option (Vec ℕ) → List ℕ → List ℕ → List Chunk → Type 0
+IsWritten None old new chunks = new ≡ old ++ text_of chunks
+IsWritten (Some objects) old new chunks = (objects.items ≡ labelled chunks) × IsGrown old new

@@ -1,0 +1,21 @@
+//! Prints values: a graph without a type (`dump`), and a value at a type with labels for the
+//! objects that occur more than once (`show`). It also compares a given text with the text of a
+//! value (`is_shown`) without building that text as a whole. The definitions of the texts are in
+//! other crates.
+
+mod block;
+mod dumped;
+mod ends;
+mod flat;
+mod known;
+mod labels;
+mod order;
+mod plain;
+mod shown;
+mod sink;
+mod walk;
+
+pub use dumped::write_dump;
+pub use known::is_shown;
+pub use shown::write_shown_at;
+pub use sink::{dump, show};

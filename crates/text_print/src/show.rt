@@ -1,0 +1,13 @@
+//! Defines the text of a value at a type, with labels for shared parts, the text of the part at a
+//! path, and the text of an untyped graph. The crate contains only definitions, examples of them
+//! worked out by hand (`Rows`), and laws about them (`laws`). The code that prints values is in
+//! other crates.
+
+pub mod laws;
+
+ghost use Rattle.text_print.specs.show.WorkedTexts.{Rows};
+
+/// Proves that the texts of the example values are as expected.
+pub fn texts_of_worked_values()
+    ensures { Rows }
+{}

@@ -1,0 +1,5 @@
+use Rattle.text_roundtrip.proofs.readback.DeclaredLemmas.{texts_are_read_back}
+use Rattle.text_roundtrip.proofs.readback.laws.texts_are_read_back.Goals as goal
+
+pub returns : goal.returns
+returns c = texts_are_read_back

@@ -1,0 +1,31 @@
+-- Literals that are the trees of a forest, with the objects in their order.
+use Rattle.std.specs.Prelude.{ℕ, suc, ◌+◌, ◌≡◌, List, [], ◌∷◌, Ok}
+use Rattle.base_data.specs.declared.model.value.Val.{Val}
+use Rattle.base_data.specs.declared.model.value.Obj.{Obj}
+use Rattle.types_spec.specs.declared.types.names.Names.{Names}
+use Rattle.types_spec.specs.declared.types.shape.ShapeOf.{ShapeOf}
+use Rattle.marshal_spec.specs.format.Tree.{Forest, none, more, root, made, objects_of}
+use Rattle.text_literal.specs.grammar.Literal.{Literal}
+use Rattle.text_literal.specs.parser.Reading.{reading, literal_read}
+use Rattle.text_roundtrip.specs.literal_texts.Numbered.{before}
+
+-- The types of the parts, beginning at part i.
+abbrev pub TypesAre : {T : Type 0} → (ℕ → T) → ℕ → List T → Type 0
+TypesAre types i [] = Unit {0}
+TypesAre types i (t ∷ ts) = (types i ≡ t) × TypesAre types (suc i) ts
+
+module _ {T : Type 0} (shape : T → ShapeOf T) (names : T → Names) where
+  -- The literal is read as this value at the type. Before it there are c objects, after it d.
+  abbrev pub Reads : List ℕ → Literal → Val → List Obj → ℕ → ℕ → T → Type 0
+  Reads labels v value objects c d t =
+      (k : ℕ) → literal_read shape names k v c (before c labels) t
+      ≡ Ok (reading (value ∷ []) objects (before d labels))
+
+  -- Each literal is read as a tree of the forest.
+  abbrev pub ReadForest : List ℕ → (ℕ → T) → ℕ → Forest → ℕ → List Literal → Type 0
+  ReadForest labels types i none c [] = Unit {0}
+  ReadForest labels types i none c (v ∷ vs) = ⊥
+  ReadForest labels types i (more s fs) c [] = ⊥
+  ReadForest labels types i (more s fs) c (v ∷ vs) =
+      Reads labels v (root s c) (objects_of s c) c (c + made s) (types i)
+      × ReadForest labels types (suc i) fs (c + made s) vs

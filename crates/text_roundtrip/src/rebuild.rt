@@ -1,0 +1,11 @@
+//! Proves that the text of a value is read back as the value. This holds for each type that comes
+//! from an accepted text, over declarations of an accepted text. The names of such types are
+//! lexemes, and each has one meaning. The main law is `values_are_rebuilt`: the value that is read
+//! is isomorphic, with the same type, text and canonical bytes. Each function is a lemma function:
+//! it does nothing, and its contract is the law.
+
+mod laws;
+
+pub use laws::{
+    declared_texts_are_read_back, literals_are_read_back, names_are_read_back, values_are_rebuilt,
+};

@@ -1,0 +1,86 @@
+-- The output of `check --cert` as the certificate of `verify`: for the same input, FILE and TYPE,
+-- it is accepted, and the output is the lines of `check`.
+use Rattle.std.specs.Prelude.{ℕ, ◌≤◌, ◌≡◌, ◌≢◌, ◌⊎◌, Bool, List, [], Some, Ok}
+use Rattle.types_spec.specs.declared.types.decl.Decl.{Decl}
+use Rattle.marshal_spec.specs.format.Stream.{EncodeAll}
+use Rattle.marshal_spec.specs.format.Tree.{Tree}
+use Rattle.cli_spec.specs.declared.status.Status.TheVariants.{AllOk, No, Memory}
+use Rattle.cli_spec.specs.CommandLine.{reading_of}
+use Rattle.cli_spec.specs.Outcome.{Request, all_under, asked_type, own, verify, Asks, the_verdict}
+use Rattle.cli_spec.specs.Outcome.{reports, Output, texts_of, AllPrint}
+use Rattle.base_io.specs.Files.{File, contents_of}
+use Rattle.base_io.specs.Sink.{Writes}
+use Rattle.run_spec.specs.runs.Call.{Call, HasWritten}
+use Rattle.run_spec.specs.runs.Commands.{Commands}
+use Rattle.run_spec.specs.runs.CommandLaws.{Follow}
+use Rattle.run_spec.specs.runs.Environment.{IsHonest}
+use Rattle.run_types.specs.Language.{TypeOver, ReadsDeclarations, ReadsType, declared_types}
+use Rattle.cmd_certify.specs.spec.Certification.{Asked, certified_by}
+
+-- The arguments ask to certify the values of the input at FILE and TYPE, from the first byte on and
+-- each under the limit. The call reached the end of the input. Its input, the contents of FILE and
+-- its output are known.
+pub record Certifies (arguments : List (List ℕ)) (call : Call)
+    (asked : Asked) (contents input certificate : List ℕ) : Type 0 where
+  pub request : Request
+  pub asks : Asks arguments request
+  pub is_asked : certified_by request ≡ Some asked
+  pub at_once : (reading_of request).skip ≡ 0
+  pub ended : (call.status ≡ AllOk) ⊎ (call.status ≡ No)
+  pub files : List File
+  pub map : call.files.before.map ≡ Some files
+  pub holds : contents_of files asked.file ≡ Some contents
+  pub input_is : call.input.before.bytes ≡ Some input
+  pub writes : HasWritten call certificate
+
+-- The arguments ask to verify a certificate of the values of this input at the same FILE and TYPE.
+-- The limit is at least as high. FILE has the same contents, and CERT has the output of the first
+-- call. No I/O call failed, nothing is too long, and memory did not run out.
+pub record Verifies (arguments : List (List ℕ)) (call : Call) (asked : Asked)
+    (contents input certificate : List ℕ) : Type 0 where
+  pub name : List ℕ
+  pub lines : Bool
+  pub limit : ℕ
+  pub asks : Asks arguments (own (verify asked.file asked.type.text name lines (all_under limit)))
+  pub covers : asked.limit ≤ limit
+  pub files : List File
+  pub holds : contents_of files asked.file ≡ Some contents
+  pub has : contents_of files name ≡ Some certificate
+  pub honest : IsHonest call input files
+  pub suffices : call.status ≢ Memory
+
+-- The contents of FILE, and TYPE, are read as this type, for some way of reporting positions.
+pub record AreReadAs (contents type : List ℕ) (t : TypeOver) : Type 0 where
+  pub lines : Bool
+  pub decls : List Decl
+  pub declared : ReadsDeclarations lines contents (Ok decls)
+  pub written : ReadsType decls (asked_type type lines) (Ok t)
+
+-- The input is consecutive values, each under the limit. The later call wrote the line of `check`
+-- for each, in this order, and ended with the status of the first call.
+pub record ConfirmsAll (asked : Asked) (contents input : List ℕ) (call later : Call)
+    : Type 0 where
+  pub type : TypeOver
+  pub read : AreReadAs contents asked.type.text type
+  pub trees : List Tree
+  pub values : EncodeAll asked.limit input trees []
+  pub output : List Output
+  pub lines : AllPrint declared_types (reports the_verdict type) [] trees output
+  pub out : Writes later.out (texts_of output)
+  pub err : Writes later.err []
+  pub status : later.status ≡ call.status
+
+-- If the first of two calls certifies values, and the second verifies its output, then the
+-- certificate is accepted.
+abbrev pub VerifiesWhatWasWritten : List (List ℕ) → Call → List (List ℕ) → Call → Type 0
+VerifiesWhatWasWritten arguments call later_arguments later =
+    (asked : Asked) (contents input certificate : List ℕ)
+    → Certifies arguments call asked contents input certificate
+    → Verifies later_arguments later asked contents input certificate
+    → ConfirmsAll asked contents input call later
+
+-- The law holds for any two calls that satisfy the specifications of commands that certify and of
+-- commands that verify.
+abbrev pub WrittenCertificatesAreAccepted : {A B : Type 0} → Commands A → Commands B → Type 0
+WrittenCertificatesAreAccepted c d =
+    Follow c (λ arguments call. Follow d (VerifiesWhatWasWritten arguments call))

@@ -1,0 +1,40 @@
+//! The laws. Each function is a lemma function: it does nothing, and its contract is the law.
+
+ghost use Rattle.cmd_build.specs.command.Lines.{declared_texts};
+ghost use Rattle.run_spec.specs.value_commands.Tasks.{commands};
+ghost use Rattle.run_types.specs.Language.{declared_types};
+ghost use Rattle.session.specs.All.{all_commands};
+ghost use Rattle.thm_roundtrip.specs.Shown.{ShownTextsAreBuilt};
+ghost use Rattle.cmd_build.specs.spec.Texts.{building};
+
+use cmd_build::command::laws::{DeclaredTexts, declared_texts_are_read_once};
+use cmd_build::spec::laws::building_answers_once;
+use run_spec::value_commands::laws::commands_keep_run_spec;
+use run_types::laws::{DeclaredTypes, declared_types_are_lawful};
+use session::all_commands_have_parts;
+use text_roundtrip::rebuild::declared_texts_are_read_back;
+use types_wellformed::declarations::known::{files_are_well_formed, types_are_sound};
+
+/// Let a call of the commands on values and a call of the command on texts satisfy their
+/// specifications. Then the second builds the values that the first printed.
+pub fn shown_texts_are_built()
+    ensures { ShownTextsAreBuilt (commands declared_types)
+        (building declared_types declared_texts) }
+{
+    files_are_well_formed();
+    types_are_sound();
+    declared_texts_are_read_back();
+    declared_types_are_lawful();
+    declared_texts_are_read_once();
+    commands_keep_run_spec::<DeclaredTypes>();
+    building_answers_once::<DeclaredTexts>();
+}
+
+/// Let two calls of the program satisfy the specification of all commands. If one takes the output
+/// of the other as its input, then it builds the values that the other printed.
+pub fn all_commands_build_shown_texts()
+    ensures { ShownTextsAreBuilt all_commands all_commands }
+{
+    all_commands_have_parts();
+    shown_texts_are_built();
+}

@@ -1,0 +1,16 @@
+pub mod LessLemmas
+pub mod BelowLemmas
+pub mod FewLemmas
+pub mod NodeLemmas
+pub mod SearchTreeLemmas
+pub mod SoundLemmas
+pub mod AgreeLemmas
+pub mod SpanLemmas
+pub mod LevelLemmas
+pub mod WriteLemmas
+pub mod SettleLemmas
+pub mod JudgeLemmas
+pub mod TypeLemmas
+pub mod NameLemmas
+pub mod VerdictLemmas
+pub mod SweepLemmas

@@ -1,0 +1,5 @@
+use Rattle.trees.specs.search_trees.Levels.{HasRooms}
+use Rattle.trees.proofs.search_trees.levels.make_rooms.Given as goal
+
+abbrev pub invariant-loop-room : goal.invariant-loop-room
+invariant-loop-room l = HasRooms l.initial.levels.items l._room l.levels.items

@@ -1,0 +1,2 @@
+pub mod search_trees
+pub mod verdict

@@ -1,0 +1,60 @@
+-- Search trees as in OCaml's standard library. A search tree is finite, its elements increase from
+-- left to right, its nodes store their heights, and the subtrees of each node have nearly the same
+-- height.
+use Rattle.std.specs.Prelude.{ℕ, suc, ◌≡◌, ◌≤◌, ◌+◌, max, IsTrue, List, [], ◌∷◌, ◌++◌, Contains}
+use Rattle.std.specs.Prelude.{pos}
+use Rattle.base_data.specs.declared.model.value.Val.{Val}
+use Rattle.base_data.specs.declared.model.value.Val.TheVariants as vals
+use Rattle.base_data.specs.declared.model.value.Obj.{Obj}
+use Rattle.trees.specs.search_trees.Parts.{empty_value, node_at, is_less}
+
+-- The empty tree, or an object between two trees.
+pub data Tree : Type 0 where
+  empty : Tree
+  node : (left : Tree) → (object : ℕ) → (right : Tree) → Tree
+
+-- The value represents this tree.
+abbrev pub IsTree : List Obj → Val → Tree → Type 0
+IsTree graph v empty = v ≡ empty_value
+IsTree graph v (node left o right) =
+    (v ≡ vals.Ref o) × IsTree graph (node_at graph o).left left
+    × IsTree graph (node_at graph o).right right
+
+-- The elements from left to right.
+abbrev pub elements : List Obj → Tree → List Val
+elements graph empty = []
+elements graph (node left o right) =
+    elements graph left ++ (node_at graph o).element ∷ elements graph right
+
+-- Each element is less than all later ones.
+abbrev pub AreIncreasing : List Obj → List Val → Type 0
+AreIncreasing graph [] = Unit {0}
+AreIncreasing graph (v ∷ more) =
+    ((w : Val) → Contains more w → IsTrue (is_less graph v w)) × AreIncreasing graph more
+
+-- The number of nodes on the longest path down.
+abbrev pub height : Tree → ℕ
+height empty = 0
+height (node left o right) = suc (max (height left) (height right))
+
+-- Each node stores its height.
+abbrev pub StateHeights : List Obj → Tree → Type 0
+StateHeights graph empty = Unit {0}
+StateHeights graph (node left o right) =
+    ((node_at graph o).height ≡ pos (height (node left o right)))
+    × StateHeights graph left × StateHeights graph right
+
+-- The subtrees of each node differ in height by at most two.
+abbrev pub IsBalanced : Tree → Type 0
+IsBalanced empty = Unit {0}
+IsBalanced (node left o right) =
+    (height left ≤ height right + 2) × (height right ≤ height left + 2)
+    × IsBalanced left × IsBalanced right
+
+-- The value represents a finite tree with all these properties.
+pub record IsSearchTree (graph : List Obj) (v : Val) : Type 0 where
+  pub tree : Tree
+  pub is : IsTree graph v tree
+  pub increasing : AreIncreasing graph (elements graph tree)
+  pub stated : StateHeights graph tree
+  pub balanced : IsBalanced tree

@@ -1,0 +1,11 @@
+-- Nodes of a graph.
+use Rattle.std.specs.Prelude.{ℕ}
+use Rattle.base_data.specs.model.Graph.{IsValue, IsInteger}
+use Rattle.trees.specs.declared.search_trees.node.Node.{Node}
+
+-- The values are among n objects, and the height has 63 bits.
+pub record IsValid (n : ℕ) (node : Node) : Type 0 where
+  pub left : IsValue n node.left
+  pub element : IsValue n node.element
+  pub right : IsValue n node.right
+  pub height : IsInteger node.height

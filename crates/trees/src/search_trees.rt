@@ -1,0 +1,20 @@
+//! Checks sets and maps of OCaml's standard library as search trees: their heights, their balance
+//! and their order. The law `sound_trees_are_search_trees` says that a value has no fault if and
+//! only if all its sets and maps are search trees. The law `tree_verdicts_are_one` says that each
+//! value has exactly one verdict.
+
+mod judging;
+mod laws;
+mod levels;
+mod node;
+mod order;
+mod span;
+mod sweep;
+mod types;
+mod verdict;
+
+pub use judging::{Judgement, judge};
+pub use laws::{sound_trees_are_search_trees, tree_verdicts_are_one};
+pub use node::{Node, TreeKind};
+pub use types::{Layout, tree_types};
+pub use verdict::TreeVerdict;

@@ -1,0 +1,154 @@
+//! Finds the first fault among nodes in one sweep, if each node comes before its parts.
+
+ghost use Rattle.std.specs.Prelude.{◌≡◌, ◌↔◌, List, length, Some, IfOk, IfSome, IsTrue};
+ghost use Rattle.std.specs.Prelude.{vec_len};
+ghost use Rattle.std.specs.Bool.{OnTrue};
+ghost use Rattle.base_data.specs.declared.model.value.Obj.{Obj};
+ghost use Rattle.base_data.specs.model.Graph.{IsValue};
+ghost use Rattle.trees.specs.search_trees.Judgement as judgements;
+ghost use Rattle.trees.specs.search_trees.Judgement.{AreClosed, IsJudgement};
+ghost use Rattle.trees.specs.search_trees.Parts as parts;
+ghost use Rattle.trees.specs.search_trees.Span.{IsPartSettled};
+ghost use Rattle.trees.specs.search_trees.Sweep as sweeps;
+ghost use Rattle.trees.specs.search_trees.Sweep.{AreKnown, IsMostSevere};
+ghost use Rattle.trees.specs.search_trees.TreeFault.{IsDisordered};
+ghost use Rattle.trees.specs.search_trees.Valid.{IsValid};
+
+use crate::search_trees::judging::Judgement;
+use crate::search_trees::node::{Node, TreeKind, height_of, is_count_wrong, is_lopsided, node_at};
+use crate::search_trees::span::{Settled, Span, settle_node};
+use base_data::model::Memory;
+use base_data::model::value::Val;
+use marshal_heap::heap::{Heap, Placed, Rooted};
+use std::alloc::Global;
+
+/// Finds the first fault among nodes, which must contain the parts of each node, in one sweep from
+/// the last to the first. Returns `None` if some node does not come before each of its parts.
+pub fn sweep(alloc: Global, heap: &Heap, nodes: &[usize]) -> Result<Option<Judgement>, Memory>
+    requires { AreClosed heap.now nodes.now }
+    ensures { IfOk result (λ reported. IfSome reported (IsJudgement heap.now nodes.now)) }
+{
+    let unknown = Settled {
+        span: Span {
+            least: usize::MAX,
+            greatest: usize::MAX,
+        },
+        disordered: false,
+    };
+    let mut all = vec![in alloc; unknown; heap.count() as usize]?;
+    let mut most_severe = Judgement::Sound;
+    for k in 0..nodes.len() {
+        let i = nodes.len() - 1 - k;
+        let o = nodes[i];
+        match sweep_node(
+            &Placed {
+                heap,
+                object: o as u64,
+            },
+            &mut all,
+        ) {
+            Some(fault) => most_severe = more_severe(most_severe, fault, i),
+            None => return Ok(None),
+        }
+    }
+    Ok(Some(most_severe))
+}
+
+/// Settles a node whose parts are settled, and returns its fault. Returns `None` if a part is not
+/// settled.
+#[inline(always)]
+fn sweep_node(placed: &Placed<'_>, all: &mut Vec<Settled>) -> Option<Option<TreeKind>>
+    requires many { vec_len all.old ≡ length placed.now.heap.now }
+    requires known { AreKnown placed.now.heap.now all.old.items }
+    ensures many { vec_len all.new ≡ length placed.now.heap.now }
+    ensures known { AreKnown placed.now.heap.now all.new.items }
+    ensures fault { IfSome result (IsMostSevere placed.now.heap.now placed.now.object) }
+{
+    let node = node_at(placed);
+    if !is_part_known(all.as_slice(), node.left) || !is_part_known(all.as_slice(), node.right) {
+        return None;
+    }
+    let o = placed.object as usize;
+    let settled = settle_node(placed.heap, all.as_slice(), o, node);
+    all[o] = settled;
+    Some(fault_of(placed.heap, o, node, settled.disordered))
+}
+
+/// Returns true if a part of a node is settled.
+#[inline(always)]
+fn is_part_known(all: &[Settled], part: Val) -> bool
+    requires { IsValue (length all.now) part }
+    ensures { OnTrue result
+        ((graph : List Obj) → AreKnown graph all.now → IsPartSettled graph all.now part) }
+{
+    match part {
+        Val::Ref(p) => all[p as usize].span.least != usize::MAX,
+        _ => true,
+    }
+}
+
+/// Returns the fault with the lowest rank of the object `o`, whose node is `node`.
+#[inline(always)]
+fn fault_of(heap: &Heap, o: usize, node: Node, disordered: bool) -> Option<TreeKind>
+    requires node { node ≡ parts.node_at heap.now o }
+    requires valid { IsValid (length heap.now) node }
+    requires disordered { IsTrue disordered ↔ IsDisordered heap.now o }
+    ensures { IsMostSevere heap.now o result }
+{
+    let left = height_of(&Rooted {
+        heap,
+        root: node.left,
+    });
+    let right = height_of(&Rooted {
+        heap,
+        root: node.right,
+    });
+    if is_count_wrong(heap, o, node, left, right) {
+        return Some(TreeKind::Height);
+    }
+    if is_lopsided(heap, o, node, left, right) {
+        return Some(TreeKind::Balance);
+    }
+    if disordered {
+        return Some(TreeKind::Order);
+    }
+    None
+}
+
+/// Returns the first fault after node `i` is added before the nodes so far.
+#[inline(always)]
+fn more_severe(most_severe: Judgement, fault: Option<TreeKind>, i: usize) -> Judgement
+    ensures { result ≡ sweeps.more_severe most_severe fault i }
+{
+    match fault {
+        Some(kind) => replaced(most_severe, kind, i),
+        None => most_severe,
+    }
+}
+
+/// Returns the fault `kind` of node `i`, or the given one if its rank is lower.
+fn replaced(most_severe: Judgement, kind: TreeKind, i: usize) -> Judgement
+    ensures { result ≡ sweeps.replaced most_severe kind i }
+{
+    match most_severe {
+        Judgement::Faulty(other, j) => {
+            if rank_of(other) < rank_of(kind) {
+                Judgement::Faulty(other, j)
+            } else {
+                Judgement::Faulty(kind, i)
+            }
+        }
+        Judgement::Sound => Judgement::Faulty(kind, i),
+    }
+}
+
+/// Returns the rank of a fault. A fault with a lower rank is reported first.
+fn rank_of(kind: TreeKind) -> u8
+    ensures { result ≡ judgements.rank_of kind }
+{
+    match kind {
+        TreeKind::Height => 0,
+        TreeKind::Balance => 1,
+        TreeKind::Order => 2,
+    }
+}

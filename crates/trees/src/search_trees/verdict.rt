@@ -1,0 +1,11 @@
+//! The verdict on the sets and maps in a value.
+
+use crate::search_trees::node::TreeKind;
+use base_data::model::path::Path;
+
+/// No fault and the number of nodes, or the first fault with the path to its node.
+#[derive(Drop)]
+pub enum TreeVerdict {
+    Sound(u64),
+    Faulty(TreeKind, Path),
+}

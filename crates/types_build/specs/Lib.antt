@@ -1,0 +1,2 @@
+pub mod representation
+pub mod builder

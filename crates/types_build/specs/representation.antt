@@ -1,0 +1,10 @@
+pub mod Unfolded
+pub mod Way
+pub mod Plain
+pub mod Tags
+pub mod Found
+pub mod Heads
+pub mod Work
+pub mod Steps
+pub mod Kind
+pub mod Representation

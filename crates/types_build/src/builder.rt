@@ -1,0 +1,14 @@
+//! Builds the table of the types that a type reaches: their shapes, heads, names and equivalence
+//! classes. `build` promises that the table represents exactly these types (`IsTypeTable`), or that
+//! there are more than 65,536 of them.
+
+mod entry;
+mod fault;
+mod head;
+mod listing;
+mod met;
+mod shape;
+mod table;
+
+pub use fault::TypeFault;
+pub use table::build;

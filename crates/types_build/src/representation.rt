@@ -1,0 +1,35 @@
+//! Computes, for types over declarations, their heads, their shapes and the names of their
+//! constructors, fields and tags. Types are stored in a table and referred to by index. The results
+//! equal the definitions `head`, `shape` and `names_of` over the declarations.
+
+mod borrowed;
+mod bracket;
+mod calls;
+mod datatype;
+mod found;
+mod head;
+mod heads;
+mod kind;
+mod known;
+mod names;
+mod plain;
+mod predeclared;
+mod replaced;
+mod representation;
+mod settled;
+mod spine;
+mod trees;
+
+pub use borrowed::Stored;
+pub use bracket::bracket_head;
+pub use calls::{expand, flat_float, shape};
+pub use found::Found;
+pub use head::head_of;
+pub use heads::{Heads, item_head, no_heads};
+pub use kind::{is_float, is_polymorphic_variant};
+pub use known::{Known, none_known};
+pub use names::names_at;
+pub use plain::plain as plain_head;
+pub use replaced::{expanded, nearer, unfolded};
+pub use representation::{Representation, representation_of, representation_with};
+pub use spine::{name, parts, root};

@@ -1,0 +1,63 @@
+//! Computes the head of a type that has no bracket or abbreviation at its head.
+
+ghost use Rattle.std.specs.Prelude.{◌≡◌, IfOk, MatchOption};
+ghost use Rattle.types_spec.specs.types.Nodes.{type_at};
+ghost use Rattle.types_table.specs.store.Borrowed.{written_of};
+ghost use Rattle.types_build.specs.representation.Plain.{IsBracketed, IsPlainHead, head_of_root};
+
+use crate::representation::borrowed::Stored;
+use crate::representation::spine::{parts, root};
+use base_data::model::Memory;
+use base_data::model::list::List;
+use std::alloc::Global;
+use types_resolve::scope::predeclared::predeclared;
+use types_spec::types::head::HeadOf;
+use types_table::store::TypeNode;
+
+/// Returns the head of a type as it is written, or `None` if the type is a bracket.
+pub fn plain(alloc: Global, t: &Stored<'_>) -> Result<Option<HeadOf<usize>>, Memory>
+    ensures { IfOk result
+        (λ h. MatchOption h (IsBracketed (type_at t.now.types.now t.now.number))
+        (IsPlainHead t.now.types.now (type_at t.now.types.now t.now.number))) }
+{
+    let found = parts(alloc, t)?;
+    of_root(alloc, t.types.node(root(t)), found)
+}
+
+/// Returns the head of a type from its root and its parts.
+fn of_root(
+    alloc: Global,
+    root: TypeNode<'_>,
+    found: Vec<usize>,
+) -> Result<Option<HeadOf<usize>>, Memory>
+    ensures { IfOk result (λ h. h ≡ head_of_root (written_of root.entry) found.items) }
+{
+    match root {
+        TypeNode::Named(name) => match predeclared(name) {
+            Some(base) => Ok(Some(HeadOf::Predeclared(base, List::of(found)))),
+            None => Ok(Some(HeadOf::Datatype(copied(alloc, name)?, List::of(found)))),
+        },
+        TypeNode::Tuple => Ok(Some(HeadOf::Tuple(List::of(found)))),
+        TypeNode::Variable(name) => {
+            if found.is_empty() {
+                Ok(Some(HeadOf::Variable(copied(alloc, name)?)))
+            } else {
+                Ok(Some(HeadOf::Absent))
+            }
+        }
+        _ => {
+            if found.is_empty() {
+                Ok(None)
+            } else {
+                Ok(Some(HeadOf::Absent))
+            }
+        }
+    }
+}
+
+/// Copies the bytes.
+fn copied(alloc: Global, name: &[u8]) -> Result<List<u8>, Memory>
+    ensures { IfOk result (λ l. l ≡ name.now) }
+{
+    Ok(List::of(Vec::from_slice(alloc, name)?))
+}

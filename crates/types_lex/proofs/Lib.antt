@@ -1,0 +1,15 @@
+pub mod WordLaws
+pub mod NumberLaws
+pub mod CommentLaws
+pub mod SymbolLaws
+pub mod CharLaws
+pub mod NameLaws
+pub mod FormLaws
+pub mod PrefixLaws
+pub mod TakenLaws
+pub mod InsideLaws
+pub mod StepLaws
+pub mod FaultLaws
+pub mod PartLaws
+pub mod LowerLaws
+pub mod BriefLaws

@@ -1,0 +1,11 @@
+use Rattle.std.proofs.Common.{sym, ap, arith}
+use Rattle.std.specs.Prelude.{Some}
+use Rattle.std.proofs.lemmas.List.{drop_all}
+use Rattle.types_lex.specs.Lexemes.{lexeme_in, lower_name}
+use Rattle.types_lex.specs.Scan.{step_at}
+use Rattle.types_lex.proofs.lexemes.lower_from.Goals as goal
+
+pub returns-then-position-text : goal.returns-then-position-text
+unfolding step_at
+returns-then-position-text c =
+    sym (ap (λ t. lower_name (Some (lexeme_in c.args.position (step_at t)).kind)) (drop_all c.args.position c.args.text.now (omega (arith, c.if-position-text.true))))

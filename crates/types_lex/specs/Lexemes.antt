@@ -1,0 +1,66 @@
+-- The positions of the lexemes of a text, and the prefix of a text up to a position.
+use Rattle.std.specs.Prelude.{◌≡◌, ℕ, ◌+◌, ◌<◌, ◌≤◌, List, [], ◌∷◌, ◌++◌, length, drop, Option}
+use Rattle.std.specs.Prelude.{Some, None, Result, Ok, Err, ⊤}
+use Rattle.std.specs.List.{flat_map}
+use Rattle.types_lex.specs.declared.lexeme.Keyword.TheVariants as keywords
+use Rattle.types_lex.specs.declared.lexeme.Lexeme.{Lexeme}
+use Rattle.types_lex.specs.declared.lexeme.LexemeKind.{LexemeKind}
+use Rattle.types_lex.specs.declared.lexeme.LexemeKind.TheVariants as kinds
+use Rattle.types_lex.specs.declared.lexeme.LexFault.{LexFault}
+use Rattle.types_lex.specs.declared.found.Step.{Step}
+use Rattle.types_lex.specs.declared.found.Step.TheVariants.{Word}
+use Rattle.types_lex.specs.LexText.{Part, part_bytes, AreParts, lexemes_of, Lexes, Faults}
+use Rattle.types_lex.specs.LexText.{UnlessMemory}
+use Rattle.types_lex.specs.Scan.{step_at}
+
+-- The lexeme of a step at a position. If the step has no lexeme, then the result is a keyword of
+-- length 0.
+abbrev pub lexeme_in : ℕ → Result Step LexFault → Lexeme
+lexeme_in position (Ok (Word word)) =
+    record { kind = word.kind; span = record { first = position; len = word.len } }
+lexeme_in position step =
+    record { kind = kinds.Keyword keywords.Type; span = record { first = position; len = 0 } }
+
+-- The lexeme at this position of a text.
+abbrev pub lexeme_from : List ℕ → ℕ → Lexeme
+lexeme_from text position = lexeme_in position (step_at (drop position text))
+
+-- The name of a lexeme that is a lowercase name, and the empty name for any other.
+abbrev pub lower_name : Option LexemeKind → List ℕ
+lower_name (Some (kinds.Lower x)) = x
+lower_name kind = []
+
+-- The parts up to a position, and the lexemes among them.
+pub record Reached (text : List ℕ) (at : ℕ) (lexemes : List Lexeme) : Type 0 where
+  pub parts : List Part
+  pub are : AreParts parts (drop at text)
+  pub is : text ≡ flat_map part_bytes parts ++ drop at text
+  pub long : at ≡ length (flat_map part_bytes parts)
+  pub inside : at ≤ length text
+  pub found : lexemes ≡ lexemes_of 0 parts
+
+-- After the lexemes `prefix` comes another one, or no lexeme follows up to the end, or the text has
+-- a fault.
+abbrev pub GoesOn : List ℕ → List Lexeme → Result (Option Lexeme) LexFault → Type 0
+GoesOn text prefix (Ok None) = Reached text (length text) prefix
+GoesOn text prefix (Ok (Some lexeme)) =
+    Reached text (lexeme.span.first + lexeme.span.len) (prefix ++ lexeme ∷ [])
+GoesOn text prefix (Err fault) = UnlessMemory (Faults text) fault
+
+-- After the parts with the lexemes `prefix` comes another part that ends at position `end`, or the
+-- text has a fault.
+abbrev pub StepsOn : List ℕ → List Lexeme → Result ℕ LexFault → Type 0
+StepsOn text prefix (Ok end) = (more : List Lexeme) × Reached text end (prefix ++ more)
+StepsOn text prefix (Err fault) = UnlessMemory (Faults text) fault
+
+-- The lexeme begins at `from` or later and is the lexeme at its own position.
+pub record IsNext (text : List ℕ) (from : ℕ) (lexeme : Lexeme) : Type 0 where
+  pub onward : from < lexeme.span.first + lexeme.span.len
+  pub within : lexeme.span.first + lexeme.span.len ≤ length text
+  pub behind : from ≤ lexeme.span.first
+  pub is : lexeme_from text lexeme.span.first ≡ lexeme
+
+-- The lexemes of the text begin with `prefix`, or the text has a fault.
+abbrev pub Ends : List ℕ → List Lexeme → Result ⊤ LexFault → Type 0
+Ends text prefix (Ok done) = (more : List Lexeme) × Lexes text (prefix ++ more)
+Ends text prefix (Err fault) = UnlessMemory (Faults text) fault

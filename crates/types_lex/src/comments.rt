@@ -1,0 +1,53 @@
+//! Comments.
+
+ghost use Rattle.std.specs.Prelude.{◌≡◌, ◌≤◌, length, IfSome};
+ghost use Rattle.types_lex.specs.Scan.{bracket_of, closing};
+
+/// The meaning of two bytes in a comment.
+#[derive(Clone, Copy)]
+enum Bracket {
+    Opening,
+    Closing,
+    Neither,
+}
+
+/// Returns whether two bytes begin a comment, end a comment, or do neither.
+fn bracket_of(first: u8, second: u8) -> Bracket
+    ensures { result ≡ bracket_of first second }
+{
+    if first == b'(' && second == b'*' {
+        Bracket::Opening
+    } else if first == b'*' && second == b')' {
+        Bracket::Closing
+    } else {
+        Bracket::Neither
+    }
+}
+
+/// Returns the number of bytes up to the end of the comment whose first two bytes precede the text,
+/// or `None` if the comment does not end. Comments nest. Strings inside comments are not
+/// recognized.
+pub fn closing(text: &[u8]) -> Option<usize>
+    ensures value { result ≡ closing 0 text.now }
+    ensures within { IfSome result (λ len. len ≤ length text.now) }
+{
+    let mut depth: usize = 0;
+    let mut at: usize = 0;
+    while text.len() - at > 1 {
+        match bracket_of(text[at], text[at + 1]) {
+            Bracket::Opening => {
+                depth += 1;
+                at += 2;
+            }
+            Bracket::Closing => {
+                if depth == 0 {
+                    return Some(at + 2);
+                }
+                depth -= 1;
+                at += 2;
+            }
+            Bracket::Neither => at += 1,
+        }
+    }
+    None
+}

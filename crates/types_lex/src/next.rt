@@ -1,0 +1,73 @@
+//! The lexemes of a text, one at a time.
+
+ghost use Rattle.std.specs.Prelude.{◌<◌, ◌≤◌, List, length, IfOk, IfSome};
+ghost use Rattle.types_lex.specs.declared.lexeme.Lexeme.{Lexeme};
+ghost use Rattle.types_lex.specs.Lexemes.{Reached, GoesOn, StepsOn, IsNext, Ends};
+
+use crate::found::Step;
+use crate::lexeme::{LexFault, Lexeme, Span};
+use crate::scan::{moved, step_at};
+use std::alloc::Global;
+
+/// Returns the next lexeme of a text from position `from` (in bytes) on, or `None` if no lexeme
+/// follows. Fails with the first fault.
+pub fn next_lexeme(alloc: Global, text: &[u8], from: usize) -> Result<Option<Lexeme>, LexFault>
+    requires { from ≤ length text.now }
+
+    // Either the lexeme is the next one after those before `from`, or there are no more lexemes, or
+    // the text has this fault.
+    ensures next { (prefix : List Lexeme) → Reached text.now from prefix
+        → GoesOn text.now prefix result }
+
+    // The lexeme begins at `from` or later, and it is the lexeme at its own position.
+    ensures position { IfOk result (λ found. IfSome found (IsNext text.now from)) }
+{
+    let mut at = from;
+    while at < text.len() {
+        match step_at(alloc, &text[at..]) {
+            Ok(Step::Gap(len)) => at += len,
+            Ok(Step::Word(word)) => {
+                let span = Span {
+                    first: at,
+                    len: word.len,
+                };
+                return Ok(Some(Lexeme {
+                    kind: word.kind,
+                    span,
+                }));
+            }
+            Err(fault) => return Err(moved(fault, at)),
+        }
+    }
+    Ok(None)
+}
+
+/// Returns the position after the separator, comment or lexeme at position `at`.
+fn step_over(alloc: Global, text: &[u8], at: usize) -> Result<usize, LexFault>
+    requires { at < length text.now }
+    ensures over { (prefix : List Lexeme) → Reached text.now at prefix
+        → StepsOn text.now prefix result }
+    ensures end { IfOk result (λ end. (at < end) × (end ≤ length text.now)) }
+{
+    match step_at(alloc, &text[at..]) {
+        Ok(Step::Gap(len)) => Ok(at + len),
+        Ok(Step::Word(word)) => Ok(at + word.len),
+        Err(fault) => Err(moved(fault, at)),
+    }
+}
+
+/// Checks that the text consists of lexemes from position `from` to its end. Fails with the first
+/// fault.
+pub fn see_lexemes(alloc: Global, text: &[u8], from: usize) -> Result<(), LexFault>
+    requires { from ≤ length text.now }
+    ensures { (prefix : List Lexeme) → Reached text.now from prefix → Ends text.now prefix result }
+{
+    let mut at = from;
+    while at < text.len() {
+        match step_over(alloc, text, at) {
+            Ok(end) => at = end,
+            Err(fault) => return Err(fault),
+        }
+    }
+    Ok(())
+}

@@ -1,0 +1,15 @@
+pub mod MachineLemmas
+pub mod TableLemmas
+pub mod Stands
+pub mod HolesPrefixes
+pub mod HolesLead
+pub mod HolesStand
+pub mod AloneTable
+pub mod FilePrefixes
+pub mod FileLead
+pub mod FileStand
+pub mod FileTable
+pub mod LawLemmas
+pub mod LexemeLemmas
+pub mod Examples
+pub mod ReachedLemmas

@@ -1,0 +1,96 @@
+-- Errors in a list of lexemes, for any type of trees: where a syntax error is, and where a type is
+-- too deep.
+use Rattle.std.specs.Prelude.{
+  ℕ,
+  suc,
+  ◌-◌,
+  ◌<◌,
+  ◌≤◌,
+  ◌≡◌,
+  ◌≢◌,
+  ◌⊎◌,
+  List,
+  [],
+  ◌∷◌,
+  ◌++◌,
+  length,
+  take,
+  slice_index,
+}
+use Rattle.types_lex.specs.declared.lexeme.LexemeKind.{LexemeKind}
+use Rattle.types_lex.specs.declared.lexeme.LexemeKind.TheVariants as kinds
+use Rattle.types_lex.specs.declared.lexeme.Symbol.TheVariants as symbols
+use Rattle.types_parse.specs.grammar.Grammar.{Kinds}
+
+-- ---- brackets
+
+-- The number of open brackets after this lexeme, given the number before it.
+abbrev pub opened : LexemeKind → ℕ → ℕ
+opened (kinds.Symbol symbols.OpenParen) n = suc n
+opened (kinds.Symbol symbols.OpenBracket) n = suc n
+opened (kinds.Symbol symbols.OpenBrace) n = suc n
+opened (kinds.Symbol symbols.CloseParen) n = n - 1
+opened (kinds.Symbol symbols.CloseBracket) n = n - 1
+opened (kinds.Symbol symbols.CloseBrace) n = n - 1
+opened kind n = n
+
+abbrev pub open_after : ℕ → Kinds → ℕ
+open_after n [] = n
+open_after n (kind ∷ rest) = open_after (opened kind n) rest
+
+-- ---- syntax errors
+
+module _ {Text : Type 0} (encoded : Text → Kinds) where
+  -- Some text begins with these lexemes.
+  abbrev pub IsViable : Kinds → Type 0
+  IsViable prefix = (text : Text) × (rest : Kinds) × (encoded text ≡ prefix ++ rest)
+
+  -- Lexeme `k`, or the end of the lexemes, is the first position at which no text continues.
+  pub record IsSyntax (lexemes : Kinds) (k : ℕ) : Type 0 where
+    pub within : k ≤ length lexemes
+    pub viable : IsViable (take k lexemes)
+    pub no_more : k < length lexemes → IsViable (take (suc k) lexemes) → ⊥
+    pub no_text : k ≡ length lexemes → (text : Text) → encoded text ≢ lexemes
+
+-- ---- too deep
+
+module _ {Text : Type 0} (encoded : Text → Kinds) (ends : Text → List ℕ) where
+  -- Some text begins with the lexemes up to and including lexeme `k`. In that text a type of depth
+  -- above 200 ends at `k`, or more than 200 brackets are open after `k`. The type may continue in
+  -- the given lexemes.
+  pub record IsDeep (lexemes : Kinds) (k : ℕ) : Type 0 where
+    pub text : Text
+    pub rest : Kinds
+    pub within : k < length lexemes
+    pub begins : encoded text ≡ take (suc k) lexemes ++ rest
+    pub deep : (200 < slice_index (ends text) k) ⊎ (200 < open_after 0 (take (suc k) lexemes))
+
+  -- The first position that is too deep. The lexemes up to it begin some text.
+  pub record IsTooDeep (lexemes : Kinds) (k : ℕ) : Type 0 where
+    pub deep : IsDeep lexemes k
+    pub first : (j : ℕ) → j < k → IsDeep lexemes j → ⊥
+
+  -- The error at `k` is a syntax error, and no position before `k` is too deep.
+  pub record IsRefusedAsSyntax (lexemes : Kinds) (k : ℕ) : Type 0 where
+    pub syntax : IsSyntax encoded lexemes k
+    pub shallow : (j : ℕ) → j < k → IsDeep lexemes j → ⊥
+
+  -- The lexemes are this text, and no position is too deep.
+  pub record IsText (lexemes : Kinds) (text : Text) : Type 0 where
+    pub encodes : encoded text ≡ lexemes
+    pub shallow : (j : ℕ) → IsDeep lexemes j → ⊥
+
+-- ---- the result
+
+-- The text, or the index of the lexeme with the error. If the error is at the end, the index is the
+-- number of lexemes.
+pub data Reading (Text : Type 0) : Type 0 where
+  text_read : Text → Reading Text
+  syntax_at : ℕ → Reading Text
+  too_deep_at : ℕ → Reading Text
+
+module _ {Text : Type 0} (encoded : Text → Kinds) (ends : Text → List ℕ) where
+  abbrev pub IsReading : Kinds → Reading Text → Type 0
+  IsReading lexemes (text_read text) = IsText encoded ends lexemes text
+  IsReading lexemes (syntax_at k) = IsRefusedAsSyntax encoded ends lexemes k
+  IsReading lexemes (too_deep_at k) = IsTooDeep encoded ends lexemes k

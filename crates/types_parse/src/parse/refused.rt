@@ -1,0 +1,40 @@
+//! The errors of the parsers.
+
+ghost use Rattle.std.specs.Prelude.{◌≡◌};
+ghost use Rattle.types_parse.specs.parse.Parsed.{byte_of};
+ghost use Rattle.types_parse.specs.declared.parse.refused.Fault.TheVariants as faults;
+
+use base_data::model::Memory;
+use types_lex::lexeme::Lexeme;
+
+/// An error of a parser, with the index of the lexeme where it is.
+#[derive(Clone, Copy)]
+pub enum Fault {
+    /// Syntax error: the index of the first lexeme at which no text of the grammar continues. If
+    /// the lexemes end too early, the number of lexemes.
+    Syntax(usize),
+    /// The index of the first lexeme at which a type of depth above 200 ends, or at which the 201st
+    /// bracket opens.
+    TooDeep(usize),
+    /// Out of memory.
+    Memory,
+}
+
+impl From<Memory> for Fault {
+    ghost from_gives = { λ _ e. e ≡ faults.Memory };
+
+    fn from(_e: Memory) -> Fault {
+        Fault::Memory
+    }
+}
+
+/// Returns the byte offset at which the lexeme with index `position` begins. Returns `end`, the
+/// length of the text in bytes, if there is no such lexeme.
+pub fn byte_of(lexemes: &[Lexeme], end: usize, position: usize) -> usize
+    ensures { result ≡ byte_of lexemes.now end position }
+{
+    match lexemes.get(position) {
+        Some(lexeme) => lexeme.span.first,
+        None => end,
+    }
+}

@@ -1,0 +1,49 @@
+//! The parser for types.
+
+ghost use Rattle.std.specs.Prelude.{IfOk, IfErr};
+ghost use Rattle.types_parse.specs.grammar.Grammar.{texpr};
+ghost use Rattle.types_parse.specs.grammar.Depths.{texpr_ends};
+ghost use Rattle.types_parse.specs.grammar.Lexemes.{kinds_of};
+ghost use Rattle.types_parse.specs.parse.Parsed.{IsFault, IsTypeOf};
+
+use crate::parse::known::{depth, kind_at, opened, whole};
+use crate::parse::open::{Phase, Step};
+use crate::parse::refused::Fault;
+use crate::parse::stack::Stack;
+use crate::parse::type_step::step;
+use std::alloc::Global;
+use types_lex::lexeme::Lexeme;
+use types_spec::types::ty::Ty;
+
+/// Parses a type from its lexemes. The error is a syntax error or a type that is too deep, each
+/// with the index of its lexeme, or out of memory.
+pub fn parse_type(alloc: Global, lexemes: &[Lexeme]) -> Result<Ty, Fault>
+    ensures ty { IfOk result (IsTypeOf (kinds_of lexemes.now)) }
+    ensures fault { IfErr result (IsFault texpr texpr_ends (kinds_of lexemes.now)) }
+{
+    let mut nodes = Vec::new(alloc);
+    let mut frames = Stack::new(alloc);
+    let mut phase = Phase::Due;
+    let mut brackets: usize = 0;
+    let mut position: usize = 0;
+    while position < lexemes.len() {
+        let kind = kind_at(lexemes, position);
+        let Step::Goes(next) = step(alloc, false, &mut nodes, &mut frames, phase, kind)? else {
+            return Err(Fault::Syntax(position));
+        };
+        brackets = opened(kind, brackets);
+        if brackets > 200 {
+            return Err(Fault::TooDeep(position));
+        }
+        if depth(&frames, &next) > 200 {
+            return Err(Fault::TooDeep(position));
+        }
+        phase = next;
+        position += 1;
+    }
+    if whole(&mut nodes, &mut frames, phase)? {
+        Ok(Ty::of(nodes))
+    } else {
+        Err(Fault::Syntax(position))
+    }
+}

@@ -1,0 +1,12 @@
+use Rattle.std.proofs.Common.{◌≡◌, ◌++◌, drop}
+use Rattle.std.specs.List.{filter_map}
+use Rattle.types_spec.specs.types.Nodes.{types_of}
+use Rattle.types_spec.specs.types.Scope.{written_tag}
+use Rattle.types_resolve.specs.scope.Brackets.{items_known}
+use Rattle.types_resolve.proofs.occurrences.row.row_of.Given as goal
+
+-- The tags so far, and the tags of the remaining items.
+abbrev pub invariant-loop-item : goal.invariant-loop-item
+invariant-loop-item l =
+    l.row ++ filter_map written_tag (items_known (types_of l.nodes) (drop l.item-index l.items))
+    ≡ filter_map written_tag (items_known (types_of l.nodes) l.items)

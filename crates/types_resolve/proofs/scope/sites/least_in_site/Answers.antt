@@ -1,0 +1,41 @@
+use Rattle.std.proofs.Common.{Some, subst, sym, List, ℕ}
+use Rattle.types_spec.specs.types.Occurrence.{Placed}
+use Rattle.types_spec.specs.types.Scope.{IsSecond}
+use Rattle.std.specs.Prelude.{Contains, IfOk}
+use Rattle.types_resolve.specs.declared.scope.site.Use.{Use}
+use Rattle.types_resolve.specs.declared.scope.rule.UseRule.TheVariants as use_rules
+use Rattle.types_resolve.specs.scope.Breaks.{SiteBreaks, UsesBreak, VariablesBreak}
+use Rattle.types_resolve.specs.scope.Least.{IsLeast}
+use Rattle.types_resolve.proofs.scope.sites.least_in_site.Goals as goal
+
+pub returns-in-Twice : goal.returns-in-Twice
+returns-in-Twice c =
+    subst (λ rule. IfOk c.least_second_of_rows.result (IsLeast (SiteBreaks rule c.args.decls.now c.args.decl.now c.args.site.now))) (sym c.in-Twice.is)
+    (subst (λ (rows : List (List Placed)). IfOk c.least_second_of_rows.result (IsLeast (λ k. (row : List Placed) × Contains rows row × IsSecond row k)))
+    c.as_slice.ensures c.least_second_of_rows.ensures)
+
+pub returns-in-UnboundVariable : goal.returns-in-UnboundVariable
+returns-in-UnboundVariable c =
+    subst (λ rule. IfOk c.least_unbound.result (IsLeast (SiteBreaks rule c.args.decls.now c.args.decl.now c.args.site.now))) (sym c.in-UnboundVariable.is)
+    (subst (λ (vs : List Placed). IfOk c.least_unbound.result (IsLeast (VariablesBreak c.args.decl.now.parameters vs)))
+    c.as_slice-in-UnboundVariable-2.ensures
+    (subst (λ (ps : List (List ℕ)). IfOk c.least_unbound.result (IsLeast (VariablesBreak ps c.as_slice-in-UnboundVariable-2.result.now)))
+    c.as_slice-in-UnboundVariable.ensures c.least_unbound.ensures))
+
+pub returns-in-UnknownName : goal.returns-in-UnknownName
+returns-in-UnknownName c =
+    subst (λ rule. IsLeast (SiteBreaks rule c.args.decls.now c.args.decl.now c.args.site.now) c.least_use.result) (sym c.in-UnknownName.is)
+    (subst (λ (us : List Use). IsLeast (UsesBreak use_rules.UnknownName c.args.decls.now (Some c.args.decl.now.group) us) c.least_use.result)
+    c.as_slice-uses.ensures c.least_use.ensures)
+
+pub returns-in-Arity : goal.returns-in-Arity
+returns-in-Arity c =
+    subst (λ rule. IsLeast (SiteBreaks rule c.args.decls.now c.args.decl.now c.args.site.now) c.least_use-in-Arity.result) (sym c.in-Arity.is)
+    (subst (λ (us : List Use). IsLeast (UsesBreak use_rules.Arity c.args.decls.now (Some c.args.decl.now.group) us) c.least_use-in-Arity.result)
+    c.as_slice-uses.ensures c.least_use-in-Arity.ensures)
+
+pub returns-in-Irregular : goal.returns-in-Irregular
+returns-in-Irregular c =
+    subst (λ rule. IsLeast (SiteBreaks rule c.args.decls.now c.args.decl.now c.args.site.now) c.least_use-in-Irregular.result) (sym c.in-Irregular.is)
+    (subst (λ (us : List Use). IsLeast (UsesBreak use_rules.Irregular c.args.decls.now (Some c.args.decl.now.group) us) c.least_use-in-Irregular.result)
+    c.as_slice-uses.ensures c.least_use-in-Irregular.ensures)

@@ -1,0 +1,77 @@
+-- What the code collects from a declaration, and how it corresponds to the occurrences.
+use Rattle.std.specs.Prelude.{ℕ, ◌≡◌, ◌⊎◌, ◌↔◌, Bool, IsTrue, List, length, Contains}
+use Rattle.std.specs.Prelude.{Some, slice_get}
+use Rattle.std.specs.List.{filter_map}
+use Rattle.types_spec.specs.types.Ty.{Ty}
+use Rattle.types_spec.specs.declared.types.decl.Decl.{Decl}
+use Rattle.types_spec.specs.types.Accepted.{IsVariable}
+use Rattle.types_spec.specs.types.Occurrence.{Occurrence}
+use Rattle.types_spec.specs.types.Occurrence.{Placed, PlacedItem, use_of, variable_at}
+use Rattle.types_spec.specs.types.Occurrence.{bracket_of, DeclPositions}
+use Rattle.types_spec.specs.types.Scope.{HoldsVariable, written_tag, decls_of, declared_names}
+use Rattle.types_resolve.specs.declared.scope.site.Use.{Use}
+use Rattle.types_resolve.specs.declared.scope.site.Site.{Site}
+use Rattle.types_resolve.specs.declared.scope.site.TypeSite.{TypeSite}
+
+-- Some argument contains a variable but is not a variable itself.
+abbrev pub Grow : List Ty → Type 0
+Grow arguments = (t : Ty) × Contains arguments t × HoldsVariable t × (¬ IsVariable t)
+
+-- A use with these arguments.
+pub record HasArguments (u : Use) (arguments : List Ty) : Type 0 where
+  pub counted : u.arguments ≡ length arguments
+  pub grow : IsTrue u.grows ↔ Grow arguments
+
+-- The tags that some bracket writes.
+abbrev pub IsTagRow : List Occurrence → List Placed → Type 0
+IsTagRow occurrences row =
+    (items : List PlacedItem) × Contains occurrences (bracket_of items)
+    × (row ≡ filter_map written_tag items)
+
+-- Names that must be distinct: parameters, constructors, the fields of a record, or the tags that a
+-- bracket writes.
+abbrev pub IsRow : DeclPositions → List Placed → Type 0
+IsRow d row =
+    (row ≡ d.parameters) ⊎ (row ≡ d.constructors) ⊎ Contains d.records row
+    ⊎ IsTagRow d.occurrences row
+
+-- The uses of names among occurrences.
+pub record AreUses (uses : List Use) (occurrences : List Occurrence) : Type 0 where
+  pub occur :
+      (u : Use) → Contains uses u
+      → (arguments : List Ty) × HasArguments u arguments
+      × Contains occurrences (use_of u.position u.name arguments u.in_tag)
+  pub all :
+      (position : ℕ) (name : List ℕ) (arguments : List Ty) (in_tag : Bool)
+      → Contains occurrences (use_of position name arguments in_tag)
+      → (u : Use) × Contains uses u × HasArguments u arguments
+      × (u.position ≡ position) × (u.name ≡ name) × (u.in_tag ≡ in_tag)
+
+-- What the code collects from a declaration.
+pub record IsSite (site : Site) (d : DeclPositions) : Type 0 where
+  pub rows : (row : List Placed) → Contains site.rows row → IsRow d row
+  pub all_rows : (row : List Placed) → IsRow d row → Contains site.rows row
+  pub carrying : site.carrying ≡ d.carrying
+  pub used : AreUses site.uses d.occurrences
+  pub variables :
+      (position : ℕ) (name : List ℕ) → Contains site.variables (position, name)
+      → Contains d.occurrences (variable_at position name)
+  pub all_variables :
+      (position : ℕ) (name : List ℕ) → Contains d.occurrences (variable_at position name)
+      → Contains site.variables (position, name)
+
+-- What the code collects from the text of a type.
+pub record IsTypeSite (site : TypeSite) (occurrences : List Occurrence) : Type 0 where
+  pub rows : (row : List Placed) → Contains site.rows row → IsTagRow occurrences row
+  pub all_rows : (row : List Placed) → IsTagRow occurrences row → Contains site.rows row
+  pub used : AreUses site.uses occurrences
+
+-- What the code collects from a file.
+pub record AreSites (decls : List Decl) (names : List Placed) (sites : List Site)
+    (all : List DeclPositions) : Type 0 where
+  pub declares : decls ≡ decls_of all
+  pub declared : names ≡ declared_names all
+  pub counted : length sites ≡ length all
+  pub stand :
+      (i : ℕ) (site : Site) (d : DeclPositions) → slice_get sites i ≡ Some site
+      → slice_get all i ≡ Some d → IsSite site d

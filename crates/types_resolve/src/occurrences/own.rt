@@ -1,0 +1,119 @@
+//! The occurrence with which a type begins.
+
+ghost use Rattle.std.specs.Prelude.{◌≡◌, ◌<◌, ◌++◌, ◌∷◌, [], OnOk, length, drop};
+ghost use Rattle.std.specs.List.{filter_map};
+ghost use Rattle.types_spec.specs.types.Nodes.{types_of, type_at, AreOrdered};
+ghost use Rattle.types_spec.specs.types.Scope.{written_tag};
+ghost use Rattle.types_resolve.specs.occurrences.Counted.{items_in};
+ghost use Rattle.types_resolve.specs.occurrences.Adds.{Adds};
+ghost use Rattle.types_resolve.specs.scope.Brackets.{brackets_among, brackets_known};
+ghost use Rattle.types_resolve.specs.occurrences.Facts.{AreFacts};
+ghost use Rattle.types_resolve.specs.occurrences.Walk.{task_own};
+
+use crate::occurrences::fact::{Facts, fact_at};
+use crate::occurrences::items::items_of;
+use crate::occurrences::mark::{copied, position_at, write_row};
+use crate::occurrences::row::row_of;
+use crate::occurrences::walk::Task;
+use crate::scope::{BracketItem, Placed, Site, Use};
+use base_data::model::Memory;
+use base_data::model::list::List;
+use std::alloc::Global;
+use types_spec::types::ty::Node;
+
+/// Appends a variable.
+fn write_variable(
+    alloc: Global,
+    site: &mut Site,
+    position: usize,
+    name: &List<u8>,
+) -> Result<(), Memory>
+    ensures { OnOk result
+        (site.new
+        ≡ record site.old { variables = site.old.variables ++ (position, name.now) ∷ [] }) }
+{
+    site.variables
+        .push(Placed::new(position, copied(alloc, name)?))
+}
+
+/// Appends a use of a type name.
+fn write_use(site: &mut Site, used: Use) -> Result<(), Memory>
+    ensures { OnOk result (site.new ≡ record site.old { uses = site.old.uses ++ used ∷ [] }) }
+{
+    site.uses.push(used)
+}
+
+/// Appends the bracket of a task's type.
+fn write_bracket(
+    alloc: Global,
+    site: &mut Site,
+    brackets: &mut List<List<BracketItem>>,
+    nodes: &[Node],
+    facts: &[Facts],
+    marks: &[usize],
+    task: Task,
+) -> Result<(), Memory>
+    requires ordered { AreOrdered nodes.now }
+    requires facts { AreFacts (types_of nodes.now) (length nodes.now) facts.now }
+    requires task { task.node < length nodes.now }
+    ensures site { OnOk result
+        (site.new
+        ≡ record site.old {
+          rows = site.old.rows
+              ++ filter_map written_tag
+              (items_in (drop task.first marks.now)
+              (type_at (types_of nodes.now) task.node))
+              ∷ [];
+        }) }
+    ensures brackets { OnOk result
+        (brackets_known (types_of nodes.now) brackets.new
+        ≡ brackets_known (types_of nodes.now) brackets.old
+        ++ items_in (drop task.first marks.now) (type_at (types_of nodes.now) task.node)
+        ∷ []) }
+{
+    let items = items_of(alloc, nodes, facts, marks, task.node, task.first)?;
+    write_row(site, row_of(alloc, nodes, items.as_slice())?)?;
+    brackets.push(items)
+}
+
+/// Appends the occurrence with which a task's type begins, if the task asks for it.
+pub fn write_own(
+    alloc: Global,
+    site: &mut Site,
+    brackets: &mut List<List<BracketItem>>,
+    nodes: &[Node],
+    facts: &[Facts],
+    marks: &[usize],
+    task: Task,
+) -> Result<(), Memory>
+    requires ordered { AreOrdered nodes.now }
+    requires facts { AreFacts (types_of nodes.now) (length nodes.now) facts.now }
+    requires task { task.node < length nodes.now }
+    ensures site { OnOk result
+        (Adds site.old site.new [] [] (task_own (types_of nodes.now) marks.now task)) }
+    ensures brackets { OnOk result
+        (brackets_known (types_of nodes.now) brackets.new
+        ≡ brackets_known (types_of nodes.now) brackets.old
+        ++ brackets_among (task_own (types_of nodes.now) marks.now task)) }
+{
+    if !task.whole {
+        return Ok(());
+    }
+    let known = fact_at(facts, task.node);
+    let position = position_at(marks, task.first.saturating_add(known.inner));
+    match &nodes[known.base] {
+        Node::Variable(x) => write_variable(alloc, site, position, x),
+        Node::Named(x) => {
+            let used = Use {
+                position,
+                name: copied(alloc, x)?,
+                arguments: known.arguments,
+                grows: known.grows,
+                in_tag: task.in_tag,
+            };
+            write_use(site, used)
+        }
+        Node::Bracket => write_bracket(alloc, site, brackets, nodes, facts, marks, task),
+        _ => Ok(()),
+    }
+}

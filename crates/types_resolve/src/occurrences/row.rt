@@ -1,0 +1,60 @@
+//! The tags in the items of a bracket.
+
+ghost use Rattle.std.specs.Prelude.{◌≡◌, ◌<◌, ◌++◌, IfOk, OnOk};
+ghost use Rattle.std.specs.List.{filter_map};
+ghost use Rattle.types_spec.specs.types.Nodes.{types_of, AreOrdered};
+ghost use Rattle.types_spec.specs.types.Scope.{written_tag};
+ghost use Rattle.types_resolve.specs.scope.Brackets.{items_known};
+ghost use Rattle.types_resolve.specs.occurrences.BracketItems.{tag_at, tag_there};
+
+use crate::occurrences::mark::copied;
+use crate::scope::{BracketItem, Placed};
+use base_data::model::Memory;
+use base_data::model::list::List;
+use std::alloc::Global;
+use types_spec::types::ty::Node;
+
+/// Appends the tag of a node, if the node adds a tag.
+fn write_tag(
+    alloc: Global,
+    row: &mut List<Placed>,
+    position: usize,
+    node: &Node,
+) -> Result<(), Memory>
+    ensures { OnOk result (row.new ≡ row.old ++ tag_at position node.now) }
+{
+    match node {
+        Node::Tag(_, x) | Node::TagOf(_, x, _) => {
+            row.push(Placed::new(position, copied(alloc, x)?))
+        }
+        _ => Ok(()),
+    }
+}
+
+/// Appends the tag of an item, if the item is a tag.
+fn write_written(
+    alloc: Global,
+    row: &mut List<Placed>,
+    nodes: &[Node],
+    item: &BracketItem,
+) -> Result<(), Memory>
+    ensures { OnOk result (row.new ≡ row.old ++ tag_there nodes.now item.now) }
+{
+    match nodes.get(item.node) {
+        Some(node) => write_tag(alloc, row, item.position, node),
+        None => Ok(()),
+    }
+}
+
+/// Returns the tags among these items of a bracket.
+pub fn row_of(alloc: Global, nodes: &[Node], items: &[BracketItem]) -> Result<List<Placed>, Memory>
+    requires { AreOrdered nodes.now }
+    ensures { IfOk result
+        (λ row. row ≡ filter_map written_tag (items_known (types_of nodes.now) items.now)) }
+{
+    let mut row = List::new(alloc);
+    for item in items {
+        write_written(alloc, &mut row, nodes, item)?;
+    }
+    Ok(row)
+}

@@ -1,0 +1,168 @@
+//! A traversal of a type.
+
+ghost use Rattle.std.specs.Prelude.{◌≡◌, ◌<◌, ◌++◌, ◌∷◌, [], IfOk, OnOk, length, drop, false};
+ghost use Rattle.types_spec.specs.types.Nodes.{types_of, AreOrdered};
+ghost use Rattle.types_resolve.specs.occurrences.Counted.{in_type};
+ghost use Rattle.types_resolve.specs.occurrences.CountedFile.{type_count};
+ghost use Rattle.types_resolve.specs.occurrences.Adds.{Adds};
+ghost use Rattle.types_resolve.specs.scope.Brackets.{brackets_among, brackets_known};
+ghost use Rattle.types_resolve.specs.occurrences.Facts.{AreFacts};
+ghost use Rattle.types_resolve.specs.occurrences.Found.{AddsFound};
+ghost use Rattle.types_resolve.specs.occurrences.Walk.{behind, tasks_of, task_seen};
+
+use crate::occurrences::fact::{Facts, all_facts, fact_at, total};
+use crate::occurrences::found::{Found, write_brackets};
+use crate::occurrences::mark::skip;
+use crate::occurrences::own::write_own;
+use crate::scope::{BracketItem, Site};
+use base_data::model::Memory;
+use base_data::model::list::List;
+use std::alloc::Global;
+use types_spec::types::ty::{Node, Ty};
+
+/// A node to visit: with the occurrence with which it begins if `whole` is true, otherwise its
+/// parts only.
+#[derive(Clone, Copy)]
+pub struct Task {
+    pub node: usize,
+    /// The index of its first mark.
+    pub first: usize,
+    pub in_tag: bool,
+    pub whole: bool,
+}
+
+/// Pushes the task of a part, and below it the task of the whole that the part extends.
+fn push_both(tasks: &mut Vec<Task>, task: Task, w: usize, part: Task) -> Result<(), Memory>
+    ensures { OnOk result
+        (tasks.new.items
+        ≡ tasks.old.items ++ part
+        ∷ record { node = w; first = task.first; in_tag = task.in_tag; whole = false }
+        ∷ []) }
+{
+    tasks.push(part)?;
+    tasks.push(Task {
+        node: w,
+        first: task.first,
+        in_tag: task.in_tag,
+        whole: false,
+    })?;
+    Ok(())
+}
+
+/// Returns the index of the first mark after those of the parts of node `w`.
+fn behind(facts: &[Facts], task: Task, w: usize) -> usize
+    ensures { result ≡ behind facts.now task w }
+{
+    task.first.saturating_add(fact_at(facts, w).inner)
+}
+
+/// Pushes the tasks of a node's parts.
+fn push_parts(tasks: &mut Vec<Task>, facts: &[Facts], task: Task, node: &Node) -> Result<(), Memory>
+    ensures { OnOk result (tasks.new.items ≡ tasks.old.items ++ tasks_of facts.now task node.now) }
+{
+    match node {
+        Node::Part(w, a) => {
+            let part = Task {
+                node: *a,
+                first: behind(facts, task, *w),
+                in_tag: task.in_tag,
+                whole: true,
+            };
+            push_both(tasks, task, *w, part)
+        }
+        Node::Including(w, u) => {
+            let first = behind(facts, task, *w).saturating_add(1);
+            let part = Task {
+                node: *u,
+                first,
+                in_tag: task.in_tag,
+                whole: true,
+            };
+            push_both(tasks, task, *w, part)
+        }
+        Node::TagOf(w, _, a) => {
+            let part = Task {
+                node: *a,
+                first: behind(facts, task, *w).saturating_add(1),
+                in_tag: true,
+                whole: true,
+            };
+            push_both(tasks, task, *w, part)
+        }
+        Node::Tag(w, _) => {
+            let inner = Task {
+                node: *w,
+                first: task.first,
+                in_tag: task.in_tag,
+                whole: false,
+            };
+            Ok(tasks.push(inner)?)
+        }
+        _ => Ok(()),
+    }
+}
+
+/// Adds the occurrences in a task's type.
+fn walk(
+    alloc: Global,
+    site: &mut Site,
+    brackets: &mut List<List<BracketItem>>,
+    nodes: &[Node],
+    facts: &[Facts],
+    marks: &[usize],
+    top: Task,
+) -> Result<(), Memory>
+    requires ordered { AreOrdered nodes.now }
+    requires facts { AreFacts (types_of nodes.now) (length nodes.now) facts.now }
+    requires top { top.node < length nodes.now }
+    ensures site { OnOk result
+        (Adds site.old site.new [] [] (task_seen (types_of nodes.now) marks.now top)) }
+    ensures brackets { OnOk result
+        (brackets_known (types_of nodes.now) brackets.new
+        ≡ brackets_known (types_of nodes.now) brackets.old
+        ++ brackets_among (task_seen (types_of nodes.now) marks.now top)) }
+{
+    let mut tasks = Vec::new(alloc);
+    tasks.push(top)?;
+    while let Some(task) = tasks.pop() {
+        write_own(alloc, site, brackets, nodes, facts, marks, task)?;
+        push_parts(&mut tasks, facts, task, &nodes[task.node])?;
+    }
+    Ok(())
+}
+
+/// Adds the occurrences in a type, whose marks are the first of these. Returns the remaining marks.
+pub fn write_type<'m, 'a>(
+    alloc: Global,
+    found: &mut Found<'a>,
+    marks: &'m [usize],
+    ty: &'a Ty,
+) -> Result<&'m [usize], Memory>
+    ensures adds { OnOk result
+        (AddsFound found.old found.new [] [] (in_type marks.now false ty.now)) }
+    ensures rest { IfOk result (λ rest. rest.now ≡ drop (type_count ty.now) marks.now) }
+{
+    let nodes = ty.nodes();
+    if nodes.is_empty() {
+        return Ok(marks);
+    }
+    let facts = all_facts(alloc, nodes)?;
+    let top = Task {
+        node: nodes.len() - 1,
+        first: 0,
+        in_tag: false,
+        whole: true,
+    };
+    let mut brackets = List::new(alloc);
+    walk(
+        alloc,
+        &mut found.site,
+        &mut brackets,
+        nodes,
+        facts.as_slice(),
+        marks,
+        top,
+    )?;
+    write_brackets(found, nodes, brackets)?;
+    Ok(skip(marks, total(fact_at(facts.as_slice(), top.node))))
+}

@@ -1,0 +1,22 @@
+//! The lesser of two optional positions.
+
+ghost use Rattle.std.specs.Prelude.{◌≡◌};
+ghost use Rattle.types_resolve.specs.scope.Least.{earliest, position_if};
+
+/// Returns the lesser of two positions. If only one exists, returns that one.
+pub fn earliest(first: Option<usize>, second: Option<usize>) -> Option<usize>
+    ensures { result ≡ earliest first second }
+{
+    match (first, second) {
+        (None, _) => second,
+        (Some(_), None) => first,
+        (Some(j), Some(k)) => Some(j.min(k)),
+    }
+}
+
+/// Returns the position if the test is true, and `None` otherwise.
+pub fn position_if(test: bool, position: usize) -> Option<usize>
+    ensures { result ≡ position_if test position }
+{
+    if test { Some(position) } else { None }
+}

@@ -1,0 +1,33 @@
+//! Checks the names of declared types.
+
+ghost use Rattle.std.specs.Prelude.{IfOk};
+ghost use Rattle.types_resolve.specs.scope.Breaks.{IsPredeclaredAt, NamesTwice};
+ghost use Rattle.types_resolve.specs.scope.Least.{IsLeast};
+
+use crate::scope::least::{earliest, position_if};
+use crate::scope::predeclared::predeclared_arity;
+use crate::scope::seconds::least_second;
+use crate::scope::site::Placed;
+use base_data::model::Memory;
+use std::alloc::Global;
+
+/// Returns the least lexeme of a name that is predeclared.
+fn least_predeclared(names: &[Placed]) -> Option<usize>
+    ensures { IsLeast (IsPredeclaredAt names.now) result }
+{
+    let mut best = None;
+    for i in 0..names.len() {
+        let placed = &names[i];
+        let known = predeclared_arity(placed.name()).is_some();
+        best = earliest(best, position_if(known, placed.position()));
+    }
+    best
+}
+
+/// Returns the least lexeme of a name that is declared earlier too, or that is predeclared.
+pub fn least_name_twice(alloc: Global, names: &[Placed]) -> Result<Option<usize>, Memory>
+    ensures { IfOk result (IsLeast (NamesTwice names.now)) }
+{
+    let second = least_second(alloc, names)?;
+    Ok(earliest(second, least_predeclared(names)))
+}

@@ -1,0 +1,77 @@
+//! The occurrences of names in a text of declarations.
+
+ghost use Rattle.std.specs.Prelude.{◌≡◌};
+
+use base_data::model::list::List;
+use std::marker::Model;
+
+/// A name in a text, with the index of its lexeme.
+#[derive(Drop)]
+pub struct Placed {
+    position: usize,
+    name: List<u8>,
+}
+
+impl Model for Placed {
+    ghost use Rattle.std.specs.Prelude.{ℕ, List as Seq};
+
+    ghost Value = { ℕ × Seq ℕ };
+
+    ghost view = { λ p. (p.position, p.name) };
+}
+
+impl Placed {
+    /// Makes a name at a lexeme.
+    pub fn new(position: usize, name: List<u8>) -> Placed
+        ensures { result ≡ (position, name) }
+    {
+        Placed { position, name }
+    }
+
+    /// Returns the index of the lexeme.
+    pub fn position(&self) -> usize
+        ensures { result ≡ self.now.0 }
+    {
+        self.position
+    }
+
+    /// Returns the name.
+    pub fn name(&self) -> &[u8]
+        ensures { result.now ≡ self.now.1 }
+    {
+        self.name.as_slice()
+    }
+}
+
+/// A use of a type name, with what the rules require of its arguments.
+#[derive(Drop)]
+pub struct Use {
+    pub position: usize,
+    pub name: List<u8>,
+    /// Number of arguments.
+    pub arguments: usize,
+    /// True if some argument contains a variable but is not a variable itself.
+    pub grows: bool,
+    /// True if the use is inside the argument of a tag.
+    pub in_tag: bool,
+}
+
+/// The occurrences of names in a declaration.
+#[derive(Drop)]
+pub struct Site {
+    /// Lists of names that must be distinct: the parameters, the constructors, the fields of each
+    /// record, and the tags that each bracket writes.
+    pub rows: List<List<Placed>>,
+    /// Lexemes of the constructors with arguments.
+    pub carrying: List<usize>,
+    pub uses: List<Use>,
+    pub variables: List<Placed>,
+}
+
+/// The occurrences of names in the text of a type.
+#[derive(Drop)]
+pub struct TypeSite {
+    /// The tags that each bracket writes.
+    pub rows: List<List<Placed>>,
+    pub uses: List<Use>,
+}

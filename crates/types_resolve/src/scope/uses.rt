@@ -1,0 +1,89 @@
+//! Checks rules on the uses of names.
+
+ghost use Rattle.std.specs.Prelude.{◌≡◌, ◌↔◌, IsTrue, option_copied};
+ghost use Rattle.types_spec.specs.types.Declarations.{arity_of};
+ghost use Rattle.types_resolve.specs.scope.Breaks.{BreaksUse, UsesBreak, Later, OfGroup, IsOther};
+ghost use Rattle.types_resolve.specs.scope.Least.{IsLeast};
+
+use crate::scope::environment::Environment;
+use crate::scope::least::{earliest, position_if};
+use crate::scope::predeclared::predeclared_arity;
+use crate::scope::rule::UseRule;
+use crate::scope::site::Use;
+use types_spec::types::decl::Decl;
+
+/// Returns the number of arguments of a name.
+fn arity(decls: &Environment<'_>, name: &[u8]) -> Option<usize>
+    ensures { result ≡ arity_of decls.now name.now }
+{
+    match predeclared_arity(name) {
+        Some(n) => Some(n),
+        None => match decls.get(name) {
+            Some(decl) => Some(decl.parameters.len()),
+            None => None,
+        },
+    }
+}
+
+/// Returns true if there is no declaration, or if it belongs to a later group than `group`.
+fn is_later(decl: Option<&Decl>, group: Option<usize>) -> bool
+    ensures { IsTrue result ↔ Later (option_copied decl.entry) group }
+{
+    match (decl, group) {
+        (None, _) => true,
+        (Some(_), None) => false,
+        (Some(decl), Some(group)) => group < decl.group,
+    }
+}
+
+/// Returns true if there is a declaration and it belongs to `group`.
+fn is_of_group(decl: Option<&Decl>, group: Option<usize>) -> bool
+    ensures { IsTrue result ↔ OfGroup (option_copied decl.entry) group }
+{
+    match (decl, group) {
+        (Some(decl), Some(group)) => decl.group == group,
+        _ => false,
+    }
+}
+
+/// Returns true if the arity is known and differs from the number of arguments.
+fn is_other(arity: Option<usize>, arguments: usize) -> bool
+    ensures { IsTrue result ↔ IsOther arity arguments }
+{
+    match arity {
+        Some(n) => n != arguments,
+        None => false,
+    }
+}
+
+/// Returns true if a use breaks the rule. The use is in a declaration of `group`, or in the text of
+/// a type if `group` is `None`.
+fn breaks(rule: UseRule, decls: &Environment<'_>, group: Option<usize>, usage: &Use) -> bool
+    ensures { IsTrue result ↔ BreaksUse rule decls.now group usage.now }
+{
+    let name = usage.name.as_slice();
+    match rule {
+        UseRule::UnknownName => predeclared_arity(name).is_none()
+            && is_later(decls.get(name), group),
+        UseRule::Arity => is_other(arity(decls, name), usage.arguments),
+        UseRule::Irregular => usage.grows && is_of_group(decls.get(name), group),
+    }
+}
+
+/// Returns the least lexeme of a use that breaks the rule.
+pub fn least_use(
+    rule: UseRule,
+    decls: &Environment<'_>,
+    group: Option<usize>,
+    uses: &[Use],
+) -> Option<usize>
+    ensures { IsLeast (UsesBreak rule decls.now group uses.now) result }
+{
+    let mut best = None;
+    for i in 0..uses.len() {
+        let usage = &uses[i];
+        let broken = breaks(rule, decls, group, usage);
+        best = earliest(best, position_if(broken, usage.position));
+    }
+    best
+}

@@ -1,0 +1,8 @@
+mod Examples
+mod ScopeExamples
+pub mod AskedLemmas
+pub mod FaultLemmas
+pub mod WildcardLemmas
+pub mod ListLemmas
+pub mod NodeLemmas
+pub mod ShapeLemmas

@@ -1,0 +1,250 @@
+-- The scope rules: what breaks each rule and at which lexeme, and which violation is reported (the
+-- OCaml manual, "Type definitions"). The order and the positions are this project's own.
+use Rattle.std.specs.Prelude.{ℕ, ◌<◌, ◌≤◌, ◌≡◌, ◌≢◌, ◌⊎◌, Bool, true, false, List, [], ◌∷◌, length}
+use Rattle.std.specs.Prelude.{map}
+use Rattle.std.specs.Prelude.{Option, Some, None, IsSome, slice_get, Contains}
+use Rattle.std.specs.List.{filter_map}
+use Rattle.types_spec.specs.tag_hash.TagHash.{tag_hash}
+use Rattle.types_spec.specs.declared.types.decl.Field.{Field}
+use Rattle.types_spec.specs.declared.types.decl.Body.{Body}
+use Rattle.types_spec.specs.declared.types.decl.Body.TheVariants as bodies
+use Rattle.types_spec.specs.declared.types.decl.Decl.{Decl}
+use Rattle.types_spec.specs.declared.types.head.TagOf.{TagOf}
+use Rattle.types_spec.specs.types.Ty.{Ty, variable, named, tuple, bracket, part, tag, tag_of}
+use Rattle.types_spec.specs.types.Ty.{including}
+use Rattle.types_spec.specs.types.Ty.{name_of}
+use Rattle.types_spec.specs.types.Accepted.{IsVariable, AreVariants}
+use Rattle.types_spec.specs.types.Declarations.{predeclared, arity_of, declaration_of, abbreviated}
+use Rattle.types_spec.specs.types.Declarations.{unfolded_times}
+use Rattle.types_spec.specs.types.Head.{tags_in, head}
+use Rattle.types_spec.specs.types.Shape.{is_float}
+use Rattle.types_spec.specs.types.Occurrence.{Placed, PlacedItem, Occurrence, use_of, variable_at}
+use Rattle.types_spec.specs.types.Occurrence.{bracket_of}
+use Rattle.types_spec.specs.types.Occurrence.{DeclPositions}
+
+-- ---- rules
+
+pub data Rule : Type 0 where
+  -- No type name, parameter, field, constructor or tag is declared twice.
+  twice : Rule
+  unknown_name : Rule
+  arity : Rule
+  unbound_variable : Rule
+  -- No abbreviation expands to itself.
+  cyclic : Rule
+  -- In its own group, a type name has no argument that contains a variable without being a
+  -- variable.
+  irregular : Rule
+  too_many_constructors : Rule
+  -- Every type that a bracket includes is a polymorphic variant.
+  not_variant : Rule
+  -- A tag that comes from two items has one argument type.
+  tag_clash : Rule
+  hash_clash : Rule
+  -- No record is flat through an abbreviation of its own group.
+  float_in_group : Rule
+
+-- The order in which the rules are checked.
+abbrev pub turn : Rule → ℕ
+turn twice = 0
+turn unknown_name = 1
+turn arity = 2
+turn unbound_variable = 3
+turn cyclic = 4
+turn irregular = 5
+turn too_many_constructors = 6
+turn not_variant = 7
+turn tag_clash = 8
+turn hash_clash = 9
+turn float_in_group = 10
+
+-- The violation that is reported, with its lexeme: the rule is broken there and at no smaller
+-- lexeme, and no earlier rule is broken anywhere.
+pub record IsFirst (Breaks : Rule → ℕ → Type 0) (rule : Rule) (k : ℕ) : Type 0 where
+  pub broken : Breaks rule k
+  pub least : (j : ℕ) → j < k → ¬ Breaks rule j
+  pub earlier : (other : Rule) (j : ℕ) → turn other < turn rule → ¬ Breaks other j
+
+-- No rule is broken.
+abbrev pub KeepsAll : (Rule → ℕ → Type 0) → Type 0
+KeepsAll Breaks = (rule : Rule) (k : ℕ) → ¬ Breaks rule k
+
+-- ---- names
+
+-- The name at lexeme `k` occurs earlier in the list too.
+pub record IsSecond (all : List Placed) (k : ℕ) : Type 0 where
+  pub earlier : ℕ
+  pub later : ℕ
+  pub position : ℕ
+  pub name : List ℕ
+  pub before : earlier < later
+  pub first : slice_get all earlier ≡ Some (position, name)
+  pub second : slice_get all later ≡ Some (k, name)
+
+-- ---- types
+
+-- The type contains a variable.
+abbrev pub HoldsVariable : Ty → Type 0
+HoldsVariable (variable x) = Unit {0}
+HoldsVariable (named name) = ⊥
+HoldsVariable tuple = ⊥
+HoldsVariable bracket = ⊥
+HoldsVariable (part whole added) = HoldsVariable whole ⊎ HoldsVariable added
+HoldsVariable (tag whole x) = HoldsVariable whole
+HoldsVariable (tag_of whole x argument) = HoldsVariable whole ⊎ HoldsVariable argument
+HoldsVariable (including whole included) = HoldsVariable whole ⊎ HoldsVariable included
+
+-- An abbreviation of this group is among those that are expanded at the head of `t`.
+pub record IsThrough (decls : List Decl) (group : ℕ) (t : Ty) : Type 0 where
+  pub times : ℕ
+  pub type : Ty
+  pub name : List ℕ
+  pub decl : Decl
+  pub replaced : unfolded_times decls times t ≡ Some type
+  pub named : name_of type ≡ Some name
+  pub found : declaration_of decls name ≡ Some decl
+  pub abbreviates : IsSome (abbreviated decl.body)
+  pub own : decl.group ≡ group
+
+-- ---- brackets
+
+-- The tag of an item, if the item is a tag.
+abbrev pub written_tag : PlacedItem → Option Placed
+written_tag (k, tag bracket name) = Some (k, name)
+written_tag (k, tag_of bracket name argument) = Some (k, name)
+written_tag (k, t) = None
+
+-- The tags that an item contributes.
+abbrev pub tags_of_item : List Decl → Ty → List (TagOf Ty)
+tags_of_item decls item = tags_in (head decls item)
+
+-- Item `i` contributes the tag `one`, and item `j`, at lexeme `k`, contributes the tag `other`.
+pub record HasTags (decls : List Decl) (items : List PlacedItem) (k i j : ℕ) (one other : TagOf Ty)
+    : Type 0 where
+  pub position : ℕ
+  pub first : Ty
+  pub second : Ty
+  pub first_is : slice_get items i ≡ Some (position, first)
+  pub second_is : slice_get items j ≡ Some (k, second)
+  pub one_there : Contains (tags_of_item decls first) one
+  pub other_there : Contains (tags_of_item decls second) other
+
+-- One tag comes from two items with unequal arguments. Argument types are compared as they are
+-- written.
+abbrev pub ConflictsAt : List Decl → List PlacedItem → ℕ → Type 0
+ConflictsAt decls items k =
+    (i j : ℕ) × (one other : TagOf Ty) × HasTags decls items k i j one other
+    × (i < j) × (one.name ≡ other.name) × (one.argument ≢ other.argument)
+
+-- Two tags with different names have the same hash. Both may come from one included type.
+abbrev pub HashesAt : List Decl → List PlacedItem → ℕ → Type 0
+HashesAt decls items k =
+    (i j : ℕ) × (one other : TagOf Ty) × HasTags decls items k i j one other
+    × (i ≤ j) × (one.name ≢ other.name) × (tag_hash one.name ≡ tag_hash other.name)
+
+-- ---- one list of occurrences, with the declarations of some groups visible
+
+module _ (decls : List Decl) (Seen : ℕ → Type 0) (occurrences : List Occurrence) where
+  -- Some bracket breaks a rule.
+  abbrev pub BracketBreaks : (List PlacedItem → Type 0) → Type 0
+  BracketBreaks Breaks =
+      (items : List PlacedItem) × Contains occurrences (bracket_of items) × Breaks items
+
+  -- The name at lexeme `k` breaks a rule.
+  abbrev pub UseBreaks : ℕ → (List ℕ → List Ty → Type 0) → Type 0
+  UseBreaks k Breaks =
+      (name : List ℕ) × (arguments : List Ty) × (in_tag : Bool)
+      × Contains occurrences (use_of k name arguments in_tag) × Breaks name arguments
+
+  abbrev pub IsUnseen : List ℕ → Type 0
+  IsUnseen name =
+      (predeclared name ≡ None)
+      × ((decl : Decl) → declaration_of decls name ≡ Some decl → ¬ Seen decl.group)
+
+  abbrev pub BreaksIn : Rule → ℕ → Type 0
+  BreaksIn twice k = BracketBreaks (λ items. IsSecond (filter_map written_tag items) k)
+  BreaksIn unknown_name k = UseBreaks k (λ name arguments. IsUnseen name)
+  BreaksIn arity k =
+      UseBreaks k (λ name arguments.
+      (n : ℕ) × (arity_of decls name ≡ Some n) × (n ≢ length arguments))
+  BreaksIn not_variant k =
+      BracketBreaks (λ items.
+      (t : Ty) × Contains items (k, including bracket t) × (¬ AreVariants (head decls t)))
+  BreaksIn tag_clash k = BracketBreaks (λ items. ConflictsAt decls items k)
+  BreaksIn hash_clash k = BracketBreaks (λ items. HashesAt decls items k)
+  BreaksIn rule k = ⊥
+
+-- In the text of a single type, all declarations are visible and all variables are allowed.
+abbrev pub BreaksInType : List Decl → List Occurrence → Rule → ℕ → Type 0
+BreaksInType decls occurrences rule k = BreaksIn decls (λ group. Unit {0}) occurrences rule k
+
+-- ---- a file
+
+abbrev pub decls_of : List DeclPositions → List Decl
+decls_of all = map (λ (d : DeclPositions). d.decl) all
+
+abbrev pub declared_names : List DeclPositions → List Placed
+declared_names all = map (λ (d : DeclPositions). (d.position, d.decl.name)) all
+
+-- One abbreviation uses another one of its group outside tag arguments.
+pub record IsStep (all : List DeclPositions) (one other : DeclPositions) : Type 0 where
+  pub first : Contains all one
+  pub second : Contains all other
+  pub one_group : one.decl.group ≡ other.decl.group
+  pub one_abbreviates : IsSome (abbreviated one.decl.body)
+  pub other_abbreviates : IsSome (abbreviated other.decl.body)
+  pub position : ℕ
+  pub arguments : List Ty
+  pub used : Contains one.occurrences (use_of position other.decl.name arguments false)
+
+-- A sequence of such steps from one declaration through `between` to the other.
+abbrev pub AreSteps : List DeclPositions → DeclPositions → List DeclPositions → DeclPositions
+    → Type 0
+AreSteps all one [] other = IsStep all one other
+AreSteps all one (next ∷ between) other = IsStep all one next × AreSteps all next between other
+
+-- Each field expands to `float`, and at least one of them through an abbreviation of this group.
+abbrev pub IsFlatThroughGroup : List Decl → ℕ → Body → Type 0
+IsFlatThroughGroup decls group (bodies.Record fields) =
+    ((f : Field) → Contains fields f → is_float decls f.ty ≡ true)
+    × (f : Field) × Contains fields f × IsThrough decls group f.ty
+IsFlatThroughGroup decls group body = ⊥
+
+module _ (all : List DeclPositions) where
+  -- The name at lexeme `k` is used in its own group with an argument that contains a variable
+  -- without being one.
+  abbrev pub IsIrregularAt : DeclPositions → ℕ → Type 0
+  IsIrregularAt d k =
+      UseBreaks (decls_of all) (λ group. Unit {0}) d.occurrences k (λ name arguments.
+      (e : DeclPositions) × Contains all e × (e.decl.name ≡ name) × (e.decl.group ≡ d.decl.group)
+      × (t : Ty) × Contains arguments t × HoldsVariable t × (¬ IsVariable t))
+
+  -- A declaration breaks a rule. It sees its own group and earlier ones.
+  abbrev pub BreaksInDecl : DeclPositions → Rule → ℕ → Type 0
+  BreaksInDecl d twice k =
+      IsSecond d.parameters k ⊎ IsSecond d.constructors k
+      ⊎ ((fields : List Placed) × Contains d.records fields × IsSecond fields k)
+      ⊎ BreaksIn (decls_of all) (λ group. group ≤ d.decl.group) d.occurrences twice k
+  BreaksInDecl d unbound_variable k =
+      (name : List ℕ) × Contains d.occurrences (variable_at k name)
+      × (¬ Contains d.decl.parameters name)
+  BreaksInDecl d cyclic k =
+      (d.position ≡ k) × (between : List DeclPositions) × AreSteps all d between d
+  BreaksInDecl d irregular k = IsIrregularAt d k
+  BreaksInDecl d too_many_constructors k = slice_get d.carrying 244 ≡ Some k
+  BreaksInDecl d float_in_group k =
+      (d.position ≡ k) × IsFlatThroughGroup (decls_of all) d.decl.group d.decl.body
+  BreaksInDecl d rule k =
+      BreaksIn (decls_of all) (λ group. group ≤ d.decl.group) d.occurrences rule k
+
+  -- Type names are distinct in the whole file, and none is predeclared.
+  abbrev pub NamesBreak : Rule → ℕ → Type 0
+  NamesBreak twice k =
+      IsSecond (declared_names all) k
+      ⊎ ((name : List ℕ) × Contains (declared_names all) (k, name) × IsSome (predeclared name))
+  NamesBreak rule k = ⊥
+
+  -- The text of a file breaks a rule at lexeme `k`.
+  abbrev pub BreaksInFile : Rule → ℕ → Type 0
+  BreaksInFile rule k =
+      NamesBreak rule k ⊎ ((d : DeclPositions) × Contains all d × BreaksInDecl d rule k)

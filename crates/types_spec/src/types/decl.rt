@@ -1,0 +1,71 @@
+//! Declarations of types, as plain data.
+
+use crate::types::ty::Ty;
+use base_data::model::list::List;
+
+/// A predeclared type, whose name every file knows.
+#[derive(Clone, Copy, Debug, PartialEq, Eq)]
+pub enum Predeclared {
+    Int,
+    Char,
+    Bool,
+    Unit,
+    String,
+    Bytes,
+    Float,
+    Int32,
+    Int64,
+    Nativeint,
+    Floatarray,
+    List,
+    Option,
+    Array,
+    Ref,
+    /// The wildcard type `_`, which every value has.
+    Any,
+}
+
+/// A field of a record.
+#[derive(Drop)]
+pub struct Field {
+    pub name: List<u8>,
+    pub mutable: bool,
+    pub ty: Ty,
+}
+
+/// The arguments after a constructor's `of`: none, a list of types, or the fields of an inline
+/// record.
+#[derive(Drop)]
+pub enum Arguments {
+    Constant,
+    Listed(List<Ty>),
+    Inline(List<Field>),
+}
+
+/// A constructor of a variant.
+#[derive(Drop)]
+pub struct Constructor {
+    pub name: List<u8>,
+    pub arguments: Arguments,
+}
+
+/// The meaning of a declared name.
+#[derive(Drop)]
+pub enum Body {
+    Abbreviation(Ty),
+    Record(List<Field>),
+    Variant(List<Constructor>),
+}
+
+/// A declaration. `group` is the number of declarations before the group of mutually recursive
+/// declarations to which this one belongs.
+#[derive(Drop)]
+pub struct Decl {
+    pub name: List<u8>,
+    pub parameters: List<List<u8>>,
+    pub body: Body,
+    pub group: usize,
+}
+
+/// The declarations of a file, in the order of the file.
+pub type Decls = List<Decl>;

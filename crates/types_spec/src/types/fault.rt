@@ -1,0 +1,12 @@
+//! The reasons why a value does not have a type.
+
+use base_data::model::path::Path;
+
+/// A fault: a type mismatch or an aliasing conflict. A type mismatch has the path to the part that
+/// does not match its type. An aliasing conflict has two paths to one object at unequal types, at
+/// one of which the object is mutable. The lesser path comes first.
+#[derive(Drop)]
+pub enum Fault {
+    Mismatch(Path),
+    Conflict(Path, Path),
+}

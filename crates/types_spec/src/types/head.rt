@@ -1,0 +1,26 @@
+//! Heads of types, generic in the type of their parts.
+
+use crate::types::decl::Predeclared;
+use base_data::model::list::List;
+
+/// A tag of a polymorphic variant, without its backquote, and the type of its argument.
+#[derive(Drop)]
+pub struct TagOf<T> {
+    pub name: List<u8>,
+    pub argument: Option<T>,
+}
+
+/// The head of a type after its abbreviations are expanded, with the parts of the head.
+#[derive(Drop)]
+pub enum HeadOf<T> {
+    Variable(List<u8>),
+    Predeclared(Predeclared, List<T>),
+    /// A declared record or variant, and its arguments.
+    Datatype(List<u8>, List<T>),
+    Tuple(List<T>),
+    /// The tags of a polymorphic variant. The tags of an included type replace the inclusion, in
+    /// its position.
+    Variants(List<TagOf<T>>),
+    /// The head of no type over accepted declarations.
+    Absent,
+}

@@ -1,0 +1,9 @@
+pub mod FormLemmas
+pub mod SetLemmas
+pub mod SignatureLemmas
+pub mod Loops
+pub mod ListLemmas
+pub mod LoopLemmas
+pub mod InspectLemmas
+pub mod TurnLemmas
+pub mod EndLemmas

@@ -1,0 +1,3 @@
+pub mod MadeLemmas
+pub mod TextLemmas
+pub mod WriteLemmas

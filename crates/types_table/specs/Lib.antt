@@ -1,0 +1,3 @@
+pub mod store
+pub mod type_table
+pub mod partition

@@ -1,0 +1,5 @@
+pub mod Held
+pub mod Instance
+pub mod Borrowed
+pub mod Texts
+pub mod View

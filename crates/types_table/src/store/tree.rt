@@ -1,0 +1,55 @@
+//! Copies a type out of the store.
+
+ghost use Rattle.std.specs.Prelude.{◌≡◌, ◌<◌, length, IfOk};
+ghost use Rattle.types_spec.specs.types.Nodes.{type_at};
+ghost use Rattle.types_table.specs.store.Borrowed.{written_of};
+
+use crate::store::node::TypeNode;
+use crate::store::types::Types;
+use base_data::model::Memory;
+use base_data::model::list::List;
+use std::alloc::Global;
+use types_spec::types::ty::{Node, Ty};
+
+impl Types {
+    /// Returns the type with this number as a separate tree. Takes one step for each number up to
+    /// `number`.
+    pub fn tree(&self, alloc: Global, number: usize) -> Result<Ty, Memory>
+        requires { number < length self.now }
+        ensures { IfOk result (λ t. t ≡ type_at self.now number) }
+    {
+        let mut nodes = Vec::new(alloc);
+        for i in 0..number {
+            let node = written(alloc, self.node(i))?;
+            nodes.push(node)?;
+        }
+        let last = written(alloc, self.node(number))?;
+        nodes.push(last)?;
+        Ok(Ty::of(nodes))
+    }
+}
+
+/// Returns a copy of the node that owns its name.
+fn written(alloc: Global, node: TypeNode<'_>) -> Result<Node, Memory>
+    ensures { IfOk result (λ n. n ≡ written_of node.entry) }
+{
+    match node {
+        TypeNode::Variable(name) => Ok(Node::Variable(text(alloc, name)?)),
+        TypeNode::Named(name) => Ok(Node::Named(text(alloc, name)?)),
+        TypeNode::Tuple => Ok(Node::Tuple),
+        TypeNode::Bracket => Ok(Node::Bracket),
+        TypeNode::Part(whole, added) => Ok(Node::Part(whole, added)),
+        TypeNode::Tag(whole, name) => Ok(Node::Tag(whole, text(alloc, name)?)),
+        TypeNode::TagOf(whole, name, argument) => {
+            Ok(Node::TagOf(whole, text(alloc, name)?, argument))
+        }
+        TypeNode::Including(whole, included) => Ok(Node::Including(whole, included)),
+    }
+}
+
+/// Returns a copy of the bytes.
+fn text(alloc: Global, bytes: &[u8]) -> Result<List<u8>, Memory>
+    ensures { IfOk result (λ l. l ≡ bytes.now) }
+{
+    Ok(List::of(Vec::from_slice(alloc, bytes)?))
+}

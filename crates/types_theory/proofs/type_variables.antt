@@ -1,0 +1,13 @@
+pub mod ArityLemmas
+pub mod InstanceShapes
+pub mod InstanceFields
+pub mod ReachedInstances
+pub mod EqualInstances
+pub mod PositionInstances
+pub mod ForthLemmas
+pub mod ClosedTypes
+pub mod ApartLemmas
+pub mod BackLemmas
+pub mod EqualDecided
+pub mod TableExists
+pub mod StandLemmas

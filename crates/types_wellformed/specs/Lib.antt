@@ -1,0 +1,4 @@
+pub mod brackets
+pub mod head_rules
+pub mod accepted
+pub mod declarations

@@ -1,0 +1,5 @@
+pub mod Ranked
+pub mod Known
+pub mod Names
+pub mod Brackets
+pub mod Accepted

@@ -1,0 +1,31 @@
+-- The values seen under a key.
+use Rattle.std.specs.Prelude.{◌≡◌, ◌≢◌, Bool, Option, None, Some, MatchOption}
+use Rattle.std.specs.Prelude.{if◌then◌else◌}
+use Rattle.types_wellformed.specs.declared.brackets.sightings.Sighting.{Sighting}
+
+module _ {V : Type 0} (eq : V → V → Bool) where
+  -- The value that differs from the first one, after one more value.
+  abbrev pub differing : V → Option V → V → Option V
+  differing first None value = if eq first value then None else Some value
+  differing first (Some other) value = Some other
+
+  -- The entry after one more value.
+  abbrev pub with_value : Option (Sighting V) → V → Sighting V
+  with_value None value = record { first = value; other = None }
+  with_value (Some known) value =
+      record { first = known.first; other = differing known.first known.other value }
+
+  -- A value seen under the key that differs from this one, if there is one.
+  abbrev pub other_value : Option (Sighting V) → V → Option V
+  other_value None value = None
+  other_value (Some known) value =
+      if eq known.first value then known.other else Some known.first
+
+-- The entry describes the values seen, by their meanings: there are none, or all equal the first
+-- one, or two differ.
+abbrev pub Reports : {V B : Type 0} → (V → B) → (B → Type 0) → Option (Sighting V) → Type 0
+Reports {V} {B} meaning Seen None = (b : B) → ¬ Seen b
+Reports {V} {B} meaning Seen (Some known) =
+    Seen (meaning known.first)
+    × MatchOption known.other ((b : B) → Seen b → meaning known.first ≡ b)
+    (λ other. Seen (meaning other) × (meaning known.first ≢ meaning other))

@@ -1,0 +1,56 @@
+-- The items of a bracket as it is written, and the same items by the numbers of types.
+use Rattle.std.specs.Prelude.{ℕ, ◌≤◌, ◌≡◌, List, Option, Some, IfSome, map, slice_get}
+use Rattle.types_spec.specs.declared.types.decl.Decl.{Decl}
+use Rattle.types_spec.specs.declared.types.head.TagOf.{TagOf}
+use Rattle.types_spec.specs.types.Ty.{Ty}
+use Rattle.types_spec.specs.types.Occurrence.{PlacedItem}
+use Rattle.types_spec.specs.types.Reached.{AreDistinct}
+use Rattle.types_spec.specs.types.Scope.{tags_of_item, HasTags, ConflictsAt, HashesAt}
+use Rattle.types_spec.specs.types.Table.{tag_with_part}
+use Rattle.types_resolve.specs.scope.Least.{IsLeast}
+use Rattle.types_wellformed.specs.declared.brackets.item.Item.{Item}
+use Rattle.types_wellformed.specs.declared.brackets.spellings.Collision.{Collision}
+use Rattle.types_wellformed.specs.brackets.Collisions.{position_of}
+use Rattle.types_wellformed.specs.brackets.Items.{HaveOneHash}
+
+-- ---- items by numbers
+
+-- The lexeme and the tags of an item, with the type of each argument's number.
+abbrev pub typed_item : List Ty → Item → ℕ × List (TagOf (Option Ty))
+typed_item types item = (item.position, map (tag_with_part (slice_get types)) item.tags)
+
+-- The lexeme of an item of the text, and the tags that it contributes.
+abbrev pub written_item : List Decl → PlacedItem → ℕ × List (TagOf (Option Ty))
+written_item decls item = (item.0, map (tag_with_part Some) (tags_of_item decls item.1))
+
+-- The items represent those of the text: each has the same lexeme and the same tags, with the
+-- numbers of the arguments among distinct types.
+pub record AreItems (types : List Ty) (decls : List Decl) (items : List Item)
+    (all : List PlacedItem)
+    : Type 0 where
+  pub distinct : AreDistinct types
+  pub same : map (typed_item types) items ≡ map (written_item decls) all
+
+-- ---- the results of the rules
+
+-- Two tags with these names have the same hash. `HashesAt` says this for some names.
+abbrev pub NamesHashAt : List Decl → List PlacedItem → ℕ → List ℕ → List ℕ → Type 0
+NamesHashAt decls items k one_name other_name =
+    (i j : ℕ) × (one other : TagOf Ty) × HasTags decls items k i j one other
+    × (i ≤ j) × HaveOneHash one other one_name other_name
+
+-- The least conflict in every list of items that these items represent.
+abbrev pub IsLeastConflictOf : List Item → Option ℕ → Type 0
+IsLeastConflictOf items best =
+    (types : List Ty) (decls : List Decl) (all : List PlacedItem) → AreItems types decls items all
+    → IsLeast (ConflictsAt decls all) best
+
+-- The least lexeme with equal hashes in every list of items that these items represent, and two
+-- names there.
+pub record IsLeastHashOf (items : List Item) (found : Option Collision) : Type 0 where
+  pub least :
+      (types : List Ty) (decls : List Decl) (all : List PlacedItem) → AreItems types decls items all
+      → IsLeast (HashesAt decls all) (position_of found)
+  pub names :
+      (types : List Ty) (decls : List Decl) (all : List PlacedItem) → AreItems types decls items all
+      → IfSome found (λ c. NamesHashAt decls all c.position c.one.now c.other.now)

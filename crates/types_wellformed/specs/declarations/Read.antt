@@ -1,0 +1,19 @@
+-- The declarations and types that texts denote.
+use Rattle.std.specs.Prelude.{ℕ, ◌≡◌, List}
+use Rattle.types_spec.specs.types.Ty.{Ty}
+use Rattle.types_spec.specs.declared.types.decl.Decl.{Decl}
+use Rattle.types_parse.specs.grammar.Grammar.{FileTree, Texpr}
+use Rattle.types_parse.specs.parse.Written.{declarations_of, type_of_texpr}
+use Rattle.types_wellformed.specs.declarations.Answer.{accepted, IsFileAnswer, IsTypeAnswer}
+
+-- The text is accepted as a tree of these declarations.
+pub record IsDeclared (text : List ℕ) (decls : List Decl) : Type 0 where
+  pub tree : FileTree
+  pub answer : IsFileAnswer text (accepted tree)
+  pub stand : decls ≡ declarations_of tree
+
+-- The text is accepted, over declarations, as a tree of this type.
+pub record IsTypeOf (decls : List Decl) (text : List ℕ) (t : Ty) : Type 0 where
+  pub tree : Texpr
+  pub answer : IsTypeAnswer decls text (accepted tree)
+  pub stands : t ≡ type_of_texpr tree

@@ -1,0 +1,135 @@
+-- The rules that depend on heads, over numbered items of brackets and over declarations.
+use Rattle.std.specs.Prelude.{ℕ, ◌<◌, ◌≡◌, List, [], Option, Some, None, IsSome, option_and_then}
+use Rattle.std.specs.Prelude.{Contains, IfSome, All, length, map, slice_get}
+use Rattle.types_spec.specs.declared.types.decl.Decl.{Decl}
+use Rattle.types_spec.specs.declared.types.head.HeadOf.{HeadOf}
+use Rattle.types_spec.specs.declared.types.head.HeadOf.TheVariants as heads
+use Rattle.types_spec.specs.declared.types.head.TagOf.{TagOf}
+use Rattle.types_spec.specs.types.Ty.{Ty, including, name_of}
+use Rattle.types_spec.specs.types.Declarations.{declaration_of, abbreviated}
+use Rattle.types_spec.specs.types.Nodes.{type_at}
+use Rattle.types_spec.specs.types.Accepted.{AreVariants}
+use Rattle.types_spec.specs.types.Head.{head}
+use Rattle.types_spec.specs.types.Occurrence.{Placed, PlacedItem}
+use Rattle.types_spec.specs.types.Reached.{AreDistinct}
+use Rattle.types_spec.specs.types.Scope.{Rule, not_variant, tag_clash, hash_clash}
+use Rattle.types_spec.specs.types.Scope.{ConflictsAt, HashesAt, IsFlatThroughGroup}
+use Rattle.types_resolve.specs.scope.Least.{IsLeast}
+use Rattle.types_wellformed.specs.declared.brackets.item.Item.{Item}
+use Rattle.types_wellformed.specs.declared.brackets.spellings.Collision.{Collision}
+use Rattle.types_wellformed.specs.brackets.Collisions.{position_of}
+use Rattle.types_wellformed.specs.brackets.Items.{ConflictsIn, CollideIn, CollidesIn}
+use Rattle.types_wellformed.specs.brackets.Trees.{typed_item, written_item, NamesHashAt}
+use Rattle.types_wellformed.specs.declared.head_rules.item.NumberedItem.{NumberedItem}
+
+-- ---- numbered items
+
+-- The tags of a head whose parts are numbers.
+abbrev pub tags_of_head : HeadOf ℕ → List (TagOf ℕ)
+tags_of_head (heads.Variants tags) = tags
+tags_of_head other = []
+
+abbrev pub IsWithin : List Ty → NumberedItem → Type 0
+IsWithin types i = i.number < length types
+
+-- The numbers of the items are those of types in the store.
+abbrev pub AreWithin : List Ty → List NumberedItem → Type 0
+AreWithin types items = All (IsWithin types) items
+
+abbrev pub AreAllWithin : List Ty → List (List NumberedItem) → Type 0
+AreAllWithin types brackets = All (AreWithin types) brackets
+
+-- The item that a numbered item represents.
+abbrev pub item_at : List Ty → NumberedItem → PlacedItem
+item_at types i = (i.position, type_at types i.number)
+
+abbrev pub items_at : List Ty → List NumberedItem → List PlacedItem
+items_at types items = map (item_at types) items
+
+abbrev pub brackets_at : List Ty → List (List NumberedItem) → List (List PlacedItem)
+brackets_at types brackets = map (items_at types) brackets
+
+-- One of these breaks a rule at lexeme `k`.
+abbrev pub SomeBreaks : {X : Type 0} → List X → (X → ℕ → Type 0) → ℕ → Type 0
+SomeBreaks {X} xs Breaks k = (x : X) × Contains xs x × Breaks x k
+
+-- ---- included types
+
+-- The item includes a type that is not a polymorphic variant.
+abbrev pub IncludesOther : List Decl → Ty → Type 0
+IncludesOther decls (including whole t) = ¬ AreVariants (head decls t)
+IncludesOther decls t = ⊥
+
+-- The item at lexeme `k` includes a type that is not a polymorphic variant.
+abbrev pub IncludesOtherAt : List Decl → List Ty → NumberedItem → ℕ → Type 0
+IncludesOtherAt decls types i k = (i.position ≡ k) × IncludesOther decls (type_at types i.number)
+
+abbrev pub ItemsInclude : List Decl → List Ty → List NumberedItem → ℕ → Type 0
+ItemsInclude decls types items k = SomeBreaks items (IncludesOtherAt decls types) k
+
+-- ---- tags
+
+-- The tags of these items are those of the items of the text, with the number of each argument
+-- among distinct types.
+pub record AreTagged
+    (types : List Ty) (decls : List Decl) (tagged : List (List Item)) (all : List (List PlacedItem))
+    : Type 0 where
+  pub distinct : AreDistinct types
+  pub same : map (map (typed_item types)) tagged ≡ map (map (written_item decls)) all
+
+-- Two tags with these names have the same hash in some bracket.
+abbrev pub CollideAmong : List (List Item) → ℕ → List ℕ → List ℕ → Type 0
+CollideAmong tagged k one other =
+    (items : List Item) × Contains tagged items × CollideIn items k one other
+
+-- If `found` is `None`, then no two tags of a bracket have the same hash. Otherwise its tags do,
+-- and no tags do at a lesser lexeme.
+pub record IsLeastAmong (tagged : List (List Item)) (found : Option Collision) : Type 0 where
+  pub least : IsLeast (SomeBreaks tagged CollidesIn) (position_of found)
+  pub names : IfSome found (λ c. CollideAmong tagged c.position c.one.now c.other.now)
+
+-- A bracket of numbered items breaks a rule on tags at lexeme `k`.
+abbrev pub TagsBreak : List (List Item) → Rule → ℕ → Type 0
+TagsBreak tagged tag_clash k = SomeBreaks tagged ConflictsIn k
+TagsBreak tagged hash_clash k = SomeBreaks tagged CollidesIn k
+TagsBreak tagged rule k = ⊥
+
+-- ---- brackets
+
+-- At lexeme `k`, an item includes a type that is not a polymorphic variant, or tags conflict.
+abbrev pub ItemsBreak : List Decl → List PlacedItem → Rule → ℕ → Type 0
+ItemsBreak decls items not_variant k =
+    (i : PlacedItem) × Contains items i × ((i.0 ≡ k) × IncludesOther decls i.1)
+ItemsBreak decls items tag_clash k = ConflictsAt decls items k
+ItemsBreak decls items hash_clash k = HashesAt decls items k
+ItemsBreak decls items rule k = ⊥
+
+-- Some bracket breaks a rule at lexeme `k`.
+abbrev pub BracketsBreak : List Decl → List (List PlacedItem) → Rule → ℕ → Type 0
+BracketsBreak decls all rule k =
+    (items : List PlacedItem) × Contains all items × ItemsBreak decls items rule k
+
+abbrev pub BracketsHash : List Decl → List (List PlacedItem) → ℕ → List ℕ → List ℕ → Type 0
+BracketsHash decls all k one other =
+    (items : List PlacedItem) × Contains all items × NamesHashAt decls items k one other
+
+-- ---- records
+
+-- The declaration is an abbreviation of this group.
+abbrev pub IsOwnDecl : ℕ → Option Decl → Type 0
+IsOwnDecl group None = ⊥
+IsOwnDecl group (Some d) = IsSome (abbreviated d.body) × (d.group ≡ group)
+
+-- An abbreviation of this group is at the head of the type.
+abbrev pub IsOwn : List Decl → ℕ → Ty → Type 0
+IsOwn decls group t = IsOwnDecl group (option_and_then (declaration_of decls) (name_of t))
+
+-- Declaration `i` is a record that is flat through its own group, and its name is at lexeme `k`.
+abbrev pub FlatAt : List Decl → List Placed → ℕ → ℕ → Type 0
+FlatAt decls names i k =
+    (d : Decl) × (p : Placed) × (slice_get decls i ≡ Some d) × (slice_get names i ≡ Some p)
+    × (p.0 ≡ k) × IsFlatThroughGroup decls d.group d.body
+
+-- Some declaration is a record that is flat through its own group, and its name is at lexeme `k`.
+abbrev pub SomeFlat : List Decl → List Placed → ℕ → Type 0
+SomeFlat decls names k = (i : ℕ) × (i < length decls) × FlatAt decls names i k

@@ -1,0 +1,113 @@
+//! The reasons why a text of declarations, or of a type, is refused.
+
+ghost use Rattle.std.specs.Prelude.{◌≡◌};
+ghost use Rattle.types_parse.specs.parse.Parsed.{byte_of};
+ghost use Rattle.types_wellformed.specs.declarations.Fault.{lexed, parsed, broken_at, head_at};
+ghost use Rattle.types_wellformed.specs.declared.declarations.fault.DeclFault.TheVariants as faults;
+
+use crate::head_rules::HeadBreak;
+use base_data::model::Memory;
+use base_data::model::list::List;
+use types_lex::lexeme::{LexFault, Lexeme};
+use types_parse::parse::{Fault, byte_of};
+use types_resolve::scope::{Broken, NameRule};
+
+/// The reason why a text is refused. A number is the offset in bytes at which the refused lexeme
+/// begins.
+#[derive(Drop)]
+pub enum DeclFault {
+    /// The lexer refuses the text.
+    Lex(LexFault),
+    /// A syntax error: no text of the grammar has this lexeme, or the end of the text, at this
+    /// position.
+    Syntax(usize),
+    /// The 201st open bracket, or the end of a type with a depth above 200.
+    TooDeep(usize),
+    /// A type name, constructor, field, parameter or tag that was declared before, or the name of a
+    /// predeclared type.
+    Twice(usize),
+    /// A type name that is neither predeclared nor declared in this group or an earlier one.
+    UnknownName(usize),
+    /// A type name with a wrong number of arguments.
+    Arity(usize),
+    /// A variable in a file that is not a parameter.
+    UnboundVar(usize),
+    /// The declared name of an abbreviation that expands to itself outside tag arguments.
+    Cyclic(usize),
+    /// A type name that is used in its own group with an argument that contains a variable without
+    /// being one.
+    Irregular(usize),
+    /// The 245th constructor with arguments of a declaration.
+    TooManyConstructors(usize),
+    /// A type in a bracket that is not a polymorphic variant.
+    NotVariant(usize),
+    /// An item with a tag that an earlier item has with another argument.
+    TagClash(usize),
+    /// An item with a tag that has the same hash as another tag of the bracket, and the two names.
+    HashClash(usize, List<u8>, List<u8>),
+    /// The declared name of a record whose fields all expand to `float`, at least one through an
+    /// abbreviation of the record's group.
+    FloatInGroup(usize),
+    /// An allocation failed.
+    Memory,
+}
+
+impl From<Memory> for DeclFault {
+    ghost from_gives = { λ _ e. e ≡ faults.Memory };
+
+    fn from(_e: Memory) -> DeclFault {
+        DeclFault::Memory
+    }
+}
+
+/// Returns the fault for an error of the lexer.
+pub fn lex_fault(fault: LexFault) -> DeclFault
+    ensures { result ≡ lexed fault }
+{
+    match fault {
+        LexFault::Memory => DeclFault::Memory,
+        _ => DeclFault::Lex(fault),
+    }
+}
+
+/// Returns the fault for lexemes that the grammar refuses, in a text of `end` bytes.
+pub fn parse_fault(fault: Fault, lexemes: &[Lexeme], end: usize) -> DeclFault
+    ensures { result ≡ parsed lexemes.now end fault }
+{
+    match fault {
+        Fault::Syntax(k) => DeclFault::Syntax(byte_of(lexemes, end, k)),
+        Fault::TooDeep(k) => DeclFault::TooDeep(byte_of(lexemes, end, k)),
+        Fault::Memory => DeclFault::Memory,
+    }
+}
+
+/// Returns the fault for a broken rule on names, in a text of `end` bytes with these lexemes.
+pub fn scope_fault(broken: Broken, lexemes: &[Lexeme], end: usize) -> DeclFault
+    ensures { result ≡ broken_at broken.rule (byte_of lexemes.now end broken.position) }
+{
+    let position = byte_of(lexemes, end, broken.position);
+    match broken.rule {
+        NameRule::Twice => DeclFault::Twice(position),
+        NameRule::UnknownName => DeclFault::UnknownName(position),
+        NameRule::Arity => DeclFault::Arity(position),
+        NameRule::UnboundVariable => DeclFault::UnboundVar(position),
+        NameRule::Cyclic => DeclFault::Cyclic(position),
+        NameRule::Irregular => DeclFault::Irregular(position),
+        NameRule::TooManyConstructors => DeclFault::TooManyConstructors(position),
+    }
+}
+
+/// Returns the fault for a broken rule that depends on heads, in a text of `end` bytes with these
+/// lexemes.
+pub fn head_fault(broken: HeadBreak, lexemes: &[Lexeme], end: usize) -> DeclFault
+    ensures { result ≡ head_at lexemes.now end broken }
+{
+    match broken {
+        HeadBreak::NotVariant(k) => DeclFault::NotVariant(byte_of(lexemes, end, k)),
+        HeadBreak::TagClash(k) => DeclFault::TagClash(byte_of(lexemes, end, k)),
+        HeadBreak::HashClash(k, one, other) => {
+            DeclFault::HashClash(byte_of(lexemes, end, k), one, other)
+        }
+        HeadBreak::FloatInGroup(k) => DeclFault::FloatInGroup(byte_of(lexemes, end, k)),
+    }
+}

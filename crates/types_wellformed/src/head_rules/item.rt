@@ -1,0 +1,113 @@
+//! An item of a bracket, with the number of its type.
+
+ghost use Rattle.std.specs.Prelude.{◌≡◌, ◌<◌, Some, length, slice_get, IfOk};
+ghost use Rattle.types_spec.specs.types.Ty.{bracket, tag, tag_of, including};
+ghost use Rattle.types_spec.specs.types.Nodes.{type_at, types_of};
+ghost use Rattle.types_resolve.specs.scope.Brackets.{item_of, item_known};
+ghost use Rattle.types_table.specs.store.Held.{Grows};
+ghost use Rattle.types_table.specs.store.Instance.{HasNumbers};
+ghost use Rattle.types_wellformed.specs.head_rules.Numbered.{IsNumbered};
+
+use crate::head_rules::nodes::Nodes;
+use base_data::model::Memory;
+use types_resolve::scope::BracketItem;
+use types_spec::types::ty::Node;
+use types_table::store::Types;
+
+/// An item of a bracket.
+#[derive(Clone, Copy)]
+pub struct NumberedItem {
+    /// The index of its first lexeme.
+    pub position: usize,
+    /// The number of the bracket with this item only.
+    pub number: usize,
+}
+
+/// Returns the number of a bracket with this tag only.
+fn tag_number(types: &mut Types, name: &[u8]) -> Result<usize, Memory>
+    ensures grown { Grows types.old types.new }
+    ensures ok { IfOk result (λ n. slice_get types.new n ≡ Some (tag bracket name.now)) }
+{
+    let bracket = types.add_bracket()?;
+    types.add_tag(bracket, name)
+}
+
+/// Returns the number of a bracket with this tag and its argument only.
+fn tag_of_number(types: &mut Types, name: &[u8], argument: usize) -> Result<usize, Memory>
+    requires { argument < length types.old }
+    ensures grown { Grows types.old types.new }
+    ensures ok { IfOk result
+        (λ n. slice_get types.new n ≡ Some (tag_of bracket name.now (type_at types.old argument))) }
+{
+    let bracket = types.add_bracket()?;
+    types.add_tag_of(bracket, name, argument)
+}
+
+/// Returns the number of a bracket with this included type only.
+fn including_number(types: &mut Types, included: usize) -> Result<usize, Memory>
+    requires { included < length types.old }
+    ensures grown { Grows types.old types.new }
+    ensures ok { IfOk result
+        (λ n. slice_get types.new n ≡ Some (including bracket (type_at types.old included))) }
+{
+    let bracket = types.add_bracket()?;
+    types.add_including(bracket, included)
+}
+
+/// Returns the number of the item that a node adds.
+fn node_number(
+    types: &mut Types,
+    nodes: &Nodes<'_>,
+    numbers: &[usize],
+    n: usize,
+) -> Result<usize, Memory>
+    requires numbers { HasNumbers types.old (types_of nodes.now.all.now) numbers.now }
+    requires below { n < length nodes.now.all.now }
+    ensures grown { Grows types.old types.new }
+    ensures ok { IfOk result
+        (λ i. slice_get types.new i ≡ Some (item_of (type_at (types_of nodes.now.all.now) n))) }
+{
+    match &nodes.all[n] {
+        Node::Tag(_, x) => tag_number(types, x.as_slice()),
+        Node::TagOf(_, x, a) => tag_of_number(types, x.as_slice(), numbers[*a]),
+        Node::Including(_, u) => including_number(types, numbers[*u]),
+        _ => Ok(numbers[n]),
+    }
+}
+
+/// Returns the number of the item that a node adds, if the node exists.
+fn item_number(
+    types: &mut Types,
+    nodes: &Nodes<'_>,
+    numbers: &[usize],
+    n: usize,
+) -> Result<usize, Memory>
+    requires numbers { HasNumbers types.old (types_of nodes.now.all.now) numbers.now }
+    ensures grown { Grows types.old types.new }
+    ensures ok { IfOk result
+        (λ i. slice_get types.new i ≡ Some (item_of (type_at (types_of nodes.now.all.now) n))) }
+{
+    if n < nodes.all.len() {
+        node_number(types, nodes, numbers, n)
+    } else {
+        types.add_tuple()
+    }
+}
+
+/// Returns an item with the number of its type.
+pub fn number_item(
+    types: &mut Types,
+    nodes: &Nodes<'_>,
+    numbers: &[usize],
+    item: &BracketItem,
+) -> Result<NumberedItem, Memory>
+    requires numbers { HasNumbers types.old (types_of nodes.now.all.now) numbers.now }
+    ensures grown { Grows types.old types.new }
+    ensures ok { IfOk result
+        (λ i. IsNumbered types.new i (item_known (types_of nodes.now.all.now) item.now)) }
+{
+    Ok(NumberedItem {
+        position: item.position,
+        number: item_number(types, nodes, numbers, item.node)?,
+    })
+}
