@@ -1,7 +1,7 @@
 (* The values that are read, and OCaml's own reader beside omarshal.
 
    `write FILE SHAPE COUNT` writes a value of a shape, or many small ones; `read FILE` reads all values of a file; `copy FILE`
-   writes each value that it reads; `show FILE` and `part FILE` put each pair of an integer and a string, or the integer. *)
+   writes each value that it reads; `show FILE` and `part FILE` print each pair of an integer and a string, or the integer. *)
 
 module Strings = Map.Make (String)
 module Ints = Set.Make (Int)
@@ -21,7 +21,7 @@ type doubling = End | Both of doubling * doubling
 type block = Block of int
 type node = { number : int; left : node option; right : node option }
 
-(* The trees of a small language, each node with its place. *)
+(* The trees of a small language, each node with its line and column. *)
 type location = { line : int; column : int; length : int }
 type constant = Int of int | Text_constant of string | Unit
 
@@ -153,36 +153,36 @@ let shared count = Array.make 1000 (List.init count (fun k -> Block k))
 
 let write file shape count =
   let out = open_out_bin file in
-  let put value = Marshal.to_channel out value [] in
+  let output value = Marshal.to_channel out value [] in
   (match shape with
-  | "list" -> put (list count)
-  | "string_map" -> put (string_map count)
-  | "mixed" -> put (mixed count)
-  | "floats" -> put (floats count)
-  | "json" -> put (json count)
-  | "nested" -> put (nested count)
-  | "graph" -> put (graph count)
-  | "syntax" -> put (syntax count)
-  | "doubling" -> put (doubling count)
-  | "shared" -> put (shared count)
-  | "hashtbl" -> put (hashtbl count)
-  | "set" -> put (set count)
-  | "sets" -> put (sets count)
-  | "twice" -> put (twice count)
-  | "strays" -> put (strays count)
-  | "references" -> put (Array.make count (ref 0))
+  | "list" -> output (list count)
+  | "string_map" -> output (string_map count)
+  | "mixed" -> output (mixed count)
+  | "floats" -> output (floats count)
+  | "json" -> output (json count)
+  | "nested" -> output (nested count)
+  | "graph" -> output (graph count)
+  | "syntax" -> output (syntax count)
+  | "doubling" -> output (doubling count)
+  | "shared" -> output (shared count)
+  | "hashtbl" -> output (hashtbl count)
+  | "set" -> output (set count)
+  | "sets" -> output (sets count)
+  | "twice" -> output (twice count)
+  | "strays" -> output (strays count)
+  | "references" -> output (Array.make count (ref 0))
   | "values" ->
       for k = 1 to count do
-        put (k, string_of_int k)
+        output (k, string_of_int k)
       done
   | "cells" ->
       for k = 1 to count do
-        put [ k ]
+        output [ k ]
       done
   | "clashes" ->
       for k = 1 to count do
         let cell = ref k in
-        put (cell, cell)
+        output (cell, cell)
       done
   | _ -> exit 2);
   close_out out
@@ -210,13 +210,13 @@ let copy file =
   in
   next ()
 
-(* Each value of an integer and a string: as it is told, which is to read it at its type and to print it. *)
-let tell file told =
+(* Reads each pair of an integer and a string of a file, and calls `handle` with it. *)
+let each file handle =
   let input = open_in_bin file in
   let rec next () =
     match (input_value input : int * string) with
     | value ->
-        told value;
+        handle value;
         next ()
     | exception End_of_file -> ()
   in
@@ -231,6 +231,6 @@ let () =
       write file shape (int_of_string count)
   | [| _; "read"; file |] -> read file
   | [| _; "copy"; file |] -> copy file
-  | [| _; "show"; file |] -> tell file show
-  | [| _; "part"; file |] -> tell file part
+  | [| _; "show"; file |] -> each file show
+  | [| _; "part"; file |] -> each file part
   | _ -> exit 2

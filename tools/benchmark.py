@@ -4,7 +4,7 @@
 
 PART is the name of a function of WORK, at the end; with none it is each of them. Time is the median of the processor time
 (user and system) of some runs of the whole process; memory is the greatest resident set. The system counts to a process what
-this script held when it started it: smaller amounts than that are not told apart. Instructions are those of user code for
+this script held when it started it: smaller amounts than that are not distinguished. Instructions are those of user code for
 each object, or each value, by valgrind's callgrind: the difference of two sizes.
 """
 
@@ -57,7 +57,7 @@ REAL = (
     (".cmti", -1, "cmt.types", "cmt_format_cmt_infos"),
 )
 
-Ran = collections.namedtuple("Ran", "seconds peak status line put")
+Ran = collections.namedtuple("Ran", "seconds peak status line written")
 
 
 def ours(ty, command="check", declarations="benchmark.types"):
@@ -98,19 +98,19 @@ def words_of(path):
 
 def values_in(file):
     """Where the values of a compiler's file begin and end: those that stand one after another behind a magic of 12 bytes, of
-    which a .cmt may have two; or the one at the end, whose place four bytes tell."""
-    found, place = [], 0
-    while len(header := os.pread(file.fileno(), 20, place)) >= 12:
+    which a .cmt may have two; or the one at the end, whose offset four bytes give."""
+    found, offset = [], 0
+    while len(header := os.pread(file.fileno(), 20, offset)) >= 12:
         if header[:4] == b"Caml":
-            place += 12
+            offset += 12
             if header[8:9] in (b"O", b"A"):
-                place = int.from_bytes(header[12:16], "big")
+                offset = int.from_bytes(header[12:16], "big")
             continue
         if header[:4] != b"\x84\x95\xa6\xbe":
             break
-        end = place + 20 + int.from_bytes(header[4:8], "big")
-        found.append((place, end))
-        place = end
+        end = offset + 20 + int.from_bytes(header[4:8], "big")
+        found.append((offset, end))
+        offset = end
     return found
 
 
@@ -136,7 +136,7 @@ def limited():
 
 def run(words, name, said="said"):
     """One run on an input: its processor seconds, its greatest memory in MB, its status, how its first line begins, and how many
-    bytes it put."""
+    bytes it wrote."""
     with open(name, "rb") as given, open(inside(said), "wb") as out:
         started = subprocess.Popen(words, stdin=given, stdout=out, stderr=out, cwd=folder, preexec_fn=limited)
         _, status, used = os.wait4(started.pid, 0)
@@ -159,8 +159,8 @@ def instructions(words, name):
     """The instructions of user code of one run, by callgrind."""
     traced = ["valgrind", "--tool=callgrind", f"--callgrind-out-file={inside('traced')}", *words]
     with open(name, "rb") as given:
-        told = subprocess.run(traced, stdin=given, stdout=subprocess.DEVNULL, stderr=subprocess.PIPE, cwd=folder, check=False)
-    return int(re.search(r"Collected : (\d+)", told.stderr.decode()).group(1))
+        traces = subprocess.run(traced, stdin=given, stdout=subprocess.DEVNULL, stderr=subprocess.PIPE, cwd=folder, check=False)
+    return int(re.search(r"Collected : (\d+)", traces.stderr.decode()).group(1))
 
 
 def between(shape, number, commands):
@@ -212,7 +212,7 @@ BESIDE = "omarshal s", "OCaml s", "ratio", "omarshal MB", "OCaml MB", "ratio"
 
 def said(ran):
     """The status of a run, and how its first line begins, where that is text."""
-    return f"{ran.status}: {ran.line if ran.line.isascii() and ran.line.isprintable() and ran.line else f'{ran.put} bytes'}"
+    return f"{ran.status}: {ran.line if ran.line.isascii() and ran.line.isprintable() and ran.line else f'{ran.written} bytes'}"
 
 
 def line(*cells):
@@ -312,7 +312,7 @@ def missing():
 
 
 def small():
-    """Many small values, beside an OCaml program that does the same: reads each, puts it as text or its first part, or copies."""
+    """Many small values, beside an OCaml program that does the same: reads each, prints it as text or its first part, or copies it."""
     name, path, ty = large("values")
     table(f"Each value of {name}:", "what", *BESIDE, "instructions a value", "OCaml's")
     rows = (
@@ -372,16 +372,16 @@ def showing():
         name, path, ty = large(shape)
         commands = ours("int", "show"), ours(ty, "show"), ["./omarshal", "dump"]
         read, *texts = in_turn(*((words, path) for words in commands))
-        line(name, seconds(read), *(it for ran in texts for it in (seconds(ran), ratio(ran, read), ran.put, memory(ran))))
+        line(name, seconds(read), *(it for ran in texts for it in (seconds(ran), ratio(ran, read), ran.written, memory(ran))))
 
 
-def puts(words, given, path):
-    """Whether a run puts the bytes of a file."""
+def writes(words, given, path):
+    """Returns whether a run writes the bytes of a file."""
     run(words, given)
     return "the same" if filecmp.cmp(path, inside("said"), shallow=False) else "DIFFER"
 
 
-# What a script does, the type, shape and count of its input, and its pieces.
+# What a script does, the type, shape and count of its input, and its text in parts.
 SCRIPTS = (
     ("100,000 values, the last one set", "int list", "cells", 100_000, ["99999 set .0 = 7"]),
     ("40,000 values, each set", "int list", "cells", 40_000, (f"{k} set .0 = 7\n" for k in range(40_000))),
@@ -400,28 +400,28 @@ SCRIPTS = (
 
 def scripts():
     """What each script does, the words that take it, and its input."""
-    for what, ty, shape, count, pieces in SCRIPTS:
+    for what, ty, shape, count, parts in SCRIPTS:
         path = inside("script")
         with open(path, "w", encoding="ascii") as out:
-            out.writelines(pieces)
+            out.writelines(parts)
         yield what, [*SMALL_STACK, *ours(ty, "edit"), path], file_of(shape, count)
 
 
 def editing():
-    """`edit` with an empty script, beside OCaml's reading and writing; what is put is the input, byte for byte."""
+    """`edit` with an empty script, beside OCaml's reading and writing. It writes the input, byte for byte."""
     table("With an empty script, in turn with OCaml's reading and writing:", "file", *BESIDE, "the bytes")
     for shape in SHAPES:
         name, path, ty = large(shape)
         words = [*ours(ty, "edit"), "/dev/null"]
         mine, theirs = in_turn((words, path), ([*THEIR_COPY, path], path))
-        line(name, *beside(mine, theirs), puts(words, path, path))
+        line(name, *beside(mine, theirs), writes(words, path, path))
     alone("Scripts and literals, with a stack of 128 kB:", scripts())
 
 
 def building():
-    """`build` of what `show` put, and of the same text with a blank more at its end, which `show` would not put."""
+    """`build` of the output of `show`, and of the same text with one more blank at its end, which `show` never prints."""
     columns = "text bytes", "show s", "build s", "of showing", "show MB", "build MB", "of the text", "the bytes"
-    table("`build` of what `show` put, in turn with `show`:", "file", *columns, "with a blank s", "MB")
+    table("`build` of the output of `show`, in turn with `show`:", "file", *columns, "with a blank s", "MB")
     text, other = inside("text"), inside("other")
     for shape, count in (("list", 1_000_000), ("string_map", 1_000_000), ("mixed", 1_000_000), ("list", 10_000_000)):
         path, ty = file_of(shape, count), SHAPES[shape][1]
@@ -435,7 +435,7 @@ def building():
         size = os.path.getsize(text)
         line(
             f"{shape}_{count}", size, seconds(shown), seconds(built), ratio(built, shown), memory(shown), memory(built),
-            f"{built.peak * 2**20 / size:.1f}", puts(build, text, path), seconds(read), memory(read),
+            f"{built.peak * 2**20 / size:.1f}", writes(build, text, path), seconds(read), memory(read),
         )
 
 
@@ -453,10 +453,10 @@ def certificates():
         path, ty = file_of(shape, count), SHAPES[shape][1]
         commands = lambda _: ours(ty), lambda _: [*ours(ty), "--cert"], lambda it: certified(it, ty)
         per_object = an_object(shape, *commands)
-        done = checked, put, verified = in_turn(*((words(path), path) for words in commands))
+        done = checked, made, verified = in_turn(*((words(path), path) for words in commands))
         assert verified.status == 0, said(verified)
         line(
-            f"{shape}_{count}", put.put, seconds(checked), seconds(put), ratio(put, checked), seconds(verified),
+            f"{shape}_{count}", made.written, seconds(checked), seconds(made), ratio(made, checked), seconds(verified),
             ratio(verified, checked), *map(memory, done), *per_object,
         )
     with open(inside("no_cert"), "wb") as it:

@@ -5,7 +5,7 @@
 #
 #     tools/benchmark.sh [PROGRAM [PART ..]]
 #
-# PROGRAM is by default the one that `./omarshal` built. PART is `inputs`, `reading`, `checking`, `real`, `missing`, `small`,
+# PROGRAM is by default the one that `./omarshal --prove` built. PART is `inputs`, `reading`, `checking`, `real`, `missing`, `small`,
 # `growing`, `hostile`, `showing`, `editing`, `building`, `certificates`, `trees`, `places` or `types`; by default it is each
 # of them. RUNS=3 before the command makes three runs of each, not seven; LIMIT=60 lets one take 60 s, not 20.
 set -eu
@@ -21,7 +21,7 @@ here=$(cd "$(dirname "$0")" && pwd)
 program=${1:-$here/../crates/omarshal/out/omarshal}
 [ $# -eq 0 ] || shift
 if [ ! -x "$program" ]; then
-    echo "there is no program $program: ./omarshal builds it"
+    echo "there is no program $program: ./omarshal --prove builds it"
     exit 2
 fi
 work=$(mktemp -d)

@@ -5,7 +5,7 @@
 
 A body that gives up with out of memory is still proved, so each public function has to be called once where there is memory. This
 counts: in a copy of the crates each function's body begins with a call of a function in C, which notes its number. What the gate runs is
-then run by `rt try`, which proves nothing: the tests of om_tests, and om_conformance and omarshal on their stored input, whose
+then run by `rt try`, which proves nothing: the tests of test_units, and test_conformance and omarshal on their stored input, whose
 output has to be the stored one. It is no static analysis: a function counts as called only where it was.
 
 Listed are the functions that are `pub`, methods among them, and the methods of `impl`s of traits and of traits themselves; with --all the
@@ -25,22 +25,22 @@ import tempfile
 
 TOP = os.path.dirname(os.path.dirname(os.path.realpath(__file__)))
 # The crate that notes calls, which stands in the copy alone.
-NOTE = 'om_called'
+NOTE = 'noted_calls'
 
 # What is called only where an allocation fails. Where it is called, the runs had not ample memory.
 OUT_OF_MEMORY = '*::<* as From<Alloc*>>::from'
 
-# Functions that no run of the gate calls, by patterns of their names, and why that is so. A pattern that excuses nothing is told.
+# Functions that no run of the gate calls, by patterns of their names, and why that is so. A pattern that excuses nothing is reported.
 EXCEPTIONS = [
     (OUT_OF_MEMORY, 'called only where an allocation fails'),
     ('*::<* as From<Memory>>::from', 'called only where memory runs out'),
-    ('om_reference::refusal::<Refusal as fmt::Debug>::fmt', 'prints a refusal with a number of more than 64 bits, and no answer has one'),
-    ('om_tests::outside::edge::<FailsOnce as Write>::flush', 'the trait asks for it, and no test flushes'),
+    ('test_oracles::refusal::<Refusal as fmt::Debug>::fmt', 'prints a refusal with a number of more than 64 bits, and no answer has one'),
+    ('test_units::environment::edge::<FailsOnce as Write>::flush', 'the trait asks for it, and no test flushes'),
     (
-        'om_generator::making::<Generating as Work>::feed',
+        'cmd_gen::command::making::<Generating as Work>::feed',
         'the trait asks for it, the command reads nothing, and no other crate can name it',
     ),
-    ('om_sites::texts::*', 'over a tree of the grammar that no caller can name: docs/DECISIONS.md, The gate'),
+    ('types_resolve::occurrences::texts::*', 'over a tree of the grammar that no caller can name: docs/DECISIONS.md, The gate'),
 ]
 
 KINDS = {
@@ -59,7 +59,7 @@ class Function:
 
 
 def blanked(text):
-    """The text with blanks in the place of comments, strings and characters, and newlines as they were."""
+    """The text with blanks in place of comments, strings and characters, and newlines as they were."""
     pattern = r'''//[^\n]*|/\*.*?\*/|b?r#*"|b?"(?:\\.|[^"\\])*"|b?'(?:\\x[0-9a-fA-F]{2}|\\u\{[0-9a-fA-F]+\}|\\.|[^'\\\n])\''''
     out, at = [], 0
     for found in re.finditer(pattern, text, re.S):
@@ -78,22 +78,22 @@ def blanked(text):
 
 
 def closing(text, at):
-    """The place of the bracket that closes the one at this place."""
+    """The index of the bracket that closes the one at this index."""
     pairs, depth = {'(': ')', '[': ']', '{': '}'}, []
-    for place in range(at, len(text)):
-        char = text[place]
+    for index in range(at, len(text)):
+        char = text[index]
         if char in pairs:
             depth.append(pairs[char])
         elif char in ')]}':
             if char != depth.pop():
                 raise ValueError(f'brackets do not match at {text[at:at + 60]!r}')
             if not depth:
-                return place
+                return index
     raise ValueError(f'a bracket is open at {text[at:at + 60]!r}')
 
 
 def end_of(text, at, ends=';'):
-    """The place of the first of these characters outside brackets."""
+    """The index of the first of these characters outside brackets."""
     while text[at] not in ends:
         at = closing(text, at) + 1 if text[at] in '([{' else at + 1
     return at
@@ -114,7 +114,7 @@ def generics_end(text, at):
 
 
 def head_name(text):
-    """The last word of a type, without its arguments: `DiskFiles` for `om_edge::DiskFiles<R>`."""
+    """The last word of a type, without its arguments: `DiskFiles` for `base_io::DiskFiles<R>`."""
     plain, depth = '', 0
     for at, char in enumerate(text):
         if char == '<':
@@ -127,10 +127,10 @@ def head_name(text):
     return words[-1] if words else plain.strip()
 
 
-def read_items(source, blank, at, end, place, note):
-    """Reads items from one place to another. `place` is (module path, type or trait, kind of the members); `note` takes a function
+def read_items(source, blank, at, end, owner_of, note):
+    """Reads items from one index to another. `owner_of` is (module path, type or trait, kind of the members); `note` takes a function
     and where its body begins, or None."""
-    path, owner, kind = place
+    path, owner, kind = owner_of
     is_public = is_test = False
     while at < end:
         found = re.compile(r"\s+|#!?\[|[\w*]+!?|.").match(blank, at)
@@ -263,26 +263,26 @@ def with_notes(copy, crate, functions):
     for file, path in modules(f'{copy}/crates/{crate}/src'):
         with open(file, encoding='utf-8') as it:
             source = it.read()
-        places = []
+        bodies = []
 
         def note(function, body):
             function.file = os.path.relpath(file, copy)
             if body is None:
                 return
-            places.append((body + 1, len(functions)))
+            bodies.append((body + 1, len(functions)))
             functions.append(function)
 
         blank = blanked(source)
         read_items(source, blank, 0, len(blank.rstrip()), ([crate, *path], None, None), note)
-        for place, number in reversed(places):
-            source = f'{source[:place]} {NOTE}::call({number}); {source[place:]}'
+        for body, number in reversed(bodies):
+            source = f'{source[:body]} {NOTE}::call({number}); {source[body:]}'
         with open(file, 'w', encoding='utf-8') as it:
             it.write(source)
 
 
 def add_note_crate(copy, listed, count):
     """Adds the crate that notes calls, below all others, and gives the file into which it notes them."""
-    told = f'{copy}/called'
+    notes = f'{copy}/called'
     with open(f'{copy}/crates.txt', 'w', encoding='utf-8') as it:
         it.write(re.sub(r'(?m)^(\w+\s*:.*?)\s*$', rf'\1 {NOTE}', listed) + f'\n{NOTE}:\n')
     os.makedirs(f'{copy}/crates/{NOTE}/src')
@@ -312,13 +312,13 @@ void {NOTE}_call(unsigned number) {{
     if (number >= {count} || is_noted[number])
         return;
     is_noted[number] = 1;
-    file = open("{told}", O_WRONLY | O_CREAT | O_APPEND, 0666);
+    file = open("{notes}", O_WRONLY | O_CREAT | O_APPEND, 0666);
     if (file < 0 || write(file, &number, sizeof number) != sizeof number)
         _exit(77);
     close(file);
 }}
 """)
-    return told
+    return notes
 
 
 def run(copy, crate, *words, stdin=b''):
@@ -421,9 +421,9 @@ def main():
         functions, crates = [], crates_of(listed)
         for crate in crates:
             with_notes(copy, crate, functions)
-        told = add_note_crate(copy, listed, len(functions))
+        notes = add_note_crate(copy, listed, len(functions))
         run_all(copy, crates, functions)
-        with open(told, 'rb') as it:
+        with open(notes, 'rb') as it:
             called = set(array.array('I', it.read()))
         return report(functions, called, asked.all)
     finally:

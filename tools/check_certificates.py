@@ -8,10 +8,10 @@ FOLDER has files of OCaml itself, each at its type: KEEP=FOLDER tools/check_real
 
 For each value a certificate is made here by a search from the root, and then changed: a pair left out, added or altered,
 a line left out or doubled, a number one greater or less; 23 times where the value has less than 10,000 bytes, seven times
-below 100,000, once above. Both have to put the same text on out and on err, with the same
-status, and the certificate that was not changed has to be accepted. What `check --cert` puts has to be accepted by both
-too, with the line and the status of `check`; and to be the certificate that is made here, but for a clash, of which any
-is made here. PROGRAM is by default the one that `./omarshal` built.
+below 100,000, once above. Both have to write the same text to standard output and standard error, with the same
+status, and the certificate that was not changed has to be accepted. What `check --cert` writes has to be accepted by both
+too, with the line and the status of `check`. It has to be the certificate that is made here, except that here any aliasing
+conflict is taken. PROGRAM is by default the one that `./omarshal --prove` built.
 """
 import contextlib
 import io
@@ -31,7 +31,7 @@ from value_has_type import Declarations, Input, read_type, read_value
 
 
 def made(table, root, objects):
-    """The lines of a section without its number: the pairs that paths reach, or a fault."""
+    """The lines of a certificate entry without its number: the pairs that paths reach, or a fault."""
     met, first, row = {}, {}, [(root, 0, None)]
     while row:
         later = []
@@ -46,10 +46,10 @@ def made(table, root, objects):
             first.setdefault(value[1], []).append((path, t))
             later += [(objects[value[1]][2][step], u, (path, step)) for step, u in needs.items()]
         row = later
-    for o, places in first.items():
-        if len(places) > 1 and any(table.fit(("ref", o), t, objects)[1] for _, t in places):
-            mutable = next(place for place in places if table.fit(("ref", o), place[1], objects)[1])
-            other = next(place for place in places if place is not mutable)
+    for o, visits in first.items():
+        if len(visits) > 1 and any(table.fit(("ref", o), t, objects)[1] for _, t in visits):
+            mutable = next(visit for visit in visits if table.fit(("ref", o), visit[1], objects)[1])
+            other = next(visit for visit in visits if visit is not mutable)
             one, two = sorted([steps_of(mutable[0]), steps_of(other[0])], key=lambda path: (len(path), path))
             return [f"clash {path_text(one)} {path_text(two)}"]
     least = {c: table.classes.index(c) for c in table.classes}
@@ -99,12 +99,12 @@ class Asked:
     """A table that is asked of the values of one heap, if that is not large: it keeps its answers."""
 
     def __init__(self, table):
-        self.table, self.types, self.classes, self.told = table, table.types, table.classes, {}
+        self.table, self.types, self.classes, self.known = table, table.types, table.classes, {}
 
     def fit(self, value, t, objects):
-        if (value, t) not in self.told:
-            self.told[value, t] = self.table.fit(value, t, objects)
-        return self.told[value, t]
+        if (value, t) not in self.known:
+            self.known[value, t] = self.table.fit(value, t, objects)
+        return self.known[value, t]
 
 
 class Case:
@@ -124,9 +124,9 @@ class Case:
         return self.value
 
     def by_program(self, program, command, *more):
-        """What the program puts on out and on err, and its status."""
-        told = subprocess.run([program, *command, *self.words, *more], input=self.stream, capture_output=True)
-        return told.stdout.decode("latin-1"), told.stderr.decode("latin-1"), told.returncode
+        """The standard output, the standard error and the status of the program."""
+        ran = subprocess.run([program, *command, *self.words, *more], input=self.stream, capture_output=True)
+        return ran.stdout.decode("latin-1"), ran.stderr.decode("latin-1"), ran.returncode
 
     def by_both(self, program, text):
         """The same of the program and of verify_certificate.py where they verify this certificate."""
@@ -140,17 +140,17 @@ class Case:
             status, err = refusal.status, f"omarshal: {refusal}\n"
         return self.by_program(program, ["verify"], "certificate"), (out.getvalue(), err, status)
 
-    def wrong_with_put(self, program):
-        """What is wrong with the certificate that `check --cert` puts of the value, or nothing."""
+    def error_of_certificate(self, program):
+        """What is wrong with the certificate that `check --cert` writes for the value, or nothing."""
         checked = self.by_program(program, ["check"])
         text, err, status = self.by_program(program, ["check", "--cert"])
         if (err, status) != checked[1:]:
             return f"ends with {(err, status)}, check with {checked[1:]}"
         if " clash " not in text and text != text_of(self.lines):
-            return f"puts {shortened(text)}, where {shortened(text_of(self.lines))} is made"
-        for who, told in zip(("verify", "the other"), self.by_both(program, text)):
-            if told != checked:
-                return f"puts {shortened(text)}, of which {who} says {told}, and check {checked}"
+            return f"writes {shortened(text)}, where {shortened(text_of(self.lines))} is made"
+        for who, answer in zip(("verify", "the other"), self.by_both(program, text)):
+            if answer != checked:
+                return f"writes {shortened(text)}, of which {who} says {answer}, and check {checked}"
         return None
 
 
@@ -190,7 +190,7 @@ def main():
         print("skipped: no ocamlc")
         return 0
     if not os.access(program, os.X_OK):
-        print(f"there is no program {program}: ./omarshal builds it")
+        print(f"there is no program {program}: ./omarshal --prove builds it")
         return 2
     work = tempfile.mkdtemp()
     try:
@@ -216,7 +216,7 @@ def turns(size):
 
 
 def compared(work):
-    """What came of one value: the lines to be printed, how many certificates were put, and how many answers there were of
+    """What came of one value: the lines to be printed, how many certificates were written, and how many answers there were of
     each kind."""
     program, (path, types, names), seed = work
     draw, wrong, kinds = random.Random(f"{seed} {path}"), [], {}
@@ -224,9 +224,9 @@ def compared(work):
         stream = file.read()
     for name in names:
         case = Case([types, name], stream, table_of(types, name))
-        put = case.wrong_with_put(program)
-        if put:
-            wrong.append(f"FAILED: check --cert of {path} at {name} {put}")
+        error = case.error_of_certificate(program)
+        if error:
+            wrong.append(f"FAILED: check --cert of {path} at {name} {error}")
         for turn in range(turns(len(stream)) if name == names[0] else 4):
             lines = changed(case.lines, draw) if turn else case.lines
             got, wanted = case.by_both(program, text_of(lines))
@@ -248,14 +248,14 @@ def compare(program, values, seed):
     values.sort(key=lambda value: -os.path.getsize(value[0]))
     failed, written, kinds = 0, 0, {}
     with multiprocessing.Pool(initializer=own_folder) as pool:
-        for wrong, put, told in pool.imap_unordered(compared, [(program, value, seed) for value in values]):
-            failed, written = failed + len(wrong), written + put
+        for wrong, count_written, counts in pool.imap_unordered(compared, [(program, value, seed) for value in values]):
+            failed, written = failed + len(wrong), written + count_written
             for line in wrong:
                 print(line, flush=True)
-            for kind, count in told.items():
+            for kind, count in counts.items():
                 kinds[kind] = kinds.get(kind, 0) + count
     print("answers: " + ", ".join(f"{kind} {count}" for kind, count in sorted(kinds.items())))
-    print(f"{written} certificates were put by check --cert")
+    print(f"{written} certificates were written by check --cert")
     print(f"{sum(kinds.values()) + written - failed} passed, {failed} failed")
     return failed != 0
 

@@ -1,11 +1,12 @@
 #!/usr/bin/env python3
-"""Runs the commands in the tables of README.md, docs/EXAMPLES.md and examples/README.md, and compares what each puts on
-standard output and standard error, and its status, with what its row says, byte by byte:
+"""Runs the commands in the tables of README.md, docs/EXAMPLES.md and examples/README.md, and compares the
+standard output, the standard error and the status of each with its row, byte by byte:
 
     tools/check_examples.py [PROGRAM]
 
-PROGRAM is by default the one that `./omarshal` built. Files that the commands read are made by the pages' own blocks. The
+PROGRAM is by default the one that `./omarshal --prove` built. Files that the commands read are made by the pages' own blocks. The
 commands of examples/README.md are for OCaml 4.13, and left out where there is none."""
+import json
 import os
 import re
 import shutil
@@ -14,7 +15,9 @@ import sys
 import tempfile
 
 top = os.path.dirname(os.path.dirname(os.path.realpath(__file__)))
-COMMAND = re.compile(r"omarshal (build|check|dump|edit|gen|get|same|scan|show|trees|verify)\b")
+with open(os.path.join(top, "tools/commands.json"), encoding="utf-8") as file:
+    NAMES = [command["name"] for command in json.load(file)["commands"]]
+COMMAND = re.compile(rf"omarshal ({'|'.join(NAMES)})\b")
 
 
 def page(name):
@@ -48,18 +51,18 @@ def wrong_rows(name, folder, known):
         for word, meaning in known.items():
             command = command.replace(word, meaning)
         ran = run(command, folder)
-        put = ran.stdout.decode(errors="replace"), ran.stderr.decode(errors="replace")
+        written = ran.stdout.decode(errors="replace"), ran.stderr.decode(errors="replace")
         count += 1
-        if put != (out, err) or status not in (None, str(ran.returncode)):
+        if written != (out, err) or status not in (None, str(ran.returncode)):
             wrong += 1
-            print(f"{name}: {command}\n  puts {put!r}, {ran.returncode}\n  and not {(out, err)!r}, {status}")
+            print(f"{name}: {command}\n  writes {written!r}, {ran.returncode}\n  and not {(out, err)!r}, {status}")
     return count, wrong
 
 
 def main():
     program = os.path.abspath(sys.argv[1] if len(sys.argv) > 1 else os.path.join(top, "crates/omarshal/out/omarshal"))
     if not os.access(program, os.X_OK):
-        print(f"there is no program {program}: ./omarshal builds it")
+        print(f"there is no program {program}: ./omarshal --prove builds it")
         return 2
     with tempfile.TemporaryDirectory() as folder:
         os.mkdir(os.path.join(folder, "bin"))

@@ -3,9 +3,9 @@
 # standard library and of the compiler, each .cmo, .cma, .cmx, .cmxa and .cmt there, and a map, a set, a hash table and a
 # queue; where Coq's standard library is installed (libcoq-stdlib), four segments of each .vo: summary, library, universes
 # and opaques. Each value is found in its file by `scan`, has its type and comes back byte for byte from `edit` with an
-# empty script; where its type has no `_`, also from `build` of what `show` puts of it. With a byte of it damaged it is
+# empty script; where its type has no `_`, also from `build` of the output of `show`. With a byte of it damaged it is
 # refused, or does not have the type, or is another value of it, and omarshal ends with 0, 1 or 4 all the same. The
-# argument is the program; with none it is the one that `./omarshal` built. Where KEEP is set, it names a folder in which
+# argument is the program; with none it is the one that `./omarshal --prove` built. Where KEEP is set, it names a folder in which
 # each value is kept, and the table values.tsv with a line for each: its file, its type file and its type
 # (tools/check_certificates.py).
 set -eu
@@ -24,7 +24,7 @@ here=$(cd "$(dirname "$0")" && pwd)
 examples=$here/../examples
 program=${1:-$here/../crates/omarshal/out/omarshal}
 if [ ! -x "$program" ]; then
-    echo "there is no program $program: ./omarshal builds it"
+    echo "there is no program $program: ./omarshal --prove builds it"
     exit 2
 fi
 library=$(ocamlc -where)
@@ -39,15 +39,15 @@ if [ -n "${KEEP:-}" ]; then
 fi
 
 # Twelve bytes of magic come before the first value of a .cmi, .cmx or .cmxa, and 16 bytes of a checksum after that of a
-# .cmx; a .cmo or .cma has its value at the place that the four bytes after the magic tell.
+# .cmx; a .cmo or .cma has its value at the offset that the four bytes after the magic give.
 after_magic() { tail -c +13 "$1"; }
 before_checksum() { tail -c +13 "$1" | head -c -16; }
 descriptor() {
-    place=$(($(head -c 16 "$1" | tail -c 4 | od -An -tu1 | awk '{ print (($1 * 256 + $2) * 256 + $3) * 256 + $4 }')))
-    tail -c "+$((place + 1))" "$1"
+    offset=$(($(head -c 16 "$1" | tail -c 4 | od -An -tu1 | awk '{ print (($1 * 256 + $2) * 256 + $3) * 256 + $4 }')))
+    tail -c "+$((offset + 1))" "$1"
 }
 
-# The length of the value that begins a file: its header has 20 bytes, of which four tell how many follow. No value here is
+# The length of the value that begins a file: its header has 20 bytes, of which four give the number of bytes that follow. No value here is
 # so large that it has the other header.
 length_of() {
     # shellcheck disable=SC2046
@@ -67,33 +67,33 @@ nth() {
     head -c "$(length_of "$work/rest")" "$work/rest"
 }
 
-# places FILE: where values stand in it.
-places() {
+# offsets FILE: writes the offsets of the values in it.
+offsets() {
     whole=$1
-    "$program" scan < "$1" > "$work/places" 2> "$work/told" || {
-        echo "FAILED: scan of $1: $(cat "$work/told")"
+    "$program" scan < "$1" > "$work/offsets" 2> "$work/err" || {
+        echo "FAILED: scan of $1: $(cat "$work/err")"
         failures=$((failures + 1))
     }
 }
 
-# The value in $work/one stands at one of the places.
+# The value in $work/one is at one of the offsets.
 stands() {
     size=$(($(wc -c < "$work/one")))
     while read -r offset length _; do
         [ "$length" -eq "$size" ] || continue
         ! tail -c "+$((offset + 1))" "$whole" | head -c "$length" | cmp -s - "$work/one" || return 0
-    done < "$work/places"
+    done < "$work/offsets"
     return 1
 }
 
-# hidden WHAT TYPES TYPE LINE: line LINE of the check of $work/values at a type is yes, `scan` tells where the value
+# hidden WHAT TYPES TYPE LINE: line LINE of the check of $work/values at a type is yes, `scan` prints where the value
 # stands in its file, and `edit` writes it as it is. The type may have parts of which nothing is asked.
 hidden() {
     checked=$((checked + 1))
-    "$program" check "$examples/$2" "$3" < "$work/values" > "$work/lines" 2> "$work/told" || true
+    "$program" check "$examples/$2" "$3" < "$work/values" > "$work/lines" 2> "$work/err" || true
     found=$(sed -n "$4p" "$work/lines")
     if [ "$found" != yes ]; then
-        echo "FAILED: $1 at $3: $found $(cat "$work/told")"
+        echo "FAILED: $1 at $3: $found $(cat "$work/err")"
         failures=$((failures + 1))
     fi
     checked=$((checked + 1))
@@ -108,9 +108,9 @@ hidden() {
         cp "$work/one" "$KEEP/$kept.bin"
         printf '%s\t%s\t%s\n' "$kept.bin" "$(realpath "$examples/$2")" "$3" >> "$KEEP/values.tsv"
     fi
-    if ! "$program" edit "$examples/$2" "$3" /dev/null < "$work/one" > "$work/written" 2> "$work/told" ||
+    if ! "$program" edit "$examples/$2" "$3" /dev/null < "$work/one" > "$work/written" 2> "$work/err" ||
         ! cmp -s "$work/one" "$work/written"; then
-        echo "FAILED: edit of $1 at $3 with an empty script: $(cat "$work/told")"
+        echo "FAILED: edit of $1 at $3 with an empty script: $(cat "$work/err")"
         failures=$((failures + 1))
     fi
 }
@@ -119,17 +119,17 @@ hidden() {
 value() {
     hidden "$@"
     checked=$((checked + 1))
-    if ! "$program" show "$examples/$2" "$3" < "$work/one" > "$work/text" 2> "$work/told" ||
-        ! "$program" build "$examples/$2" "$3" < "$work/text" > "$work/built" 2> "$work/told" ||
+    if ! "$program" show "$examples/$2" "$3" < "$work/one" > "$work/text" 2> "$work/err" ||
+        ! "$program" build "$examples/$2" "$3" < "$work/text" > "$work/built" 2> "$work/err" ||
         ! cmp -s "$work/written" "$work/built"; then
-        echo "FAILED: build of what show puts of $1 at $3: $(cat "$work/told")"
+        echo "FAILED: build of the output of show for $1 at $3: $(cat "$work/err")"
         failures=$((failures + 1))
     fi
 }
 
 for file in "$library"/*.cmi "$library"/compiler-libs/*.cmi; do
     [ -f "$file" ] || continue
-    places "$file"
+    offsets "$file"
     after_magic "$file" > "$work/values"
     value "$file" cmi.types 'string * types_signature' 1
     value "$file" cmi.types misc_crcs 2
@@ -137,25 +137,25 @@ for file in "$library"/*.cmi "$library"/compiler-libs/*.cmi; do
 done
 for file in "$library"/*.cmo "$library"/compiler-libs/*.cmo; do
     [ -f "$file" ] || continue
-    places "$file"
+    offsets "$file"
     descriptor "$file" > "$work/values"
     value "$file" cmo.types cmo_format_compilation_unit 1
 done
 for file in "$library"/*.cma "$library"/compiler-libs/*.cma; do
     [ -f "$file" ] || continue
-    places "$file"
+    offsets "$file"
     descriptor "$file" > "$work/values"
     value "$file" cmo.types cmo_format_library 1
 done
 for file in "$library"/*.cmx "$library"/compiler-libs/*.cmx; do
     [ -f "$file" ] || continue
-    places "$file"
+    offsets "$file"
     before_checksum "$file" > "$work/values"
     value "$file" cmx.types cmx_format_unit_infos 1
 done
 for file in "$library"/*.cmxa "$library"/compiler-libs/*.cmxa; do
     [ -f "$file" ] || continue
-    places "$file"
+    offsets "$file"
     after_magic "$file" > "$work/values"
     value "$file" cmx.types cmx_format_library_infos 1
 done
@@ -163,7 +163,7 @@ done
 # A .cmt of a module without an .mli has the three values of its interface first, after the magic of these.
 for file in "$library"/*.cmt "$library"/compiler-libs/*.cmt; do
     [ -f "$file" ] || continue
-    places "$file"
+    offsets "$file"
     after_magic "$file" > "$work/values"
     if [ "$(head -c 12 "$file")" = Caml1999I030 ]; then
         for _ in 1 2 3; do
@@ -176,12 +176,12 @@ for file in "$library"/*.cmt "$library"/compiler-libs/*.cmt; do
     hidden "$file" cmt.types cmt_format_cmt_infos 1
 done
 
-# A .vo has the place of its table after the magic and the version, in 8 bytes. The table is a number of segments in 4
-# bytes, and for each the length of its name in 4, its name, its place and its length in 8 each, and a checksum of 16.
+# A .vo has the offset of its table after the magic and the version, in 8 bytes. The table is a number of segments in 4
+# bytes, and for each the length of its name in 4, its name, its offset and its length in 8 each, and a checksum of 16.
 vo_version() { head -c 8 "$1" | tail -c 4 | od -An -v -tu1 | awk '{ print (($1 * 256 + $2) * 256 + $3) * 256 + $4 }'; }
 segments() {
-    place=$(head -c 16 "$1" | tail -c 8 | od -An -v -tu1 | awk '{ for (i = 1; i <= 8; i++) n = n * 256 + $i; print n }')
-    tail -c "+$((place + 1))" "$1" | od -An -v -tu1 | awk '
+    offset=$(head -c 16 "$1" | tail -c 8 | od -An -v -tu1 | awk '{ for (i = 1; i <= 8; i++) n = n * 256 + $i; print n }')
+    tail -c "+$((offset + 1))" "$1" | od -An -v -tu1 | awk '
         function number(size,  n) { for (n = 0; size > 0; size--) n = n * 256 + byte[++at]; return n }
         function text(size,  s) { for (s = ""; size > 0; size--) s = s sprintf("%c", byte[++at]); return s }
         { for (i = 1; i <= NF; i++) byte[++count] = $i }
@@ -192,20 +192,20 @@ segments() {
 segment() {
     kind=$1
     shift
-    place=$(sed -n "s/^$2 \([0-9]*\) .*/\1/p" "$work/table")
+    offset=$(sed -n "s/^$2 \([0-9]*\) .*/\1/p" "$work/table")
     length=$(sed -n "s/^$2 [0-9]* //p" "$work/table")
-    tail -c "+$((place + 1))" "$1" | head -c "$length" > "$work/values"
+    tail -c "+$((offset + 1))" "$1" | head -c "$length" > "$work/values"
     "$kind" "$2 of $1" vo.types "$3" 1
 }
 
-find "$library/coq" -name '*.vo' 2> "$work/told" | sort > "$work/vo"
+find "$library/coq" -name '*.vo' 2> "$work/err" | sort > "$work/vo"
 [ -s "$work/vo" ] || echo "skipped: .vo files, as there is no libcoq-stdlib"
 while IFS= read -r file; do
     if [ "$(vo_version "$file")" -ne 81601 ]; then
         echo "skipped: .vo files, as they are not those of Coq 8.16.1"
         break
     fi
-    places "$file"
+    offsets "$file"
     segments "$file" > "$work/table"
     segment value "$file" summary library_seg_sum
     segment hidden "$file" library library_seg_lib
@@ -214,10 +214,10 @@ while IFS= read -r file; do
 done < "$work/vo"
 
 ocaml "$examples/containers.ml" "$work"
-cp "$work/map.bin" "$work/values" && places "$work/map.bin" && value 'a map' map.types 'int map_make_string_t' 1
-cp "$work/set.bin" "$work/values" && places "$work/set.bin" && value 'a set' set.types set_make_string_t 1
-cp "$work/hashtbl.bin" "$work/values" && places "$work/hashtbl.bin" && value 'a hash table' hashtbl.types '(string, int) hashtbl_t' 1
-cp "$work/queue.bin" "$work/values" && places "$work/queue.bin" && value 'a queue' queue.types 'int queue_t' 1
+cp "$work/map.bin" "$work/values" && offsets "$work/map.bin" && value 'a map' map.types 'int map_make_string_t' 1
+cp "$work/set.bin" "$work/values" && offsets "$work/set.bin" && value 'a set' set.types set_make_string_t 1
+cp "$work/hashtbl.bin" "$work/values" && offsets "$work/hashtbl.bin" && value 'a hash table' hashtbl.types '(string, int) hashtbl_t' 1
+cp "$work/queue.bin" "$work/values" && offsets "$work/queue.bin" && value 'a queue' queue.types 'int queue_t' 1
 
 # A map is no set.
 "$program" check "$examples/set.types" set_make_string_t < "$work/map.bin" > "$work/lines" || true
@@ -230,26 +230,26 @@ grep -q '^no ' "$work/lines" || { echo "FAILED: a map is taken for a set"; failu
 after_magic "$library/stdlib__Unit.cmi" > "$work/whole"
 length=$(length_of "$work/whole")
 nth 1 "$work/whole" > "$work/first"
-place=0
+offset=0
 seen=0
 for byte in $(od -An -v -tu1 "$work/first"); do
     checked=$((checked + 1))
     # shellcheck disable=SC2059
-    { head -c "$place" "$work/first"; printf "\\$(printf %03o $((255 - byte)))"; tail -c "+$((place + 2))" "$work/first"; } \
+    { head -c "$offset" "$work/first"; printf "\\$(printf %03o $((255 - byte)))"; tail -c "+$((offset + 2))" "$work/first"; } \
         > "$work/values"
     status=0
-    "$program" check "$examples/cmi.types" 'string * types_signature' < "$work/values" > "$work/lines" 2> "$work/told" ||
+    "$program" check "$examples/cmi.types" 'string * types_signature' < "$work/values" > "$work/lines" 2> "$work/err" ||
         status=$?
     case $status in
         1 | 4) seen=$((seen + 1)) ;;
     esac
-    case $place:$status in
+    case $offset:$status in
         ?:4 | 1?:4 | 20:[14]) ;;
-        ?:* | 1?:* | 20:*) echo "FAILED: byte $place damaged: status $status"; failures=$((failures + 1)) ;;
+        ?:* | 1?:* | 20:*) echo "FAILED: byte $offset damaged: status $status"; failures=$((failures + 1)) ;;
         *:[014]) ;;
-        *) echo "FAILED: byte $place damaged: status $status"; failures=$((failures + 1)) ;;
+        *) echo "FAILED: byte $offset damaged: status $status"; failures=$((failures + 1)) ;;
     esac
-    place=$((place + 1))
+    offset=$((offset + 1))
 done
 echo "$seen of $length damaged bytes are refused or no"
 

@@ -3,7 +3,7 @@
 # compiled, one with a type of each kind that the grammar of declarations has, one with types whose names meet. Programs
 # compiled with them write values of each type and of near but other types; the declarations are made from the .cmi files.
 # Of the first omarshal says `yes`, of the others `no`. Each type that was declared is asked for, and gets both answers.
-# The argument is the program; with none it is the one that `./omarshal` built.
+# The argument is the program; with none it is the one that `./omarshal --prove` built.
 set -eu
 export LC_ALL=C
 if ! command -v ocamlc > /dev/null 2>&1; then
@@ -26,14 +26,14 @@ esac
 here=$(cd "$(dirname "$0")" && pwd)
 program=${1:-$here/../crates/omarshal/out/omarshal}
 if [ ! -x "$program" ]; then
-    echo "there is no program $program: ./omarshal builds it"
+    echo "there is no program $program: ./omarshal --prove builds it"
     exit 2
 fi
 program=$(cd "$(dirname "$program")" && pwd)/$(basename "$program")
 work=$(mktemp -d)
 trap 'rm -rf "$work"' EXIT
 cp "$here/expected/every_kind.ml" "$here/expected/every_kind_values.ml" \
-    "$here/expected/clashes.ml" "$here/expected/clashes_values.ml" "$work"
+    "$here/expected/conflicts.ml" "$here/expected/conflicts_values.ml" "$work"
 cd "$work"
 sh "$here/build_types_of_cmi.sh" types_of_cmi
 passed=0
@@ -48,10 +48,10 @@ failed() {
 judged() {
     while IFS='	' read -r file verdict type; do
         status=0
-        "$program" check "$1.types" "$type" < "$2/$file" > line 2> told || status=$?
+        "$program" check "$1.types" "$type" < "$2/$file" > line 2> err || status=$?
         case $verdict$status$(cat line) in
             yes0yes | no1no\ *) passed=$((passed + 1)) ;;
-            *) failed "$2/$file at $type is $verdict, and not $(cat line) $(cat told) (status $status)" ;;
+            *) failed "$2/$file at $type is $verdict, and not $(cat line) $(cat err) (status $status)" ;;
         esac
     done < "$1.tsv"
 }
@@ -89,6 +89,6 @@ asked() {
 
 module every_kind Every_kind.all
 asked every_kind
-module clashes --cmt Clashes.all
+module conflicts --cmt Conflicts.all
 echo "$passed passed, $failures failed"
 [ "$failures" -eq 0 ]

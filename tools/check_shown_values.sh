@@ -1,7 +1,7 @@
 #!/bin/sh
 # Reads what `omarshal show` prints back by OCaml: values of every kind are written by OCaml and shown, each text is turned
 # into an expression of OCaml (shown_to_ocaml.py), whose value OCaml writes again, and `omarshal same` says that both are the
-# same, with all that they share. What `build` makes of the text are the bytes that `edit` writes with an empty script. The argument is the program; with none it is the one that `./omarshal` built.
+# same, with all that they share. What `build` makes of the text are the bytes that `edit` writes with an empty script. The argument is the program; with none it is the one that `./omarshal --prove` built.
 set -eu
 export LC_ALL=C
 for needed in ocaml ocamlc python3; do
@@ -13,7 +13,7 @@ done
 here=$(cd "$(dirname "$0")" && pwd)
 program=${1:-$here/../crates/omarshal/out/omarshal}
 if [ ! -x "$program" ]; then
-    echo "there is no program $program: ./omarshal builds it"
+    echo "there is no program $program: ./omarshal --prove builds it"
     exit 2
 fi
 program=$(cd "$(dirname "$program")" && pwd)/$(basename "$program")
@@ -34,14 +34,14 @@ mkdir values
 } > again.ml
 failures=0
 while IFS='	' read -r file type; do
-    if ! "$program" show shown.ml "$type" < "values/$file" > text 2> told; then
-        echo "FAILED: show $file at $type: $(head -c 200 text) $(cat told)"
+    if ! "$program" show shown.ml "$type" < "values/$file" > text 2> err; then
+        echo "FAILED: show $file at $type: $(head -c 200 text) $(cat err)"
         failures=$((failures + 1))
         continue
     fi
-    if ! "$program" edit shown.ml "$type" /dev/null < "values/$file" > edited 2> told ||
-        ! "$program" build shown.ml "$type" < text > built 2> told || ! cmp -s edited built; then
-        echo "FAILED: build of what show puts of $file at $type: $(cat told)"
+    if ! "$program" edit shown.ml "$type" /dev/null < "values/$file" > edited 2> err ||
+        ! "$program" build shown.ml "$type" < text > built 2> err || ! cmp -s edited built; then
+        echo "FAILED: build of the output of show for $file at $type: $(cat err)"
         failures=$((failures + 1))
     fi
     {

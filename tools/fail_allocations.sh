@@ -1,5 +1,5 @@
 #!/usr/bin/env bash
-# Runs the tests of om_tests once for each of some numbers N, with the N-th allocation of each test failing. A test either never
+# Runs the tests of test_units once for each of some numbers N, with the N-th allocation of each test failing. A test either never
 # asks for so many, and passes, or returns the error that memory ran out. One that fails by an assertion, a fault or another error
 # answered wrongly: it is printed, and the status is then 1.
 #
@@ -9,12 +9,12 @@
 # there is none, it says so, and the status is 1 where the numbers are not given. Each N is one build by `rt try`, which proves
 # nothing: a minute or so.
 set -u
-cd "$(dirname "$0")/../crates/om_tests" || exit 2
+cd "$(dirname "$0")/../crates/test_units" || exit 2
 command -v rt >/dev/null || { echo 'fail_allocations: the command rt is missing, so nothing was tried' >&2; exit 2; }
 numbers=("$@")
 [ $# -gt 0 ] || numbers=(1 2 3 5 8 13 21 34 55 100 200 300 1000 3000 10000)
-told=$(mktemp) || exit 2
-trap 'rm -f "$told"' EXIT
+log=$(mktemp) || exit 2
+trap 'rm -f "$log"' EXIT
 trap 'exit 130' INT TERM
 
 # Each test has a line `test NAME ... ok` or `.. FAILED`, and after the latter what it wrote, indented.
@@ -33,12 +33,12 @@ count() {
             if (!ended) { printf "N = %s: the tests were not run\n%s", number, said; exit 2 }
             printf "N = %s: %d pass, %d run out of memory, %d wrong\n", number, passed, memory, wrong
             exit wrong ? 1 : memory ? 0 : 3
-        }' "$told"
+        }' "$log"
 }
 
 status=0
 for number in "${numbers[@]}"; do
-    rt try --test --seconds 600 --fail-alloc "$number" >"$told" 2>&1
+    rt try --test --seconds 600 --fail-alloc "$number" >"$log" 2>&1
     count "$number"
     case $? in
         0) ;;

@@ -1,15 +1,15 @@
 #!/usr/bin/env bash
-# Refuses each growth of memory of a run in turn, for every command. The run then ends with 9, the line `out of memory`, and a front of
-# the whole answer on standard output; or, where nothing came of the growth, with the whole answer. Anything else is told, and the
+# Refuses each growth of memory of a run in turn, for every command. The run then ends with 9, the line `out of memory`, and a prefix of
+# the whole answer on standard output; or, where nothing came of the growth, with the whole answer. Anything else is reported, and the
 # status is 1. Each line says how many growths were refused so.
 #
-#   tools/fail_growths.sh [PROGRAM]      PROGRAM is by default the one that `./omarshal` built
+#   tools/fail_growths.sh [PROGRAM]      PROGRAM is by default the one that `./omarshal --prove` built
 #
 # Without a C compiler it says `skipped: no cc` and ends with 0.
 set -u
 here=$(cd "$(dirname "$0")" && pwd)
 program=$(readlink -f "${1:-$here/../crates/omarshal/out/omarshal}")
-[ -x "$program" ] || { echo 'fail_growths: there is no program: ./omarshal builds it' >&2; exit 2; }
+[ -x "$program" ] || { echo 'fail_growths: there is no program: ./omarshal --prove builds it' >&2; exit 2; }
 command -v cc >/dev/null || { echo 'skipped: no cc'; exit 0; }
 work=$(mktemp -d) || exit 2
 trap 'rm -rf "$work"' EXIT
@@ -35,7 +35,7 @@ for _ in 1 2; do
 done >doubles
 printf '::(1.5, []) (* 2.5 *)\n\n::(-1e-7, ::(0.1, []))' >decimals
 printf '0 set .0 = 0.1\n1 set . = ::(2.5, [])\n' >decimal_script
-# A certificate of three times the list, the last section of which states a fault that is none.
+# A certificate of three times the list, whose last entry states a fault that is none.
 cat >certificate <<'END'
 value 0 yes
 pair 0 0
@@ -58,7 +58,7 @@ printf '1 graft .1 = 0 .\n2 graft .1.1 = 1 .1\n' >grafts
     cat input
     printf 'gap\n'
     head -c 22 input
-} >places
+} >offsets
 
 wrong=0
 input=input
@@ -105,7 +105,7 @@ refuse trees trees types tree
 input=texts
 refuse build build types t
 refuse 'build (refused)' build types 'int option'
-input=places
+input=offsets
 refuse scan scan
 refuse gen gen 7 3 'int list'
 exit "$wrong"

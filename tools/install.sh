@@ -1,30 +1,65 @@
 #!/usr/bin/env bash
-# Installs the program below a folder: bin/omarshal, the manual page, completion for bash and zsh, and, where OCaml with its library
-# compiler-libs is there, bin/types_of_cmi as a native program.
+# Installs omarshal below a folder:
 #
-#   tools/install.sh PREFIX [PROGRAM]    PROGRAM is by default the one that `./omarshal` builds, which is built first if need be
+#   tools/install.sh [--without-types-of-cmi] PREFIX [PROGRAM]
+#
+#   bin/omarshal          the launcher, which runs the program and answers --help and --version
+#   libexec/omarshal/     the program, as `omarshal` if it is proved and as `omarshal-unproved` otherwise; the help texts
+#   share/                the manual page, completions for bash and zsh, and the documents
+#   bin/types_of_cmi      only with OCaml 4.13 and its library compiler-libs
+#
+# PROGRAM is by default the proved program if it is built and current. Otherwise it is the unproved program, which is built first
+# if needed. Any PROGRAM but the current proved program of this repository is installed as unproved. With OMARSHAL_PROVED=1 only a
+# proved program is installed.
 set -eu
-[ $# -ge 1 ] && [ $# -le 2 ] || { echo 'usage: tools/install.sh PREFIX [PROGRAM]' >&2; exit 2; }
 top=$(cd "$(dirname "$0")/.." && pwd)
-if [ $# -eq 2 ]; then
-    program=$2
-else
-    "$top/omarshal" check /dev/null int </dev/null
-    program=$top/crates/omarshal/out/omarshal
+. "$top/tools/program.sh"
+say() { printf 'install: %s\n' "$*" >&2; }
+left_out=
+if [ "${1-}" = --without-types-of-cmi ]; then left_out='it is not wanted'; shift; fi
+[ $# -ge 1 ] && [ $# -le 2 ] || { echo 'usage: tools/install.sh [--without-types-of-cmi] PREFIX [PROGRAM]' >&2; exit 2; }
+program=${2-$proved}
+[ $# -eq 2 ] || is_current "$proved" || program=$unproved
+name=omarshal-unproved other=omarshal
+if [ "$(readlink -f "$program")" = "$(readlink -f "$proved")" ] && is_current "$proved"; then name=omarshal other=omarshal-unproved; fi
+if [ "$name" = omarshal-unproved ] && [ "${OMARSHAL_PROVED-}" = 1 ]; then
+    say "OMARSHAL_PROVED=1, but there is no current proved program: tools/prove.sh builds it"
+    exit 1
 fi
-[ -x "$program" ] || { echo "install: there is no program $program" >&2; exit 2; }
+if [ $# -eq 1 ] && [ "$program" = "$unproved" ]; then "$top/tools/quick_build.sh" --if-needed >/dev/null; fi
+if [ ! -f "$program" ] || [ ! -x "$program" ]; then say "there is no program $program"; exit 2; fi
 mkdir -p "$1"
 prefix=$(cd "$1" && pwd)
 
-put() { install -D -m "$1" "$2" "$prefix/$3" && echo "$prefix/$3"; }
-put 755 "$program" bin/omarshal
-put 644 "$top/docs/omarshal.1" share/man/man1/omarshal.1
-put 644 "$top/tools/completion/omarshal.bash" share/bash-completion/completions/omarshal
-put 644 "$top/tools/completion/_omarshal" share/zsh/site-functions/_omarshal
+copy() { install -D -m "$1" "$2" "$prefix/$3" && echo "$prefix/$3"; }
+copy 755 "$top/omarshal" bin/omarshal
+copy 755 "$program" "libexec/omarshal/$name"
+rm -f "$prefix/libexec/omarshal/$other"
+copy 644 "$top/tools/explain_usage.sh" libexec/omarshal/explain_usage.sh
+for file in "$top/tools/help"/*; do copy 644 "$file" "libexec/omarshal/help/$(basename "$file")"; done
+{ cat "$top/VERSION" && { git -C "$top" rev-parse --short HEAD 2>/dev/null || echo unknown; }; } >"$prefix/libexec/omarshal/VERSION"
+copy 644 "$top/docs/omarshal.1" share/man/man1/omarshal.1
+copy 644 "$top/tools/completion/omarshal.bash" share/bash-completion/completions/omarshal
+copy 644 "$top/tools/completion/_omarshal" share/zsh/site-functions/_omarshal
+for file in "$top/README.md" "$top/CHANGES.md"; do copy 644 "$file" "share/doc/omarshal/$(basename "$file")"; done
+for file in "$top/docs"/*.md; do copy 644 "$file" "share/doc/omarshal/docs/$(basename "$file")"; done
+for file in "$top/examples"/*.types "$top/examples/README.md"; do copy 644 "$file" "share/doc/omarshal/examples/$(basename "$file")"; done
 
-if ! command -v ocamlopt >/dev/null || [ ! -f "$(ocamlc -where)/compiler-libs/ocamlcommon.cmxa" ]; then
-    echo 'skipped: bin/types_of_cmi, as there is no ocamlopt with compiler-libs'
-    exit 0
+"$prefix/bin/omarshal" check /dev/null int </dev/null 2>/dev/null || { say "the installed program does not answer: $program"; exit 1; }
+
+if [ -n "$left_out" ]; then
+    :
+elif ! command -v ocamlopt >/dev/null; then
+    left_out='there is no ocamlopt'
+elif [[ $(ocamlopt -version) != 4.13.* ]]; then
+    left_out="it needs OCaml 4.13, and this is OCaml $(ocamlopt -version)"
+elif [ ! -f "$(ocamlopt -where)/compiler-libs/ocamlcommon.cmxa" ]; then
+    left_out='the library compiler-libs is missing'
 fi
-sh "$top/tools/build_types_of_cmi.sh" "$prefix/bin/types_of_cmi"
-echo "$prefix/bin/types_of_cmi"
+if [ -n "$left_out" ]; then
+    say "bin/types_of_cmi is left out: $left_out"
+else
+    sh "$top/tools/build_types_of_cmi.sh" "$prefix/bin/types_of_cmi"
+    echo "$prefix/bin/types_of_cmi"
+fi
+[ "$name" = omarshal ] || say "the installed program is not proved; tools/prove.sh builds the proved one"

@@ -4,7 +4,7 @@
     python3 shown_to_ocaml.py < TEXT > EXPRESSION
 
 Leaves become variables that are bound first, since `let rec` takes no calls; labels become variables of one `let rec`.
-Where a string stands at `bytes`, or a row of doubles at `floatarray`, the text does not tell: both go through `Obj.magic`.
+Where a string stands at `bytes`, or a row of doubles at `floatarray`, the text does not show it: both go through `Obj.magic`.
 """
 
 import os

@@ -1,12 +1,12 @@
 #!/bin/sh
 # Counts how many of the types that the installed OCaml libraries export get a type file by types_of_cmi, and what is
-# told of the others. Each type is asked for at `int` for its parameters, with --cmt; "wrong" are those of which `int` is
+# reported of the others. Each type is asked for at `int` for its parameters, with --cmt; "wrong" are those of which `int` is
 # no argument. With the word --any, "less" are the files in which less is asked than OCaml has.
 #
 #   sh tools/survey_types.sh [NUMBER [FILE [WORD..]]]
 #
 # Of a library with more than NUMBER types, by default 60, so many are taken, spread evenly over all. FILE gets a line for
-# each type: its library, the type, the status, and what was told. WORDs go to types_of_cmi.
+# each type: its library, the type, the status, and what was reported. WORDs go to types_of_cmi.
 set -eu
 export LC_ALL=C
 for needed in ocaml ocamlc; do
@@ -43,8 +43,8 @@ ocaml -I +compiler-libs ocamlcommon.cma "$here/exported_types.ml" < "$work/inter
     ' | sort -s -t '	' -k 1,1 > "$work/all"
 awk -F '\t' -v number="$number" '
     NR == FNR { count[$1]++; next }
-    { place = seen[$1]++ }
-    int((place + 1) * number / count[$1]) != int(place * number / count[$1])
+    { index_of = seen[$1]++ }
+    int((index_of + 1) * number / count[$1]) != int(index_of * number / count[$1])
 ' "$work/all" "$work/all" > "$work/taken"
 
 # Each is looked for in the folder of its library first.
@@ -76,7 +76,7 @@ awk -F '\t' '
         printf form, "all", NR, found["all", 0] + 0, less["all"] + 0, found["all", 1] + 0, found["all", 2] + 0
         if (NR > 0) printf "%d of 100 types have a file\n", int(100 * found["all", 0] / NR + 0.5)
         print ""
-        print "what is told of types without a file; how many have it; how many have it alone"
+        print "what is reported of types without a file; how many have it; how many have it alone"
         for (reason in with) printf "%6d %6d  %s\n", with[reason], alone[reason] + 0, reason | "sort -rn"
     }
 ' "$results"

@@ -1,5 +1,5 @@
 #!/bin/sh
-# Tries types_of_cmi: what it prints and tells, beside texts that were written by hand, and whether values that OCaml
+# Tries types_of_cmi: what it prints on standard output and standard error, beside texts that were written by hand, and whether values that OCaml
 # writes have the types that it prints, by the judgement of value_has_type.py.
 set -eu
 export LC_ALL=C
@@ -69,12 +69,12 @@ judged() {
     echo "$declared: yes $(grep -c yes wanted.txt || true), no $(grep -c no wanted.txt || true)"
 }
 
-# Twelve bytes of magic come before the first value of a .cmi, .cmx or .cmxa; a .cmo or .cma has its value at the place
-# that the four bytes after the magic tell.
+# Twelve bytes of magic come before the first value of a .cmi, .cmx or .cmxa; a .cmo or .cma has its value at the offset
+# that the four bytes after the magic give.
 after_magic() { tail -c +13 "$1"; }
 descriptor() {
-    place=$(($(head -c 16 "$1" | tail -c 4 | od -An -tu1 | awk '{ print (($1 * 256 + $2) * 256 + $3) * 256 + $4 }')))
-    tail -c "+$((place + 1))" "$1"
+    offset=$(($(head -c 16 "$1" | tail -c 4 | od -An -tu1 | awk '{ print (($1 * 256 + $2) * 256 + $3) * 256 + $4 }')))
+    tail -c "+$((offset + 1))" "$1"
 }
 
 cp "$expected"/*.ml "$expected"/*.mli .
@@ -153,12 +153,12 @@ by_words copied Copied.all
 by_words indexed --cmt Indexed.all
 by_words shut --cmt Shut.Inner.file
 
-# Parts that have no form, of which nothing is asked. The last line of what is told is the type.
+# Parts that have no form, of which nothing is asked. The last line on standard error is the type.
 mv gone.cmi gone.saved
 by_words unasked --cmt --any Unasked.all
 mv gone.saved gone.cmi
 cp "$expected/unasked.txt" wanted.txt
-same "what is told of unasked.ml" wanted.txt word.txt
+same "what is reported of unasked.ml" wanted.txt word.txt
 
 # `_` by hand: without --any, for a type, in a body, and in TYPE
 made found.types --declare 'Refused.job = _' Refused.queue
@@ -174,7 +174,7 @@ END
 printf '%s\n' 'types_of_cmi: Refused.queue -> constructor Jobs -> field first -> Refused.job: _ by hand' refused_queue > wanted.txt
 declarations found.types > cut.types
 same "a type that is _ by hand" wanted.types cut.types
-same "what is told of a type that is _ by hand" wanted.txt word.txt
+same "what is reported of a type that is _ by hand" wanted.txt word.txt
 
 made found.types --declare 'Refused.job = { name : string; run : _ }' '_ list * Refused.job'
 cat > wanted.types << 'END'
@@ -187,7 +187,7 @@ END
 printf '%s\n' 'types_of_cmi: TYPE: _ by hand' 'types_of_cmi: Refused.job -> field run: _ by hand' '_ list * refused_job' > wanted.txt
 declarations found.types > cut.types
 same "parts that are _ by hand" wanted.types cut.types
-same "what is told of parts that are _ by hand" wanted.txt word.txt
+same "what is reported of parts that are _ by hand" wanted.txt word.txt
 
 # A type that stands in an implementation alone, by another name of its module; an index that is hidden
 made found.types --cmt 'Shut_names.Part.size * Hidden.meters Indexed.length'
@@ -235,7 +235,7 @@ END
 declarations found.types > cut.types
 same "declarations by hand of types without an interface" wanted.types cut.types
 
-# A folder that is not there is told, and the type comes after that.
+# A folder that is not there is reported, and the type comes after that.
 made found.types -I nowhere -I +nowhere -I +compiler-libs int
 cat > wanted.txt << 'END'
 types_of_cmi: no folder nowhere, which -I gives
@@ -244,14 +244,14 @@ int
 END
 same "a folder that is not there" wanted.txt word.txt
 
-# told STATUS WORD..: the tool ends with the status, prints nothing, and tells what standard input has.
-told() {
+# fails STATUS ARGUMENT..: the tool ends with the status, prints nothing, and reports what standard input has.
+fails() {
     wanted_status=$1
     shift
     cat > wanted.txt
     status=0
-    ./types_of_cmi "$@" > printed.txt 2> told.txt || status=$?
-    same "types_of_cmi $*" wanted.txt told.txt
+    ./types_of_cmi "$@" > printed.txt 2> err.txt || status=$?
+    same "types_of_cmi $*" wanted.txt err.txt
     if [ "$status" -ne "$wanted_status" ] || [ -s printed.txt ]; then
         echo "FAILED: types_of_cmi $*: status $status"
         failures=$((failures + 1))
@@ -259,31 +259,31 @@ told() {
 }
 
 # Types of which nothing would be asked; a `_` by hand is no --any
-told 1 --any 'int -> int' << 'END'
+fails 1 --any 'int -> int' << 'END'
 types_of_cmi: TYPE: _ for a function
 types_of_cmi: int -> int: nothing is asked of a value of this type
 END
-told 1 --any 'int Seq.t' << 'END'
+fails 1 --any 'int Seq.t' << 'END'
 types_of_cmi: Seq.t: _ for a function
 types_of_cmi: int Seq.t: nothing is asked of a value of this type
 END
-told 1 --any Refused.loop << 'END'
+fails 1 --any Refused.loop << 'END'
 types_of_cmi: Refused.loop: _ for a type that is only another name of itself
 types_of_cmi: Refused.loop: nothing is asked of a value of this type
 END
-told 1 --any 'string Refused.only_int' << 'END'
+fails 1 --any 'string Refused.only_int' << 'END'
 types_of_cmi: Refused.only_int at string: _ for a variant without constructors
 types_of_cmi: string Refused.only_int: nothing is asked of a value of this type
 END
-told 1 --declare 'Refused.job = _' Refused.job << 'END'
+fails 1 --declare 'Refused.job = _' Refused.job << 'END'
 types_of_cmi: Refused.job: _ by hand
 types_of_cmi: Refused.job: nothing is asked of a value of this type
 END
-told 1 _ << 'END'
+fails 1 _ << 'END'
 types_of_cmi: TYPE: _ by hand
 types_of_cmi: _: nothing is asked of a value of this type
 END
-told 1 --declare 'Refused.hidden = _' Refused.two << 'END'
+fails 1 --declare 'Refused.hidden = _' Refused.two << 'END'
 types_of_cmi: Refused.two -> field g: a function
 END
 
@@ -291,21 +291,21 @@ END
 mkdir alone
 echo 'type t' > alone/bare.mli
 ocamlc -c alone/bare.mli
-told 1 --cmt alone/ Bare.t << 'END'
+fails 1 --cmt alone/ Bare.t << 'END'
 types_of_cmi: Bare.t: an abstract type (no .cmt was found)
 types_of_cmi: not found, and may help: bare.cmt
 END
-told 1 --cmt in_channel << 'END'
+fails 1 --cmt in_channel << 'END'
 types_of_cmi: in_channel: an abstract type
 END
-told 1 --cmt Refused.Unpacked.t << 'END'
+fails 1 --cmt Refused.Unpacked.t << 'END'
 types_of_cmi: Refused.Unpacked.t: an abstract type
 END
-told 1 'Hidden.meters Indexed.length' << 'END'
+fails 1 'Hidden.meters Indexed.length' << 'END'
 types_of_cmi: Indexed.length at Hidden.meters -> constructor Meters: a generalized constructor (GADT) that may be of another index
 types_of_cmi: Indexed.length at Hidden.meters -> constructor Other: a generalized constructor (GADT) that may be of another index
 END
-told 1 --cmt 'Hidden.t Indexed.measure' << 'END'
+fails 1 --cmt 'Hidden.t Indexed.measure' << 'END'
 types_of_cmi: Indexed.measure at Hidden.t -> constructor Sealed: a generalized constructor (GADT) of another index, before others
 END
 
@@ -335,7 +335,7 @@ END
     ocamlc -w -a -I ../alone -c absent.ml apart__absent.ml apart.ml lacking.ml
     rm absent.cm* apart__absent.cm*
 )
-told 1 --cmt alone/ lacking/ Lacking.all << 'END'
+fails 1 --cmt alone/ lacking/ Lacking.all << 'END'
 types_of_cmi: Lacking.all -> field bare -> Bare.t: an abstract type (no .cmt was found)
 types_of_cmi: Lacking.all -> field absent -> Absent.t: a type of which no .cmi was found
 types_of_cmi: Lacking.all -> field indexed -> Absent.indexed: a type of which no .cmi was found
@@ -343,7 +343,7 @@ types_of_cmi: Lacking.all -> field apart -> Apart__absent.t: a type of which no 
 types_of_cmi: Lacking.all -> field map -> Map.Make(Absent.Key).t -> constructor Node -> field v -> Map.Make(Absent.Key).key -> Absent.Key.t: a type of which no .cmi was found
 types_of_cmi: not found, and may help: absent.cmi, apart__absent.cmi, bare.cmt
 END
-told 1 alone/ 'Bare.t * Hidden.t' << 'END'
+fails 1 alone/ 'Bare.t * Hidden.t' << 'END'
 types_of_cmi: Bare.t: an abstract type (--cmt was not given)
 types_of_cmi: Hidden.t: an abstract type (--cmt was not given)
 types_of_cmi: not found, and may help: bare.cmt
@@ -357,8 +357,8 @@ ocamlc -c stale/hidden.mli
 status=0
 (cd stale && ../types_of_cmi --cmt Hidden.t) 2> found.txt || status=$?
 echo "types_of_cmi: the .cmt of Hidden is of another interface than its .cmi: 2" > wanted.txt
-echo "$(cat found.txt): $status" > told.txt
-same "a .cmt of another interface" wanted.txt told.txt
+echo "$(cat found.txt): $status" > err.txt
+same "a .cmt of another interface" wanted.txt err.txt
 
 # What has no form, each with status 1
 while IFS= read -r line; do
@@ -367,21 +367,21 @@ while IFS= read -r line; do
         *)
             echo "$line"
             status=0
-            ./types_of_cmi "$line" > printed.txt 2> told.txt || status=$?
+            ./types_of_cmi "$line" > printed.txt 2> err.txt || status=$?
             [ "$status" -eq 1 ] || echo "  status $status"
             [ ! -s printed.txt ] || echo "  something is printed"
-            sed 's/^types_of_cmi: /  /' told.txt
+            sed 's/^types_of_cmi: /  /' err.txt
             ;;
     esac
 done < "$expected/refused.txt" > found.txt
 same "types without a form" "$expected/refused.txt" found.txt
 
-# Wrong words, each with status 2: a line of wrong.txt tells what is said of the words below it.
+# Wrong words, each with status 2: a line of wrong.txt is what is reported of the words below it.
 wrong() {
     status=0
-    ./types_of_cmi "$@" > printed.txt 2> told.txt || status=$?
+    ./types_of_cmi "$@" > printed.txt 2> err.txt || status=$?
     [ "$status" -eq 2 ] || echo "status $status"
-    sed 's/^types_of_cmi: //' told.txt
+    sed 's/^types_of_cmi: //' err.txt
     for word in "$@"; do echo "  $word"; done
 }
 set --
@@ -389,8 +389,8 @@ while IFS= read -r line; do
     case $line in
         "  "*) set -- "$@" "${line#  }" ;;
         *)
-            [ -z "${told:-}" ] || wrong "$@"
-            told=$line
+            [ -z "${message:-}" ] || wrong "$@"
+            message=$line
             set --
             ;;
     esac
@@ -425,8 +425,8 @@ done
 
 # The examples are what make.sh makes, and what OCaml writes has their types.
 mkdir made
-sh "$examples/make.sh" made 2> told.txt || cat told.txt
-if grep '^skipped: ' told.txt; then cp "$examples/vo.types" made; fi
+sh "$examples/make.sh" made 2> err.txt || cat err.txt
+if grep '^skipped: ' err.txt; then cp "$examples/vo.types" made; fi
 for file in "$examples"/*.types; do
     same "$file" "$file" "made/$(basename "$file")"
 done

@@ -1,6 +1,6 @@
 #!/usr/bin/env bash
 # Tries every mutant: those of crates/*/must-fail, which the gate tries too, and those of crates/*/edits, which it does not.
-# A mutant is a wrong body. The prover of its own crate has to refuse it.
+# A mutant is a body that does not meet its contract. The prover of its own crate has to refuse it.
 #
 #   tools/try_edits.sh [CRATE ..]        all crates that have mutants, or these
 #
@@ -31,10 +31,10 @@ done
 
 crates=("$@")
 [ $# -gt 0 ] || mapfile -t crates < <(for folder in crates/*/must-fail; do basename "${folder%/must-fail}"; done)
-rt must-fail "${crates[@]}" | tee "$copy/told"
+rt must-fail "${crates[@]}" | tee "$copy/log"
 status=${PIPESTATUS[0]}
-refused=$(grep -c ': refused, as it must be' "$copy/told")
-names=$(grep -c 'only because a proof file names' "$copy/told")
-wrong=$(grep -cE ': (NOT REFUSED|NOT TRIED|BAD EDIT)' "$copy/told")
+refused=$(grep -c ': refused, as it must be' "$copy/log")
+names=$(grep -c 'only because a proof file names' "$copy/log")
+wrong=$(grep -cE ': (NOT REFUSED|NOT TRIED|BAD EDIT)' "$copy/log")
 echo "$refused mutants refused ($names only since a name is gone), $wrong not"
 [ "$status" -eq 0 ] && [ "$wrong" -eq 0 ]

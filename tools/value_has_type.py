@@ -7,7 +7,7 @@ last of these values are not read. A line for each value says `yes`, or `no` and
 1: some is `no`; 2: FILE or a TYPE is refused; 4: the stream is.
 
 It shares nothing with omarshal but the format: codes, grammar of declarations, and the representation of types. It is
-written to be compared with, not to be fast, and tells some fault, not the least one.
+written to be compared with, not to be fast, and reports some fault, not the least one.
 """
 import re
 import struct
@@ -30,11 +30,11 @@ class Input:
         self.data, self.at = data, 0
 
     def take(self, count):
-        piece = self.data[self.at:self.at + count]
-        if len(piece) < count:
+        part = self.data[self.at:self.at + count]
+        if len(part) < count:
             raise Refused(4, f"the stream ends at {len(self.data)}")
         self.at += count
-        return piece
+        return part
 
     def number(self, count, signed=False):
         return int.from_bytes(self.take(count), "big", signed=signed)
@@ -576,7 +576,7 @@ def check(types, root_type, root, objects):
     for value, form, path in waiting:
         number = types.classes[form]
         if types.shapes[form][0] == "any":
-            continue  # nothing is asked of it, and what it shares is no clash
+            continue  # nothing is asked of it, and what it shares is no conflict
         if value[0] == "ref" and number in uses.get(value[1], {}):
             continue
         good, mutable, needs = fit(types.shapes[form], value, objects)

@@ -2,9 +2,9 @@
 
     python3 verify_certificate.py FILE TYPE CERT < stream
 
-Section k of CERT has to show that value k has TYPE over the declarations of FILE, or that it has not. A line for each
+Entry k of CERT has to show that value k has TYPE over the declarations of FILE, or that it has not. A line for each
 value says `yes`, or `no` and the stated fault. Status 0: each is `yes`; 1: some is `no`; 2: FILE or TYPE is refused;
-4: the stream is; 12: CERT is no certificate, a section is rejected, or there are not as many sections as values. It
+4: the stream is; 12: CERT is no certificate, an entry is rejected, or there are not as many entries as values. It
 shares nothing with omarshal: values and types are read by value_has_type.py beside it.
 """
 import re
@@ -36,20 +36,20 @@ class Table:
         return good, good and mutable, {i: self.numbers[form] for i, form in asked.items()}
 
 
-def read_sections(data):
-    """The sections: a list of pairs, or a tuple of the paths of a fault."""
+def read_entries(data):
+    """The entries: a list of pairs, or a tuple of the paths of a fault."""
     lines = data.decode("latin-1").split("\n")
-    rest, sections, begun = lines.pop(), [], None
+    rest, entries, begun = lines.pop(), [], None
     for at, line in enumerate(lines, 1):
         good = all(len(number) < 20 and int(number) < 2 ** 63 for number in re.findall("[0-9]+", line))
         if begun is None:
-            head = re.fullmatch(rf"value {len(sections)} (?:(yes)|misfit {PATH}|clash {PATH} {PATH})", line)
+            head = re.fullmatch(rf"value {len(entries)} (?:(yes)|misfit {PATH}|clash {PATH} {PATH})", line)
             if good and head:
                 paths = [path.split(".") for path in head.groups()[1:] if path]
                 begun = [] if head[1] else tuple(tuple(int(step) for step in path if step) for path in paths)
             good = good and head
         elif line == "end":
-            sections.append(begun)
+            entries.append(begun)
             begun = None
         else:
             pair = re.fullmatch(rf"pair {NUMBER} {NUMBER}", line)
@@ -59,7 +59,7 @@ def read_sections(data):
                 begun.append(pair)
         refuse_if(not good, f"certificate line {at}: Syntax", 12)
     refuse_if(begun is not None or rest, f"certificate line {len(lines) + 1}: Syntax", 12)
-    return sections
+    return entries
 
 
 def rejected(table, root, objects, pairs):
@@ -86,7 +86,7 @@ def rejected(table, root, objects, pairs):
     return None if holds(root, 0) else "Root"
 
 
-def place(table, root, objects, path):
+def reached(table, root, objects, path):
     """The value and its type at the end of a path, if it leads anywhere."""
     value, t = root, 0
     for step in path:
@@ -99,7 +99,7 @@ def place(table, root, objects, path):
 
 def fault_text(table, root, objects, paths):
     """The text of the stated fault, or None where the paths are none."""
-    ends = [place(table, root, objects, path) for path in paths]
+    ends = [reached(table, root, objects, path) for path in paths]
     if None in ends:
         return None
     (value, t), (other, u) = ends[0], ends[-1]
@@ -118,20 +118,20 @@ def fault_text(table, root, objects, paths):
 
 
 def verify(table, certificate, data, read=read_value):
-    """Puts the line of each value; the answer is 1 where one of them says `no`."""
-    sections, stream, status, k = read_sections(certificate), Input(data), 0, 0
+    """Prints the line of each value. Returns 1 if one of the lines says `no`."""
+    entries, stream, status, k = read_entries(certificate), Input(data), 0, 0
     while stream.at < len(data):
         root, objects = read(stream)
-        refuse_if(k == len(sections), f"value {k}: no section", 12)
-        if isinstance(sections[k], list):
-            text, why = "yes", rejected(table, root, objects, sections[k])
+        refuse_if(k == len(entries), f"value {k}: no section", 12)
+        if isinstance(entries[k], list):
+            text, why = "yes", rejected(table, root, objects, entries[k])
         else:
-            fault = fault_text(table, root, objects, sections[k])
+            fault = fault_text(table, root, objects, entries[k])
             text, why, status = f"no {fault}", None if fault else "NotFault", 1
         refuse_if(why, f"value {k}: certificate {why}", 12)
         print(text)
         k += 1
-    refuse_if(k < len(sections), "sections left", 12)
+    refuse_if(k < len(entries), "sections left", 12)
     return status
 
 

@@ -24,7 +24,7 @@ let kind ?(arguments = "") name values others =
 let any = Obj.repr
 let integers : Obj.t list = [ any 0; any (-1); any max_int; any min_int ]
 
-(* One object in two places. *)
+(* One object at two positions. *)
 let twice value = (value, value)
 
 let () =

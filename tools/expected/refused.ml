@@ -1,4 +1,4 @@
-(* Types without a form in omarshal. What is to be told of each is in refused.txt. *)
+(* Types without a form in omarshal. What is to be reported of each is in refused.txt. *)
 
 type job = { name : string; run : int -> int }
 type queue = Empty | Jobs of { first : job list; rest : queue }

@@ -1,7 +1,7 @@
 (* Writes sets and maps of OCaml's own, and judges such values by the definitions, walk by walk and path by path: what
    tools/check_search_trees.sh compares `omarshal trees` with.
 
-     search_trees write FOLDER    values and scripts that change them in one place, and a line for each: FILE, types, TYPE, SCRIPT
+     search_trees write FOLDER    values and scripts that change them at one path, and a line for each: FILE, types, TYPE, SCRIPT
      search_trees judge KIND      the verdict on the value of standard input: KIND is set_int, set_string, map_int or map_string *)
 
 module Ints = Set.Make (Int)
@@ -33,14 +33,14 @@ let rec elements value rest =
 let nodes root =
   let rec level found = function
     | [] -> List.rev found
-    | places ->
-        let found = List.rev_append places found in
+    | positions ->
+        let found = List.rev_append positions found in
         let below found (path, value) =
           let node = node_of value in
-          let add found ((_, part) as place) = if Obj.is_block part then place :: found else found in
+          let add found ((_, part) as position) = if Obj.is_block part then position :: found else found in
           add (add found (0 :: path, node.left)) (node.right_step :: path, node.right)
         in
-        level found (List.rev (List.fold_left below [] places))
+        level found (List.rev (List.fold_left below [] positions))
   in
   level [] (if Obj.is_block root then [ ([], root) ] else [])
 
@@ -69,13 +69,13 @@ let verdict root =
   let all = nodes root in
   let fault kind (path, _) = Printf.sprintf "fault %s at %s" kind (text_of path) in
   match List.find_opt is_miscounted all with
-  | Some place -> fault "height" place
+  | Some position -> fault "height" position
   | None -> (
       match List.find_opt is_unbalanced all with
-      | Some place -> fault "balance" place
+      | Some position -> fault "balance" position
       | None -> (
           match if increase root then None else List.find_opt is_disordered all with
-          | Some place -> fault "order" place
+          | Some position -> fault "order" position
           | None -> Printf.sprintf "sound %d" (List.length all)))
 
 (* ---- values and changes of them *)
@@ -87,8 +87,8 @@ let write name write_all =
   write_all file;
   close_out file
 
-(* the places at which something is changed: the root, one reached by random steps, and one as deep as there is *)
-let places root =
+(* the positions at which something is changed: the root, one reached by random steps, and one as deep as there is *)
+let positions root =
   let rec down path value turns =
     let node = node_of value in
     let step, part = if Random.bool () then (0, node.left) else (node.right_step, node.right) in
@@ -106,28 +106,28 @@ let changes kind (path, value) =
     set 1 (element (Random.int 2_000_000)); set 1 (element (-1)); set 0 "Empty"; set node.right_step "Empty";
     Printf.sprintf "0 link %s = %s" (at 0) (at node.right_step); Printf.sprintf "0 link %s = %s" (at node.right_step) (at 0) ]
 
-let put kind size types name value =
+let save kind size types name value =
   let root = Obj.repr value in
   let file = Printf.sprintf "%s_%d" kind size in
   write file (fun out -> Marshal.to_channel out value []);
-  let tell script = Printf.printf "%s\t%s\t%s\t%s\t%s\n" file kind types name script in
-  tell "-";
+  let print script = Printf.printf "%s\t%s\t%s\t%s\t%s\n" file kind types name script in
+  print "-";
   List.iteri
     (fun i script ->
       let script_name = Printf.sprintf "%s_%d" file i in
       write script_name (fun out -> output_string out (script ^ "\n"));
-      tell script_name)
-    (List.concat (List.map (changes kind) (places root)))
+      print script_name)
+    (List.concat (List.map (changes kind) (positions root)))
 
 let write_all () =
   Random.init 20261128;
   let one size =
     let numbers = List.init size (fun _ -> Random.int (4 * size)) in
     let pairs of_number = List.rev_map (fun n -> (of_number n, n)) numbers in
-    put "set_int" size "sets.types" "int set" (Ints.of_list numbers);
-    put "set_string" size "sets.types" "string set" (Strings.of_list (List.rev (List.rev_map string_of_int numbers)));
-    put "map_int" size "maps.types" "(int, int) map" (Int_map.of_seq (List.to_seq (pairs (fun n -> n))));
-    put "map_string" size "maps.types" "(string, int) map" (String_map.of_seq (List.to_seq (pairs string_of_int)))
+    save "set_int" size "sets.types" "int set" (Ints.of_list numbers);
+    save "set_string" size "sets.types" "string set" (Strings.of_list (List.rev (List.rev_map string_of_int numbers)));
+    save "map_int" size "maps.types" "(int, int) map" (Int_map.of_seq (List.to_seq (pairs (fun n -> n))));
+    save "map_string" size "maps.types" "(string, int) map" (String_map.of_seq (List.to_seq (pairs string_of_int)))
   in
   List.iter one [ 0; 1; 1_000; 1_000_000 ]
 

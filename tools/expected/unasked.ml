@@ -1,7 +1,7 @@
-(* Parts that have no form. What is to be printed for them with --cmt --any is in unasked.types, and what is to be told
+(* Parts that have no form. What is to be printed for them with --cmt --any is in unasked.types, and what is to be reported
    in unasked.txt. *)
 
-(* A generalized type (GADT) at an index of which a constructor may be, with a part that its result does not tell *)
+(* A generalized type (GADT) at an index of which a constructor may be, with a part that its result does not determine *)
 type !'a sealed
 type _ known = Sealed : 'a * string * 'b list -> 'a sealed known | Whole : { mutable whole : int } -> int known
 

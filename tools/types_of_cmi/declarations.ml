@@ -34,7 +34,7 @@ type declaration = {
 
 type fault = { where : way; what : string }
 
-(* What is told of a part of which less is asked than OCaml has: what stands in its place, and why. *)
+(* The report on a part of which less is asked than OCaml has: what replaces it, and why. *)
 type note = { instead : string; why : fault }
 
 (* {1 Names} *)
@@ -93,9 +93,9 @@ let constructor_name = function
 
 let constructor_names names =
   let add taken name =
-    let spelled = constructor_name name in
-    let is_taken word = List.mem word taken || (spelled <> name && List.mem word names) in
-    fresh is_taken spelled :: taken
+    let written = constructor_name name in
+    let is_taken word = List.mem word taken || (written <> name && List.mem word names) in
+    fresh is_taken written :: taken
   in
   List.rev (List.fold_left add [] names)
 

@@ -44,7 +44,7 @@ type scope = {
 let step scope text = { scope with way = text :: scope.way }
 let text_of_path reader path = try Path.Map.find path reader.texts with Not_found -> path_text path
 
-(* Every fault is told, so reading goes on with some type in the place of what has no form. *)
+(* Every fault is reported, so reading goes on with some type in place of what has no form. *)
 let placeholder = Applied (Predeclared "unit", [])
 
 let fault reader where what = reader.faults <- { where; what } :: reader.faults

@@ -24,11 +24,11 @@ let one_line text =
   let is_text line = line <> "" in
   String.concat " " (List.filter is_text (List.map String.trim (String.split_on_char '\n' text)))
 
-(* What the compiler says of an error of its own, after its place. Other exceptions go on. *)
+(* The compiler's message for an error of its own, after the location. Other exceptions go on. *)
 let message error =
-  let rec after_place text =
+  let rec after_location text =
     match without "Error: " text with
     | Some message -> message
-    | None -> if text = "" then "" else after_place (String.sub text 1 (String.length text - 1))
+    | None -> if text = "" then "" else after_location (String.sub text 1 (String.length text - 1))
   in
-  after_place (one_line (Format.asprintf "%a" Location.report_exception error))
+  after_location (one_line (Format.asprintf "%a" Location.report_exception error))

@@ -3,7 +3,7 @@
    The compiler's own library finds and reads the `.cmi` files, so a path means here what it means in a program:
    aliases of modules, inclusions and applied functors are followed. A type is reached from the requested one by its
    parts. Those whose representation omarshal cannot state are refused, each with the way to it; with --any nothing is
-   asked of them, and each is told.
+   asked of them, and each is reported.
 
    tools/build_types_of_cmi.sh builds it. Written for OCaml 4.13, and tried there alone. What later libraries name
    otherwise is in `library.ml`. *)
@@ -29,8 +29,8 @@ let usage =
    \"'a Foo.t = Nil | More of 'a * 'a Foo.t\". Its left side is the type's full name; types of its\n\
    own may follow with `and`. Of a part of type `_` nothing is asked: \"Foo.t = _\", or `Foo.t * _`.\n\n\
    With --any each part that has no form is `_`. Each part of which less is asked than OCaml has\n\
-   is told on standard error, with the way to it.\n\n\
-   Status 0: done. 1: a type has no form in omarshal, each such type being told with the way to it;\n\
+   is reported on standard error, with the way to it.\n\n\
+   Status 0: done. 1: a type has no form in omarshal, each such type is reported with the way to it;\n\
    or nothing would be asked of TYPE.\n\
    2: wrong words.\n"
 
@@ -237,7 +237,7 @@ let print_wanted = function
   | files -> Printf.eprintf "%s: not found, and may help: %s\n" program (String.concat ", " (List.sort_uniq compare files))
 
 let print_file reader arguments groups root =
-  let names = spell_names reader groups in
+  let names = choose_names reader groups in
   let type_word = print_type names root in
   let made_by = String.concat " \\\n     " (program :: word_lines arguments) in
   let head = Printf.sprintf "Made with OCaml %s by\n   %s\n   TYPE: %s" Sys.ocaml_version made_by type_word in
@@ -260,8 +260,8 @@ let run arguments =
   let root = in_word words.requested read in
   let declarations = if reader.faults = [] then List.rev reader.declarations else [] in
   let table, groups = settled_groups reader declarations in
-  let told = if reader.faults = [] then List.map fault_of_note reader.notes else reader.faults in
-  List.iter print_fault (List.rev told);
+  let faults = if reader.faults = [] then List.map fault_of_note reader.notes else reader.faults in
+  List.iter print_fault (List.rev faults);
   print_wanted reader.wanted;
   if reader.faults <> [] then 1
   else if is_any table root then begin

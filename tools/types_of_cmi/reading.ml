@@ -91,7 +91,7 @@ let rec plain ?(expanded = []) reader ty =
 
 let largest_index = 30
 
-(* What is told of an index that is none. *)
+(* The report on an index that is none. *)
 let index_fault index =
   let exception Found of string in
   let parts = ref 0 in
@@ -311,7 +311,7 @@ let at_index reader parameters index ({ cd_args; cd_res; _ } as constructor) =
 
 (* The constructors of a generalized type at an index. One of another index is left out where none comes after it that
    OCaml numbers with it; else its number would be given to another. Each is kept that may be of the index, and all are
-   of any index; the types that its result alone tells are existential ones then. *)
+   of any index; the types that only its result determines are existential ones then. *)
 let constructors_at reader scope parameters index constructors =
   let without_result constructor = { constructor with cd_res = None } in
   let rec keep = function
@@ -351,7 +351,7 @@ let abstract_kind reader path =
     "an abstract type (no .cmt was found)"
   else "an abstract type"
 
-(* What is told of a type that shows no representation. *)
+(* The report on a type that shows no representation. *)
 let hidden_kind reader path declaration =
   match (Path.last path, declaration.type_kind) with
   | "lazy_t", _ when is_predefined path -> "a lazy value"

@@ -1,11 +1,11 @@
-(* Writes values of the types of clashes.ml, and of near but other types, as every_kind_values.ml does. *)
+(* Writes values of the types of conflicts.ml, and of near but other types, as every_kind_values.ml does. *)
 
 (* Lists, before `::` and `[]` get another meaning. *)
 let no_list = []
 let list_of value = [ value ]
 let values = Array.to_list
 
-open Clashes
+open Conflicts
 
 let folder = Sys.argv.(1)
 let written = ref 0
@@ -19,7 +19,7 @@ let write verdict word value =
   Printf.printf "%s\t%s\t%s\n" name verdict word
 
 let kind ?(arguments = "") name values others =
-  let word = arguments ^ "clashes_" ^ name in
+  let word = arguments ^ "conflicts_" ^ name in
   List.iter (write "yes" word) values;
   List.iter (write "no" word) others
 

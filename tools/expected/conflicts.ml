@@ -1,7 +1,7 @@
 (* Types whose names meet: with each other, with words of the grammar, and with predeclared types; and types by ways that a
-   path takes. clashes_values.ml writes values of them, and of near types. *)
+   path takes. conflicts_values.ml writes values of them, and of near types. *)
 
-(* Three types of which the plain name is `clashes_a_b_t`. *)
+(* Three types of which the plain name is `conflicts_a_b_t`. *)
 module A = struct
   module B = struct
     type t = int * other
@@ -39,7 +39,7 @@ module Shadow = struct
   type t = int * string list * option * ref
 end
 
-(* One name in two modules, with parameters named alike and the other way round. *)
+(* One name in two modules, with parameters of the same names and in the other order. *)
 module P = struct
   type ('a, 'b) pair = { fst : 'a; snd : 'b }
   type ('b, 'a) swap = ('a, 'b) pair
