@@ -46,7 +46,7 @@ module _ (reached_accepted : ReachedAreAccepted) (not_accepted : RejectedAreNotA
       (known_by_hash t.decls ok t.type sound are.types are.reached) are.table are.made in
       let typed : HasType (table_shapes are.table) graph v 0 =
       (decide t.decls t.type are.types are.table (record {
-        ok = ok;
+        well = ok;
         sound = sound;
         reached = are.reached;
         made = are.made;
