@@ -3,8 +3,8 @@
 //! position. Columns count bytes, not characters.
 
 mod laws;
-mod positions;
-mod spot;
+mod line_column;
+mod position_style;
 
 pub use laws::{first_lines_count, lines_report_positions};
-pub use positions::Positions;
+pub use position_style::PositionStyle;

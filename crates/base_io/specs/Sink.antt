@@ -1,4 +1,5 @@
--- The effect of `write` and `write_all` on the bytes written, if these are known.
+-- How `write` and `write_all` change the bytes of a sink. If the contracts do not know the bytes of
+-- the sink, then nothing is stated about them.
 use Rattle.std.specs.Prelude.{◌≡◌, ℕ, ◌<◌, ◌≤◌, List, ◌++◌, length, take, Option, Some, is_some}
 use Rattle.std.specs.Prelude.{is_err, Result, Ok, Err, IfOk, OnErr, IfSome, true, false}
 use Rattle.base_io.specs.Faults.{HasCause}
@@ -8,7 +9,8 @@ use Rattle.base_io.specs.declared.sink.WriteError.TheVariants.{Fault, Memory}
 
 -- A call returns a number `n` that is at most the length of the chunk. If the chunk is not empty,
 -- `n` is at least 1. If the bytes are known, the first `n` bytes of the chunk were appended. A
--- failed call appends nothing. The count of faults shows whether the call failed.
+-- failed call appends nothing. If the call failed, then the count of faults rose or is at its
+-- maximum.
 pub record AppendsPrefix {E : Type 0} (before after : ByteState) (result : Result ℕ E)
     (chunk : List ℕ) : Type 0 where
   pub within : IfOk result (λ n. n ≤ length chunk)
@@ -19,7 +21,7 @@ pub record AppendsPrefix {E : Type 0} (before after : ByteState) (result : Resul
   pub known : is_some after.bytes ≡ is_some before.bytes
   pub cause : HasCause before.faults after.faults (is_err result)
 
--- The old bytes followed by a proper prefix of the chunk.
+-- The bytes after the call are the old bytes followed by a proper prefix of the chunk.
 abbrev pub AppendsPart : List ℕ → List ℕ → Option (List ℕ) → Type 0
 AppendsPart bytes chunk after =
     (n : ℕ) × (n < length chunk) × (after ≡ Some (bytes ++ take n chunk))

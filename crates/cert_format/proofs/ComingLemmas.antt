@@ -5,7 +5,7 @@ use Rattle.std.proofs.lemmas.List.{append-nil}
 use Rattle.std.proofs.lemmas.List.Elements.{All-nil}
 use Rattle.cert_format.specs.declared.read.CertFault.{CertFault}
 use Rattle.cert_format.specs.declared.read.CertFault.TheVariants as faults
-use Rattle.cert_format.specs.declared.read.Reading.{Reading}
+use Rattle.cert_format.specs.declared.read.CertificateReading.{CertificateReading}
 use Rattle.cert_format.specs.Format.{IsStated, text_of, IsSyntaxAt}
 use Rattle.cert_format.specs.Reading.{IsCut, lines_read, IsReading, IsAt, IsFaultOf, IsFaultFrom}
 use Rattle.cert_format.specs.Coming.{nothing, HasKept, HasComeTo}
@@ -40,13 +40,13 @@ cut_lacks chunk prefix rest cut none =
     subst (λ (z : List ℕ). ¬ Contains z 10) (sym (cut.whole ∙ (ap (λ (z : List ℕ). prefix ++ z) none ∙ append-nil prefix))) cut.none
 
 -- If no more bytes follow, then the stored fault is the fault of the bytes.
-pub fault_known : (reading : Reading) (lines : ℕ) (kept bytes : List ℕ) (fault : Option ℕ) (n : ℕ) → fault ≡ Some n
+pub fault_known : (reading : CertificateReading) (lines : ℕ) (kept bytes : List ℕ) (fault : Option ℕ) (n : ℕ) → fault ≡ Some n
     → HasComeTo reading lines kept fault bytes → IsSyntaxAt bytes n
 fault_known reading lines kept bytes fault n is at = subst (λ (b : List ℕ). IsSyntaxAt b n) (append-nil bytes) (known []) where
   known : HasComeTo reading lines kept (Some n) bytes
   known = subst (λ (o : Option ℕ). HasComeTo reading lines kept o bytes) is at
 
-module _ (reading : Reading) (lines : ℕ) (kept bytes chunk : List ℕ) where
+module _ (reading : CertificateReading) (lines : ℕ) (kept bytes chunk : List ℕ) where
   -- If the line is not complete yet, then the chunk is kept.
   pub kept_more : ¬ Contains chunk 10 → HasComeTo reading lines kept None bytes
       → HasComeTo reading lines (kept ++ chunk) None (bytes ++ chunk)
@@ -70,9 +70,9 @@ module _ (reading : Reading) (lines : ℕ) (kept bytes chunk : List ℕ) where
       subst (λ (k : List ℕ). HasComeTo reading lines k None (bytes ++ chunk)) (sym is) (kept_more lacks at)
   kept_longer (Some n) longer none is lacks at = absurd (cc none)
 
-module _ (reading : Reading) (lines : ℕ) (kept bytes : List ℕ) (has : HasKept reading lines kept bytes) where
+module _ (reading : CertificateReading) (lines : ℕ) (kept bytes : List ℕ) (has : HasKept reading lines kept bytes) where
   -- If lines of the kept bytes were parsed, then the invariant holds for the new state.
-  pub came : (next : Reading) (many : ℕ) (line : List ℕ)
+  pub came : (next : CertificateReading) (many : ℕ) (line : List ℕ)
       → IsAt (text_of (lines_read reading) ++ kept) next (length (lines_read reading) + many) line []
       → HasComeTo next (lines + many) line None bytes
   came next many line at =
@@ -80,19 +80,19 @@ module _ (reading : Reading) (lines : ℕ) (kept bytes : List ℕ) (has : HasKep
       (subst (λ (k : ℕ). IsAt (text_of (lines_read reading) ++ kept) next (k + many) line []) (sym has.counted) at)
 
   -- If one of the lines is faulty, then the invariant holds with that fault.
-  pub came_fault : (n : ℕ) → IsFaultFrom reading kept (faults.Syntax n) → (next : Reading) (left : ℕ) (line : List ℕ)
+  pub came_fault : (n : ℕ) → IsFaultFrom reading kept (faults.Syntax n) → (next : CertificateReading) (left : ℕ) (line : List ℕ)
       → HasComeTo next left line (Some (lines + n)) bytes
   came_fault n at next left line = λ later.
       subst (λ (b : List ℕ). IsSyntaxAt (b ++ later) (lines + n)) (sym has.encoded)
       (subst (λ (k : ℕ). IsSyntaxAt ((text_of (lines_read reading) ++ kept) ++ later) (k + n)) (sym has.counted) (at later))
 
   -- The faulty line is within the bytes, or is the line after them.
-  pub fault_few : (from : Reading) (text : List ℕ) (n : ℕ) → from ≡ reading → text ≡ kept → IsFaultFrom from text (faults.Syntax n)
+  pub fault_few : (from : CertificateReading) (text : List ℕ) (n : ℕ) → from ≡ reading → text ≡ kept → IsFaultFrom from text (faults.Syntax n)
       → lines + n ≤ length bytes + 1
   fault_few from text n same-reading same-text at = few_of (came_fault n own reading lines kept []) where
     own : IsFaultFrom reading kept (faults.Syntax n)
     own =
-        subst (λ (r : Reading). IsFaultFrom r kept (faults.Syntax n)) same-reading
+        subst (λ (r : CertificateReading). IsFaultFrom r kept (faults.Syntax n)) same-reading
         (subst (λ (t : List ℕ). IsFaultFrom from t (faults.Syntax n)) same-text at)
 
     few_of : IsSyntaxAt (bytes ++ []) (lines + n) → lines + n ≤ length bytes + 1

@@ -8,7 +8,7 @@ use Rattle.std.proofs.lemmas.List.Elements.{All-head, All-push}
 use Rattle.std.proofs.lemmas.Option.{slice_get_within}
 use Rattle.cert_format.specs.declared.section.Section.{Section}
 use Rattle.cert_format.specs.declared.section.Section.TheVariants as sections
-use Rattle.cert_format.specs.declared.read.Reading.{Reading}
+use Rattle.cert_format.specs.declared.read.CertificateReading.{CertificateReading}
 use Rattle.cert_format.specs.Increasing.{AreIncreasing, IsAbove}
 use Rattle.cert_format.specs.Numbers.{IsNumber}
 use Rattle.cert_format.specs.Format.{IsStated, AreStated, pair_line, pair_lines, head_line, section_lines, lines_from, text_of, IsCertificate, ArePrefix, AreWhole, IsSyntaxAt}
@@ -243,12 +243,12 @@ module _ (whole : List Section) (stated : AreStated whole) where
 -- ---- the whole state
 
 begun_is :
-    (reading : Reading) (section : Section) → IsReading reading → reading.begun ≡ Some section → IsStated section × IsNumber (length reading.whole)
+    (reading : CertificateReading) (section : Section) → IsReading reading → reading.begun ≡ Some section → IsStated section × IsNumber (length reading.whole)
 begun_is reading section is some =
     subst (λ (o : Option Section). IfSome o (λ s. IsStated s × IsNumber (length reading.whole))) some is.opened
 
 pub reading_closed :
-    (reading : Reading) (section : Section) (line : List ℕ) (longer : List Section) → IsReading reading → reading.begun ≡ Some section
+    (reading : CertificateReading) (section : Section) (line : List ℕ) (longer : List Section) → IsReading reading → reading.begun ≡ Some section
     → line ≡ codes "end" → longer ≡ reading.whole ++ section ∷ [] → GoesOn reading line (record { whole = longer; begun = None })
 reading_closed reading section line longer is some end more =
     let own = begun_is reading section is some in
@@ -256,13 +256,13 @@ reading_closed reading section line longer is some end more =
     (closed reading.whole is.stated section line longer own.0 own.1 end more)
 
 pub reading_without_head :
-    (reading : Reading) (line : List ℕ) → IsReading reading → reading.begun ≡ None → IsNoHead (length reading.whole) line → GoesNowhere reading line
+    (reading : CertificateReading) (line : List ℕ) → IsReading reading → reading.begun ≡ None → IsNoHead (length reading.whole) line → GoesNowhere reading line
 reading_without_head reading line is none without =
     subst (λ (o : Option Section). GoesNowhere (record { whole = reading.whole; begun = o }) line) (sym none)
     (no_head reading.whole is.stated line without)
 
 pub reading_without_more :
-    (reading : Reading) (section : Section) (line : List ℕ) → IsReading reading → reading.begun ≡ Some section → (line ≡ codes "end" → ⊥)
+    (reading : CertificateReading) (section : Section) (line : List ℕ) → IsReading reading → reading.begun ≡ Some section → (line ≡ codes "end" → ⊥)
     → HasNoMore section line → GoesNowhere reading line
 reading_without_more reading section line is some other without =
     subst (λ (o : Option Section). GoesNowhere (record { whole = reading.whole; begun = o }) line) (sym some)
@@ -271,7 +271,7 @@ reading_without_more reading section line is some other without =
 -- ---- a run of pairs
 
 pub run_read :
-    (reading : Reading) (pairs longer : List (ℕ × ℕ)) (text : List ℕ) (many taken : ℕ) → IsReading reading
+    (reading : CertificateReading) (pairs longer : List (ℕ × ℕ)) (text : List ℕ) (many taken : ℕ) → IsReading reading
     → reading.begun ≡ Some (sections.Pairs pairs) → AreIncreasing longer → HasMorePairs pairs text longer many taken
     → HasReadMore reading text (record { whole = reading.whole; begun = Some (sections.Pairs longer) }) many taken
 run_read reading pairs longer text many taken is some increasing more = record {
@@ -288,7 +288,7 @@ run_read reading pairs longer text many taken is some increasing more = record {
   own = begun_is reading (sections.Pairs pairs) is some
 
 pub nothing_read :
-    (reading : Reading) (begun' : Option Section) (text : List ℕ) → IsReading reading → reading.begun ≡ begun'
+    (reading : CertificateReading) (begun' : Option Section) (text : List ℕ) → IsReading reading → reading.begun ≡ begun'
     → HasReadMore reading text (record { whole = reading.whole; begun = begun' }) 0 0
 nothing_read reading begun' text is same =
     subst (λ (o : Option Section). HasReadMore reading text (record { whole = reading.whole; begun = o }) 0 0) same (record {
@@ -324,7 +324,7 @@ lines_few (line ∷ lines) =
 
 -- The state after the lines at the start of the bytes, with the next line split off.
 pub at_begin :
-    (from longer : Reading) (text : List ℕ) (many taken : ℕ) (line rest : List ℕ) → HasReadMore from text longer many taken
+    (from longer : CertificateReading) (text : List ℕ) (many taken : ℕ) (line rest : List ℕ) → HasReadMore from text longer many taken
     → IsCut (take (length text - taken) (drop taken text)) 10 line rest
     → IsAt (text_of (lines_read from) ++ text) longer (length (lines_read from) + many) line rest
 at_begin from longer text many taken line rest run slice = record {
@@ -353,7 +353,7 @@ at_begin from longer text many taken line rest run slice = record {
 
 -- The bound on the remaining lines and bytes.
 pub few_begin :
-    (from longer : Reading) (text : List ℕ) (many taken : ℕ) (line rest : List ℕ) → HasReadMore from text longer many taken
+    (from longer : CertificateReading) (text : List ℕ) (many taken : ℕ) (line rest : List ℕ) → HasReadMore from text longer many taken
     → IsCut (take (length text - taken) (drop taken text)) 10 line rest → many + length rest ≤ length text
 few_begin from longer text many taken line rest run slice =
     let same = ap length (take_rest text taken) in
@@ -363,13 +363,13 @@ few_begin from longer text many taken line rest run slice =
     let few = run.begins.few in
     omega (arith, same, left, parts, within, few)
 
-module _ (bytes : List ℕ) (reading : Reading) (lines : ℕ) (line rest : List ℕ) (at : IsAt bytes reading lines line rest) where
+module _ (bytes : List ℕ) (reading : CertificateReading) (lines : ℕ) (line rest : List ℕ) (at : IsAt bytes reading lines line rest) where
   prefix : ArePrefix (lines_read reading)
   prefix = prefix_of reading.whole reading.begun at.is
 
   -- The state after a complete line and some lines after it.
   pub at_next :
-      (next far : Reading) (many taken : ℕ) (line' rest' : List ℕ) → (rest ≡ [] → ⊥) → GoesOn reading line next
+      (next far : CertificateReading) (many taken : ℕ) (line' rest' : List ℕ) → (rest ≡ [] → ⊥) → GoesOn reading line next
       → HasReadMore next (drop 1 rest) far many taken → IsCut (drop taken (drop 1 rest)) 10 line' rest'
       → IsAt bytes far (lines + 1 + many) line' rest'
   at_next next far many taken line' rest' some goes run cut = record {

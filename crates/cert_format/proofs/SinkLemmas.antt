@@ -10,7 +10,7 @@ use Rattle.base_io.specs.Sink.{Writes, WritesPart}
 use Rattle.base_io.proofs.WritesLemmas.{writes_writes, writes_part, part_more}
 use Rattle.cert_format.specs.Format.{pair_line, text_of, head_line, pair_lines, section_text}
 use Rattle.cert_format.specs.declared.section.Section.{Section}
-use Rattle.cert_format.specs.Putting.{Leaves, WritesPrefix, WritesAll}
+use Rattle.cert_format.specs.TextWrites.{Leaves, WritesPrefix, WritesAll}
 
 -- ---- the contents of the buffer
 

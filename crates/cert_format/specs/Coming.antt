@@ -1,6 +1,6 @@
 -- The state of a parser that receives a certificate in chunks.
 use Rattle.std.specs.Prelude.{ℕ, ◌≡◌, List, [], ◌++◌, length, Option, Some, None}
-use Rattle.cert_format.specs.declared.read.Reading.{Reading}
+use Rattle.cert_format.specs.declared.read.CertificateReading.{CertificateReading}
 use Rattle.cert_format.specs.declared.read.CertReader.{CertReader}
 use Rattle.cert_format.specs.Format.{text_of, IsSyntaxAt}
 use Rattle.cert_format.specs.Reading.{lines_read, IsReading, IsAt}
@@ -8,18 +8,18 @@ use Rattle.cert_format.specs.Reading.{lines_read, IsReading, IsAt}
 abbrev pub Bytes : Type 0
 Bytes = List ℕ
 
-abbrev pub nothing : Reading
+abbrev pub nothing : CertificateReading
 nothing = record { whole = []; begun = None }
 
 -- The bytes consist of the parsed lines and the bytes that are kept.
-pub record HasKept (reading : Reading) (lines : ℕ) (kept bytes : List ℕ) : Type 0 where
+pub record HasKept (reading : CertificateReading) (lines : ℕ) (kept bytes : List ℕ) : Type 0 where
   pub is : IsReading reading
   pub counted : lines ≡ length (lines_read reading)
   pub encoded : bytes ≡ text_of (lines_read reading) ++ kept
 
 -- Without a fault, all complete lines of the bytes were parsed and the incomplete line is kept.
 -- With a fault, the first faulty line is complete, and any later bytes do not change it.
-abbrev pub HasComeTo : Reading → ℕ → List ℕ → Option ℕ → List ℕ → Type 0
+abbrev pub HasComeTo : CertificateReading → ℕ → List ℕ → Option ℕ → List ℕ → Type 0
 HasComeTo reading lines kept None bytes = IsAt bytes reading lines kept []
 HasComeTo reading lines kept (Some n) bytes = (later : List ℕ) → IsSyntaxAt (bytes ++ later) n
 

@@ -4,5 +4,5 @@ pub mod Format
 pub mod Reading
 pub mod Laws
 pub mod Runs
-pub mod Putting
+pub mod TextWrites
 pub mod Coming

@@ -7,7 +7,7 @@ use Rattle.cert_format.specs.declared.section.Section.{Section}
 use Rattle.cert_format.specs.declared.section.Section.TheVariants as sections
 use Rattle.cert_format.specs.declared.read.CertFault.{CertFault}
 use Rattle.cert_format.specs.declared.read.CertFault.TheVariants as faults
-use Rattle.cert_format.specs.declared.read.Reading.{Reading}
+use Rattle.cert_format.specs.declared.read.CertificateReading.{CertificateReading}
 use Rattle.cert_format.specs.Increasing.{IsAbove}
 use Rattle.cert_format.specs.Numbers.{IsNumber}
 use Rattle.cert_format.specs.Format.{IsStated, AreStated, pair_line, pair_lines, verdict_text}
@@ -96,20 +96,21 @@ open_lines k None = []
 open_lines k (Some section) = head_line k section ∷ pair_lines section
 
 -- The lines that were parsed so far.
-abbrev pub lines_read : Reading → List (List ℕ)
+abbrev pub lines_read : CertificateReading → List (List ℕ)
 lines_read reading = lines_from 0 reading.whole ++ open_lines (length reading.whole) reading.begun
 
-pub record IsReading (reading : Reading) : Type 0 where
+pub record IsReading (reading : CertificateReading) : Type 0 where
   pub stated : AreStated reading.whole
   pub opened : IfSome reading.begun (λ section. IsStated section × IsNumber (length reading.whole))
 
 -- The state after one more line.
-pub record GoesOn (reading : Reading) (line : List ℕ) (next : Reading) : Type 0 where
+pub record GoesOn (reading : CertificateReading) (line : List ℕ)
+    (next : CertificateReading) : Type 0 where
   pub is : IsReading next
   pub lines : lines_read next ≡ lines_read reading ++ line ∷ []
 
 -- No certificate continues with the line.
-abbrev pub GoesNowhere : Reading → List ℕ → Type 0
+abbrev pub GoesNowhere : CertificateReading → List ℕ → Type 0
 GoesNowhere reading line = ¬ ArePrefix (lines_read reading ++ line ∷ [])
 
 -- The meaning of a fault. If memory ran out, nothing is specified.
@@ -118,7 +119,8 @@ IsFaultOf bytes (faults.Syntax n) = IsSyntaxAt bytes n
 IsFaultOf bytes faults.Memory = Unit {0}
 
 -- Some lines were parsed, and `line` is the next one. It is complete if `rest` is not empty.
-pub record IsAt (bytes : List ℕ) (reading : Reading) (lines : ℕ) (line rest : List ℕ) : Type 0 where
+pub record IsAt (bytes : List ℕ) (reading : CertificateReading) (lines : ℕ)
+    (line rest : List ℕ) : Type 0 where
   pub is : IsReading reading
   pub counted : lines ≡ length (lines_read reading)
   pub few : lines + length rest ≤ length bytes
@@ -128,7 +130,7 @@ pub record IsAt (bytes : List ℕ) (reading : Reading) (lines : ℕ) (line rest 
 
 -- The first faulty line after the parsed lines is complete. So it is the first faulty line of the
 -- whole text, with any later bytes.
-abbrev pub IsFaultFrom : Reading → List ℕ → CertFault → Type 0
+abbrev pub IsFaultFrom : CertificateReading → List ℕ → CertFault → Type 0
 IsFaultFrom reading text (faults.Syntax n) =
     (later : List ℕ)
     → IsSyntaxAt ((text_of (lines_read reading) ++ text) ++ later) (length (lines_read reading) + n)

@@ -3,7 +3,7 @@ use Rattle.std.specs.Prelude.{ℕ, ◌+◌, ◌*◌, ◌^◌, ◌≡◌, ◌<◌
 use Rattle.std.specs.Prelude.{drop}
 use Rattle.std.specs.Prelude.{All, slice_index, codes, decimal}
 use Rattle.std.specs.Int.{w64, from_le_bytes}
-use Rattle.cert_format.specs.declared.read.Reading.{Reading}
+use Rattle.cert_format.specs.declared.read.CertificateReading.{CertificateReading}
 use Rattle.cert_format.specs.Numbers.{IsNumber}
 use Rattle.cert_format.specs.Format.{pair_line, text_of}
 use Rattle.cert_format.specs.Reading.{AreNumbers, lines_read, IsReading}
@@ -57,7 +57,8 @@ pub record HasMorePairs (pairs : List (ℕ × ℕ)) (text : List ℕ) (longer : 
   pub begins : BeginsWithLines text (map pair_line added) many taken
 
 -- The state after some lines that the text begins with.
-pub record HasReadMore (reading : Reading) (text : List ℕ) (next : Reading) (many taken : ℕ)
+pub record HasReadMore (reading : CertificateReading) (text : List ℕ) (next : CertificateReading)
+    (many taken : ℕ)
     : Type 0 where
   pub is : IsReading next
   pub lines : List (List ℕ)

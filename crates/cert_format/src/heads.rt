@@ -7,7 +7,7 @@ ghost use Rattle.cert_format.specs.Reading.{IsNoStep, IsVerdict, IsNoVerdict, Is
 
 use crate::cuts::{after, until};
 use crate::number::number_of;
-use crate::section::{Pairs, Section};
+use crate::section::{CertificatePairs, Section};
 use base_data::model::Memory;
 use base_data::model::path::Path;
 use std::alloc::Global;
@@ -72,7 +72,7 @@ fn verdict_of(alloc: Global, text: &[u8]) -> Result<Option<Section>, Memory>
     ensures { IfOk result (λ found. MatchOption found (IsNoVerdict text.now) (IsVerdict text.now)) }
 {
     if text == b"yes".as_slice() {
-        return Ok(Some(Section::Pairs(Pairs::new(alloc))));
+        return Ok(Some(Section::Pairs(CertificatePairs::new(alloc))));
     }
     if let Some(path) = after(text, b"misfit ") {
         return mismatch_of(alloc, path);

@@ -4,9 +4,9 @@ ghost use Rattle.std.specs.Prelude.{◌≡◌, ◌+◌, ◌≤◌, ◌++◌, ◌
 ghost use Rattle.std.specs.Prelude.{vec_len, vec_capacity};
 ghost use Rattle.base_io.specs.State.{change};
 ghost use Rattle.cert_format.specs.Format.{pair_line, text_of};
-ghost use Rattle.cert_format.specs.Putting.{WritesPrefix};
+ghost use Rattle.cert_format.specs.TextWrites.{WritesPrefix};
 
-use crate::section::Pairs;
+use crate::section::CertificatePairs;
 use base_io::{Failed, Sink, write_all};
 use itoa::Buffer;
 
@@ -63,7 +63,11 @@ pub fn make_room<K: Sink>(text: &mut Vec<u8>, out: &mut K) -> Result<(), Failed>
 }
 
 /// Writes the buffered text and the lines of pairs after it. The last part stays in the buffer.
-pub fn write_lines<K: Sink>(text: &mut Vec<u8>, pairs: &Pairs, out: &mut K) -> Result<(), Failed>
+pub fn write_lines<K: Sink>(
+    text: &mut Vec<u8>,
+    pairs: &CertificatePairs,
+    out: &mut K,
+) -> Result<(), Failed>
     requires { 64 ≤ vec_capacity text.old }
     ensures writes { WritesPrefix (change (K.state out.old) (K.state out.new))
         (text.old.items ++ text_of (map pair_line pairs.now)) text.new.items result }

@@ -12,7 +12,7 @@ ghost use Rattle.cert_format.specs.declared.section.Section.TheVariants as secti
 use crate::cuts::until;
 use crate::heads::{head_of, pair_of};
 use crate::runs::with_pairs;
-use crate::section::{Pairs, Section};
+use crate::section::{CertificatePairs, Section};
 use base_data::model::Memory;
 use base_data::model::list::List;
 use std::alloc::Global;
@@ -42,16 +42,16 @@ impl From<Memory> for CertFault {
 
 /// The state after some whole lines: the complete entries, and the open entry if there is one.
 #[derive(Drop)]
-struct Reading {
+struct CertificateReading {
     whole: List<Section>,
     begun: Option<Section>,
 }
 
 /// Returns the state before the first line.
-fn nothing_read(alloc: Global) -> Reading
+fn nothing_read(alloc: Global) -> CertificateReading
     ensures { result ≡ nothing }
 {
-    Reading {
+    CertificateReading {
         whole: List::new(alloc),
         begun: None,
     }
@@ -72,9 +72,9 @@ pub fn read_cert(alloc: Global, bytes: &[u8]) -> Result<Cert, CertFault>
 /// the bytes after them. Reports the first line with which no certificate continues.
 fn with_lines<'a>(
     alloc: Global,
-    reading: Reading,
+    reading: CertificateReading,
     text: &'a [u8],
-) -> Result<(Reading, usize, &'a [u8]), CertFault>
+) -> Result<(CertificateReading, usize, &'a [u8]), CertFault>
     requires { IsReading reading }
     ensures ok { IfOk result (λ run. IsAt (text_of (lines_read reading) ++ text.now) run.0
         (length (lines_read reading) + run.1) run.2.now []) }
@@ -99,7 +99,7 @@ fn with_lines<'a>(
 
 /// Finishes parsing at the end of the input. Returns the entries. If the last line or entry is not
 /// complete, reports the line after the last complete line.
-fn read_all(reading: Reading, lines: usize, line: &[u8]) -> Result<Cert, CertFault>
+fn read_all(reading: CertificateReading, lines: usize, line: &[u8]) -> Result<Cert, CertFault>
     requires { (bytes : Bytes) × IsAt bytes reading lines line.now [] × (length bytes < 2 ^ 63) }
     ensures ok { (bytes : Bytes) → IsAt bytes reading lines line.now []
         → IfOk result (λ all. IsCertificate bytes all) }
@@ -119,7 +119,7 @@ fn read_all(reading: Reading, lines: usize, line: &[u8]) -> Result<Cert, CertFau
 #[derive(Drop)]
 pub struct CertReader {
     alloc: Global,
-    reading: Reading,
+    reading: CertificateReading,
     lines: usize,
     kept: Vec<u8>,
     fault: Option<usize>,
@@ -199,34 +199,41 @@ impl CertReader {
 
 /// Fast path: parses some of the pair lines at the start of the bytes. Returns the new state and
 /// the numbers of parsed lines and bytes.
-fn with_run(reading: Reading, text: &[u8]) -> Result<(Reading, usize, usize), Memory>
+fn with_run(
+    reading: CertificateReading,
+    text: &[u8],
+) -> Result<(CertificateReading, usize, usize), Memory>
     requires { IsReading reading }
     ensures { IfOk result (λ run. HasReadMore reading text.now run.0 run.1 run.2) }
 {
-    let Reading { whole, begun } = reading;
+    let CertificateReading { whole, begun } = reading;
     match begun {
         Some(Section::Pairs(pairs)) => {
             let (longer, many, taken) = with_pairs(pairs, text)?;
-            let next = Reading {
+            let next = CertificateReading {
                 whole,
                 begun: Some(Section::Pairs(longer)),
             };
             Ok((next, many, taken))
         }
-        begun => Ok((Reading { whole, begun }, 0, 0)),
+        begun => Ok((CertificateReading { whole, begun }, 0, 0)),
     }
 }
 
 /// Parses one more line. Returns `None` if no certificate continues with it.
-fn with_line(alloc: Global, reading: Reading, line: &[u8]) -> Result<Option<Reading>, Memory>
+fn with_line(
+    alloc: Global,
+    reading: CertificateReading,
+    line: &[u8],
+) -> Result<Option<CertificateReading>, Memory>
     requires { IsReading reading }
     ensures { IfOk result (λ next.
         MatchOption next (GoesNowhere reading line.now) (GoesOn reading line.now)) }
 {
-    let Reading { mut whole, begun } = reading;
+    let CertificateReading { mut whole, begun } = reading;
     match begun {
         None => match head_of(alloc, line, whole.len() as u64)? {
-            Some(section) => Ok(Some(Reading {
+            Some(section) => Ok(Some(CertificateReading {
                 whole,
                 begun: Some(section),
             })),
@@ -235,10 +242,10 @@ fn with_line(alloc: Global, reading: Reading, line: &[u8]) -> Result<Option<Read
         Some(section) => {
             if line == b"end".as_slice() {
                 whole.push(section)?;
-                return Ok(Some(Reading { whole, begun: None }));
+                return Ok(Some(CertificateReading { whole, begun: None }));
             }
             match with_pair(section, line)? {
-                Some(longer) => Ok(Some(Reading {
+                Some(longer) => Ok(Some(CertificateReading {
                     whole,
                     begun: Some(longer),
                 })),
@@ -262,7 +269,7 @@ fn with_pair(section: Section, line: &[u8]) -> Result<Option<Section>, Memory>
 }
 
 /// Parses the line of a pair and adds the pair to the pairs.
-fn with_next(mut pairs: Pairs, line: &[u8]) -> Result<Option<Section>, Memory>
+fn with_next(mut pairs: CertificatePairs, line: &[u8]) -> Result<Option<Section>, Memory>
     requires { IsStated (sections.Pairs pairs) }
     ensures { IfOk result (λ longer.
         MatchOption longer (HasNoMore (sections.Pairs pairs) line.now)

@@ -7,7 +7,7 @@ ghost use Rattle.cert_format.specs.Runs.{IsFirstPair, HasMorePairs, IsStem};
 
 use crate::cuts::after;
 use crate::number::first_number;
-use crate::section::Pairs;
+use crate::section::CertificatePairs;
 use crate::stems::{first_agree, first_end, stem_of};
 use base_data::model::Memory;
 
@@ -35,7 +35,10 @@ fn first_pair<'a>(
 
 /// Parses pair lines at the start of the bytes, as long as the pairs increase, and adds the pairs.
 /// Returns the pairs and the numbers of parsed lines and bytes.
-pub fn with_pairs(pairs: Pairs, text: &[u8]) -> Result<(Pairs, usize, usize), Memory>
+pub fn with_pairs(
+    pairs: CertificatePairs,
+    text: &[u8],
+) -> Result<(CertificatePairs, usize, usize), Memory>
     requires { All AreNumbers pairs }
     ensures { IfOk result (λ run. HasMorePairs pairs text.now run.0 run.1 run.2) }
 {

@@ -12,12 +12,12 @@ use std::marker::Model;
 /// Pairs of an object number and a type number, strictly increasing by object, then by type. The
 /// pairs before the first number of 2^32 or more take half the memory of the others.
 #[derive(Drop)]
-pub struct Pairs {
+pub struct CertificatePairs {
     small: Vec<(u32, u32)>,
     large: Vec<(u64, u64)>,
 }
 
-impl Model for Pairs {
+impl Model for CertificatePairs {
     ghost use Rattle.std.specs.Prelude.{List, ℕ, ◌++◌};
 
     ghost Value = { List (ℕ × ℕ) };
@@ -29,23 +29,23 @@ impl Model for Pairs {
     ghost invariant = { λ p. AreIncreasing (p.small.items ++ p.large.items) };
 }
 
-impl Pairs {
+impl CertificatePairs {
     /// Creates an empty list.
-    pub fn new(alloc: Global) -> Pairs
+    pub fn new(alloc: Global) -> CertificatePairs
         ensures { result ≡ [] }
     {
-        Pairs {
+        CertificatePairs {
             small: Vec::new(alloc),
             large: Vec::new(alloc),
         }
     }
 
     /// Creates a list from pairs that are strictly increasing.
-    pub fn of(alloc: Global, pairs: Vec<(u64, u64)>) -> Pairs
+    pub fn of(alloc: Global, pairs: Vec<(u64, u64)>) -> CertificatePairs
         requires { AreIncreasing pairs.items }
         ensures { result ≡ pairs.items }
     {
-        Pairs {
+        CertificatePairs {
             small: Vec::new(alloc),
             large: pairs,
         }
@@ -141,7 +141,7 @@ fn is_smaller(one: (u64, u64), object: u64, ty: u64) -> bool
 /// a type mismatch and `Conflict` is an aliasing conflict.
 #[derive(Drop)]
 pub enum Section {
-    Pairs(Pairs),
+    Pairs(CertificatePairs),
     Mismatch(Path),
     Conflict(Path, Path),
 }

@@ -4,7 +4,7 @@ ghost use Rattle.std.specs.Prelude.{◌≡◌, ◌≤◌, ◌++◌, ◌∷◌, [
 ghost use Rattle.base_io.specs.Sink.{WritesOrFails};
 ghost use Rattle.base_io.specs.State.{change};
 ghost use Rattle.cert_format.specs.Format.{section_text, head_line, pair_lines, text_of};
-ghost use Rattle.cert_format.specs.Putting.{WritesPrefix, WritesAll};
+ghost use Rattle.cert_format.specs.TextWrites.{WritesPrefix, WritesAll};
 
 use crate::lines::{append, make_room, write_lines};
 use crate::section::Section;

@@ -5,13 +5,17 @@ ghost use Rattle.cert_format.specs.Increasing.{AreIncreasing};
 ghost use Rattle.cert_produce.specs.LeastFaults.{at_least};
 
 use base_data::model::Memory;
-use cert_format::Pairs;
+use cert_format::CertificatePairs;
 use check_heap::check::Typing;
 use std::alloc::Global;
 
 /// Returns the pairs of a typing in the order of a certificate entry, without duplicates. Each pair
 /// has the least number of its type.
-pub fn normal_pairs(alloc: Global, typing: &Typing, least_faults: &[usize]) -> Result<Pairs, Memory>
+pub fn normal_pairs(
+    alloc: Global,
+    typing: &Typing,
+    least_faults: &[usize],
+) -> Result<CertificatePairs, Memory>
     requires { (o t : ℕ) → Contains typing.now (o, t) → t < length least_faults.now }
     ensures same { IfOk result (λ pairs. (pair : ℕ × ℕ)
         → Contains pairs pair ↔ Contains (map (at_least least_faults.now) typing.now) pair) }
@@ -40,11 +44,11 @@ fn at_least_faults(
 
 /// Returns the same pairs in ascending order, without duplicates. The function sorts them in place
 /// and allocates nothing.
-fn in_order(alloc: Global, mut pairs: Vec<(u64, u64)>) -> Pairs
+fn in_order(alloc: Global, mut pairs: Vec<(u64, u64)>) -> CertificatePairs
     ensures same { (pair : ℕ × ℕ) → Contains result pair ↔ Contains pairs.items pair }
     ensures increasing { AreIncreasing result }
 {
     pairs.sort_unstable();
     pairs.dedup();
-    Pairs::of(alloc, pairs)
+    CertificatePairs::of(alloc, pairs)
 }

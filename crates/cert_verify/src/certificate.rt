@@ -8,7 +8,7 @@ mod held;
 mod judge;
 mod laws;
 mod right;
-mod stated;
+mod stated_pairs;
 mod test;
 mod verified;
 

@@ -21,8 +21,8 @@ use Rattle.types_spec.specs.types.Typing.{values_of}
 use Rattle.marshal_heap.specs.declared.heap.kind.Kind.{Kind}
 use Rattle.marshal_heap.specs.heap.Heap.{object_at, kind_of}
 use Rattle.types_table.specs.type_table.Made.{IsLawful}
-use Rattle.check_fault.specs.declared.near.Unfit.{Unfit}
-use Rattle.check_fault.specs.declared.near.Way.TheVariants as ways
+use Rattle.check_fault.specs.declared.near.UnfitField.{UnfitField}
+use Rattle.check_fault.specs.declared.near.NearPath.TheVariants as ways
 use Rattle.check_fault.specs.Near.{NoneOf, IsFirstOf, IsThere, IsNear, fields_of_kind}
 use Rattle.check_fault.proofs.StepLemmas.{needed_below}
 
@@ -221,7 +221,7 @@ module _ (table : Table) (graph : List Obj) (v : Val) (t : ℕ) where
 
   -- A mismatch of a field is a mismatch of the value, behind the step to the field.
   pub found_behind :
-      (i : ℕ) (w : Val) (u : ℕ) (found : Option Unfit) → Some (w, u) ≡ step (table_shapes table) graph v t i
+      (i : ℕ) (w : Val) (u : ℕ) (found : Option UnfitField) → Some (w, u) ≡ step (table_shapes table) graph v t i
       → MatchOption found (NoneOf (IsMismatch (table_shapes table) graph w u) 1)
       (λ unfit. IsFirstOf (IsMismatch (table_shapes table) graph w u) (unfit.field ∷ [])
       × IsThere table graph w u (unfit.field ∷ []) unfit.value unfit.at)
@@ -245,7 +245,7 @@ module _ (table : Table) (graph : List Obj) (v : Val) (t : ℕ) where
 
   -- If a field was found, then it is the first one and has this index.
   pub field_found :
-      (i : ℕ) (unfit : Unfit) → NoneBelow Is 0 i
+      (i : ℕ) (unfit : UnfitField) → NoneBelow Is 0 i
       → (unfit.field ≡ i) × Is (i ∷ []) × IsThere table graph v t (i ∷ []) unfit.value unfit.at
       → IsFirstOf (IsMismatch (table_shapes table) graph v t) (unfit.field ∷ [])
       × IsThere table graph v t (unfit.field ∷ []) unfit.value unfit.at
@@ -311,7 +311,7 @@ module _ (table : Table) (graph : List Obj) (root : Val) where
     there = record { leads = refl; valid = valid; node = lawful.rooted };
   }
 
-  pub near_field : (unfit : Unfit) → (table_shapes table).fits graph root 0
+  pub near_field : (unfit : UnfitField) → (table_shapes table).fits graph root 0
       → IsFirstOf (IsMismatch (table_shapes table) graph root 0) (unfit.field ∷ [])
       × IsThere table graph root 0 (unfit.field ∷ []) unfit.value unfit.at
       → IsNear table graph root (record { way = ways.Field unfit.field; value = unfit.value; at = unfit.at })
@@ -320,7 +320,7 @@ module _ (table : Table) (graph : List Obj) (root : Val) where
     there = found.1;
   }
 
-  pub near_part : (i : ℕ) (unfit : Unfit) → (table_shapes table).fits graph root 0
+  pub near_part : (i : ℕ) (unfit : UnfitField) → (table_shapes table).fits graph root 0
       → NoneOf (IsMismatch (table_shapes table) graph root 0) 1
       → IsFirstOf (IsMismatch (table_shapes table) graph root 0) (i ∷ unfit.field ∷ [])
       × IsThere table graph root 0 (i ∷ unfit.field ∷ []) unfit.value unfit.at

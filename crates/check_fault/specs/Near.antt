@@ -9,8 +9,8 @@ use Rattle.types_spec.specs.declared.types.fault.Fault.TheVariants.{Mismatch}
 use Rattle.types_spec.specs.types.Fault.{IsLexicallyBefore, value_at}
 use Rattle.types_spec.specs.types.LeastFault.{IsLeastFault}
 use Rattle.types_spec.specs.types.Table.{Table, table_shapes}
-use Rattle.check_fault.specs.declared.near.Way.{Way}
-use Rattle.check_fault.specs.declared.near.Way.TheVariants as ways
+use Rattle.check_fault.specs.declared.near.NearPath.{NearPath}
+use Rattle.check_fault.specs.declared.near.NearPath.TheVariants as ways
 use Rattle.check_fault.specs.declared.near.Near.{Near}
 
 -- The number of fields of an object of this kind.
@@ -38,8 +38,8 @@ pub record IsThere
   pub valid : IsValue (length graph) value
   pub node : at < length table.nodes
 
--- The path of a `Way`.
-abbrev pub path_in : Way → List ℕ
+-- The path of a `NearPath`.
+abbrev pub path_in : NearPath → List ℕ
 path_in ways.Root = []
 path_in (ways.Field i) = i ∷ []
 path_in (ways.Part i j) = i ∷ j ∷ []

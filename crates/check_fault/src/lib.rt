@@ -1,9 +1,9 @@
 //! Follows paths in a value by a table of types, decides if something is a fault, and prints
 //! faults.
 //!
-//! It owns `Tried` (a value with the number of a type of a table), `Near` and `Way` (a mismatch
-//! near the root), and the functions that print. The text of a fault is defined in `types_spec`
-//! (`VerdictText`).
+//! It owns `Tried` (a value with the number of a type of a table), `Near` and `NearPath` (a
+//! mismatch near the root), and the functions that print. The text of a fault is defined in
+//! `types_spec` (`VerdictText`).
 //!
 //! Promises: `walk` returns the value at the end of a path and the number of its type, or `None`
 //! if the path leads nowhere; `step` does so for one step of a path. `is_fault` returns true if
@@ -31,7 +31,7 @@ mod write;
 
 pub use fault::is_fault;
 pub use missed::write_missed;
-pub use near::{Near, Way, find_near};
+pub use near::{Near, NearPath, find_near};
 pub use steps::{step, walk};
 pub use text::{fault_text, write_fault, write_near};
 pub use tried::Tried;

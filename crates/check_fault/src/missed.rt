@@ -10,7 +10,7 @@ use crate::text::write_type;
 use crate::write::{write, write_atom, write_int, write_object, write_step};
 use base_data::model::Memory;
 use base_data::model::code::CustomKind;
-use check_stream::search::{Found, Link, Summary};
+use check_stream::search::{FoundMismatch, Link, Summary};
 use marshal_heap::heap::Kind;
 use std::alloc::Global;
 use types_table::type_table::TypeTable;
@@ -20,7 +20,7 @@ pub fn write_missed(
     text: &mut Vec<u8>,
     alloc: Global,
     table: &TypeTable,
-    found: &Found,
+    found: &FoundMismatch,
 ) -> Result<(), Memory>
     requires number { found.now.ty < length table.now.nodes }
     ensures { OnOk result

@@ -27,7 +27,7 @@ const TINY: u64 = 16;
 
 /// The path to a value near the root.
 #[derive(Clone, Copy)]
-pub enum Way {
+pub enum NearPath {
     Root,
     /// A field of the root.
     Field(u64),
@@ -38,14 +38,14 @@ pub enum Way {
 /// A type mismatch near the root: its path, the value there, and the number of the type there.
 #[derive(Clone, Copy)]
 pub struct Near {
-    pub way: Way,
+    pub way: NearPath,
     pub value: Val,
     pub at: usize,
 }
 
 /// A field that does not match its type: its index, its value, and the number of its type.
 #[derive(Clone, Copy)]
-struct Unfit {
+struct UnfitField {
     field: u64,
     value: Val,
     at: usize,
@@ -62,7 +62,7 @@ pub fn find_near(value: &Rooted<'_>, table: &TypeTable) -> Option<Near>
     }
     let Some(needs) = needs_of(value.heap, value.root, table.shape(0)) else {
         return Some(Near {
-            way: Way::Root,
+            way: NearPath::Root,
             value: value.root,
             at: 0,
         });
@@ -75,7 +75,7 @@ pub fn find_near(value: &Rooted<'_>, table: &TypeTable) -> Option<Near>
     };
     match unfit_field(&tried, needs) {
         Some(unfit) => Some(Near {
-            way: Way::Field(unfit.field),
+            way: NearPath::Field(unfit.field),
             value: unfit.value,
             at: unfit.at,
         }),
@@ -104,7 +104,7 @@ fn near_part(value: &Rooted<'_>, table: &TypeTable, needs: Needs<'_>) -> Option<
     };
     match unfit_part(&tried, needs) {
         Some((i, unfit)) => Some(Near {
-            way: Way::Part(i, unfit.field),
+            way: NearPath::Part(i, unfit.field),
             value: unfit.value,
             at: unfit.at,
         }),
@@ -173,7 +173,7 @@ fn part(tried: &Tried<'_>, needs: Needs<'_>, i: u64) -> Option<(Val, usize)>
 }
 
 /// Returns field `i` if it does not match its type.
-fn unfit_at(tried: &Tried<'_>, needs: Needs<'_>, i: u64) -> Option<Unfit>
+fn unfit_at(tried: &Tried<'_>, needs: Needs<'_>, i: u64) -> Option<UnfitField>
     requires needs { needs_in needs ≡ typed_in tried.now }
     ensures { MatchOption result (¬ IsMismatchOf tried.now (i ∷ []))
         (λ unfit. (unfit.field ≡ i)
@@ -192,7 +192,7 @@ fn unfit_at(tried: &Tried<'_>, needs: Needs<'_>, i: u64) -> Option<Unfit>
     if fits(&next) {
         return None;
     }
-    Some(Unfit {
+    Some(UnfitField {
         field: i,
         value,
         at,
@@ -201,7 +201,7 @@ fn unfit_at(tried: &Tried<'_>, needs: Needs<'_>, i: u64) -> Option<Unfit>
 
 /// Returns the first field of a value that does not match its type. `needs` are the value's typed
 /// fields.
-fn unfit_field(tried: &Tried<'_>, needs: Needs<'_>) -> Option<Unfit>
+fn unfit_field(tried: &Tried<'_>, needs: Needs<'_>) -> Option<UnfitField>
     requires needs { needs_in needs ≡ typed_in tried.now }
     ensures { MatchOption result (NoneOf (IsMismatchOf tried.now) 1)
         (λ unfit. IsFirstOf (IsMismatchOf tried.now) (unfit.field ∷ [])
@@ -217,7 +217,7 @@ fn unfit_field(tried: &Tried<'_>, needs: Needs<'_>) -> Option<Unfit>
 }
 
 /// Does the same if the typed fields are not yet known.
-fn unfit_field_of(tried: &Tried<'_>) -> Option<Unfit>
+fn unfit_field_of(tried: &Tried<'_>) -> Option<UnfitField>
     ensures { MatchOption result (NoneOf (IsMismatchOf tried.now) 1)
         (λ unfit. IsFirstOf (IsMismatchOf tried.now) (unfit.field ∷ [])
         × LeadsTo tried.now (unfit.field ∷ []) unfit.value unfit.at) }
@@ -229,7 +229,7 @@ fn unfit_field_of(tried: &Tried<'_>) -> Option<Unfit>
 }
 
 /// Returns the first field of field `i` that does not match its type.
-fn unfit_in(tried: &Tried<'_>, needs: Needs<'_>, i: u64) -> Option<Unfit>
+fn unfit_in(tried: &Tried<'_>, needs: Needs<'_>, i: u64) -> Option<UnfitField>
     requires needs { needs_in needs ≡ typed_in tried.now }
     ensures { MatchOption result (NoneOf (λ path. IsMismatchOf tried.now (i ∷ path)) 1)
         (λ unfit. IsFirstOf (λ path. IsMismatchOf tried.now (i ∷ path)) (unfit.field ∷ [])
@@ -249,7 +249,7 @@ fn unfit_in(tried: &Tried<'_>, needs: Needs<'_>, i: u64) -> Option<Unfit>
 
 /// Returns the first field of a field that does not match its type, with the index of the field
 /// that contains it.
-fn unfit_part(tried: &Tried<'_>, needs: Needs<'_>) -> Option<(u64, Unfit)>
+fn unfit_part(tried: &Tried<'_>, needs: Needs<'_>) -> Option<(u64, UnfitField)>
     requires needs { needs_in needs ≡ typed_in tried.now }
     ensures { MatchOption result (NoneOf (IsMismatchOf tried.now) 2)
         (λ two. IsFirstOf (IsMismatchOf tried.now) (two.0 ∷ two.1.field ∷ [])

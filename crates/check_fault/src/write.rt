@@ -7,7 +7,7 @@ ghost use Rattle.types_spec.specs.types.VerdictText.{kind_text};
 ghost use Rattle.check_fault.specs.Near.{path_in};
 ghost use Rattle.check_fault.specs.Text.{step_text, text_of_kind};
 
-use crate::near::Way;
+use crate::near::NearPath;
 use base_data::model::Memory;
 use base_data::model::code::Custom;
 use base_data::model::path::Path;
@@ -81,13 +81,13 @@ pub fn write_path(text: &mut Vec<u8>, path: &Path) -> Result<(), Memory>
 }
 
 /// Appends the path to a value near the root.
-pub fn write_way(text: &mut Vec<u8>, way: Way) -> Result<(), Memory>
+pub fn write_way(text: &mut Vec<u8>, way: NearPath) -> Result<(), Memory>
     ensures { OnOk result (text.new.items ≡ text.old.items ++ path_text (path_in way)) }
 {
     match way {
-        Way::Root => write(text, b"."),
-        Way::Field(i) => write_step(text, i),
-        Way::Part(i, j) => write_two(text, i, j),
+        NearPath::Root => write(text, b"."),
+        NearPath::Field(i) => write_step(text, i),
+        NearPath::Part(i, j) => write_two(text, i, j),
     }
 }
 

@@ -13,7 +13,7 @@ mod path;
 mod rest;
 mod search;
 mod settle;
-mod settled;
+mod settled_objects;
 mod trail;
 mod typing;
 mod verdict;

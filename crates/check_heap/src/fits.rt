@@ -1,12 +1,12 @@
 //! Decides whether a value of a heap matches a shape (the representation of a type). If it matches,
 //! reports which of its fields have types and whether the value is mutable. `needs_of` promises the
-//! result of the specification `fields_of`. `Row` is a fast path that decides the common cases by
-//! comparing 64-bit words.
+//! result of the specification `fields_of`. `WordConditions` is a fast path that decides the
+//! common cases by comparing 64-bit words.
 
 mod needs;
 mod parts;
-mod row;
+mod word_conditions;
 
 pub use needs::{Needs, known_needs, needs_of};
 pub use parts::{is_asked, is_mutable};
-pub use row::{Row, row_of, surely_fits};
+pub use word_conditions::{WordConditions, row_of, surely_fits};

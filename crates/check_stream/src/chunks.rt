@@ -9,4 +9,4 @@ mod laws;
 mod stream_check;
 
 pub use laws::{passing_but_is_prefix, passing_is_prefix};
-pub use stream_check::{Answer, StreamCheck};
+pub use stream_check::{ChunkResult, StreamCheck};

@@ -14,7 +14,7 @@ mod way;
 
 pub use again::Again;
 pub use laws::found_has_line;
-pub use mismatch::{End, Finding, Found, Seeking};
-pub use second::Seconds;
+pub use mismatch::{Finding, FoundMismatch, SearchEnd, Seeking};
+pub use second::SecondReads;
 pub use summary::Summary;
-pub use way::{Asked, Left, Link, Wait, Way};
+pub use way::{BlockExpectations, Expectation, Link, Wait, Way};

@@ -1,4 +1,4 @@
--- A command line in plain form is accepted, and makes the request that it spells out.
+-- A command line in plain form is accepted, and makes the request that it states.
 use Rattle.std.proofs.Common.{◌≡◌, ◌∙◌, ◌⊎◌, inl, inr, ◌≤◌, ◌<◌, ◌^◌, ◌||◌, ◌&&◌, ℕ, Bool, true, false, true≢false, not, List, [], ◌∷◌, ◌++◌, append-nil, append_assoc, cond, Option, Some, None, codes, is_some, refl, sym, ap, subst, arith}
 use Rattle.std.specs.Prelude.{if◌then◌else◌, fold, map, option_and_then, option_map, slice_get, unwrap_or}
 use Rattle.std.specs.List.{find, flat_map, list_any}
@@ -139,9 +139,9 @@ module _ (level : Text) (c : List Rule) where
 
   use_comes : (one : Use) → IsWritten one → (h : Held) (n : ℕ) (rows : List Row) → Holds level c h rows → has_row (used_in one) rows ≡ false
       → Comes level c h n (arguments_for one) n (rows ++ use_row one ∷ [])
-  use_comes (alone name) (spelt, by_id, by_long) h n rows holds absent = flag_comes level c h n rows holds name spelt by_id by_long absent
-  use_comes (given name text) (greatest, usual, spelt, by_id, by_long, numeral, least, small) h n rows holds absent =
-      option_comes level c h n rows holds name text greatest usual spelt by_id by_long absent (digits_are_argument text numeral) (digits_accepted text greatest numeral least small)
+  use_comes (alone name) (in_form, by_id, by_long) h n rows holds absent = flag_comes level c h n rows holds name in_form by_id by_long absent
+  use_comes (given name text) (greatest, usual, in_form, by_id, by_long, numeral, least, small) h n rows holds absent =
+      option_comes level c h n rows holds name text greatest usual in_form by_id by_long absent (digits_are_argument text numeral) (digits_accepted text greatest numeral least small)
 
   use_named : (one : Use) → (use_row one).id ≡ used_in one
   use_named (alone name) = refl

@@ -160,7 +160,7 @@ module _ (level : Text) (c : List Rule) where
   )
 
   module _ (h : Held) (n : ℕ) (rows : List Row) (holds : Holds h rows) where
-    module _ (name : Text) (spelt : encodes name ≡ true) (by_id : arg_by_id c name ≡ Some (ruled 1 (flag name))) (by_long : arg_by_long c name ≡ Some (ruled 1 (flag name))) (absent : has_row name rows ≡ false) where
+    module _ (name : Text) (in_form : encodes name ≡ true) (by_id : arg_by_id c name ≡ Some (ruled 1 (flag name))) (by_long : arg_by_long c name ≡ Some (ruled 1 (flag name))) (absent : has_row name rows ≡ false) where
       abbrev flag_rule : Rule
       flag_rule = ruled 1 (flag name)
 
@@ -168,14 +168,14 @@ module _ (level : Text) (c : List Rule) where
       flag_held = record h { rows = used flag_rule [] (settled c h).rows; pending = None }
 
       flag_step : walked c [] (standing h n) (codes "--" ++ name) ≡ standing flag_held n
-      flag_step = long_walked c h n (codes "--" ++ name) name flag_rule (no_dashes name spelt) (encoded name spelt) by_long
+      flag_step = long_walked c h n (codes "--" ++ name) name flag_rule (no_dashes name in_form) (encoded name in_form) by_long
 
       flag_fine : use_fault false flag_rule [] rows ≡ []
       flag_fine = rw absent refl
 
       flag_turn : turn_fault own [] (standing h n) (codes "--" ++ name) ≡ []
       flag_turn =
-          long_turn own h n (codes "--" ++ name) name flag_rule (no_dashes name spelt) (encoded name spelt) by_long
+          long_turn own h n (codes "--" ++ name) name flag_rule (no_dashes name in_form) (encoded name in_form) by_long
           ∙ (ap (λ k. or_else (or_else k (use_fault false flag_rule [] (settled c h).rows)) []) holds.0
           ∙ ap (λ k. or_else k []) (subst (λ rs. use_fault false flag_rule [] rs ≡ []) (sym holds.1) flag_fine))
 
@@ -189,7 +189,7 @@ module _ (level : Text) (c : List Rule) where
         (refl, flag_rows),
       )
 
-    module _ (name text : Text) (greatest : ℕ) (usual : List Text) (spelt : encodes name ≡ true) (by_id : arg_by_id c name ≡ Some (taking name greatest usual))
+    module _ (name text : Text) (greatest : ℕ) (usual : List Text) (in_form : encodes name ≡ true) (by_id : arg_by_id c name ≡ Some (taking name greatest usual))
         (by_long : arg_by_long c name ≡ Some (taking name greatest usual)) (absent : has_row name rows ≡ false) (is : IsArgument text)
         (accepted : accepts false (Unsigned 0 greatest) text ≡ true) where
       abbrev option_rule : Rule
@@ -202,13 +202,13 @@ module _ (level : Text) (c : List Rule) where
       option_held = record { rows = (settled c h).rows; pending = Some (name, text ∷ []); skip = h.skip }
 
       option_step : walked c [] (standing h n) (codes "--" ++ name) ≡ waiting_for name between n
-      option_step = long_walked c h n (codes "--" ++ name) name option_rule (no_dashes name spelt) (encoded name spelt) by_long
+      option_step = long_walked c h n (codes "--" ++ name) name option_rule (no_dashes name in_form) (encoded name in_form) by_long
 
       text_step : walked c [] (waiting_for name between n) text ≡ standing option_held n
       text_step = option_walked c name between n text is ∙ (rw (by_id, same_text name) refl)
 
       dashed_turn : turn_fault own [] (standing h n) (codes "--" ++ name) ≡ []
-      dashed_turn = long_turn own h n (codes "--" ++ name) name option_rule (no_dashes name spelt) (encoded name spelt) by_long ∙ ap (λ k. or_else k []) holds.0
+      dashed_turn = long_turn own h n (codes "--" ++ name) name option_rule (no_dashes name in_form) (encoded name in_form) by_long ∙ ap (λ k. or_else k []) holds.0
 
       option_fine : use_fault false option_rule (text ∷ []) rows ≡ []
       option_fine = rw (absent, accepted) refl

@@ -21,8 +21,8 @@ use Rattle.clap.proofs.ValueTestLemmas.{Accepts-accepts, accepts-Accepts}
 use Rattle.clap.proofs.WalkLemmas.{first_value-rows, one_text-rows}
 use Rattle.cli_spec.specs.CommandLine.{command_set, Form, Request, AreReadAs, Asks, IsUsage, is_whole}
 use Rattle.cli_args.specs.declared.read.Request.{Request as Reading}
-use Rattle.cli_args.specs.declared.read.Unread.{Unread}
-use Rattle.cli_args.specs.declared.read.Unread.TheVariants.{Usage, Memory}
+use Rattle.cli_args.specs.declared.read.ArgumentsError.{ArgumentsError}
+use Rattle.cli_args.specs.declared.read.ArgumentsError.TheVariants.{Usage, Memory}
 use Rattle.cli_args.specs.Requests.{ReadsAsked, ReadsBy, ReadsMet, ReadsArguments, given_in, if_whole, number_of, request_of, word_in}
 use Rattle.cli_args.proofs.AcceptedLemmas.{accepted_arguments_are_read}
 use Rattle.cli_args.proofs.RequestLemmas.{asked_whole, asks_whole, one_reading, read_parts, request_known}
@@ -107,7 +107,7 @@ set_is_free : is_simple_and_free command_set ≡ true
 unfolding clap_on_literals
 set_is_free = refl
 
--- The request is possible, or it is a certificate of a single value.
+-- If `if_whole` returns a request, then the request is not a certificate of a single value.
 whole_some : (request other : Request) → if_whole request ≡ Some other → (is_whole request ≡ true) × (request ≡ other)
 whole_some request other e = go (is_whole request) refl e
   where
@@ -126,7 +126,8 @@ module _ (app : App) (set : app ≡ command_set) (command_line : List (List ℕ)
   met : (matches : ArgMatches) → HasMatchesOf app command_line matches → subcommand_rows_of matches ≡ subcommand_of command_set command_line
   met matches found = (found (ap is_simple set ∙ set_is_simple)).1 ∙ ap (λ a. subcommand_of a command_line) set
 
-  -- The claim if clap accepts the arguments.
+  -- If clap accepts the arguments, then they are read as some request. The result is this request,
+  -- unless the request is a certificate of a single value.
   accepted_read : (matches : ArgMatches) → (is_simple_and_free app ≡ true → fault_of app command_line ≡ []) → HasMatchesOf app command_line matches → (result : Option Reading) → ReadsMet matches result
       → (request : Request) × (if_whole request ≡ option_map request_of result) × AreReadAs command_line request
   accepted_read matches accepts found result reads =
@@ -134,7 +135,7 @@ module _ (app : App) (set : app ≡ command_set) (command_line : List (List ℕ)
       let by = read_parts command_line read.0 read.1 in
       (read.0, sym (ap (option_and_then if_whole) (request_known by.0 by.1 read.0 by.3)) ∙ reads by.0 by.1 (met matches found ∙ by.2.1), read.1)
 
-  pub asked_read : (matches : ArgMatches) → (is_simple_and_free app ≡ true → fault_of app command_line ≡ []) → HasMatchesOf app command_line matches → (result : Result Reading Unread)
+  pub asked_read : (matches : ArgMatches) → (is_simple_and_free app ≡ true → fault_of app command_line ≡ []) → HasMatchesOf app command_line matches → (result : Result Reading ArgumentsError)
       → ReadsAsked matches result → ReadsArguments command_line result
   asked_read matches accepts found (Ok reading) asks =
       let one = accepted_read matches accepts found (Some reading) asks in
@@ -149,7 +150,7 @@ module _ (app : App) (set : app ≡ command_set) (command_line : List (List ℕ)
       cc bad
   asked_read matches accepts found (Err Memory) never = absurd never
 
-  -- The claim if clap refuses the arguments.
+  -- If clap refuses the arguments and memory did not run out, then the arguments are a usage error.
   pub refused_arguments : (error : Error) → (is_simple_and_free app ≡ true → HasKind (fault_of app command_line) error) → kind_of error ≢ kinds.OutOfMemory → IsUsage command_line
   refused_arguments error refuses not_memory request asks = go (refuses (ap is_simple_and_free set ∙ set_is_free)) where
     none : fault_of app command_line ≡ []
@@ -159,7 +160,7 @@ module _ (app : App) (set : app ≡ command_set) (command_line : List (List ℕ)
     go (inl memory) = not_memory memory
     go (inr among) = subst (IsAmong (kind_of error)) none among
 
-  pub refusal_read : (error : Error) → (is_simple_and_free app ≡ true → HasKind (fault_of app command_line) error) → (unread : Unread) → (unread ≡ Usage → kind_of error ≢ kinds.OutOfMemory)
+  pub refusal_read : (error : Error) → (is_simple_and_free app ≡ true → HasKind (fault_of app command_line) error) → (unread : ArgumentsError) → (unread ≡ Usage → kind_of error ≢ kinds.OutOfMemory)
       → ReadsArguments command_line (Err unread)
   refusal_read error refuses Usage is = refused_arguments error refuses (is refl)
   refusal_read error refuses Memory is = tt

@@ -10,7 +10,7 @@ HasOneRequest =
     → Asks command_line other
     → request ≡ other
 
--- A command line in plain form makes the request that it spells out.
+-- A command line in plain form makes the request that it states.
 abbrev pub PlainArgumentsAsk : Type 0
 PlainArgumentsAsk =
     (command_line : List (List ℕ)) (request : Request) → ArePlain command_line request

@@ -12,12 +12,12 @@ use Rattle.clap.specs.declared.parser.matches.ArgMatches.{ArgMatches}
 use Rattle.cli_spec.specs.CommandLine.{Argument, flag, option, optional, wanted, number, Asking}
 use Rattle.cli_spec.specs.CommandLine.{form_of}
 use Rattle.cli_spec.specs.CommandLine as outcome
-use Rattle.cli_spec.specs.declared.reading.Reading.{Reading}
+use Rattle.cli_spec.specs.declared.read_options.ReadOptions.{ReadOptions}
 use Rattle.cli_spec.specs.declared.style.Style.{Style}
 use Rattle.cli_args.specs.declared.read.Request.{Request}
 use Rattle.cli_args.specs.declared.read.Request.TheVariants as requests
-use Rattle.cli_args.specs.declared.read.Unread.{Unread}
-use Rattle.cli_args.specs.declared.read.Unread.TheVariants.{Usage, Memory}
+use Rattle.cli_args.specs.declared.read.ArgumentsError.{ArgumentsError}
+use Rattle.cli_args.specs.declared.read.ArgumentsError.TheVariants.{Usage, Memory}
 
 abbrev pub texts : List (String Global) → List (List ℕ)
 texts command_line = map (λ word. string_bytes word) command_line
@@ -45,7 +45,7 @@ request_of (requests.Generate n count type) = outcome.own (outcome.generate n co
 request_of (requests.Scan limit) = outcome.own (outcome.scan limit)
 
 -- The request of `check`, with or without a certificate.
-abbrev pub check_asks : Bool → (file type : List ℕ) → Bool → Reading → outcome.Request
+abbrev pub check_asks : Bool → (file type : List ℕ) → Bool → ReadOptions → outcome.Request
 check_asks certified file type lines reading =
     if certified then outcome.own (outcome.certify file type lines reading)
     else outcome.report outcome.the_verdict file type lines reading
@@ -84,15 +84,15 @@ abbrev pub number_in : List Row → List ℕ → ℕ
 number_in rows name = unwrap_or (given_in rows name) 0
 
 -- The options for reading values, with this number for `--only`.
-abbrev pub choosing_in : List Row → Option ℕ → Reading
+abbrev pub choosing_in : List Row → Option ℕ → ReadOptions
 choosing_in rows only =
     outcome.read_by (number_in rows (codes "limit")) (number_in rows (codes "skip")) only
 
 -- The options for reading all values, and the options for a command that accepts `--only`.
-abbrev pub reading_in : List Row → Reading
+abbrev pub reading_in : List Row → ReadOptions
 reading_in rows = choosing_in rows None
 
-abbrev pub command_sum_in : List Row → Reading
+abbrev pub command_sum_in : List Row → ReadOptions
 command_sum_in rows = choosing_in rows (given_in rows (codes "only"))
 
 -- The request, if all arguments are present.
@@ -124,14 +124,14 @@ ReadsMet matches result =
     → ReadsBy command rows result
 
 -- The same, with `Usage` if there is no request.
-abbrev pub ReadsAsked : ArgMatches → Result Request Unread → Type 0
+abbrev pub ReadsAsked : ArgMatches → Result Request ArgumentsError → Type 0
 ReadsAsked matches (Ok request) = ReadsMet matches (Some request)
 ReadsAsked matches (Err Usage) = ReadsMet matches None
 ReadsAsked matches (Err Memory) = ⊥
 
 -- The result is the request of the arguments, or `Usage` if they make none. If memory ran out,
 -- nothing is specified.
-abbrev pub ReadsArguments : List (List ℕ) → Result Request Unread → Type 0
+abbrev pub ReadsArguments : List (List ℕ) → Result Request ArgumentsError → Type 0
 ReadsArguments command_line (Ok request) = outcome.Asks command_line (request_of request)
 ReadsArguments command_line (Err Usage) = outcome.IsUsage command_line
 ReadsArguments command_line (Err Memory) = Unit {0}

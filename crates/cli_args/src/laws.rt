@@ -7,7 +7,7 @@ pub fn one_request()
     ensures { HasOneRequest }
 {}
 
-/// States that a command line in plain form is accepted and makes the request that it spells out.
+/// States that a command line in plain form is accepted and makes the request that it states.
 pub fn plain_arguments_ask()
     ensures { PlainArgumentsAsk }
 {}

@@ -19,4 +19,4 @@ mod command_set;
 pub mod laws;
 mod read;
 
-pub use read::{Request, Unread, read_arguments};
+pub use read::{ArgumentsError, Request, read_arguments};

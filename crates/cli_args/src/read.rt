@@ -3,7 +3,7 @@
 ghost use Rattle.std.specs.Prelude.{◌≡◌, ◌≢◌, option_map};
 ghost use Rattle.clap.specs.Words.{kind_of};
 ghost use Rattle.clap.specs.declared.error.kind.ErrorKind.TheVariants as kinds;
-ghost use Rattle.cli_args.specs.declared.read.Unread.TheVariants as unreads;
+ghost use Rattle.cli_args.specs.declared.read.ArgumentsError.TheVariants as unreads;
 ghost use Rattle.cli_args.specs.Requests.{arguments_of, check_asks, command_sum_in, choosing_in};
 ghost use Rattle.cli_args.specs.Requests.{flag_in, given_in, if_whole, number_in};
 ghost use Rattle.cli_args.specs.Requests.{reading_in, request_of, style_in, texts, word_in};
@@ -12,7 +12,7 @@ ghost use Rattle.cli_args.specs.Requests.{ReadsAsked, ReadsBy, ReadsMet, ReadsAr
 use crate::command_set::command_set;
 use clap::error::ErrorKind;
 use clap::{ArgMatches, Error};
-use cli_spec::reading::Reading;
+use cli_spec::read_options::ReadOptions;
 use cli_spec::style::Style;
 use std::alloc::{AllocError, Global};
 
@@ -26,7 +26,7 @@ pub enum Request<'a> {
         file: &'a str,
         type_text: &'a str,
         lines: bool,
-        reading: Reading,
+        reading: ReadOptions,
     },
     /// Prints the texts of the values of the input, at the type.
     Show {
@@ -34,7 +34,7 @@ pub enum Request<'a> {
         type_text: &'a str,
         style: Style,
         lines: bool,
-        reading: Reading,
+        reading: ReadOptions,
     },
     /// Prints the text of the part at the path, at the type.
     Get {
@@ -43,7 +43,7 @@ pub enum Request<'a> {
         path_text: &'a str,
         style: Style,
         lines: bool,
-        reading: Reading,
+        reading: ReadOptions,
     },
     /// Writes the bytes of the values of the input at the type, after the edits of a script. If
     /// `compat` is true, refuses a value that a 32-bit reader cannot hold.
@@ -54,22 +54,22 @@ pub enum Request<'a> {
         compat: bool,
         lines: bool,
         decimal: bool,
-        reading: Reading,
+        reading: ReadOptions,
     },
     /// Reports whether the search trees in the values of the input, which have the type, are valid.
     Trees {
         file: &'a str,
         type_text: &'a str,
         lines: bool,
-        reading: Reading,
+        reading: ReadOptions,
     },
     /// Prints the values of the input without a type.
     Dump {
-        reading: Reading,
+        reading: ReadOptions,
     },
     /// Reports whether the two values of the input are the same.
     Same {
-        reading: Reading,
+        reading: ReadOptions,
     },
     /// Writes the bytes of the values that the input lines denote, at the type.
     Build {
@@ -84,7 +84,7 @@ pub enum Request<'a> {
         type_text: &'a str,
         certificate: &'a str,
         lines: bool,
-        reading: Reading,
+        reading: ReadOptions,
     },
     /// Writes a certificate for the values of the input: the reason why each has the type or does
     /// not have it.
@@ -92,7 +92,7 @@ pub enum Request<'a> {
         file: &'a str,
         type_text: &'a str,
         lines: bool,
-        reading: Reading,
+        reading: ReadOptions,
     },
     /// Prints the line for the generated value of a number, with `count` items, at the type.
     Generate {
@@ -108,19 +108,19 @@ pub enum Request<'a> {
 
 /// Error of parsing the arguments: they make no request, or memory ran out.
 #[derive(Clone, Copy)]
-pub enum Unread {
+pub enum ArgumentsError {
     Usage,
     Memory,
 }
 
-impl From<AllocError> for Unread {
+impl From<AllocError> for ArgumentsError {
     ghost use Rattle.std.specs.Prelude.{◌≡◌};
-    ghost use Rattle.cli_args.specs.declared.read.Unread.TheVariants as unreads;
+    ghost use Rattle.cli_args.specs.declared.read.ArgumentsError.TheVariants as unreads;
 
     ghost from_gives = { λ _ u. u ≡ unreads.Memory };
 
     fn from(_: AllocError) -> Self {
-        Unread::Memory
+        ArgumentsError::Memory
     }
 }
 
@@ -163,10 +163,10 @@ fn number(arguments: &ArgMatches, name: &str) -> u64
 }
 
 // Returns the options for reading values, with this number for `--only`.
-fn choosing(arguments: &ArgMatches, only: Option<u64>) -> Reading
+fn choosing(arguments: &ArgMatches, only: Option<u64>) -> ReadOptions
     ensures { result ≡ choosing_in (arguments_of arguments.now) only }
 {
-    Reading {
+    ReadOptions {
         limit: number(arguments, "limit"),
         skip: number(arguments, "skip"),
         only,
@@ -174,14 +174,14 @@ fn choosing(arguments: &ArgMatches, only: Option<u64>) -> Reading
 }
 
 // Returns the options for reading all values.
-fn reading(arguments: &ArgMatches) -> Reading
+fn reading(arguments: &ArgMatches) -> ReadOptions
     ensures { result ≡ reading_in (arguments_of arguments.now) }
 {
     choosing(arguments, None)
 }
 
 // Returns the options for reading values, for a command that accepts `--only`.
-fn command_sum(arguments: &ArgMatches) -> Reading
+fn command_sum(arguments: &ArgMatches) -> ReadOptions
     ensures { result ≡ command_sum_in (arguments_of arguments.now) }
 {
     choosing(arguments, given(arguments, "only"))
@@ -194,7 +194,7 @@ fn check_request<'a>(
     file: &'a str,
     type_text: &'a str,
     lines: bool,
-    reading: Reading,
+    reading: ReadOptions,
 ) -> Option<Request<'a>>
     ensures { option_map request_of result
         ≡ if_whole (check_asks certified file.now type_text.now lines reading) }
@@ -301,28 +301,31 @@ fn request_met<'a>(matches: &ArgMatches<'a>) -> Option<Request<'a>>
 }
 
 // Returns the same request, or `Usage` if there is none.
-fn request_asked<'a>(matches: &ArgMatches<'a>) -> Result<Request<'a>, Unread>
+fn request_asked<'a>(matches: &ArgMatches<'a>) -> Result<Request<'a>, ArgumentsError>
     ensures { ReadsAsked matches.now result }
 {
     match request_met(matches) {
         Some(request) => Ok(request),
-        None => Err(Unread::Usage),
+        None => Err(ArgumentsError::Usage),
     }
 }
 
 // Returns the reason why clap refuses the arguments.
-fn refusal_of(error: &Error) -> Unread
+fn refusal_of(error: &Error) -> ArgumentsError
     ensures { (result ≡ unreads.Usage) → kind_of error.now ≢ kinds.OutOfMemory }
 {
     match error.kind() {
-        ErrorKind::OutOfMemory => Unread::Memory,
-        _ => Unread::Usage,
+        ErrorKind::OutOfMemory => ArgumentsError::Memory,
+        _ => ArgumentsError::Usage,
     }
 }
 
 /// Parses the arguments, without the program's name, to a request. Returns `Usage` if they make no
 /// request, and `Memory` if memory runs out.
-pub fn read_arguments<'a>(alloc: Global, command_line: &'a [String]) -> Result<Request<'a>, Unread>
+pub fn read_arguments<'a>(
+    alloc: Global,
+    command_line: &'a [String],
+) -> Result<Request<'a>, ArgumentsError>
     ensures { ReadsArguments (texts command_line.entry.now) result }
 {
     match command_set(alloc)?.try_get_matches_from(command_line) {

@@ -7,16 +7,16 @@ ghost use Rattle.cli_spec.specs.RefusalText.{truncated_text as text_of_split};
 ghost use Rattle.cli_spec.specs.RefusalText.{stated_text as stated, sum_text as sum, hex_byte};
 ghost use Rattle.cli_spec.specs.RefusalText.{hex_word};
 
-use base_data::model::refusal::{ReadRefusal, Stated, WordSum};
+use base_data::model::refusal::{ReadRefusal, StatedNumber, WordSum};
 use itoa::Buffer;
 use std::alloc::{AllocError, Global};
 
-fn stated_text(which: Stated) -> &'static str
+fn stated_text(which: StatedNumber) -> &'static str
     ensures { result.now ≡ stated which }
 {
     match which {
-        Stated::Words => "words",
-        Stated::Length => "length",
+        StatedNumber::Words => "words",
+        StatedNumber::Length => "length",
     }
 }
 

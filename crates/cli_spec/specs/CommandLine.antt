@@ -11,7 +11,7 @@ use Rattle.clap.specs.Words.{subcommand_of}
 use Rattle.clap.specs.Simple.{new_shape}
 use Rattle.clap.specs.declared.builder.action.ArgAction.TheVariants.{SetTrue}
 use Rattle.clap.specs.declared.builder.value_parser.ValueParser.TheVariants.{Unsigned}
-use Rattle.cli_spec.specs.declared.reading.Reading.{Reading}
+use Rattle.cli_spec.specs.declared.read_options.ReadOptions.{ReadOptions}
 use Rattle.cli_spec.specs.declared.style.Style.{Style}
 
 -- ---- requests
@@ -21,7 +21,7 @@ abbrev pub plain : Style
 plain = record { pretty = false; decimal = false }
 
 -- Reads all of the input under this limit, and reports each value.
-abbrev pub all_under : (limit : ℕ) → Reading
+abbrev pub all_under : (limit : ℕ) → ReadOptions
 all_under limit = record { limit = limit; skip = 0; only = None }
 
 -- The query about a value at a type: whether it has the type, its text, the text of the part at a
@@ -37,19 +37,19 @@ pub data Query : Type 0 where
 pub data OwnRequest : Type 0 where
   build : (file type : List ℕ) → (lines decimal : Bool) → OwnRequest
   generate : (number count : ℕ) → (type : List ℕ) → OwnRequest
-  verify : (file type certificate : List ℕ) → (lines : Bool) → Reading → OwnRequest
-  certify : (file type : List ℕ) → (lines : Bool) → Reading → OwnRequest
+  verify : (file type certificate : List ℕ) → (lines : Bool) → ReadOptions → OwnRequest
+  certify : (file type : List ℕ) → (lines : Bool) → ReadOptions → OwnRequest
   scan : (limit : ℕ) → OwnRequest
 
 -- The request of a command line. `lines` is true if positions in texts are reported by line and
 -- column. `decimal` is true if decimals stand for doubles in the texts of values that are read. The
--- `Reading` holds the options for reading values.
+-- `ReadOptions` holds the options for reading values.
 pub data Request : Type 0 where
-  report : Query → (file type : List ℕ) → (lines : Bool) → Reading → Request
-  get : (file type path : List ℕ) → Style → (lines : Bool) → Reading → Request
-  edit : (file type script : List ℕ) → (compat lines decimal : Bool) → Reading → Request
-  dump : Reading → Request
-  compare : Reading → Request
+  report : Query → (file type : List ℕ) → (lines : Bool) → ReadOptions → Request
+  get : (file type path : List ℕ) → Style → (lines : Bool) → ReadOptions → Request
+  edit : (file type script : List ℕ) → (compat lines decimal : Bool) → ReadOptions → Request
+  dump : ReadOptions → Request
+  compare : ReadOptions → Request
   own : OwnRequest → Request
 
 -- TYPE with two options. If `lines` is true, a refusal of FILE, TYPE or SCRIPT reports its position
@@ -88,7 +88,7 @@ script_of (edit file type script compat lines decimal reading) = Some script
 script_of request = None
 
 -- The options for reading values, if the command reads values; otherwise `all_under 0`.
-abbrev pub reading_of : Request → Reading
+abbrev pub reading_of : Request → ReadOptions
 reading_of (report query file type lines reading) = reading
 reading_of (get file type path style lines reading) = reading
 reading_of (edit file type script compat lines decimal reading) = reading
@@ -188,7 +188,7 @@ abbrev pub styled_by : (pretty decimal : Bool) → Style
 styled_by pretty decimal = record { pretty = pretty; decimal = decimal }
 
 -- The reading options for these three arguments.
-abbrev pub read_by : (limit skip : ℕ) → (only : Option ℕ) → Reading
+abbrev pub read_by : (limit skip : ℕ) → (only : Option ℕ) → ReadOptions
 read_by limit skip only = record { limit = limit; skip = skip; only = only }
 
 -- Prepends `--limit` and `--skip` to other arguments.

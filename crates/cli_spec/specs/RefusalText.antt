@@ -18,8 +18,8 @@ use Rattle.base_data.specs.declared.model.refusal.ReadRefusal.TheVariants.{ZeroA
 use Rattle.base_data.specs.declared.model.refusal.ReadRefusal.TheVariants.{SizeMismatch}
 use Rattle.base_data.specs.declared.model.refusal.ReadRefusal.TheVariants.{CountMismatch}
 use Rattle.base_data.specs.declared.model.refusal.ReadRefusal.TheVariants.{LengthMismatch, Memory}
-use Rattle.base_data.specs.declared.model.refusal.Stated.{Stated}
-use Rattle.base_data.specs.declared.model.refusal.Stated.TheVariants.{Words, Length}
+use Rattle.base_data.specs.declared.model.refusal.StatedNumber.{StatedNumber}
+use Rattle.base_data.specs.declared.model.refusal.StatedNumber.TheVariants.{Words, Length}
 use Rattle.base_data.specs.declared.model.refusal.WordSum.{WordSum}
 use Rattle.base_data.specs.declared.model.refusal.WordSum.TheVariants.{W32, W64}
 
@@ -38,7 +38,7 @@ hex_word n = flat_map hex_byte (to_be_bytes w32 n)
 
 -- ---- refusals
 
-abbrev pub stated_text : Stated → List ℕ
+abbrev pub stated_text : StatedNumber → List ℕ
 stated_text Words = codes "words"
 stated_text Length = codes "length"
 

@@ -21,6 +21,6 @@
 #![tactic(auto)]
 
 pub mod exit;
-pub mod reading;
+pub mod read_options;
 pub mod status;
 pub mod style;

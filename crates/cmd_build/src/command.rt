@@ -3,11 +3,11 @@
 //! type, ends the run. The law `declared_texts_are_read_once` proves that a line has only one
 //! meaning.
 
+mod build_state;
 mod fault;
 mod given;
 mod guessed;
 pub mod laws;
 mod line;
-mod texts;
 
-pub use texts::Texts;
+pub use build_state::BuildState;

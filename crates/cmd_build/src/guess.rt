@@ -3,12 +3,12 @@
 //! the caller prints it and compares the texts (`has_text`). The comparison is conclusive if the
 //! names of the types are readable (`is_encoded`, law `EncodedAreReadable`).
 
-mod begun;
 mod encoded;
+mod guess_start;
 mod guessed;
+mod guessed_block;
 mod known;
 mod laws;
-mod open;
 mod scan;
 
 pub use encoded::is_encoded;

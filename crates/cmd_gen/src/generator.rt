@@ -2,15 +2,15 @@
 //! objects and its words. `generate` promises the value that the specification `generated` defines.
 //! `generated_line` promises the line for a value. The verdict in that line comes from the caller.
 
-mod item;
+mod generated_item;
 mod laws;
 mod line;
 mod made;
 mod objects;
-mod seen;
+mod received_bytes;
 mod tally;
 
-pub use item::declarations;
+pub use generated_item::declarations;
 pub use laws::worked_values_are_generated;
 pub use line::generated_line;
 pub use made::{Generated, generate};

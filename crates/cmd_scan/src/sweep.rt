@@ -6,7 +6,7 @@
 mod claim;
 mod kind;
 mod line;
-mod next;
+mod next_part;
 mod parts;
 
 pub use parts::{Swept, sweep, sweep_all};

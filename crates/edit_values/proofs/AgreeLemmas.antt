@@ -25,9 +25,9 @@ use Rattle.text_literal.specs.parser.LiteralAnswers.{shape_in, names_in, byte_of
 use Rattle.text_literal.specs.parser.Reading.{Reading, Refusal, mismatch_at, int_range_at, label_at, literal_read}
 use Rattle.text_path.specs.declared.edits.Edit.{Edit}
 use Rattle.text_path.specs.declared.edits.Edit.TheVariants as edits
-use Rattle.edit_values.specs.declared.spots.Spot.{Spot}
-use Rattle.edit_values.specs.declared.spots.Position.{Position}
-use Rattle.edit_values.specs.declared.refusal.Side.TheVariants.{Left}
+use Rattle.edit_values.specs.declared.spots.Location.{Location}
+use Rattle.edit_values.specs.declared.spots.TypedLocation.{TypedLocation}
+use Rattle.edit_values.specs.declared.refusal.EditSide.TheVariants.{Left}
 use Rattle.edit_values.specs.Positions.{spot_after, or_step, position_from, position_at}
 use Rattle.edit_values.specs.Reasons.{Reason, no_field, not_block, no_literal, misread, ill_typed, literal_text, in_script, reason_text}
 use Rattle.edit_values.specs.EditedValues.{Answer, write_at, linked, copied, object_of, unshared, IsSetAt, IsSet, IsMade}
@@ -152,19 +152,19 @@ module _ (decls : List Decl) (t : Ty) (table : Tabled) (is : IsTypeTable decls t
         (position_same (table_shapes (table_of table)) (declared_shapes decls) Is graph
         (table_says decls (types_of table) (table_of table) is.made graph) (k ∷ []) v i u at))
 
-    abbrev pub SpotsAgree : Position ℕ → Position Ty → Type 0
+    abbrev pub SpotsAgree : TypedLocation ℕ → TypedLocation Ty → Type 0
     SpotsAgree p q = (p.spot ≡ q.spot) × (p.value ≡ q.value) × Is p.ty q.ty
 
-    abbrev pub PositionsAgree : Result (Position ℕ) ℕ → Result (Position Ty) ℕ → Type 0
+    abbrev pub PositionsAgree : Result (TypedLocation ℕ) ℕ → Result (TypedLocation Ty) ℕ → Type 0
     PositionsAgree (Ok p) (Ok q) = SpotsAgree p q
     PositionsAgree (Err n) (Err m) = n ≡ m
     PositionsAgree p q = ⊥
 
-    abbrev next_of : {X : Type 0} → Val → ℕ → Option (Val × X) → Option (Position X)
+    abbrev next_of : {X : Type 0} → Val → ℕ → Option (Val × X) → Option (TypedLocation X)
     next_of {X} v k o = option_map (λ (next : Val × X). record { spot = spot_after v k; value = next.0; ty = next.1 }) o
 
-    step_on : (n : ℕ) (v : Val) (k : ℕ) (one : Position ℕ → Result (Position ℕ) ℕ) (other : Position Ty → Result (Position Ty) ℕ)
-        → ((p : Position ℕ) (q : Position Ty) → SpotsAgree p q → PositionsAgree (one p) (other q))
+    step_on : (n : ℕ) (v : Val) (k : ℕ) (one : TypedLocation ℕ → Result (TypedLocation ℕ) ℕ) (other : TypedLocation Ty → Result (TypedLocation Ty) ℕ)
+        → ((p : TypedLocation ℕ) (q : TypedLocation Ty) → SpotsAgree p q → PositionsAgree (one p) (other q))
         → (p : Option (Val × ℕ)) (q : Option (Val × Ty)) → Same p q
         → PositionsAgree (or_step n one (next_of v k p)) (or_step n other (next_of v k q))
     step_on n v k one other rest None None same = refl
@@ -172,7 +172,7 @@ module _ (decls : List Decl) (t : Ty) (table : Tabled) (is : IsTypeTable decls t
     step_on n v k one other rest None (Some q) same = absurd same
     step_on n v k one other rest (Some p) None same = absurd same
 
-    position_agree : (path : List ℕ) (n : ℕ) (p : Position ℕ) (q : Position Ty) → SpotsAgree p q
+    position_agree : (path : List ℕ) (n : ℕ) (p : TypedLocation ℕ) (q : TypedLocation Ty) → SpotsAgree p q
         → PositionsAgree (position_from (table_shapes (table_of table)) graph n p path) (position_from (declared_shapes decls) graph n q path)
     position_agree [] n p q same = same
     position_agree (k ∷ path) n p q same =
@@ -194,7 +194,7 @@ module _ (decls : List Decl) (t : Ty) (table : Tabled) (is : IsTypeTable decls t
 
     -- ---- results
 
-    link_agree : (root : Val) (p q : Result (Position ℕ) ℕ) (p' q' : Result (Position Ty) ℕ) → PositionsAgree p p' → PositionsAgree q q'
+    link_agree : (root : Val) (p q : Result (TypedLocation ℕ) ℕ) (p' q' : Result (TypedLocation Ty) ℕ) → PositionsAgree p p' → PositionsAgree q q'
         → AnswersAgree (linked graph root p q) (linked graph root p' q')
     link_agree root (Err n) q (Err n') q' one other = (refl, one)
     link_agree root (Ok p) (Err n) (Ok p') (Err n') one other = (refl, other)
@@ -205,12 +205,12 @@ module _ (decls : List Decl) (t : Ty) (table : Tabled) (is : IsTypeTable decls t
     link_agree root (Ok p) (Err n) (Ok p') (Ok q') one other = absurd other
     link_agree root (Ok p) (Ok q) (Ok p') (Err n') one other = absurd other
 
-    copy_agree : (root : Val) (spot spot' : Spot) (object : Option Obj) → spot ≡ spot'
+    copy_agree : (root : Val) (spot spot' : Location) (object : Option Obj) → spot ≡ spot'
         → AnswersAgree (copied graph root spot object) (copied graph root spot' object)
     copy_agree root spot spot' None same = tt
     copy_agree root spot spot' (Some object) same = ap (λ spot. write_at spot (vals.Ref (length graph)) (graph ++ object ∷ []) root) same
 
-    unshare_agree : (root : Val) (p : Result (Position ℕ) ℕ) (p' : Result (Position Ty) ℕ) → PositionsAgree p p'
+    unshare_agree : (root : Val) (p : Result (TypedLocation ℕ) ℕ) (p' : Result (TypedLocation Ty) ℕ) → PositionsAgree p p'
         → AnswersAgree (unshared graph root p) (unshared graph root p')
     unshare_agree root (Err n) (Err n') same = (refl, same)
     unshare_agree root (Ok p) (Ok p') same =
@@ -219,11 +219,11 @@ module _ (decls : List Decl) (t : Ty) (table : Tabled) (is : IsTypeTable decls t
     unshare_agree root (Err n) (Ok p') same = absurd same
     unshare_agree root (Ok p) (Err n') same = absurd same
 
-    abbrev pub SetAgree : Val → Position Ty → List Lexeme → ℕ → Answer ℕ → Type 0
+    abbrev pub SetAgree : Val → TypedLocation Ty → List Lexeme → ℕ → Answer ℕ → Type 0
     SetAgree root p' lexemes end made =
         (other : Answer Ty) × IsSetAt (shape decls) (names_of decls) graph root p' lexemes end other × AnswersAgree made other
 
-    pub set_at_agree : (root : Val) (p : Position ℕ) (p' : Position Ty) (lexemes : List Lexeme) (end : ℕ) → SpotsAgree p p' → (made : Answer ℕ)
+    pub set_at_agree : (root : Val) (p : TypedLocation ℕ) (p' : TypedLocation Ty) (lexemes : List Lexeme) (end : ℕ) → SpotsAgree p p' → (made : Answer ℕ)
         → IsSetAt (shape_in table) (names_in table) graph root p lexemes end made → SetAgree root p' lexemes end made
     set_at_agree root p p' lexemes end same (Ok made) (objects, value, (v, encodes, read), writes) = (
       Ok (write_at p'.spot value (graph ++ objects) root),
@@ -241,7 +241,7 @@ module _ (decls : List Decl) (t : Ty) (table : Tabled) (is : IsTypeTable decls t
     set_at_agree root p p' lexemes end same (Err not_block) made = absurd made
     set_at_agree root p p' lexemes end same (Err (ill_typed fault)) made = absurd made
 
-    set_agree : (root : Val) (p : Result (Position ℕ) ℕ) (p' : Result (Position Ty) ℕ) (lexemes : List Lexeme) (end : ℕ) → PositionsAgree p p' → (made : Answer ℕ)
+    set_agree : (root : Val) (p : Result (TypedLocation ℕ) ℕ) (p' : Result (TypedLocation Ty) ℕ) (lexemes : List Lexeme) (end : ℕ) → PositionsAgree p p' → (made : Answer ℕ)
         → IsSet (shape_in table) (names_in table) graph root p lexemes end made
         → (other : Answer Ty) × IsSet (shape decls) (names_of decls) graph root p' lexemes end other × AnswersAgree made other
     set_agree root (Err n) (Err n') lexemes end same made known =

@@ -21,9 +21,9 @@ use Rattle.text_literal.specs.parser.LiteralAnswers.{shape_in, names_in, in_byte
 use Rattle.text_literal.specs.parser.Reading.{Refusal, mismatch_at, int_range_at, label_at}
 use Rattle.text_path.specs.declared.edits.Edit.{Edit}
 use Rattle.text_path.specs.declared.edits.Edit.TheVariants as edits
-use Rattle.edit_values.specs.declared.spots.Position.{Position}
-use Rattle.edit_values.specs.declared.refusal.Side.{Side}
-use Rattle.edit_values.specs.declared.refusal.Side.TheVariants.{Left, Right}
+use Rattle.edit_values.specs.declared.spots.TypedLocation.{TypedLocation}
+use Rattle.edit_values.specs.declared.refusal.EditSide.{EditSide}
+use Rattle.edit_values.specs.declared.refusal.EditSide.TheVariants.{Left, Right}
 use Rattle.edit_values.specs.declared.refusal.EditRefusal.{EditRefusal}
 use Rattle.edit_values.specs.declared.refusal.EditRefusal.TheVariants as refusals
 use Rattle.edit_values.specs.Positions.{position_at, on_side}
@@ -40,14 +40,14 @@ first_of old more new count many is =
 -- ---- locations
 
 abbrev pub Found : Type 0
-Found = Result (Position ℕ) ℕ
+Found = Result (TypedLocation ℕ) ℕ
 
-pub found_is : (side : Side) (x : Found) (p : Position ℕ) → Ok p ≡ on_side side x → x ≡ Ok p
+pub found_is : (side : EditSide) (x : Found) (p : TypedLocation ℕ) → Ok p ≡ on_side side x → x ≡ Ok p
 found_is side (Ok q) p is = sym (same q p is) where
-  same : (q p : Position ℕ) → ◌≡◌ {A = Result (Position ℕ) EditRefusal} (Ok p) (Ok q) → ◌≡◌ {A = Found} (Ok p) (Ok q)
+  same : (q p : TypedLocation ℕ) → ◌≡◌ {A = Result (TypedLocation ℕ) EditRefusal} (Ok p) (Ok q) → ◌≡◌ {A = Found} (Ok p) (Ok q)
   same q p is = cc
 found_is side (Err n) p is = absurd (never n p is) where
-  never : (n : ℕ) (p : Position ℕ) → ◌≡◌ {A = Result (Position ℕ) EditRefusal} (Ok p) (Err (refusals.NoField side n)) → ⊥
+  never : (n : ℕ) (p : TypedLocation ℕ) → ◌≡◌ {A = Result (TypedLocation ℕ) EditRefusal} (Ok p) (Err (refusals.NoField side n)) → ⊥
   never n p is = cc
 
 module _ (table : Tabled) where
@@ -62,7 +62,7 @@ module _ (table : Tabled) where
       → reason_of refusal ≡ Some reason → IsAnswerIn table edit graph root (Err reason) → IsApplied table edit graph root graph root (Err refusal)
   refused edit graph root refusal reason same is = (refl, refl, subst (IsRefusedFor table edit graph root) (sym same) is)
 
-  no_step : (edit : Edit) (graph : List Obj) (root : Val) (refusal : EditRefusal) (side : Side) (n : ℕ) → refusal ≡ refusals.NoField side n
+  no_step : (edit : Edit) (graph : List Obj) (root : Val) (refusal : EditRefusal) (side : EditSide) (n : ℕ) → refusal ≡ refusals.NoField side n
       → IsMadeIn edit graph root (Err (no_field side n)) → IsApplied table edit graph root graph root (Err refusal)
   no_step edit graph root refusal side n same is = refused edit graph root refusal (no_field side n) (ap reason_of same) is
 
@@ -79,14 +79,14 @@ module _ (table : Tabled) where
   kept_applied edit graph root made new new_root (Err refusals.NotBlock) is kept = absurd kept.2
   kept_applied edit graph root made new new_root (Err (refusals.Literal fault)) is kept = absurd kept.2
 
-  pub link_made : (path source : List ℕ) (graph : List Obj) (root : Val) (p q : Position ℕ)
+  pub link_made : (path source : List ℕ) (graph : List Obj) (root : Val) (p q : TypedLocation ℕ)
       → Ok p ≡ on_side Left (position_of graph root path) → Ok q ≡ on_side Right (position_of graph root source)
       → IsMadeIn (edits.Link path source) graph root (Ok (write_at p.spot q.value graph root))
   link_made path source graph root p q found other =
       ap (λ x. linked graph root (Ok p) x) (sym (found_is Right (position_of graph root source) q other))
       ∙ ap (λ x. linked graph root x (position_of graph root source)) (sym (found_is Left (position_of graph root path) p found))
 
-  pub copy_made : (path : List ℕ) (graph : List Obj) (root : Val) (p : Position ℕ) (o : ℕ) → o < length graph → p.value ≡ vals.Ref o
+  pub copy_made : (path : List ℕ) (graph : List Obj) (root : Val) (p : TypedLocation ℕ) (o : ℕ) → o < length graph → p.value ≡ vals.Ref o
       → Ok p ≡ on_side Left (position_of graph root path)
       → IsMadeIn (edits.Unshare path) graph root (Ok (write_at p.spot (vals.Ref (length graph)) (graph ++ object_at graph o ∷ []) root))
   copy_made path graph root p o inside at found =
@@ -99,7 +99,7 @@ module _ (table : Tabled) where
   no_object graph (vals.Atom tag) no_reference = refl
   no_object graph (vals.Ref o) no_reference = absurd (no_reference o refl)
 
-  pub no_copy : (path : List ℕ) (graph : List Obj) (root : Val) (p : Position ℕ) → object_of graph p.value ≡ None
+  pub no_copy : (path : List ℕ) (graph : List Obj) (root : Val) (p : TypedLocation ℕ) → object_of graph p.value ≡ None
       → Ok p ≡ on_side Left (position_of graph root path) → IsApplied table (edits.Unshare path) graph root graph root (Err refusals.NotBlock)
   no_copy path graph root p none found =
       refused (edits.Unshare path) graph root refusals.NotBlock not_block refl
@@ -134,7 +134,7 @@ module _ (table : Tabled) where
     never : (k : ℕ) → faults.Label position ≡ faults.IntRange k → ⊥
     never k is = cc
 
-  module _ (path : List ℕ) (lexemes : List Lexeme) (end : ℕ) (old : List Obj) (root : Val) (p : Position ℕ) (found : Ok p ≡ on_side Left (position_of old root path)) where
+  module _ (path : List ℕ) (lexemes : List Lexeme) (end : ℕ) (old : List Obj) (root : Val) (p : TypedLocation ℕ) (found : Ok p ≡ on_side Left (position_of old root path)) where
     set_in : (made : Answer ℕ) → IsSet (shape_in table) (names_in table) old root (Ok p) lexemes end made → IsMadeIn (edits.Set path lexemes end) old root made
     set_in made is =
         subst (λ x. IsSet (shape_in table) (names_in table) old root x lexemes end made) (sym (found_is Left (position_of old root path) p found)) is
@@ -188,7 +188,7 @@ module _ (table : Tabled) where
         kept_applied (edits.Set path lexemes end) old root (write_at p.spot value new root) left left_root result (value_made new value is)
         (subst (λ before. IsKept table (write_at p.spot value new root) before root left left_root result) (first_of old is.objects new count many is.behind) kept)
 
-  pub link_applied : (path source : List ℕ) (graph : List Obj) (root : Val) (p q : Position ℕ)
+  pub link_applied : (path source : List ℕ) (graph : List Obj) (root : Val) (p q : TypedLocation ℕ)
       → Ok p ≡ on_side Left (position_of graph root path) → Ok q ≡ on_side Right (position_of graph root source) → (count : ℕ) → count ≡ length graph
       → (left : List Obj) (left_root : Val) (result : Result (Unit {0}) EditRefusal)
       → IsKept table (write_at p.spot q.value graph root) (take count graph) root left left_root result
@@ -198,7 +198,7 @@ module _ (table : Tabled) where
       (subst (λ before. IsKept table (write_at p.spot q.value graph root) before root left left_root result)
       (ap (λ n. take n graph) many ∙ take_all (length graph) graph (omega arith)) kept)
 
-  pub copy_applied : (path : List ℕ) (graph : List Obj) (root : Val) (p : Position ℕ) (o : ℕ) → IsValue (length graph) p.value → p.value ≡ vals.Ref o
+  pub copy_applied : (path : List ℕ) (graph : List Obj) (root : Val) (p : TypedLocation ℕ) (o : ℕ) → IsValue (length graph) p.value → p.value ≡ vals.Ref o
       → Ok p ≡ on_side Left (position_of graph root path) → (count copy : ℕ) (new : List Obj) → count ≡ length graph → copy ≡ length graph
       → new ≡ graph ++ object_at graph o ∷ []
       → (left : List Obj) (left_root : Val) (result : Result (Unit {0}) EditRefusal)

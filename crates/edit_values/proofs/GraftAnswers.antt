@@ -23,9 +23,9 @@ use Rattle.types_table.specs.declared.type_table.tabled.Tabled.{Tabled}
 use Rattle.types_table.specs.type_table.Made.{table_of, IsLawful, IsTypeTable}
 use Rattle.text_literal.specs.parser.LiteralAnswers.{shape_in, names_in}
 use Rattle.marshal_write.specs.graft.Copies.{IsCopy, HasCopy}
-use Rattle.edit_values.specs.declared.spots.Position.{Position}
-use Rattle.edit_values.specs.declared.refusal.Side.{Side}
-use Rattle.edit_values.specs.declared.refusal.Side.TheVariants.{Left, Right}
+use Rattle.edit_values.specs.declared.spots.TypedLocation.{TypedLocation}
+use Rattle.edit_values.specs.declared.refusal.EditSide.{EditSide}
+use Rattle.edit_values.specs.declared.refusal.EditSide.TheVariants.{Left, Right}
 use Rattle.edit_values.specs.declared.refusal.EditRefusal.{EditRefusal}
 use Rattle.edit_values.specs.declared.refusal.EditRefusal.TheVariants as refusals
 use Rattle.edit_values.specs.EditedValues.{Answer, write_at}
@@ -51,7 +51,7 @@ copy_once h v c copied others value other one two =
     )
 
 module _ {T : Type 0} where
-  graft_at_once : (graph : List Obj) (root : Val) (p : Position T) (h : List Obj) (part : Position T) (made other : Answer T)
+  graft_at_once : (graph : List Obj) (root : Val) (p : TypedLocation T) (h : List Obj) (part : TypedLocation T) (made other : Answer T)
       → IsGraftAt graph root p h part made → IsGraftAt graph root p h part other → made ≡ other
   graft_at_once graph root p h part (Ok made) (Ok other) (copied, value, copy, is) (others, value', copy', is') =
       let same = copy_once h part.value (length graph) copied others value value' copy copy' in
@@ -59,19 +59,19 @@ module _ {T : Type 0} where
   graft_at_once graph root p h part (Err reason) other one two = absurd one
   graft_at_once graph root p h part (Ok made) (Err reason) one two = absurd two
 
-  graft_once : (graph : List Obj) (root : Val) (left : Result (Position T) ℕ) (h : List Obj) (right : Result (Position T) ℕ) (made other : Answer T)
+  graft_once : (graph : List Obj) (root : Val) (left : Result (TypedLocation T) ℕ) (h : List Obj) (right : Result (TypedLocation T) ℕ) (made other : Answer T)
       → IsGraft graph root left h right made → IsGraft graph root left h right other → made ≡ other
   graft_once graph root (Err step) h right made other one two = one ∙ sym two
   graft_once graph root (Ok p) h (Err step) made other one two = one ∙ sym two
   graft_once graph root (Ok p) h (Ok part) made other one two = graft_at_once graph root p h part made other one two
 
-  no_field_only : (graph : List Obj) (root : Val) (left : Result (Position T) ℕ) (h : List Obj) (right : Result (Position T) ℕ) (fault : Fault)
+  no_field_only : (graph : List Obj) (root : Val) (left : Result (TypedLocation T) ℕ) (h : List Obj) (right : Result (TypedLocation T) ℕ) (fault : Fault)
       → IsGraft graph root left h right (Err (ill_typed fault)) → ⊥
   no_field_only graph root (Err step) h right fault is = never Left step is where
-    never : (side : Side) (step : ℕ) → ◌≡◌ {A = Answer T} (Err (ill_typed fault)) (Err (no_field side step)) → ⊥
+    never : (side : EditSide) (step : ℕ) → ◌≡◌ {A = Answer T} (Err (ill_typed fault)) (Err (no_field side step)) → ⊥
     never side step is = cc
   no_field_only graph root (Ok p) h (Err step) fault is = never Right step is where
-    never : (side : Side) (step : ℕ) → ◌≡◌ {A = Answer T} (Err (ill_typed fault)) (Err (no_field side step)) → ⊥
+    never : (side : EditSide) (step : ℕ) → ◌≡◌ {A = Answer T} (Err (ill_typed fault)) (Err (no_field side step)) → ⊥
     never side step is = cc
   no_field_only graph root (Ok p) h (Ok part) fault is = is
 
@@ -122,7 +122,7 @@ module _ (decls : List Decl) (t : Ty) (table : Tabled) (is : IsTypeTable decls t
     abbrev Agree : Answer ℕ → Answer Ty → Type 0
     Agree one other = AnswersAgree decls t table is one other
 
-    graft_agree : (left : Result (Position ℕ) ℕ) (left' : Result (Position Ty) ℕ) (right : Result (Position ℕ) ℕ) (right' : Result (Position Ty) ℕ)
+    graft_agree : (left : Result (TypedLocation ℕ) ℕ) (left' : Result (TypedLocation Ty) ℕ) (right : Result (TypedLocation ℕ) ℕ) (right' : Result (TypedLocation Ty) ℕ)
         → PositionsAgree decls t table is graph left left' → PositionsAgree decls t table is h right right' → (made : Answer ℕ)
         → IsGraft graph root left h right made → (made' : Answer Ty) × IsGraft graph root left' h right' made' × Agree made made'
     graft_agree (Err n) (Err n') right right' one two made known =
@@ -170,8 +170,8 @@ module _ (table : Tabled) (path : List ℕ) (other : Other) (source : List ℕ) 
   abbrev RefusedFor : Option (Reason ℕ) → Type 0
   RefusedFor reason = IsNotGraftedFor table path other source graph root reason
 
-  module _ (p : Position ℕ) (found : Ok p ≡ on_side Left left) where
-    module _ (part : Position ℕ) (found' : Ok part ≡ on_side Right right) (new : List Obj) (value : Val) (copy : HasCopy graph new other.0 part.value value) where
+  module _ (p : TypedLocation ℕ) (found : Ok p ≡ on_side Left left) where
+    module _ (part : TypedLocation ℕ) (found' : Ok part ≡ on_side Right right) (new : List Obj) (value : Val) (copy : HasCopy graph new other.0 part.value value) where
       made : IsGrafted (shape_in table) (SameClass table) 0 path other source graph root (Ok (write_at p.spot value new root))
       made =
           subst (λ l. IsGraft graph root l other.0 right (Ok (write_at p.spot value new root))) (sym (found_is Left left p found))
@@ -213,7 +213,7 @@ module _ (table : Tabled) (path : List ℕ) (other : Other) (source : List ℕ) 
     graft_given new new_root (Err refusal) is answer known = for_reason answer known (reason_of refusal) is.2
 
   -- The new part is isomorphic to the copied part.
-  pub graft_copied : (new : List Obj) (new_root : Val) (result : Result (Unit {0}) EditRefusal) → AppliedTo new new_root result → (p part : Position ℕ)
+  pub graft_copied : (new : List Obj) (new_root : Val) (result : Result (Unit {0}) EditRefusal) → AppliedTo new new_root result → (p part : TypedLocation ℕ)
       → left ≡ Ok p → right ≡ Ok part → OnOk result (HasGraft (table_shapes (table_of table)) 0 p part other graph (new, new_root))
   graft_copied new new_root (Ok unit) is p part first second =
       has_graft (shape_in table) (SameClass table) 0 path other source graph root (new, new_root) is p part first second

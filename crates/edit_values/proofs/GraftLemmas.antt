@@ -15,9 +15,9 @@ use Rattle.types_spec.specs.types.Shapes.{Shapes}
 use Rattle.types_spec.specs.types.Typing.{values_of, field_at, HasType}
 use Rattle.marshal_heap.specs.heap.Heap.{object_at, with_field, set_field}
 use Rattle.marshal_spec.proofs.canonical.ListLemmas.{slice_get_right}
-use Rattle.edit_values.specs.declared.spots.Position.{Position}
-use Rattle.edit_values.specs.declared.spots.Spot.{Spot}
-use Rattle.edit_values.specs.declared.spots.Spot.TheVariants as spots
+use Rattle.edit_values.specs.declared.spots.TypedLocation.{TypedLocation}
+use Rattle.edit_values.specs.declared.spots.Location.{Location}
+use Rattle.edit_values.specs.declared.spots.Location.TheVariants as spots
 use Rattle.edit_values.specs.EditedValues.{write_at}
 use Rattle.edit_values.specs.Positions.{position_at, position_from, or_step, spot_after, StandsAt}
 use Rattle.edit_values.proofs.WriteLemmas.{as_many, stands_behind}
@@ -47,26 +47,26 @@ module _ {T : Type 0} (shapes : Shapes T) (graph : List Obj) (root : Val) where
         inside a b is = cc
 
   -- A step leads to the next location, or nowhere.
-  on_stands : (v : Val) (i n : ℕ) (q : Position T) (go : Position T → Result (Position T) ℕ)
-      → ((p : Position T) → StandsAt graph root p.spot p.value → go p ≡ Ok q → StandsAt graph root q.spot q.value)
+  on_stands : (v : Val) (i n : ℕ) (q : TypedLocation T) (go : TypedLocation T → Result (TypedLocation T) ℕ)
+      → ((p : TypedLocation T) → StandsAt graph root p.spot p.value → go p ≡ Ok q → StandsAt graph root q.spot q.value)
       → (o : Option (Val × T)) → ((next : Val × T) → o ≡ Some next → StandsAt graph root (spot_after v i) next.0)
       → or_step n go (option_map (λ (next : Val × T). record { spot = spot_after v i; value = next.0; ty = next.1 }) o) ≡ Ok q
       → StandsAt graph root q.spot q.value
   on_stands v i n q go rest None found is = absurd (never n q is) where
-    never : (n : ℕ) (q : Position T) → ◌≡◌ {A = Result (Position T) ℕ} (Err n) (Ok q) → ⊥
+    never : (n : ℕ) (q : TypedLocation T) → ◌≡◌ {A = Result (TypedLocation T) ℕ} (Err n) (Ok q) → ⊥
     never n q is = cc
   on_stands v i n q go rest (Some next) found is = rest _ (found next refl) is
 
-  from_stands : (path : List ℕ) (n : ℕ) (p q : Position T) → StandsAt graph root p.spot p.value → position_from shapes graph n p path ≡ Ok q
+  from_stands : (path : List ℕ) (n : ℕ) (p q : TypedLocation T) → StandsAt graph root p.spot p.value → position_from shapes graph n p path ≡ Ok q
       → StandsAt graph root q.spot q.value
-  from_stands [] n p q stands is = subst (λ (x : Position T). StandsAt graph root x.spot x.value) (inside p q is) stands where
-    inside : (a b : Position T) → ◌≡◌ {A = Result (Position T) ℕ} (Ok a) (Ok b) → a ≡ b
+  from_stands [] n p q stands is = subst (λ (x : TypedLocation T). StandsAt graph root x.spot x.value) (inside p q is) stands where
+    inside : (a b : TypedLocation T) → ◌≡◌ {A = Result (TypedLocation T) ℕ} (Ok a) (Ok b) → a ≡ b
     inside a b is = cc
   from_stands (i ∷ path) n p q stands is =
       on_stands p.value i n q (λ next. position_from shapes graph (suc n) next path) (λ next here there. from_stands path (suc n) next q here there)
       (step shapes graph p.value p.ty i) (step_stands p.value p.ty i) is
 
-  pub position_stands : (t : T) (path : List ℕ) (p : Position T) → position_at shapes graph root t path ≡ Ok p → StandsAt graph root p.spot p.value
+  pub position_stands : (t : T) (path : List ℕ) (p : TypedLocation T) → position_at shapes graph root t path ≡ Ok p → StandsAt graph root p.spot p.value
   position_stands t path p is = from_stands path 0 _ p refl is
 
 -- ---- objects beyond a changed location
@@ -84,14 +84,14 @@ owner_inside graph o i w at =
     option_and_then_some (λ object. slice_get (values_of object) i) (slice_get graph o) w at
     (λ object is field. slice_get_within graph o object is)
 
-write_later : (graph copied : List Obj) (root : Val) (spot : Spot) (v w : Val) (k : ℕ) → StandsAt graph root spot w → length graph ≤ k
+write_later : (graph copied : List Obj) (root : Val) (spot : Location) (v w : Val) (k : ℕ) → StandsAt graph root spot w → length graph ≤ k
     → slice_get (write_at spot v (graph ++ copied) root).0 k ≡ slice_get (graph ++ copied) k
 write_later graph copied root spots.Root v w k at later = refl
 write_later graph copied root (spots.Field o i) v w k at later =
     let inside = owner_inside graph o i w at in
     set_other (graph ++ copied) o k (with_field (object_at (graph ++ copied) o) i v) (omega (arith, inside, later))
 
-write_stand : (graph copied : List Obj) (root : Val) (spot : Spot) (v w : Val) → StandsAt graph root spot w
+write_stand : (graph copied : List Obj) (root : Val) (spot : Location) (v w : Val) → StandsAt graph root spot w
     → StandFrom (write_at spot v (graph ++ copied) root).0 (length graph) copied
 write_stand graph copied root spot v w at i o is =
     write_later graph copied root spot v w (length graph + i) at (omega arith) ∙ slice_get_right graph copied i ∙ is
@@ -140,15 +140,15 @@ field_set graph o i v w at =
     ap (option_and_then (λ object. slice_get (values_of object) i)) (object_set graph o (with_field (object_at graph o) i v) object is)
     ∙ with_here (object_at graph o) i v w (ap (λ x. slice_get (values_of x) i) whole ∙ field))
 
-write_here : (graph : List Obj) (root : Val) (spot : Spot) (v w : Val) → StandsAt graph root spot w
+write_here : (graph : List Obj) (root : Val) (spot : Location) (v w : Val) → StandsAt graph root spot w
     → StandsAt (write_at spot v graph root).0 (write_at spot v graph root).1 spot v
 write_here graph root spots.Root v w at = refl
 write_here graph root (spots.Field o i) v w at = field_set graph o i v w at
 
 -- ---- a graft writes an isomorphic value
 
-module _ {T : Type 0} (graph : List Obj) (root : Val) (p : Position T) (h : List Obj) (part : Position T) (made : List Obj × Val) where
-  pub at_positions : (left right : Result (Position T) ℕ) → left ≡ Ok p → right ≡ Ok part → IsGraft graph root left h right (Ok made)
+module _ {T : Type 0} (graph : List Obj) (root : Val) (p : TypedLocation T) (h : List Obj) (part : TypedLocation T) (made : List Obj × Val) where
+  pub at_positions : (left right : Result (TypedLocation T) ℕ) → left ≡ Ok p → right ≡ Ok part → IsGraft graph root left h right (Ok made)
       → IsGraftAt graph root p h part (Ok made)
   at_positions left right first second is =
       subst (λ r. IsGraft graph root (Ok p) h r (Ok made)) second (subst (λ l. IsGraft graph root l h right (Ok made)) first is)
@@ -157,7 +157,7 @@ module _ {T : Type 0} (shape : T → ShapeOf T) (Equal : T → T → Type 0) (t 
   abbrev shapes : Shapes T
   shapes = shaped shape Equal
 
-  pub has_graft : (made : List Obj × Val) → IsGraftAnswer shape Equal t path other source graph root (Ok made) → (p part : Position T)
+  pub has_graft : (made : List Obj × Val) → IsGraftAnswer shape Equal t path other source graph root (Ok made) → (p part : TypedLocation T)
       → position_at shapes graph root t path ≡ Ok p → position_at shapes other.0 other.1 t source ≡ Ok part → HasGraft shapes t p part other graph made
   has_graft made (is, typed) p part first second =
       let stands = position_stands shapes graph root t path p first in

@@ -21,13 +21,13 @@ use Rattle.text_literal.specs.parser.Reading.{Reading, Refusal, reading, literal
 use Rattle.text_literal.proofs.parser.AnswerLemmas.{literal_excludes}
 use Rattle.text_path.specs.declared.edits.Edit.{Edit}
 use Rattle.text_path.specs.declared.edits.Edit.TheVariants as edits
-use Rattle.edit_values.specs.declared.spots.Position.{Position}
+use Rattle.edit_values.specs.declared.spots.TypedLocation.{TypedLocation}
 use Rattle.edit_values.specs.Reasons.{Reason, no_field, not_block, no_literal, misread, ill_typed}
 use Rattle.edit_values.specs.EditedValues.{Answer, write_at, linked, copied, object_of, unshared, IsSetAt, IsSet, IsMade, IsAnswer, position_in}
 
 -- ---- `set`
 
-module _ {T : Type 0} (shape : T → ShapeOf T) (names : T → Names) (graph : List Obj) (root : Val) (p : Position T) (lexemes : List Lexeme) (end : ℕ) where
+module _ {T : Type 0} (shape : T → ShapeOf T) (names : T → Names) (graph : List Obj) (root : Val) (p : TypedLocation T) (lexemes : List Lexeme) (end : ℕ) where
   abbrev reading_of : Literal → Result Reading (Refusal T)
   reading_of v = literal_read shape names 0 v (length graph) [] p.ty
 
@@ -68,7 +68,7 @@ module _ {T : Type 0} (shape : T → ShapeOf T) (names : T → Names) (graph : L
       (text_or_syntax literal_table (kinds_of lexemes))
 
 module _ {T : Type 0} (shape : T → ShapeOf T) (names : T → Names) where
-  set_once_at : (graph : List Obj) (root : Val) (p : Result (Position T) ℕ) (lexemes : List Lexeme) (end : ℕ) (made other : Answer T)
+  set_once_at : (graph : List Obj) (root : Val) (p : Result (TypedLocation T) ℕ) (lexemes : List Lexeme) (end : ℕ) (made other : Answer T)
       → IsSet shape names graph root p lexemes end made → IsSet shape names graph root p lexemes end other → made ≡ other
   set_once_at graph root (Err step) lexemes end made other one two = one ∙ sym two
   set_once_at graph root (Ok p) lexemes end made other one two = set_once shape names graph root p lexemes end made other one two
@@ -103,25 +103,25 @@ module _ {T : Type 0} (shape : T → ShapeOf T) (names : T → Names) (Equal : T
   IsOfPart (Err (ill_typed fault)) = ⊥
   IsOfPart made = Unit {0}
 
-  of_link : (graph : List Obj) (root : Val) (p q : Result (Position T) ℕ) → IsOfPart (linked graph root p q)
+  of_link : (graph : List Obj) (root : Val) (p q : Result (TypedLocation T) ℕ) → IsOfPart (linked graph root p q)
   of_link graph root (Err step) q = tt
   of_link graph root (Ok p) (Err step) = tt
   of_link graph root (Ok p) (Ok q) = tt
 
-  of_copy : (graph : List Obj) (root : Val) (p : Position T) (object : Option Obj) → IsOfPart (copied graph root p.spot object)
+  of_copy : (graph : List Obj) (root : Val) (p : TypedLocation T) (object : Option Obj) → IsOfPart (copied graph root p.spot object)
   of_copy graph root p None = tt
   of_copy graph root p (Some object) = tt
 
-  of_unshare : (graph : List Obj) (root : Val) (p : Result (Position T) ℕ) → IsOfPart (unshared graph root p)
+  of_unshare : (graph : List Obj) (root : Val) (p : Result (TypedLocation T) ℕ) → IsOfPart (unshared graph root p)
   of_unshare graph root (Err step) = tt
   of_unshare graph root (Ok p) = of_copy graph root p (object_of graph p.value)
 
-  of_set_at : (graph : List Obj) (root : Val) (p : Position T) (lexemes : List Lexeme) (end : ℕ) (made : Answer T)
+  of_set_at : (graph : List Obj) (root : Val) (p : TypedLocation T) (lexemes : List Lexeme) (end : ℕ) (made : Answer T)
       → IsSetAt shape names graph root p lexemes end made → IsOfPart made
   of_set_at graph root p lexemes end (Err (ill_typed fault)) is = is
   of_set_at graph root p lexemes end made is = tt
 
-  of_set : (graph : List Obj) (root : Val) (p : Result (Position T) ℕ) (lexemes : List Lexeme) (end : ℕ) (made : Answer T)
+  of_set : (graph : List Obj) (root : Val) (p : Result (TypedLocation T) ℕ) (lexemes : List Lexeme) (end : ℕ) (made : Answer T)
       → IsSet shape names graph root p lexemes end made → IsOfPart made
   of_set graph root (Err step) lexemes end made is = subst IsOfPart (sym is) tt
   of_set graph root (Ok p) lexemes end made is = of_set_at graph root p lexemes end made is

@@ -23,10 +23,10 @@ use Rattle.text_path.specs.declared.edits.Edit.TheVariants as edits
 use Rattle.text_path.specs.declared.edits.Action.{Action}
 use Rattle.text_path.specs.declared.edits.Action.TheVariants as actions
 use Rattle.text_path.specs.declared.edits.ScriptLine.{ScriptLine}
-use Rattle.edit_values.specs.declared.spots.Spot.{Spot}
-use Rattle.edit_values.specs.declared.spots.Spot.TheVariants as spots
-use Rattle.edit_values.specs.declared.spots.Position.{Position}
-use Rattle.edit_values.specs.declared.refusal.Side.TheVariants.{Left}
+use Rattle.edit_values.specs.declared.spots.Location.{Location}
+use Rattle.edit_values.specs.declared.spots.Location.TheVariants as spots
+use Rattle.edit_values.specs.declared.spots.TypedLocation.{TypedLocation}
+use Rattle.edit_values.specs.declared.refusal.EditSide.TheVariants.{Left}
 use Rattle.edit_values.specs.Reasons.{no_field}
 use Rattle.edit_values.specs.Positions.{spot_after, or_step, position_from, position_at}
 use Rattle.edit_values.specs.EditedLines.{IsLineAnswer}
@@ -48,7 +48,7 @@ set_elsewhere (x ∷ xs) (suc p) (suc k) new other = set_elsewhere xs p k new (�
 
 module _ {T : Type 0} (shapes : Shapes T) (graph : List Obj) (o : ℕ) where
   -- The location is not a field of the object.
-  abbrev IsElsewhere : Spot → Type 0
+  abbrev IsElsewhere : Location → Type 0
   IsElsewhere spots.Root = ⊤
   IsElsewhere (spots.Field p i) = p ≢ o
 
@@ -63,19 +63,19 @@ module _ {T : Type 0} (shapes : Shapes T) (graph : List Obj) (o : ℕ) where
   step_unreached v t i next is unreached path u leads =
       unreached (i ∷ path) u (ap (option_and_then (λ (next : Val × T). value_at shapes graph next.0 next.1 path)) is ∙ leads)
 
-  on_elsewhere : (v : Val) (i n : ℕ) (q : Position T) (go : Position T → Result (Position T) ℕ) (o' : Option (Val × T))
+  on_elsewhere : (v : Val) (i n : ℕ) (q : TypedLocation T) (go : TypedLocation T → Result (TypedLocation T) ℕ) (o' : Option (Val × T))
       → ((next : Val × T) → o' ≡ Some next → go (record { spot = spot_after v i; value = next.0; ty = next.1 }) ≡ Ok q → IsElsewhere q.spot)
       → or_step n go (option_map (λ (next : Val × T). record { spot = spot_after v i; value = next.0; ty = next.1 }) o') ≡ Ok q
       → IsElsewhere q.spot
   on_elsewhere v i n q go None rest is = absurd (never n q is) where
-    never : (n : ℕ) (q : Position T) → ◌≡◌ {A = Result (Position T) ℕ} (Err n) (Ok q) → ⊥
+    never : (n : ℕ) (q : TypedLocation T) → ◌≡◌ {A = Result (TypedLocation T) ℕ} (Err n) (Ok q) → ⊥
     never n q is = cc
   on_elsewhere v i n q go (Some next) rest is = rest next refl is
 
-  from_elsewhere : (path : List ℕ) (n : ℕ) (p q : Position T) → IsElsewhere p.spot → IsUnreached shapes graph o p.value p.ty
+  from_elsewhere : (path : List ℕ) (n : ℕ) (p q : TypedLocation T) → IsElsewhere p.spot → IsUnreached shapes graph o p.value p.ty
       → position_from shapes graph n p path ≡ Ok q → IsElsewhere q.spot
-  from_elsewhere [] n p q here unreached is = subst (λ (x : Position T). IsElsewhere x.spot) (inside p q is) here where
-    inside : (a b : Position T) → ◌≡◌ {A = Result (Position T) ℕ} (Ok a) (Ok b) → a ≡ b
+  from_elsewhere [] n p q here unreached is = subst (λ (x : TypedLocation T). IsElsewhere x.spot) (inside p q is) here where
+    inside : (a b : TypedLocation T) → ◌≡◌ {A = Result (TypedLocation T) ℕ} (Ok a) (Ok b) → a ≡ b
     inside a b is = cc
   from_elsewhere (i ∷ path) n p q here unreached is =
       on_elsewhere p.value i n q (λ next. position_from shapes graph (suc n) next path) (step shapes graph p.value p.ty i)
@@ -83,13 +83,13 @@ module _ {T : Type 0} (shapes : Shapes T) (graph : List Obj) (o : ℕ) where
       (step_unreached p.value p.ty i next at unreached) there)
       is
 
-  position_elsewhere : (root : Val) (t : T) (path : List ℕ) (q : Position T) → IsUnreached shapes graph o root t
+  position_elsewhere : (root : Val) (t : T) (path : List ℕ) (q : TypedLocation T) → IsUnreached shapes graph o root t
       → position_at shapes graph root t path ≡ Ok q → IsElsewhere q.spot
   position_elsewhere root t path q unreached is = from_elsewhere path 0 _ q tt unreached is
 
   -- ---- new parts
 
-  write_elsewhere : (spot : Spot) (new : Val) (all : List Obj) (root : Val) (object : Obj) → IsElsewhere spot → slice_get all o ≡ Some object
+  write_elsewhere : (spot : Location) (new : Val) (all : List Obj) (root : Val) (object : Obj) → IsElsewhere spot → slice_get all o ≡ Some object
       → slice_get (write_at spot new all root).0 o ≡ Some object
   write_elsewhere spots.Root new all root object elsewhere at = at
   write_elsewhere (spots.Field p i) new all root object elsewhere at =
@@ -105,14 +105,14 @@ module _ {T : Type 0} (shape : T → ShapeOf T) (names : T → Names) (Equal : T
   abbrev Kept : List Obj × Val → Type 0
   Kept made = slice_get made.0 o ≡ Some object
 
-  elsewhere : (path : List ℕ) (q : Position T) → position_in shape names Equal t graph root path ≡ Ok q → IsElsewhere (shaped shape Equal) graph o q.spot
+  elsewhere : (path : List ℕ) (q : TypedLocation T) → position_in shape names Equal t graph root path ≡ Ok q → IsElsewhere (shaped shape Equal) graph o q.spot
   elsewhere path q is = position_elsewhere (shaped shape Equal) graph o root t path q unreached is
 
-  kept_by : (spot : Spot) (new : Val) (all : List Obj) → IsElsewhere (shaped shape Equal) graph o spot → slice_get all o ≡ Some object → edited ≡ write_at spot new all root
+  kept_by : (spot : Location) (new : Val) (all : List Obj) → IsElsewhere (shaped shape Equal) graph o spot → slice_get all o ≡ Some object → edited ≡ write_at spot new all root
       → Kept edited
   kept_by spot new all there kept is = subst Kept (sym is) (write_elsewhere (shaped shape Equal) graph o spot new all root object there kept)
 
-  set_keeps : (p : Result (Position T) ℕ) → ((q : Position T) → p ≡ Ok q → IsElsewhere (shaped shape Equal) graph o q.spot)
+  set_keeps : (p : Result (TypedLocation T) ℕ) → ((q : TypedLocation T) → p ≡ Ok q → IsElsewhere (shaped shape Equal) graph o q.spot)
       → (lexemes : List Lexeme) (end : ℕ) → IsSet shape names graph root p lexemes end (Ok edited) → Kept edited
   set_keeps (Err step) there lexemes end is = absurd (never step edited is) where
     never : (step : ℕ) (edited : List Obj × Val) → ◌≡◌ {A = Answer T} (Ok edited) (Err (no_field Left step)) → ⊥
@@ -120,21 +120,21 @@ module _ {T : Type 0} (shape : T → ShapeOf T) (names : T → Names) (Equal : T
   set_keeps (Ok q) there lexemes end (objects, value, literal, is) =
       kept_by q.spot value (graph ++ objects) (there q refl) (slice_get-append_left graph objects o object at) is
 
-  link_keeps : (p source : Result (Position T) ℕ) → ((q : Position T) → p ≡ Ok q → IsElsewhere (shaped shape Equal) graph o q.spot)
+  link_keeps : (p source : Result (TypedLocation T) ℕ) → ((q : TypedLocation T) → p ≡ Ok q → IsElsewhere (shaped shape Equal) graph o q.spot)
       → Ok edited ≡ linked graph root p source → Kept edited
   link_keeps (Err step) source there is = absurd cc
   link_keeps (Ok q) (Err step) there is = absurd cc
   link_keeps (Ok q) (Ok source) there is =
       kept_by q.spot source.value graph (there q refl) at (made_inside {T = T} edited (write_at q.spot source.value graph root) is)
 
-  copy_keeps : (spot : Spot) (found : Option Obj) → IsElsewhere (shaped shape Equal) graph o spot
+  copy_keeps : (spot : Location) (found : Option Obj) → IsElsewhere (shaped shape Equal) graph o spot
       → Ok edited ≡ copied {T = T} graph root spot found → Kept edited
   copy_keeps spot None there is = absurd cc
   copy_keeps spot (Some copy) there is =
       kept_by spot (vals.Ref (length graph)) (graph ++ copy ∷ []) there (slice_get-append_left graph (copy ∷ []) o object at)
       (made_inside {T = T} edited (write_at spot (vals.Ref (length graph)) (graph ++ copy ∷ []) root) is)
 
-  unshare_keeps : (p : Result (Position T) ℕ) → ((q : Position T) → p ≡ Ok q → IsElsewhere (shaped shape Equal) graph o q.spot)
+  unshare_keeps : (p : Result (TypedLocation T) ℕ) → ((q : TypedLocation T) → p ≡ Ok q → IsElsewhere (shaped shape Equal) graph o q.spot)
       → Ok edited ≡ unshared graph root p → Kept edited
   unshare_keeps (Err step) there is = absurd cc
   unshare_keeps (Ok q) there is = copy_keeps q.spot (object_of graph q.value) (there q refl) is
@@ -145,8 +145,8 @@ module _ {T : Type 0} (shape : T → ShapeOf T) (names : T → Names) (Equal : T
       link_keeps (position_in shape names Equal t graph root path) (position_in shape names Equal t graph root source) (elsewhere path) is
   edit_keeps (edits.Unshare path) is = unshare_keeps (position_in shape names Equal t graph root path) (elsewhere path) is
 
-  graft_keeps : (p : Result (Position T) ℕ) → ((q : Position T) → p ≡ Ok q → IsElsewhere (shaped shape Equal) graph o q.spot)
-      → (from : List Obj) (part : Result (Position T) ℕ) → IsGraft graph root p from part (Ok edited) → Kept edited
+  graft_keeps : (p : Result (TypedLocation T) ℕ) → ((q : TypedLocation T) → p ≡ Ok q → IsElsewhere (shaped shape Equal) graph o q.spot)
+      → (from : List Obj) (part : Result (TypedLocation T) ℕ) → IsGraft graph root p from part (Ok edited) → Kept edited
   graft_keeps (Err step) there from part is = absurd cc
   graft_keeps (Ok q) there from (Err step) is = absurd cc
   graft_keeps (Ok q) there from (Ok part) (objects, value, copy, is) =

@@ -10,8 +10,8 @@ use Rattle.base_data.specs.model.Graph.{IsValue}
 use Rattle.base_data.proofs.model.Lists.{slice_get-append_left}
 use Rattle.types_spec.specs.types.Typing.{values_of, field_at}
 use Rattle.marshal_heap.specs.heap.Heap.{object_at, fields_of, with_field, set_field}
-use Rattle.edit_values.specs.declared.spots.Spot.{Spot}
-use Rattle.edit_values.specs.declared.spots.Spot.TheVariants as spots
+use Rattle.edit_values.specs.declared.spots.Location.{Location}
+use Rattle.edit_values.specs.declared.spots.Location.TheVariants as spots
 use Rattle.edit_values.specs.Positions.{StandsAt, IsThere}
 use Rattle.edit_values.specs.EditedValues.{write_at}
 
@@ -64,7 +64,7 @@ fields_as_many (objects.Block tag values) i v = length-set values i v
 fields_as_many object i v = refl
 
 -- The location exists after a value was written at it.
-pub there_after : (spot : Spot) (v w : Val) (graph : List Obj) (root : Val) (one : List Obj) (one_root : Val)
+pub there_after : (spot : Location) (v w : Val) (graph : List Obj) (root : Val) (one : List Obj) (one_root : Val)
     → StandsAt graph root spot w → ◌≡◌ {A = List Obj × Val} (one, one_root) (write_at spot v graph root) → IsThere one spot
 there_after spots.Root v w graph root one one_root at is = tt
 there_after (spots.Field o i) v w graph root one one_root at is =
@@ -76,36 +76,36 @@ there_after (spots.Field o i) v w graph root one one_root at is =
     (subst (λ n. i < n) (sym (fields_as_many (object_at graph o) i v)) (field_there graph o i w at)))
 
 -- Writing the earlier value restores the graph.
-pub write_back : (spot : Spot) (v w : Val) (graph : List Obj) (root : Val) → StandsAt graph root spot w
+pub write_back : (spot : Location) (v w : Val) (graph : List Obj) (root : Val) → StandsAt graph root spot w
     → write_at spot w (write_at spot v graph root).0 (write_at spot v graph root).1 ≡ (graph, root)
 write_back spots.Root v w graph root at = ap (λ r. (graph, r)) at
 write_back (spots.Field o i) v w graph root at = ap (λ g. (g, root)) (set_back graph o i v w at)
 
 -- Everything is as before.
-pub restored : (spot : Spot) (v w : Val) (graph : List Obj) (root : Val) (one : List Obj) (one_root : Val) (two : List Obj) (two_root : Val)
+pub restored : (spot : Location) (v w : Val) (graph : List Obj) (root : Val) (one : List Obj) (one_root : Val) (two : List Obj) (two_root : Val)
     → StandsAt graph root spot w → ◌≡◌ {A = List Obj × Val} (one, one_root) (write_at spot v graph root)
     → ◌≡◌ {A = List Obj × Val} (two, two_root) (write_at spot w one one_root) → ◌≡◌ {A = List Obj × Val} (two, two_root) (graph, root)
 restored spot v w graph root one one_root two two_root stands first second =
     second ∙ ap (λ (m : List Obj × Val). write_at spot w m.0 m.1) first ∙ write_back spot v w graph root stands
 
-pub as_many : (spot : Spot) (v : Val) (graph : List Obj) (root : Val) → length (write_at spot v graph root).0 ≡ length graph
+pub as_many : (spot : Location) (v : Val) (graph : List Obj) (root : Val) → length (write_at spot v graph root).0 ≡ length graph
 as_many spots.Root v graph root = refl
 as_many (spots.Field o i) v graph root = length-set graph o (with_field (object_at graph o) i v)
 
 -- The root is a valid value afterwards.
-pub root_valid : (spot : Spot) (v : Val) (graph : List Obj) (root : Val) → IsValue (length graph) v → IsValue (length graph) root
+pub root_valid : (spot : Location) (v : Val) (graph : List Obj) (root : Val) → IsValue (length graph) v → IsValue (length graph) root
     → IsValue (length (write_at spot v graph root).0) (write_at spot v graph root).1
 root_valid spots.Root v graph root new old = new
 root_valid (spots.Field o i) v graph root new old = subst (λ n. IsValue n root) (sym (as_many (spots.Field o i) v graph root)) old
 
 -- ---- graphs with further objects
 
-pub stands_behind : (graph more : List Obj) (root : Val) (spot : Spot) (w : Val) → StandsAt graph root spot w → StandsAt (graph ++ more) root spot w
+pub stands_behind : (graph more : List Obj) (root : Val) (spot : Location) (w : Val) → StandsAt graph root spot w → StandsAt (graph ++ more) root spot w
 stands_behind graph more root spots.Root w at = at
 stands_behind graph more root (spots.Field o i) w at =
     let held = held_in graph o i w at in
     ap (option_and_then (λ object. slice_get (values_of object) i)) (slice_get-append_left graph more o held.0 held.1) ∙ held.2
 
-pub stands_whole : (n : ℕ) (graph : List Obj) (root : Val) (spot : Spot) (w : Val) → StandsAt (take n graph) root spot w → StandsAt graph root spot w
+pub stands_whole : (n : ℕ) (graph : List Obj) (root : Val) (spot : Location) (w : Val) → StandsAt (take n graph) root spot w → StandsAt graph root spot w
 stands_whole n graph root spot w at =
     subst (λ g. StandsAt g root spot w) (take-append-drop n graph) (stands_behind (take n graph) (drop n graph) root spot w at)

@@ -20,10 +20,10 @@ use Rattle.text_literal.specs.parser.LiteralAnswers.{byte_of, in_bytes}
 use Rattle.text_literal.specs.parser.Reading.{Refusal, IsRead, IsRefused}
 use Rattle.text_path.specs.declared.edits.Edit.{Edit}
 use Rattle.text_path.specs.declared.edits.Edit.TheVariants as edits
-use Rattle.edit_values.specs.declared.spots.Spot.{Spot}
-use Rattle.edit_values.specs.declared.spots.Spot.TheVariants as spots
-use Rattle.edit_values.specs.declared.spots.Position.{Position}
-use Rattle.edit_values.specs.declared.refusal.Side.TheVariants.{Left, Right}
+use Rattle.edit_values.specs.declared.spots.Location.{Location}
+use Rattle.edit_values.specs.declared.spots.Location.TheVariants as spots
+use Rattle.edit_values.specs.declared.spots.TypedLocation.{TypedLocation}
+use Rattle.edit_values.specs.declared.refusal.EditSide.TheVariants.{Left, Right}
 use Rattle.edit_values.specs.Positions.{position_at}
 use Rattle.edit_values.specs.Reasons.{Reason, no_field, not_block, no_literal, misread, ill_typed}
 
@@ -36,7 +36,7 @@ abbrev pub Edited : Type 0 → Type 0
 Edited T = Result (List Obj × Val) (ℕ × Reason T)
 
 -- The value with a new part at a location. The change is visible along every path that leads there.
-abbrev pub write_at : Spot → Val → List Obj → Val → List Obj × Val
+abbrev pub write_at : Location → Val → List Obj → Val → List Obj × Val
 write_at spots.Root new graph root = (graph, new)
 write_at (spots.Field o i) new graph root = (set_field graph o i new, root)
 
@@ -48,19 +48,20 @@ object_of graph v = None
 module _ {T : Type 0} where
   -- ---- `link`: the value at the second path
 
-  abbrev pub linked : List Obj → Val → Result (Position T) ℕ → Result (Position T) ℕ → Answer T
+  abbrev pub linked : List Obj → Val → Result (TypedLocation T) ℕ → Result (TypedLocation T) ℕ
+      → Answer T
   linked graph root (Err step) source = Err (no_field Left step)
   linked graph root (Ok p) (Err step) = Err (no_field Right step)
   linked graph root (Ok p) (Ok source) = Ok (write_at p.spot source.value graph root)
 
   -- ---- `unshare`: a copy of the object, at the end of the graph
 
-  abbrev pub copied : List Obj → Val → Spot → Option Obj → Answer T
+  abbrev pub copied : List Obj → Val → Location → Option Obj → Answer T
   copied graph root spot None = Err not_block
   copied graph root spot (Some object) =
       Ok (write_at spot (vals.Ref (length graph)) (graph ++ object ∷ []) root)
 
-  abbrev pub unshared : List Obj → Val → Result (Position T) ℕ → Answer T
+  abbrev pub unshared : List Obj → Val → Result (TypedLocation T) ℕ → Answer T
   unshared graph root (Err step) = Err (no_field Left step)
   unshared graph root (Ok p) = copied graph root p.spot (object_of graph p.value)
 
@@ -87,7 +88,7 @@ module _ {T : Type 0} (shape : T → ShapeOf T) (names : T → Names) where
       (k : ℕ) × IsSyntax literal_kinds (kinds_of lexemes) k × (position ≡ byte_of lexemes end k)
 
   -- The result of `set` at a location.
-  abbrev pub IsSetAt : List Obj → Val → Position T → List Lexeme → ℕ → Answer T → Type 0
+  abbrev pub IsSetAt : List Obj → Val → TypedLocation T → List Lexeme → ℕ → Answer T → Type 0
   IsSetAt graph root p lexemes end (Ok made) =
       (objects : List Obj) × (value : Val) × IsLiteral p.ty lexemes (length graph) objects value
       × (made ≡ write_at p.spot value (graph ++ objects) root)
@@ -96,12 +97,13 @@ module _ {T : Type 0} (shape : T → ShapeOf T) (names : T → Names) where
       IsMisread p.ty lexemes end (length graph) refusal
   IsSetAt graph root p lexemes end (Err reason) = ⊥
 
-  abbrev pub IsSet : List Obj → Val → Result (Position T) ℕ → List Lexeme → ℕ → Answer T → Type 0
+  abbrev pub IsSet : List Obj → Val → Result (TypedLocation T) ℕ → List Lexeme → ℕ → Answer T
+      → Type 0
   IsSet graph root (Err step) lexemes end made = made ≡ Err (no_field Left step)
   IsSet graph root (Ok p) lexemes end made = IsSetAt graph root p lexemes end made
 
   module _ (Equal : T → T → Type 0) (t : T) where
-    abbrev pub position_in : List Obj → Val → List ℕ → Result (Position T) ℕ
+    abbrev pub position_in : List Obj → Val → List ℕ → Result (TypedLocation T) ℕ
     position_in graph root path = position_at (shaped shape Equal) graph root t path
 
     -- The result of an edit, without regard to its type.

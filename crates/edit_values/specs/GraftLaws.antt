@@ -15,7 +15,7 @@ use Rattle.marshal_spec.specs.format.Isomorphism.{Isomorphism}
 use Rattle.types_table.specs.declared.type_table.tabled.Tabled.{Tabled}
 use Rattle.types_table.specs.type_table.Made.{table_of, IsLawful, IsTypeTable}
 use Rattle.marshal_write.specs.graft.Copies.{IsWithin, AreWithin}
-use Rattle.edit_values.specs.declared.spots.Position.{Position}
+use Rattle.edit_values.specs.declared.spots.TypedLocation.{TypedLocation}
 use Rattle.edit_values.specs.EditedValues.{Answer}
 use Rattle.edit_values.specs.Grafts.{Other, IsGraftAnswer, IsGraftAnswerIn}
 use Rattle.edit_values.specs.Laws.{IsAtMostOne, SayTheSame}
@@ -29,7 +29,8 @@ IsDeclaredGraft decls t path other source graph root answer =
 
 -- The value at the location is isomorphic to the copied part, including sharing and cycles. The
 -- value and all new objects refer to new objects only. The whole value has its type.
-pub record HasGraft {T : Type 0} (shapes : Shapes T) (t : T) (p part : Position T) (other : Other)
+pub record HasGraft {T : Type 0} (shapes : Shapes T) (t : T) (p part : TypedLocation T)
+    (other : Other)
     (graph : List Obj) (made : List Obj × Val) : Type 0 where
   pub value : Val
   pub stands : StandsAt made.0 made.1 p.spot value
@@ -45,7 +46,7 @@ GraftsAreTheSame =
     (decls : List Decl) (t : Ty) (path : List ℕ) (other : Other) (source : List ℕ)
     (graph : List Obj) (root : Val) (made : List Obj × Val)
     → IsDeclaredGraft decls t path other source graph root (Ok made)
-    → (p part : Position Ty) → position_at (declared_shapes decls) graph root t path ≡ Ok p
+    → (p part : TypedLocation Ty) → position_at (declared_shapes decls) graph root t path ≡ Ok p
     → position_at (declared_shapes decls) other.0 other.1 t source ≡ Ok part
     → HasGraft (declared_shapes decls) t p part other graph made
 

@@ -11,9 +11,9 @@ use Rattle.types_spec.specs.types.Typing.{HasType}
 use Rattle.types_table.specs.declared.type_table.tabled.Tabled.{Tabled}
 use Rattle.text_literal.specs.parser.LiteralAnswers.{shape_in}
 use Rattle.marshal_write.specs.graft.Copies.{IsCopy}
-use Rattle.edit_values.specs.declared.spots.Position.{Position}
+use Rattle.edit_values.specs.declared.spots.TypedLocation.{TypedLocation}
 use Rattle.edit_values.specs.declared.refusal.EditRefusal.{EditRefusal}
-use Rattle.edit_values.specs.declared.refusal.Side.TheVariants.{Left, Right}
+use Rattle.edit_values.specs.declared.refusal.EditSide.TheVariants.{Left, Right}
 use Rattle.edit_values.specs.EditedValues.{Answer, write_at}
 use Rattle.edit_values.specs.Positions.{position_at}
 use Rattle.edit_values.specs.Reasons.{Reason, no_field, ill_typed, reason_of}
@@ -26,7 +26,8 @@ Other = List Obj × Val
 module _ {T : Type 0} where
   -- A copy of the value at the location of the other value is written at the location of this
   -- value.
-  abbrev pub IsGraftAt : List Obj → Val → Position T → List Obj → Position T → Answer T → Type 0
+  abbrev pub IsGraftAt : List Obj → Val → TypedLocation T → List Obj → TypedLocation T → Answer T
+      → Type 0
   IsGraftAt graph root p from part (Ok made) =
       (copied : List Obj) × (value : Val)
       × IsCopy from part.value (length graph) copied value
@@ -34,7 +35,8 @@ module _ {T : Type 0} where
   IsGraftAt graph root p from part (Err reason) = ⊥
 
   -- The left path is checked first.
-  abbrev pub IsGraft : List Obj → Val → Result (Position T) ℕ → List Obj → Result (Position T) ℕ
+  abbrev pub IsGraft : List Obj → Val → Result (TypedLocation T) ℕ → List Obj
+      → Result (TypedLocation T) ℕ
       → Answer T → Type 0
   IsGraft graph root (Err step) from part made = made ≡ Err (no_field Left step)
   IsGraft graph root (Ok p) from (Err step) made = made ≡ Err (no_field Right step)

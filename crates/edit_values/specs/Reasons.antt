@@ -7,14 +7,14 @@ use Rattle.types_spec.specs.declared.types.fault.Fault.TheVariants.{Mismatch, Co
 use Rattle.text_literal.specs.declared.parser.fault.LiteralFault.{LiteralFault}
 use Rattle.text_literal.specs.declared.parser.fault.LiteralFault.TheVariants as literals
 use Rattle.text_literal.specs.parser.Reading.{Refusal, mismatch_at, int_range_at, label_at}
-use Rattle.edit_values.specs.declared.refusal.Side.{Side}
-use Rattle.edit_values.specs.declared.refusal.Side.TheVariants.{Left, Right}
+use Rattle.edit_values.specs.declared.refusal.EditSide.{EditSide}
+use Rattle.edit_values.specs.declared.refusal.EditSide.TheVariants.{Left, Right}
 use Rattle.edit_values.specs.declared.refusal.EditRefusal.{EditRefusal}
 use Rattle.edit_values.specs.declared.refusal.EditRefusal.TheVariants as refusals
 
 pub data Reason (T : Type 0) : Type 0 where
   -- The path of this side has a step, with this index from 0, whose field is not required.
-  no_field : Side → ℕ → Reason T
+  no_field : EditSide → ℕ → Reason T
   -- The value to be copied is not an object.
   not_block : Reason T
   -- The lexemes are not a literal, because of the lexeme at this byte.
@@ -26,7 +26,7 @@ pub data Reason (T : Type 0) : Type 0 where
 
 -- ---- texts
 
-abbrev pub side_text : Side → List ℕ
+abbrev pub side_text : EditSide → List ℕ
 side_text Left = codes "left"
 side_text Right = codes "right"
 

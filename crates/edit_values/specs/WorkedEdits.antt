@@ -15,7 +15,7 @@ use Rattle.text_literal.specs.parser.Reading.{mismatch_at, int_range_at}
 use Rattle.text_literal.specs.parser.WorkedLiterals.{int, one, pair, number, lexemes_of}
 use Rattle.text_path.specs.declared.edits.Edit.{Edit}
 use Rattle.text_path.specs.declared.edits.Edit.TheVariants.{Set, Link, Unshare}
-use Rattle.edit_values.specs.declared.refusal.Side.TheVariants.{Left, Right}
+use Rattle.edit_values.specs.declared.refusal.EditSide.TheVariants.{Left, Right}
 use Rattle.edit_values.specs.EditedValues.{Answer, IsMade}
 use Rattle.edit_values.specs.Reasons.{no_field, not_block, misread}
 

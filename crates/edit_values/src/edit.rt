@@ -10,8 +10,8 @@ ghost use Rattle.edit_values.specs.Positions.{StandsAt, IsThere};
 ghost use Rattle.edit_values.specs.Tables.{IsAnswerIn, IsApplied, IsKept, Gives};
 ghost use Rattle.edit_values.specs.EditedValues.{write_at};
 
-use crate::refusal::{EditRefusal, Side};
-use crate::spots::{Position, Spot, find_position};
+use crate::refusal::{EditRefusal, EditSide};
+use crate::spots::{Location, TypedLocation, find_position};
 use base_data::model::path::Path;
 use base_data::model::value::Val;
 use check_heap::check::{Steps, Verdict, check};
@@ -66,7 +66,7 @@ fn set(
         heap.new root.new result }
     ensures value { IsValue (length heap.new) root.new }
 {
-    let position = find_position(heap, *root, table, Side::Left, path)?;
+    let position = find_position(heap, *root, table, EditSide::Left, path)?;
     let count = heap.count();
     let value = read_literal(alloc, heap, table, position.ty, lexemes, end)?;
     write_if_typed(alloc, heap, root, table, position, value, count)
@@ -86,8 +86,8 @@ fn link(
         heap.new root.new result }
     ensures value { IsValue (length heap.new) root.new }
 {
-    let position = find_position(heap, *root, table, Side::Left, path)?;
-    let from = find_position(heap, *root, table, Side::Right, source)?;
+    let position = find_position(heap, *root, table, EditSide::Left, path)?;
+    let from = find_position(heap, *root, table, EditSide::Right, source)?;
     let count = heap.count();
     write_if_typed(alloc, heap, root, table, position, from.value, count)
 }
@@ -105,7 +105,7 @@ fn unshare(
         root.new result }
     ensures value { IsValue (length heap.new) root.new }
 {
-    let position = find_position(heap, *root, table, Side::Left, path)?;
+    let position = find_position(heap, *root, table, EditSide::Left, path)?;
     let Val::Ref(object) = position.value else {
         return Err(EditRefusal::NotBlock);
     };
@@ -121,7 +121,7 @@ pub(crate) fn write_if_typed(
     heap: &mut Heap,
     root: &mut Val,
     table: &TypeTable,
-    position: Position<usize>,
+    position: TypedLocation<usize>,
     value: Val,
     count: u64,
 ) -> Result<(), EditRefusal>
@@ -147,13 +147,13 @@ pub(crate) fn write_if_typed(
 }
 
 /// Writes a value at a location.
-fn write(heap: &mut Heap, root: &mut Val, spot: Spot, value: Val)
+fn write(heap: &mut Heap, root: &mut Val, spot: Location, value: Val)
     requires valid { IsValue (length heap.old) value }
     requires there { IsThere heap.old spot }
     ensures { (heap.new, root.new) ≡ write_at spot value heap.old root.old }
 {
     match spot {
-        Spot::Root => *root = value,
-        Spot::Field(object, field) => heap.set(object, field, value),
+        Location::Root => *root = value,
+        Location::Field(object, field) => heap.set(object, field, value),
     }
 }

@@ -6,7 +6,7 @@ ghost use Rattle.base_data.specs.declared.model.value.Obj.{Obj};
 ghost use Rattle.base_data.specs.model.Graph.{IsValue};
 ghost use Rattle.types_spec.specs.types.Table.{table_shapes};
 ghost use Rattle.types_table.specs.type_table.Made.{table_of};
-ghost use Rattle.edit_values.specs.declared.spots.Position.{Position};
+ghost use Rattle.edit_values.specs.declared.spots.TypedLocation.{TypedLocation};
 ghost use Rattle.edit_values.specs.Grafts.{IsGraftAnswerIn, IsGraftApplied};
 ghost use Rattle.edit_values.specs.GraftLaws.{HasGraft};
 ghost use Rattle.edit_values.specs.Positions.{position_at};
@@ -14,7 +14,7 @@ ghost use Rattle.edit_values.specs.Reasons.{Reason};
 ghost use Rattle.edit_values.specs.Tables.{Gives};
 
 use crate::edit::write_if_typed;
-use crate::refusal::{EditRefusal, Side};
+use crate::refusal::{EditRefusal, EditSide};
 use crate::spots::find_position;
 use base_data::model::path::Path;
 use base_data::model::value::Val;
@@ -46,7 +46,7 @@ pub fn graft(
         → IsGraftAnswerIn table.now path.now (from.now, other) source.now heap.old root.old answer
         → Gives answer heap.new root.new result }
     // The new part is isomorphic to the copied part and consists of new objects.
-    ensures copy { (p part : Position ℕ)
+    ensures copy { (p part : TypedLocation ℕ)
         → position_at (table_shapes (table_of table.now)) heap.old root.old 0 path.now ≡ Ok p
         → position_at (table_shapes (table_of table.now)) from.now other 0 source.now ≡ Ok part
         → OnOk result
@@ -55,8 +55,8 @@ pub fn graft(
     ensures value { IsValue (length heap.new) root.new }
 {
     table.holds();
-    let position = find_position(heap, *root, table, Side::Left, path)?;
-    let part = find_position(from, other, table, Side::Right, source)?;
+    let position = find_position(heap, *root, table, EditSide::Left, path)?;
+    let part = find_position(from, other, table, EditSide::Right, source)?;
     let count = heap.count();
     let value = append_copy(alloc, heap, from, part.value)?;
     write_if_typed(alloc, heap, root, table, position, value, count)

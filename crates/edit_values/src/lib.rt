@@ -1,7 +1,7 @@
 //! Applies one edit to a value at its type: a literal or a copy from another value, at a path.
 //!
 //! It owns the definition of an edit and of why it is refused (`EditRefusal`), the positions that
-//! can change (`Spot`), and the text of a refusal (`refusal_text`).
+//! can change (`Location`), and the text of a refusal (`refusal_text`).
 //!
 //! Promises: `apply` makes the edit, or returns why it is refused; after a refusal the value is as
 //! it was. `graft` does the same with a copy of the part at a path of another value.
@@ -30,6 +30,6 @@ pub use laws::{
     edits_have_one_answer, edits_leave_wildcards, grafts_are_the_same, grafts_have_one_answer,
     tables_answer_lines_agree, tables_edit_agree, tables_graft_agree, worked_edits_are_made,
 };
-pub use refusal::{EditRefusal, Side};
-pub use spots::{Position, Spot};
+pub use refusal::{EditRefusal, EditSide};
+pub use spots::{Location, TypedLocation};
 pub use text::{literal_text, refusal_text};

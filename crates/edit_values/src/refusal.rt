@@ -10,7 +10,7 @@ use types_spec::types::fault::Fault;
 
 /// The side of an edit on which a path is: before `=` or after it.
 #[derive(Clone, Copy, Debug, PartialEq, Eq)]
-pub enum Side {
+pub enum EditSide {
     Left,
     Right,
 }
@@ -19,7 +19,7 @@ pub enum Side {
 #[derive(Drop)]
 pub enum EditRefusal {
     /// The step with this index, counted from 0, leads to no required field of its value.
-    NoField(Side, usize),
+    NoField(EditSide, usize),
     /// There is no object to copy.
     NotBlock,
     /// The lexemes are not a literal of the type at the location.

@@ -6,7 +6,7 @@ ghost use Rattle.types_spec.specs.types.Table.{table_shapes};
 ghost use Rattle.types_table.specs.type_table.Made.{table_of};
 ghost use Rattle.edit_values.specs.Positions.{position_at, spot_after, on_side, StandsAt};
 
-use crate::refusal::{EditRefusal, Side};
+use crate::refusal::{EditRefusal, EditSide};
 use base_data::model::path::Path;
 use base_data::model::value::Val;
 use check_fault::{Tried, step};
@@ -15,7 +15,7 @@ use types_table::type_table::TypeTable;
 
 /// A location that can be changed: the root, or a field of an object.
 #[derive(Clone, Copy, Debug, PartialEq, Eq)]
-pub enum Spot {
+pub enum Location {
     Root,
     /// The object's number and the index of the field.
     Field(u64, u64),
@@ -23,8 +23,8 @@ pub enum Spot {
 
 /// A location, the value there, and the value's type.
 #[derive(Clone, Copy, Debug, PartialEq, Eq)]
-pub struct Position<T> {
-    pub spot: Spot,
+pub struct TypedLocation<T> {
+    pub spot: Location,
     pub value: Val,
     pub ty: T,
 }
@@ -34,9 +34,9 @@ pub(crate) fn find_position(
     heap: &Heap,
     root: Val,
     table: &TypeTable,
-    side: Side,
+    side: EditSide,
     path: &Path,
-) -> Result<Position<usize>, EditRefusal>
+) -> Result<TypedLocation<usize>, EditRefusal>
     requires value { IsValue (length heap.now) root }
     ensures position { result
         ≡ on_side side (position_at (table_shapes (table_of table.now)) heap.now root 0 path.now) }
@@ -45,8 +45,8 @@ pub(crate) fn find_position(
     ensures stands { IfOk result (λ position. StandsAt heap.now root position.spot position.value) }
 {
     table.holds();
-    let mut position = Position {
-        spot: Spot::Root,
+    let mut position = TypedLocation {
+        spot: Location::Root,
         value: root,
         ty: table.root(),
     };
@@ -62,17 +62,17 @@ pub(crate) fn find_position(
             return Err(EditRefusal::NoField(side, i));
         };
         let spot = spot_after(position.value, n);
-        position = Position { spot, value, ty };
+        position = TypedLocation { spot, value, ty };
     }
     Ok(position)
 }
 
 /// Returns the location to which a step leads from a value.
-fn spot_after(value: Val, step: u64) -> Spot
+fn spot_after(value: Val, step: u64) -> Location
     ensures { result ≡ spot_after value step }
 {
     match value {
-        Val::Ref(object) => Spot::Field(object, step),
-        _ => Spot::Root,
+        Val::Ref(object) => Location::Field(object, step),
+        _ => Location::Root,
     }
 }

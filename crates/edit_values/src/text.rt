@@ -9,8 +9,8 @@ ghost use Rattle.edit_values.specs.Reasons.{misread, side_text, fault_positions,
 ghost use Rattle.edit_values.specs.Reasons.{reason_of, literal_text as why_text, literal_or_none};
 ghost use Rattle.edit_values.specs.Reasons.{reason_or_none};
 
-use crate::refusal::{EditRefusal, Side};
-use base_data::lines::Positions;
+use crate::refusal::{EditRefusal, EditSide};
+use base_data::lines::PositionStyle;
 use base_data::model::Memory;
 use base_data::model::list::List;
 use base_data::model::path::Path;
@@ -24,7 +24,7 @@ use types_table::type_table::TypeTable;
 pub fn refusal_text(
     alloc: Global,
     table: &TypeTable,
-    positions: &Positions<'_>,
+    positions: &PositionStyle<'_>,
     refusal: &EditRefusal,
 ) -> Result<List<u8>, Memory>
     ensures { IfOk result
@@ -46,7 +46,7 @@ pub fn refusal_text(
 }
 
 /// Appends which step leads to no required field.
-fn write_no_field(text: &mut Vec<u8>, side: Side, step: usize) -> Result<(), Memory>
+fn write_no_field(text: &mut Vec<u8>, side: EditSide, step: usize) -> Result<(), Memory>
     ensures { OnOk result
         (text.new.items
         ≡ text.old.items ++ codes "NoField(" ++ side_text side ++ codes ", " ++ decimal step
@@ -54,8 +54,8 @@ fn write_no_field(text: &mut Vec<u8>, side: Side, step: usize) -> Result<(), Mem
 {
     write(text, b"NoField(")?;
     match side {
-        Side::Left => write(text, b"left")?,
-        Side::Right => write(text, b"right")?,
+        EditSide::Left => write(text, b"left")?,
+        EditSide::Right => write(text, b"right")?,
     }
     write(text, b", ")?;
     write_number(text, step as u64)?;
@@ -67,7 +67,7 @@ fn write_no_field(text: &mut Vec<u8>, side: Side, step: usize) -> Result<(), Mem
 pub fn literal_text(
     alloc: Global,
     table: &TypeTable,
-    positions: &Positions<'_>,
+    positions: &PositionStyle<'_>,
     fault: LiteralFault,
 ) -> Result<List<u8>, Memory>
     ensures { IfOk result
@@ -84,7 +84,7 @@ fn write_literal(
     text: &mut Vec<u8>,
     alloc: Global,
     table: &TypeTable,
-    positions: &Positions<'_>,
+    positions: &PositionStyle<'_>,
     fault: LiteralFault,
 ) -> Result<(), Memory>
     ensures { OnOk result
@@ -106,7 +106,7 @@ fn write_fault(
     text: &mut Vec<u8>,
     alloc: Global,
     table: &TypeTable,
-    positions: &Positions<'_>,
+    positions: &PositionStyle<'_>,
     fault: LiteralFault,
 ) -> Result<(), Memory>
     ensures { OnOk result
@@ -130,7 +130,7 @@ fn write_mismatch(
     text: &mut Vec<u8>,
     alloc: Global,
     table: &TypeTable,
-    positions: &Positions<'_>,
+    positions: &PositionStyle<'_>,
     position: u64,
     ty: usize,
 ) -> Result<(), Memory>
@@ -148,7 +148,7 @@ fn write_mismatch(
 /// Appends a message with its position.
 fn write_at(
     text: &mut Vec<u8>,
-    positions: &Positions<'_>,
+    positions: &PositionStyle<'_>,
     what: &[u8],
     position: u64,
 ) -> Result<(), Memory>

@@ -4,11 +4,11 @@
 
 mod encode;
 mod kind;
-mod known;
+mod known_kind;
 
 pub use base_data::model::code::{CodeFault, CodeKind};
 pub use encode::{
     encode_block, encode_double_array_len, encode_int, encode_shared, encode_string_len,
 };
 pub use kind::code_kind;
-pub use known::Known;
+pub use known_kind::KnownKind;

@@ -10,6 +10,6 @@ mod objects;
 mod strings;
 mod words;
 
-pub use borrowed::{Placed, Rooted};
+pub use borrowed::{NumberedObject, Rooted};
 pub use heap::Heap;
 pub use kind::Kind;

@@ -2,4 +2,4 @@
 //! to the offset of its header, and an offset back to the number, each in constant time.
 
 mod cells;
-pub mod positions;
+pub mod offset_list;

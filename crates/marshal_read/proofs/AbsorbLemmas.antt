@@ -4,7 +4,7 @@ use Rattle.base_data.specs.declared.model.value.Val.{Val}
 use Rattle.base_data.specs.declared.model.value.Val.TheVariants as vals
 use Rattle.base_data.specs.declared.model.value.Obj.{Obj}
 use Rattle.marshal_spec.specs.format.Token.{Token, integer, atom, shared, block_or_atom, IsToken}
-use Rattle.marshal_read.specs.declared.build.OpenBlock.{OpenBlock}
+use Rattle.marshal_read.specs.declared.build.PendingBlock.{PendingBlock}
 use Rattle.marshal_read.specs.Build.{Building, Bounded, building, in_room, fill, fill_in, absorb_in, WellOpen}
 use Rattle.marshal_read.proofs.BuildLemmas.{AreOpen-append, WellOpen-fill, WellOpen-absorb}
 
@@ -25,16 +25,16 @@ absorbed_shared s offset = placed s (vals.Ref (length s.built.objects - offset))
 pub WellOpen-append : (s : Building) (more : List Obj) → WellOpen s → WellOpen (building (s.objects ++ more) s.open_blocks s.root)
 WellOpen-append s more h = record { are_open = AreOpen-append s.objects more s.open_blocks h.are_open; rooted = h.rooted }
 
-pub well_added : (heap new : List Obj) (open_blocks : List OpenBlock) (root : Option Val) (object : Obj) → new ≡ heap ++ object ∷ [] → WellOpen (building heap open_blocks root)
+pub well_added : (heap new : List Obj) (open_blocks : List PendingBlock) (root : Option Val) (object : Obj) → new ≡ heap ++ object ∷ [] → WellOpen (building heap open_blocks root)
     → WellOpen (building new open_blocks root)
 well_added heap new open_blocks root object e h =
     subst (λ (all : List Obj). WellOpen (building all open_blocks root)) (sym e) (WellOpen-append (building heap open_blocks root) (object ∷ []) h)
 
 -- A value is stored.
-pub well_filled : (v : Val) (all : List Obj) (open_blocks same : List OpenBlock) (root : Option Val) (new : Building) → WellOpen (building all open_blocks root) → same ≡ open_blocks
+pub well_filled : (v : Val) (all : List Obj) (open_blocks same : List PendingBlock) (root : Option Val) (new : Building) → WellOpen (building all open_blocks root) → same ≡ open_blocks
     → new ≡ fill v all same root → WellOpen new
 well_filled v all open_blocks same root new h s e =
-    subst WellOpen (sym e) (subst (λ (blocks : List OpenBlock). WellOpen (fill v all blocks root)) (sym s) (WellOpen-fill v all open_blocks root h))
+    subst WellOpen (sym e) (subst (λ (blocks : List PendingBlock). WellOpen (fill v all blocks root)) (sym s) (WellOpen-fill v all open_blocks root h))
 
 -- A token is added.
 pub well_absorbed : (inside old new : Bounded) (t : Token) → inside ≡ old → WellOpen inside.built → IsToken t → new ≡ absorb_in old t → WellOpen new.built

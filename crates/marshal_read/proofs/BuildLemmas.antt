@@ -12,7 +12,7 @@ use Rattle.marshal_spec.specs.format.Words.{objects}
 use Rattle.marshal_spec.specs.format.Token.{Token, integer, atom, shared, block, leaf, IsToken, measure_of}
 use Rattle.marshal_spec.specs.format.Tree.{made_by, value_of}
 use Rattle.marshal_read.specs.Build.{Building, building, start, still_open, advanced, fill, blank, blank_fields, opened, absorb, absorb_all, root_to_come, fields_to_come, to_come, HasSize, IsOpenIn, AreOpen, WellOpen}
-use Rattle.marshal_read.specs.declared.build.OpenBlock.{OpenBlock}
+use Rattle.marshal_read.specs.declared.build.PendingBlock.{PendingBlock}
 use Rattle.marshal_heap.specs.heap.Heap.{with_field, set_field, word_of}
 use Rattle.marshal_heap.proofs.heap.ReadLemmas.{word_of-append, word_of-set_field}
 use Rattle.marshal_heap.proofs.heap.FieldLemmas.{length-set_field, set_field-append}
@@ -42,7 +42,7 @@ HasSize-set_field all size k b i v h p d =
       | inr ne ↦ rw (get_or-set_other all b k (with_field old i v) d ne) (p d)
     ]
 
-IsOpenIn-set_field : (all : List Obj) (b i : ℕ) (v : Val) (o : OpenBlock) → IsOpenIn all o → IsOpenIn (set_field all b i v) o
+IsOpenIn-set_field : (all : List Obj) (b i : ℕ) (v : Val) (o : PendingBlock) → IsOpenIn all o → IsOpenIn (set_field all b i v) o
 IsOpenIn-set_field all b i v o h = record {
   object = rw length-set_field h.object;
   next = h.next;
@@ -51,7 +51,7 @@ IsOpenIn-set_field all b i v o h = record {
 }
 
 -- If more objects follow, then the block stays open.
-IsOpenIn-append : (xs ys : List Obj) (o : OpenBlock) → IsOpenIn xs o → IsOpenIn (xs ++ ys) o
+IsOpenIn-append : (xs ys : List Obj) (o : PendingBlock) → IsOpenIn xs o → IsOpenIn (xs ++ ys) o
 IsOpenIn-append xs ys o h = record {
   object = let l = length-append xs ys in let k = h.object in omega arith;
   next = h.next;
@@ -59,18 +59,18 @@ IsOpenIn-append xs ys o h = record {
   at = h.at ∙ sym (word_of-append xs ys (vals.Ref o.object) h.object);
 }
 
-AreOpen-in : (xs ys : List Obj) → ((o : OpenBlock) → IsOpenIn xs o → IsOpenIn ys o) → (bs : List OpenBlock) → AreOpen xs bs → AreOpen ys bs
+AreOpen-in : (xs ys : List Obj) → ((o : PendingBlock) → IsOpenIn xs o → IsOpenIn ys o) → (bs : List PendingBlock) → AreOpen xs bs → AreOpen ys bs
 AreOpen-in xs ys f [] h = tt
 AreOpen-in xs ys f (b ∷ outer) h = (f b h.0, h.1, AreOpen-in xs ys f outer h.2)
 
-pub AreOpen-set_field : (all : List Obj) (b i : ℕ) (v : Val) (bs : List OpenBlock) → AreOpen all bs → AreOpen (set_field all b i v) bs
+pub AreOpen-set_field : (all : List Obj) (b i : ℕ) (v : Val) (bs : List PendingBlock) → AreOpen all bs → AreOpen (set_field all b i v) bs
 AreOpen-set_field all b i v bs h = AreOpen-in all (set_field all b i v) (IsOpenIn-set_field all b i v) bs h
 
-pub AreOpen-append : (xs ys : List Obj) (bs : List OpenBlock) → AreOpen xs bs → AreOpen (xs ++ ys) bs
+pub AreOpen-append : (xs ys : List Obj) (bs : List PendingBlock) → AreOpen xs bs → AreOpen (xs ++ ys) bs
 AreOpen-append xs ys bs h = AreOpen-in xs (xs ++ ys) (IsOpenIn-append xs ys) bs h
 
 -- The innermost block receives a field.
-AreOpen-still_open : (all : List Obj) (b : OpenBlock) (outer : List OpenBlock) → AreOpen all (b ∷ outer) → AreOpen all (still_open (advanced b 1) outer)
+AreOpen-still_open : (all : List Obj) (b : PendingBlock) (outer : List PendingBlock) → AreOpen all (b ∷ outer) → AreOpen all (still_open (advanced b 1) outer)
 AreOpen-still_open all b outer h =
     let k = h.0.next in
     elim (cases_eq (b.next + 1) b.size) [
@@ -80,12 +80,12 @@ AreOpen-still_open all b outer h =
     ]
 
 -- A new object comes after all open blocks.
-all_below : (all : List Obj) (bs : List OpenBlock) (c : ℕ) → length all ≡ c → AreOpen all bs → All (λ o. o.object < c) bs
+all_below : (all : List Obj) (bs : List PendingBlock) (c : ℕ) → length all ≡ c → AreOpen all bs → All (λ o. o.object < c) bs
 all_below all [] c e h = All-nil (λ o. o.object < c)
 all_below all (b ∷ outer) c e h = All-cons (λ o. o.object < c) b outer (let k = h.0.object in omega arith) (all_below all outer c e h.2)
 
 -- A token opens its block.
-AreOpen-opened : (t : Token) (all : List Obj) (bs : List OpenBlock) (c at : ℕ) → IsToken t → length all ≡ c → at ≡ word_of (all ++ blank t) (vals.Ref c) → AreOpen all bs
+AreOpen-opened : (t : Token) (all : List Obj) (bs : List PendingBlock) (c at : ℕ) → IsToken t → length all ≡ c → at ≡ word_of (all ++ blank t) (vals.Ref c) → AreOpen all bs
     → AreOpen (all ++ blank t) (opened t c at ++ bs)
 AreOpen-opened (integer z) all bs c at h e w k = AreOpen-append all [] bs k
 AreOpen-opened (atom tag) all bs c at h e w k = AreOpen-append all [] bs k
@@ -106,7 +106,7 @@ AreOpen-opened (leaf o) all bs c at h e w k = AreOpen-append all (o ∷ []) bs k
 
 -- ---- a step preserves the open blocks
 
-keeps_open : (all : List Obj) (bs : List OpenBlock) (r : Option Val) (t : Token) → IsToken t → AreOpen all bs
+keeps_open : (all : List Obj) (bs : List PendingBlock) (r : Option Val) (t : Token) → IsToken t → AreOpen all bs
     → AreOpen (absorb (building all bs r) t).objects (absorb (building all bs r) t).open_blocks
 keeps_open all [] r t h k = AreOpen-opened t all [] (length all) (word_of (all ++ blank t) (vals.Ref (length all))) h refl refl tt
 keeps_open all (b ∷ outer) r t h k =
@@ -119,7 +119,7 @@ keeps_open all (b ∷ outer) r t h k =
     (AreOpen-opened t xs (still_open (advanced b 1) outer) (length all) at h (length-set_field all b.object b.next v) moved
     (AreOpen-still_open xs b outer (AreOpen-set_field all b.object b.next v (b ∷ outer) k)))
 
-keeps_root : (all : List Obj) (bs : List OpenBlock) (r : Option Val) (t : Token) → (r ≡ None → bs ≡ []) → (absorb (building all bs r) t).root ≡ None → ⊥
+keeps_root : (all : List Obj) (bs : List PendingBlock) (r : Option Val) (t : Token) → (r ≡ None → bs ≡ []) → (absorb (building all bs r) t).root ≡ None → ⊥
 keeps_root all [] r t h e = cc
 keeps_root all (b ∷ outer) r t h e = let k = h e in cc
 
@@ -129,10 +129,10 @@ WellOpen-absorb state t h k = record {
   rooted = λ e. absurd (keeps_root state.objects state.open_blocks state.root t k.rooted e);
 }
 
-no_blocks : (b : OpenBlock) (outer : List OpenBlock) → b ∷ outer ≡ [] → ⊥
+no_blocks : (b : PendingBlock) (outer : List PendingBlock) → b ∷ outer ≡ [] → ⊥
 no_blocks b outer e = cc
 
-pub WellOpen-fill : (v : Val) (all : List Obj) (bs : List OpenBlock) (r : Option Val) → WellOpen (building all bs r) → WellOpen (fill v all bs r)
+pub WellOpen-fill : (v : Val) (all : List Obj) (bs : List PendingBlock) (r : Option Val) → WellOpen (building all bs r) → WellOpen (fill v all bs r)
 WellOpen-fill v all [] r h = record { are_open = tt; rooted = λ e. refl }
 WellOpen-fill v all (b ∷ outer) r h = record {
   are_open = AreOpen-still_open (set_field all b.object b.next v) b outer (AreOpen-set_field all b.object b.next v (b ∷ outer) h.are_open);
@@ -144,12 +144,12 @@ WellOpen-start = record { are_open = tt; rooted = λ e. refl }
 
 -- ---- the number of pending values
 
-to_come_cons : (b : OpenBlock) (bs : List OpenBlock) → fields_to_come (b ∷ bs) ≡ (b.size - b.next) + fields_to_come bs
+to_come_cons : (b : PendingBlock) (bs : List PendingBlock) → fields_to_come (b ∷ bs) ≡ (b.size - b.next) + fields_to_come bs
 to_come_cons b bs = sum_by-cons (λ o. o.size - o.next) b bs
 
 -- ---- the number of objects
 
-length_fill : (v : Val) (all : List Obj) (bs : List OpenBlock) (r : Option Val) → length (fill v all bs r).objects ≡ length all
+length_fill : (v : Val) (all : List Obj) (bs : List PendingBlock) (r : Option Val) → length (fill v all bs r).objects ≡ length all
 length_fill v all [] r = refl
 length_fill v all (b ∷ outer) r = length-set_field all b.object b.next v
 
@@ -178,7 +178,7 @@ length-from_start ts h = let l = length-absorb_all start ts h in omega arith
 -- ---- the end
 
 -- If no field is pending, then no block is open.
-all_full : (all : List Obj) (bs : List OpenBlock) → AreOpen all bs → fields_to_come bs ≡ 0 → bs ≡ []
+all_full : (all : List Obj) (bs : List PendingBlock) → AreOpen all bs → fields_to_come bs ≡ 0 → bs ≡ []
 all_full all [] h e = refl
 all_full all (b ∷ outer) h e = let s = to_come_cons b outer in let k = h.0.next in absurd (omega arith)
 

@@ -18,7 +18,7 @@ use Rattle.marshal_spec.proofs.format.NextLemmas.{next_passes, next_refused, hea
 use Rattle.marshal_spec.proofs.format.StandLemmas.{Stands, Stands-refused}
 use Rattle.marshal_read.specs.declared.unread.Unread.{Unread}
 use Rattle.marshal_read.specs.declared.unread.Unread.TheVariants.{NeedMore, Refused}
-use Rattle.marshal_read.specs.declared.totals.Totals.{Totals}
+use Rattle.marshal_read.specs.declared.read_totals.ReadTotals.{ReadTotals}
 use Rattle.marshal_read.specs.declared.reading.Reading.{Reading}
 use Rattle.marshal_read.specs.Head.{JudgedHeader}
 use Rattle.marshal_read.specs.Build.{Bounded, start, in_room}
@@ -87,13 +87,13 @@ module _ (limit : ℕ) (taken part more : List ℕ) (state : Bounded) (h : Leads
 
   pub header_stops : (new : Reading) (stop : Unread) → new.totals ≡ None → new.builder ≡ state → JudgedHeader limit (part ++ more) (Err stop) → NextRead limit taken part more new (Err stop)
   header_stops new NeedMore t b j =
-      subst (λ (o : Option Totals). LeadsAs o limit (taken ++ more) new.builder (part ++ more)) (sym t)
+      subst (λ (o : Option ReadTotals). LeadsAs o limit (taken ++ more) new.builder (part ++ more)) (sym t)
       (joined, header_goes_on limit (part ++ more) j.0 j.1, ap (λ (s : Bounded). s.built) b ∙ h.2)
   header_stops new (Refused r) t b j =
       subst (λ xs. RefusedIn limit xs r) (sym joined)
       (refusal_is_read limit (part ++ more) r (λ _. let x = header_refused limit (part ++ more) r j in (x.count, x.within, header_is_refused limit (part ++ more) r x)))
 
-  pub header_is_read : (totals : Totals) (new : Bounded) → new ≡ in_room state.built totals.head.w64 → JudgedHeader limit (part ++ more) (Ok totals)
+  pub header_is_read : (totals : ReadTotals) (new : Bounded) → new ≡ in_room state.built totals.head.w64 → JudgedHeader limit (part ++ more) (Ok totals)
       → (length part < totals.start) × (totals.start ≤ length part + length more) × LeadsAs (Some totals) limit (taken ++ take (totals.start - length part) more) new []
   header_is_read totals new b j =
       let n = header_length (part ++ more) in
@@ -126,7 +126,7 @@ module _ (limit : ℕ) (taken part more : List ℕ) (state : Bounded) (h : Leads
 
 -- ---- a token
 
-module _ (limit : ℕ) (taken part more header : List ℕ) (before : List (List ℕ)) (totals : Totals) (state : Bounded) (h : LeadsTokens limit taken header before totals state part) (is_open : 0 < totals.pending) where
+module _ (limit : ℕ) (taken part more header : List ℕ) (before : List (List ℕ)) (totals : ReadTotals) (state : Bounded) (h : LeadsTokens limit taken header before totals state part) (is_open : 0 < totals.pending) where
   all_are : taken ++ more ≡ header ++ (concat before ++ (part ++ more))
   all_are =
       ap (λ xs. xs ++ more) h.bytes_are
@@ -144,7 +144,7 @@ module _ (limit : ℕ) (taken part more header : List ℕ) (before : List (List 
   pub token_stops : (new : Reading) (stop : Unread) → new.totals ≡ Some totals → (stop ≡ NeedMore → new.builder ≡ state)
       → NextOf header before (part ++ more) new.builder (Err stop) → NextRead limit taken part more new (Err stop)
   token_stops new NeedMore t b n =
-      subst (λ (o : Option Totals). LeadsAs o limit (taken ++ more) new.builder (part ++ more)) (sym t) (
+      subst (λ (o : Option ReadTotals). LeadsAs o limit (taken ++ more) new.builder (part ++ more)) (sym t) (
         header,
         before,
         record {
@@ -163,12 +163,12 @@ module _ (limit : ℕ) (taken part more header : List ℕ) (before : List (List 
       let refused = Stands-refused limit (taken ++ more) header before (part ++ more) r stands x in
       (length header + (length (concat before) + x.count), refused.0, refused.1))
 
-  pub token_taken : (next : Totals) (new : Bounded) → NextOf header before (part ++ more) new (Ok next) → next.taken ≡ totals.taken + raw_length (part ++ more)
+  pub token_taken : (next : ReadTotals) (new : Bounded) → NextOf header before (part ++ more) new (Ok next) → next.taken ≡ totals.taken + raw_length (part ++ more)
   token_taken next new n =
       let e = ap (λ (c : Context). c.taken) (context_after header before (part ++ more) stands.is_open n.1) in
       omega (arith, e, n.2.sums.taken, h.builds.sums.taken)
 
-  pub token_is_read : (next : Totals) (new : Bounded) → NextOf header before (part ++ more) new (Ok next)
+  pub token_is_read : (next : ReadTotals) (new : Bounded) → NextOf header before (part ++ more) new (Ok next)
       → (length part < next.taken - totals.taken) × (next.taken - totals.taken ≤ length part + length more)
       × LeadsAs (Some next) limit (taken ++ take (next.taken - totals.taken - length part) more) new []
   token_is_read next new n =
@@ -203,7 +203,8 @@ module _ (limit : ℕ) (taken part more header : List ℕ) (before : List (List 
 
 -- ---- chunks
 
--- The state by the reading's own limit and its buffered part.
+-- If bytes lead to `chunks`, then they lead to its builder, by the limit that its `reading` has.
+-- The buffered part of a token is `part`.
 pub leads_at : (limit : ℕ) (taken : List ℕ) (chunks : Chunks) (part : List ℕ) → LeadsChunks limit taken chunks → chunks.part.items ≡ part
     → LeadsAs chunks.reading.totals chunks.reading.limit taken chunks.reading.builder part
 leads_at limit taken chunks part h e =
@@ -261,7 +262,8 @@ rest_is chunk a = take_all (length chunk - a) (drop a chunk) (omega (arith, leng
 pub length_rest : (chunk : List ℕ) (a : ℕ) → length (take (length chunk - a) (drop a chunk)) ≡ length chunk - a
 length_rest chunk a = ap length (rest_is chunk a) ∙ length-drop a chunk
 
--- One part of a chunk after another.
+-- If the first `a` bytes of a chunk are taken, and then `b` more, then the first `a + b` bytes are
+-- taken.
 pub taken_on : (taken chunk : List ℕ) (a b : ℕ) → (taken ++ take a chunk) ++ take b (take (length chunk - a) (drop a chunk)) ≡ taken ++ take (a + b) chunk
 taken_on taken chunk a b =
     ap (λ xs. (taken ++ take a chunk) ++ take b xs) (rest_is chunk a)
@@ -275,7 +277,7 @@ rest_on taken chunk a =
     ∙ ap (λ xs. taken ++ xs) (take-append-drop a chunk)
 
 -- A value is still pending.
-pub open_from : (o : Option Totals) (totals : Totals) → o ≡ Some totals → (IsWhole o → ⊥) → 0 < totals.pending
+pub open_from : (o : Option ReadTotals) (totals : ReadTotals) → o ≡ Some totals → (IsWhole o → ⊥) → 0 < totals.pending
 open_from o totals e open_is =
-    let f : totals.pending ≡ 0 → ⊥ = subst (λ (x : Option Totals). IsWhole x → ⊥) e open_is in
+    let f : totals.pending ≡ 0 → ⊥ = subst (λ (x : Option ReadTotals). IsWhole x → ⊥) e open_is in
     elim (cases_lt 0 totals.pending) [ inl u ↦ u | inr g ↦ absurd (f (omega arith)) ]

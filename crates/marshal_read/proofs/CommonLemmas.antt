@@ -9,7 +9,7 @@ use Rattle.marshal_spec.specs.format.Raw.{fixed_bytes, variable_bytes, measure_a
 use Rattle.marshal_spec.specs.format.Step.{field_refusal}
 use Rattle.marshal_spec.specs.format.Token.{Token, Encodes, EncodesFrom, EncodesAfter}
 use Rattle.marshal_spec.specs.format.Prefix.{context}
-use Rattle.marshal_read.specs.declared.totals.Totals.{Totals}
+use Rattle.marshal_read.specs.declared.read_totals.ReadTotals.{ReadTotals}
 use Rattle.marshal_read.specs.Totals.{AreTotals, PassesTo, Advances, context_of, moved, IsPlain}
 use Rattle.marshal_read.specs.Build.{Bounded, Fits, absorb_in}
 use Rattle.marshal_read.specs.Reading.{Builds, TakesOne}
@@ -23,7 +23,7 @@ use Rattle.marshal_read.specs.Contents.{EncodesTokenAfter}
 use Rattle.marshal_read.proofs.ChunksLemmas.{token_is_read, length_rest, taken_on}
 
 -- If the totals advance by a token, then there is room for the token's object.
-pub advance_fits : (header : List ℕ) (before : List (List ℕ)) (position next : Totals) (state : Bounded) (n : ℕ) (measure : Option Measure) → Builds header before position state
+pub advance_fits : (header : List ℕ) (before : List (List ℕ)) (position next : ReadTotals) (state : Bounded) (n : ℕ) (measure : Option Measure) → Builds header before position state
     → AreTotals next (moved (context_of position) n measure) → Fits state measure
 advance_fits header before position next state n measure h m =
     let words = words_built header before position state h in
@@ -40,7 +40,7 @@ encoded_after (code ∷ rest) kind t some k s =
     let whole : Encodes t (code ∷ take n rest) = subst (λ (m : ℕ). Encodes t (take m (code ∷ rest))) len s in
     subst (λ r. EncodesFrom r (take n rest) t) k whole.1
 
-module _ (header : List ℕ) (before : List (List ℕ)) (position next : Totals) (state state' : Bounded) (bytes : List ℕ) (valid : AreBytes bytes) (some : 0 < length bytes) (is_open : 0 < position.pending) (h : Builds header before position state) where
+module _ (header : List ℕ) (before : List (List ℕ)) (position next : ReadTotals) (state state' : Bounded) (bytes : List ℕ) (valid : AreBytes bytes) (some : 0 < length bytes) (is_open : 0 < position.pending) (h : Builds header before position state) where
   -- A token of this kind is read.
   pub common_taken : (kind : CodeKind) (n : ℕ) → n ≡ 1 + fixed_bytes kind + variable_bytes kind (drop 1 bytes) → kind_of (get_or bytes 0 0) ≡ Ok kind → PassesTo position (get_or bytes 0 0) kind (drop 1 bytes) next
       → ((t : Token) → EncodesAfter kind (take (fixed_bytes kind + variable_bytes kind (drop 1 bytes)) (drop 1 bytes)) t → state' ≡ absorb_in state t)
@@ -64,7 +64,7 @@ module _ (header : List ℕ) (before : List (List ℕ)) (position next : Totals)
 
 -- ---- one token after another
 
-pub one_taken : (limit : ℕ) (taken bytes : List ℕ) (position next : Totals) (state state' : Bounded) (n : ℕ) → 0 < position.pending → (l : LeadsAs (Some position) limit taken state []) → 0 < n
+pub one_taken : (limit : ℕ) (taken bytes : List ℕ) (position next : ReadTotals) (state state' : Bounded) (n : ℕ) → 0 < position.pending → (l : LeadsAs (Some position) limit taken state []) → 0 < n
     → TakesOne l.0 l.1 bytes position state next state' n → TakesCommon limit taken bytes next state' n
 one_taken limit taken bytes position next state state' n is_open l some takes =
     let m = takes.1 some in
@@ -72,7 +72,7 @@ one_taken limit taken bytes position next state state' n is_open l some takes =
     let e : next.taken - position.taken - 0 ≡ n = omega (arith, m.0) in
     (omega (arith, e, r.1), λ last. (some, m.1 last), subst (λ k. LeadsAs (Some next) limit (taken ++ take k bytes) state' []) e r.2)
 
-pub one_more_taken : (limit : ℕ) (taken bytes : List ℕ) (position next : Totals) (state state' : Bounded) (a n : ℕ) → 0 < position.pending → (t : TakesCommon limit taken bytes position state a) → 0 < n
+pub one_more_taken : (limit : ℕ) (taken bytes : List ℕ) (position next : ReadTotals) (state state' : Bounded) (a n : ℕ) → 0 < position.pending → (t : TakesCommon limit taken bytes position state a) → 0 < n
     → TakesOne t.2.0 t.2.1 (take (length bytes - a) (drop a bytes)) position state next state' n → TakesCommon limit taken bytes next state' (a + n)
 one_more_taken limit taken bytes position next state state' a n is_open t some takes =
     let rest = take (length bytes - a) (drop a bytes) in
@@ -80,7 +80,7 @@ one_more_taken limit taken bytes position next state state' a n is_open t some t
     (omega (arith, r.0, t.0, length_rest bytes a), λ last. (omega (arith, some), (r.1 last).1), subst (λ xs. LeadsAs (Some next) limit xs state' []) (taken_on taken bytes a n) r.2)
 
 -- If tokens are read from a prefix of the bytes, then they are read from all of the bytes.
-pub prefix_taken : (limit : ℕ) (taken bytes : List ℕ) (most : ℕ) (next : Totals) (state : Bounded) (n : ℕ) → TakesCommon limit taken (take most bytes) next state n
+pub prefix_taken : (limit : ℕ) (taken bytes : List ℕ) (most : ℕ) (next : ReadTotals) (state : Bounded) (n : ℕ) → TakesCommon limit taken (take most bytes) next state n
     → TakesCommon limit taken bytes next state n
 prefix_taken limit taken bytes most next state n t =
     let few = length-take most bytes in
@@ -90,7 +90,7 @@ prefix_taken limit taken bytes most next state n t =
 -- ---- the result of a token by its kind and the bytes after its code
 
 -- The totals to which the token leads.
-pub passes_from : (position next : Totals) (code : ℕ) (kind : CodeKind) (rest : List ℕ) (len : ℕ) (measure : Option Measure) → len ≡ fixed_bytes kind + variable_bytes kind rest → len ≤ length rest → IsPlain kind
+pub passes_from : (position next : ReadTotals) (code : ℕ) (kind : CodeKind) (rest : List ℕ) (len : ℕ) (measure : Option Measure) → len ≡ fixed_bytes kind + variable_bytes kind rest → len ≤ length rest → IsPlain kind
     → field_refusal (context_of position) code kind rest ≡ None → measure ≡ measure_after kind rest → Advances position (1 + len) measure next true → PassesTo position code kind rest next
 passes_from position next code kind rest len measure l within plain sound m a =
     let n : 1 + len ≡ 1 + fixed_bytes kind + variable_bytes kind rest = omega arith in

@@ -5,7 +5,7 @@ use Rattle.base_data.specs.declared.model.value.Val.{Val}
 use Rattle.base_data.specs.declared.model.value.Obj.{Obj}
 use Rattle.base_data.specs.declared.model.value.Obj.TheVariants as objs
 use Rattle.marshal_read.specs.Build.{still_open, advanced}
-use Rattle.marshal_read.specs.declared.build.OpenBlock.{OpenBlock}
+use Rattle.marshal_read.specs.declared.build.PendingBlock.{PendingBlock}
 use Rattle.marshal_heap.specs.heap.Heap.{set_field}
 use Rattle.marshal_heap.proofs.heap.FieldLemmas.{length-set_field, set_field-append, set_field_at}
 
@@ -42,14 +42,14 @@ set_fields_at xs tag old b values e l = set_fields_from xs tag [] old b 0 values
 
 -- A block that is not full is open.
 
-pub still_open_below : (b : OpenBlock) (outer : List OpenBlock) → b.next < b.size → still_open b outer ≡ b ∷ outer
+pub still_open_below : (b : PendingBlock) (outer : List PendingBlock) → b.next < b.size → still_open b outer ≡ b ∷ outer
 still_open_below b outer h = rw (ne_eqb b.next b.size (omega arith))
 
-pub still_open_full : (b : OpenBlock) (outer : List OpenBlock) → b.next ≡ b.size → still_open b outer ≡ outer
+pub still_open_full : (b : PendingBlock) (outer : List PendingBlock) → b.next ≡ b.size → still_open b outer ≡ outer
 still_open_full b outer e = rw (eq-eqb b.next b.size e)
 
-pub advanced-zero : (b : OpenBlock) → advanced b 0 ≡ b
+pub advanced-zero : (b : PendingBlock) → advanced b 0 ≡ b
 advanced-zero b = ap (λ n. record b { next = n }) (add-zero b.next)
 
-pub advanced-suc : (b : OpenBlock) (n : ℕ) → advanced (advanced b 1) n ≡ advanced b (suc n)
+pub advanced-suc : (b : PendingBlock) (n : ℕ) → advanced (advanced b 1) n ≡ advanced b (suc n)
 advanced-suc b n = ap (λ k. record b { next = k }) (omega arith)

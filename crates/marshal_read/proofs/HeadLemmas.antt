@@ -6,14 +6,14 @@ use Rattle.std.proofs.lemmas.List.{length-take-le}
 use Rattle.base_data.specs.declared.model.header.Head.{Head}
 use Rattle.base_data.specs.declared.model.refusal.ReadRefusal.{ReadRefusal}
 use Rattle.base_data.specs.declared.model.refusal.ReadRefusal.TheVariants.{BadMagic, Compressed, TooLarge, Overlong}
-use Rattle.base_data.specs.declared.model.refusal.Stated.TheVariants.{Words, Length}
+use Rattle.base_data.specs.declared.model.refusal.StatedNumber.TheVariants.{Words, Length}
 use Rattle.marshal_spec.specs.format.Header.{magic, small_magic, big_magic, compressed_magic, header_length, head_of, small_head, big_head}
 use Rattle.marshal_spec.specs.format.Step.{Step, step, fails_if, or_else, first_refusal, length_limit, magic_refusal, header_steps}
 use Rattle.marshal_spec.specs.format.Prefix.{context, header_refusal}
 use Rattle.marshal_spec.proofs.format.EncodeHeaders.{none_from_magic}
 use Rattle.marshal_spec.proofs.format.TokenStepLemmas.{head_of-take, header_length-from}
 use Rattle.marshal_codec.specs.headers.Parsing.{HasMagic, wanted}
-use Rattle.marshal_read.specs.declared.totals.Totals.{Totals}
+use Rattle.marshal_read.specs.declared.read_totals.ReadTotals.{ReadTotals}
 use Rattle.marshal_read.specs.Totals.{AreTotals}
 use Rattle.marshal_read.specs.declared.unread.Unread.{Unread}
 use Rattle.marshal_read.specs.declared.unread.Unread.TheVariants.{NeedMore, Refused}
@@ -106,7 +106,7 @@ header_states limit bytes h whole =
     ∙ ap (λ (n : ℕ). first_refusal 0 (step 0 (fails_if (ltb limit head.w64) (TooLarge Words head.w64 limit))
     ∷ step 0 (fails_if (ltb length_limit head.length) (TooLarge Length head.length length_limit)) ∷ step 0 (fails_if (eqb head.length 0) (Overlong n 1 0)) ∷ [])) (sym (start_length bytes))
 
-pub header_position : (bytes : List ℕ) (position : Totals) → header_length bytes ≤ length bytes → start_of (head_of bytes) position
+pub header_position : (bytes : List ℕ) (position : ReadTotals) → header_length bytes ≤ length bytes → start_of (head_of bytes) position
     → AreTotals position (context (take (header_length bytes) bytes) [])
 header_position bytes position whole s =
     record {
@@ -124,7 +124,7 @@ pub header_bad_at : (limit : ℕ) (bytes : List ℕ) (m : ℕ) → 4 ≤ length 
 header_bad_at limit bytes m four e s b c =
     header_bad limit bytes four (λ x. s (e ∙ x)) (λ x. b (e ∙ x)) (λ x. c (e ∙ x)) ∙ ap (λ n. Some (BadMagic n)) (sym e)
 
-pub header_begins : (limit : ℕ) (bytes : List ℕ) (head : Head) (result : Result Totals Unread) → HasMagic bytes → header_length bytes ≤ length bytes → head ≡ head_of bytes
+pub header_begins : (limit : ℕ) (bytes : List ℕ) (head : Head) (result : Result ReadTotals Unread) → HasMagic bytes → header_length bytes ≤ length bytes → head ≡ head_of bytes
     → Begins limit head result → JudgedHeader limit bytes result
 header_begins limit bytes head (Err (Refused r)) m whole e h =
     header_states limit bytes m whole ∙ ap (λ (x : Head). first_refusal 0 (stated_steps limit x)) (sym e) ∙ h

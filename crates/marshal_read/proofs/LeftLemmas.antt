@@ -5,8 +5,8 @@ use Rattle.base_data.specs.declared.model.header.Head.{Head}
 use Rattle.base_data.specs.declared.model.code.Measure.{Measure}
 use Rattle.marshal_spec.specs.format.Words.{of_object, fields, words32, words64}
 use Rattle.marshal_spec.specs.format.Prefix.{context}
-use Rattle.marshal_read.specs.declared.totals.Totals.{Totals}
-use Rattle.marshal_read.specs.declared.left.Left.{Left}
+use Rattle.marshal_read.specs.declared.read_totals.ReadTotals.{ReadTotals}
+use Rattle.marshal_read.specs.declared.remaining_room.RemainingRoom.{RemainingRoom}
 use Rattle.marshal_read.specs.Totals.{AreTotals, AreFew, Advances, Ends, context_of}
 use Rattle.marshal_read.specs.Build.{Bounded}
 use Rattle.marshal_read.specs.Chunks.{LeadsAs}
@@ -22,10 +22,10 @@ limit_small : (head : Head) → head.big ≡ false → limit_of head ≡ head.w3
 limit_small head e = ap (λ b. cond b (2 ^ 62) head.w32) e
 
 -- The room decreases by what the totals increase.
-module _ (first position : Totals) (n k : ℕ) (left left' : Left) (measure : Option Measure) (leaves : Leaves first n position left) (is_open : 0 < left.pending) (some : 0 < k) (spends : Spends left k measure left')
+module _ (first position : ReadTotals) (n k : ℕ) (left left' : RemainingRoom) (measure : Option Measure) (leaves : Leaves first n position left) (is_open : 0 < left.pending) (some : 0 < k) (spends : Spends left k measure left')
     (spent : left'.pending ≡ 0 → IsSpent first.head (position.objects + of_object (λ _. 1) measure) left')
     (few32 : AreFew words32 measure k) (few64 : AreFew words64 measure k) where
-  next_position : Totals
+  next_position : ReadTotals
   next_position = record {
     head = position.head;
     start = position.start;
@@ -56,7 +56,7 @@ module _ (first position : Totals) (n k : ℕ) (left left' : Left) (measure : Op
         count = λ some. objects_is ∙ s.count (omega (arith, objects_is, some));
       }
 
-  pub goes_on : (next : Totals) × Leaves first (n + k) next left' × Advances position k measure next true
+  pub goes_on : (next : ReadTotals) × Leaves first (n + k) next left' × Advances position k measure next true
   unfolding next_position
   goes_on = (
     next_position,
@@ -76,7 +76,7 @@ module _ (first position : Totals) (n k : ℕ) (left left' : Left) (measure : Op
   )
 
 -- If data of the value remain, then a value is pending.
-pub still_open : (first position : Totals) (n m : ℕ) (left : Left) → Leaves first n position left → (position.pending ≡ 0 → position.taken ≡ position.head.length)
+pub still_open : (first position : ReadTotals) (n m : ℕ) (left : RemainingRoom) → Leaves first n position left → (position.pending ≡ 0 → position.taken ≡ position.head.length)
     → first.taken + m ≤ first.head.length → n < m → 0 < left.pending
 still_open first position n m left leaves ends within lt =
     elim (cases_lt 0 left.pending) [
@@ -85,7 +85,7 @@ still_open first position n m left leaves ends within lt =
     ]
 
 -- Totals with the same numbers are interchangeable.
-pub same_position : (limit : ℕ) (taken : List ℕ) (position position' : Totals) (state : Bounded) → AreTotals position' (context_of position) → LeadsAs (Some position) limit taken state [] → LeadsAs (Some position') limit taken state []
+pub same_position : (limit : ℕ) (taken : List ℕ) (position position' : ReadTotals) (state : Bounded) → AreTotals position' (context_of position) → LeadsAs (Some position) limit taken state [] → LeadsAs (Some position') limit taken state []
 same_position limit taken position position' state same l =
     let h = l.2 in
     let sums : AreTotals position' (context l.0 l.1) = subst (AreTotals position') (sym (totals_are position (context l.0 l.1) h.builds.sums)) same in (

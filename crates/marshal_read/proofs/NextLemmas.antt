@@ -17,7 +17,7 @@ use Rattle.marshal_spec.proofs.format.ReadingLemmas.{concat-push}
 use Rattle.marshal_spec.proofs.format.EncodeTokens.{EncodedThere-passes, sums_of-push}
 use Rattle.marshal_spec.proofs.format.EncodeValues.{raw_measures-encoded, IsToken-encoded}
 use Rattle.marshal_spec.proofs.format.StandLemmas.{AreBytes-take}
-use Rattle.marshal_read.specs.declared.totals.Totals.{Totals}
+use Rattle.marshal_read.specs.declared.read_totals.ReadTotals.{ReadTotals}
 use Rattle.marshal_read.specs.declared.unread.Unread.{Unread}
 use Rattle.marshal_read.specs.declared.unread.Unread.TheVariants.{NeedMore, Refused}
 use Rattle.marshal_read.specs.Totals.{AreTotals, IsNext, after}
@@ -43,11 +43,11 @@ context_after header before rest is_open h =
     λ i. record (context header before) { taken = len i; sums = all i }
 
 -- The bytes of the next token.
-pub next_taken : (c : Context) (rest : List ℕ) (position next : Totals) → AreTotals position c → AreTotals next (after c rest) → next.taken ≡ position.taken + raw_length rest
+pub next_taken : (c : Context) (rest : List ℕ) (position next : ReadTotals) → AreTotals position c → AreTotals next (after c rest) → next.taken ≡ position.taken + raw_length rest
 next_taken c rest position next s t = let e = s.taken in let f = t.taken in omega arith
 
 -- The next token has few fields.
-pub next_fields : (c : Context) (rest : List ℕ) (position next : Totals) → AreTotals position c → AreTotals next (after c rest) → 0 < position.pending → next.pending < 2 ^ 53
+pub next_fields : (c : Context) (rest : List ℕ) (position next : ReadTotals) → AreTotals position c → AreTotals next (after c rest) → 0 < position.pending → next.pending < 2 ^ 53
     → of_object fields (raw_measure rest) < 2 ^ 53
 next_fields c rest position next s t some few =
     let e = s.pending in
@@ -57,19 +57,19 @@ next_fields c rest position next s t some few =
 -- ---- the value of the next token
 
 -- The number of objects is the number that the tokens made.
-pub objects_built : (header : List ℕ) (before : List (List ℕ)) (position : Totals) (state : Bounded) → Builds header before position state
+pub objects_built : (header : List ℕ) (before : List (List ℕ)) (position : ReadTotals) (state : Bounded) → Builds header before position state
     → length state.built.objects ≡ objects (map raw_measure before)
 objects_built header before position state h =
     ap (λ (b : Building). length b.objects) h.builds ∙ length-from_start h.tokens h.are_tokens ∙ ap objects (sym (raw_measures-encoded h.tokens before h.encodes))
 
 -- The words of the objects are the words of the tokens.
-pub words_built : (header : List ℕ) (before : List (List ℕ)) (position : Totals) (state : Bounded) → Builds header before position state
+pub words_built : (header : List ℕ) (before : List (List ℕ)) (position : ReadTotals) (state : Bounded) → Builds header before position state
     → heap_words state.built.objects ≡ all_words64 (map raw_measure before)
 words_built header before position state h =
     ap (λ (b : Building). heap_words b.objects) h.builds ∙ heap_words-from_start h.tokens h.are_tokens ∙ ap all_words64 (sym (raw_measures-encoded h.tokens before h.encodes))
 
 -- There is room for the object of the next token.
-pub next_fits : (header : List ℕ) (before : List (List ℕ)) (position next : Totals) (state : Bounded) (rest : List ℕ) → Builds header before position state
+pub next_fits : (header : List ℕ) (before : List (List ℕ)) (position next : ReadTotals) (state : Bounded) (rest : List ℕ) → Builds header before position state
     → AreTotals next (after (context header before) rest) → next.w64 ≤ next.head.w64 → Fits state (raw_measure rest)
 next_fits header before position next state rest h sums within =
     let words = words_built header before position state h in
@@ -78,7 +78,7 @@ next_fits header before position next state rest h sums within =
     omega (arith, sums.w64)
 
 -- The bytes of the next token encode a token that refers back.
-pub next_encoded : (header : List ℕ) (before : List (List ℕ)) (position : Totals) (state : Bounded) (rest : List ℕ) → AreBytes rest → Builds header before position state
+pub next_encoded : (header : List ℕ) (before : List (List ℕ)) (position : ReadTotals) (state : Bounded) (rest : List ℕ) → AreBytes rest → Builds header before position state
     → first_refusal (length rest) (token_steps (context header before) rest) ≡ None → raw_length rest ≤ length rest
     → (t : Token) × Encodes t (take (raw_length rest) rest) × RefersBack t (length state.built.objects)
 next_encoded header before position state rest bytes h none whole =
@@ -87,7 +87,7 @@ next_encoded header before position state rest bytes h none whole =
     (s.token, s.encodes, subst (RefersBack s.token) (sym (objects_built header before position state h)) s.refers_back)
 
 -- The next token leads to the next state.
-pub next_leads : (header : List ℕ) (before : List (List ℕ)) (position next : Totals) (state state' : Bounded) (rest : List ℕ) → AreBytes rest → 0 < position.pending → Builds header before position state
+pub next_leads : (header : List ℕ) (before : List (List ℕ)) (position next : ReadTotals) (state state' : Bounded) (rest : List ℕ) → AreBytes rest → 0 < position.pending → Builds header before position state
     → first_refusal (length rest) (token_steps (context header before) rest) ≡ None → raw_length rest ≤ length rest → AreTotals next (after (context header before) rest)
     → ((t : Token) → Encodes t (take (raw_length rest) rest) → state' ≡ absorb_in state t)
     → Builds header (with_next before rest) next state'
@@ -110,7 +110,7 @@ unfolding token_steps
 nothing_left c [] e = (refl, omega arith)
 nothing_left c (b ∷ rest) e = absurd (omega arith)
 
-pub judged_next : (header : List ℕ) (before : List (List ℕ)) (rest : List ℕ) (state : Bounded) (x : Result Totals Unread) → IsErr x
+pub judged_next : (header : List ℕ) (before : List (List ℕ)) (rest : List ℕ) (state : Bounded) (x : Result ReadTotals Unread) → IsErr x
     → IsNext (context header before) rest x → NextOf header before rest state x
 judged_next header before rest state (Ok position) e j = cc
 judged_next header before rest state (Err NeedMore) e j = j

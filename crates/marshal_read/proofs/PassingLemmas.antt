@@ -10,7 +10,7 @@ use Rattle.marshal_spec.specs.format.Code.{kind_of, custom_of}
 use Rattle.marshal_spec.specs.format.Step.{Context, first_refusal}
 use Rattle.marshal_spec.proofs.format.EncodeFacts.{VariableFits, TokenFacts, token_length, fields_from_none, none_from_facts}
 use Rattle.marshal_spec.proofs.format.TokenStepLemmas.{token_steps-ok}
-use Rattle.marshal_read.specs.declared.totals.Totals.{Totals}
+use Rattle.marshal_read.specs.declared.read_totals.ReadTotals.{ReadTotals}
 use Rattle.marshal_read.specs.Totals.{AreTotals, IsNext, PassesTo, context_of, IsPlain}
 use Rattle.marshal_read.proofs.StepLemmas.{bytes_length, bytes_after}
 
@@ -24,7 +24,7 @@ none_or : (m n : ℕ) → (0 < m → m ≡ n) → (m ≡ 0) ⊎ (m ≡ n)
 none_or m n h = elim (cases_lt 0 m) [ inl some ↦ inr (h some) | inr none ↦ inl (omega arith) ]
 
 -- The conditions of the token's steps hold.
-facts_from_position : (position next : Totals) (code : ℕ) (kind : CodeKind) (rest : List ℕ) → PassesTo position code kind rest next → TokenFacts (context_of position) kind rest
+facts_from_position : (position next : ReadTotals) (code : ℕ) (kind : CodeKind) (rest : List ℕ) → PassesTo position code kind rest next → TokenFacts (context_of position) kind rest
 facts_from_position position next code kind rest p =
     let c : Context = context_of position in
     let length_is = ap (λ (h : Head). h.length) p.next_is.head in
@@ -50,7 +50,7 @@ facts_from_position position next code kind rest p =
           };
     }
 
-pub passes_next : (position next : Totals) (bytes : List ℕ) (kind : CodeKind) → 0 < length bytes → kind_of (get_or bytes 0 0) ≡ Ok kind
+pub passes_next : (position next : ReadTotals) (bytes : List ℕ) (kind : CodeKind) → 0 < length bytes → kind_of (get_or bytes 0 0) ≡ Ok kind
     → PassesTo position (get_or bytes 0 0) kind (drop 1 bytes) next → IsNext (context_of position) bytes (Ok next)
 passes_next position next [] kind some k p = absurd (omega arith)
 passes_next position next (code ∷ rest) kind some k p =

@@ -13,7 +13,7 @@ use Rattle.marshal_spec.proofs.format.EncodeHeaders.{HeaderFacts-passes}
 use Rattle.marshal_spec.proofs.format.EncodeTrees.{EncodedBy-passes}
 use Rattle.marshal_spec.proofs.format.EncodeValues.{tokens-same}
 use Rattle.marshal_heap.specs.heap.Heap.{heap_words}
-use Rattle.marshal_read.specs.declared.totals.Totals.{Totals}
+use Rattle.marshal_read.specs.declared.read_totals.ReadTotals.{ReadTotals}
 use Rattle.marshal_read.specs.declared.chunks.Chunks.{Chunks}
 use Rattle.marshal_read.specs.declared.reader.Reader.{Reader}
 use Rattle.marshal_read.specs.declared.value.Value.{Value}
@@ -34,7 +34,7 @@ pub record DoneTree (limit : ℕ) (taken : List ℕ) (state : Bounded) : Type 0 
   pub encoded : EncodedUnder limit taken tree
   pub built : state.built ≡ building (objects_of tree 0) [] (Some (root tree 0))
 
-done_tree : (limit : ℕ) (taken header : List ℕ) (before : List (List ℕ)) (totals : Totals) (state : Bounded) (part : List ℕ) → AreBytes taken
+done_tree : (limit : ℕ) (taken header : List ℕ) (before : List (List ℕ)) (totals : ReadTotals) (state : Bounded) (part : List ℕ) → AreBytes taken
     → LeadsTokens limit taken header before totals state part → totals.pending ≡ 0 → DoneTree limit taken state
 done_tree limit taken header before totals state part a h e =
     let all : concat before ++ part ≡ concat before = ap (λ xs. concat before ++ xs) (h.ends e) ∙ append-nil (concat before) in
@@ -47,7 +47,7 @@ done_tree limit taken header before totals state part a h e =
       built = h.builds.builds ∙ ap (absorb_all start) (sym same) ∙ absorb_start v.tree v.encoded.encodes.is_tree;
     }
 
-as_done : (o : Option Totals) (limit : ℕ) (taken : List ℕ) (state : Bounded) (part : List ℕ) → AreBytes taken → LeadsAs o limit taken state part → IsWhole o → DoneTree limit taken state
+as_done : (o : Option ReadTotals) (limit : ℕ) (taken : List ℕ) (state : Bounded) (part : List ℕ) → AreBytes taken → LeadsAs o limit taken state part → IsWhole o → DoneTree limit taken state
 as_done None limit taken state part a h w = absurd w
 as_done (Some totals) limit taken state part a h w = done_tree limit taken h.0 h.1 totals state part a h.2 w
 
@@ -59,7 +59,7 @@ root_is_there limit taken state d = subst (λ (r : Option Val). IsSome r) (sym (
 
 -- ---- a prefix
 
-as_prefix : (o : Option Totals) (limit : ℕ) (taken : List ℕ) (state : Bounded) (part : List ℕ) → LeadsAs o limit taken state part → (IsWhole o → ⊥) → IsPrefix limit taken
+as_prefix : (o : Option ReadTotals) (limit : ℕ) (taken : List ℕ) (state : Bounded) (part : List ℕ) → LeadsAs o limit taken state part → (IsWhole o → ⊥) → IsPrefix limit taken
 as_prefix None limit taken state part h n = inl (subst (InHeader limit) (sym h.0) h.1)
 as_prefix (Some totals) limit taken state part h n =
     let some = open_from (Some totals) totals refl n in
@@ -82,7 +82,7 @@ chunks_prefix limit taken chunks h n = as_prefix chunks.reading.totals limit tak
 
 -- ---- the bounds of the state
 
-pub as_within : (o : Option Totals) (limit : ℕ) (taken : List ℕ) (state : Bounded) (part : List ℕ) → LeadsAs o limit taken state part → IsWithin limit o state
+pub as_within : (o : Option ReadTotals) (limit : ℕ) (taken : List ℕ) (state : Bounded) (part : List ℕ) → LeadsAs o limit taken state part → IsWithin limit o state
 as_within None limit taken state part h = ap (λ (b : Building). heap_words b.objects) h.2
 as_within (Some totals) limit taken state part h =
     let words = words_built h.0 h.1 totals state h.2.builds in

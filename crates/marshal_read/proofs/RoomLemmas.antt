@@ -25,7 +25,7 @@ use Rattle.marshal_heap.specs.heap.Heap.{object_at, with_field, set_field, objec
 use Rattle.marshal_heap.proofs.heap.ReadLemmas.{object_words-with_field}
 use Rattle.marshal_heap.proofs.heap.WriteLemmas.{heap_words-append}
 use Rattle.marshal_read.specs.Build.{Building, Bounded, building, in_room, Fits, start, fill, blank, blank_fields, absorb, absorb_all, AreOpen, WellOpen}
-use Rattle.marshal_read.specs.declared.build.OpenBlock.{OpenBlock}
+use Rattle.marshal_read.specs.declared.build.PendingBlock.{PendingBlock}
 use Rattle.marshal_read.proofs.BuildLemmas.{AreOpen-append, WellOpen-absorb, WellOpen-start}
 use Rattle.marshal_read.proofs.TreeLemmas.{absorb_start}
 
@@ -46,7 +46,7 @@ pub heap_words-push : (all : List Obj) (o : Obj) → heap_words (all ++ o ∷ []
 heap_words-push all o = heap_words-append all (o ∷ []) ∙ ap (λ n. heap_words all + n) (heap_words-one o)
 
 -- If an object fits, then there is room for it.
-pub within_added : (all new : List Obj) (object : Obj) (bs : List OpenBlock) (r : Option Val) (room : ℕ) (s : Bounded) → in_room (building all bs r) room ≡ s → new ≡ all ++ object ∷ []
+pub within_added : (all new : List Obj) (object : Obj) (bs : List PendingBlock) (r : Option Val) (room : ℕ) (s : Bounded) → in_room (building all bs r) room ≡ s → new ≡ all ++ object ∷ []
     → heap_words s.built.objects + object_words object ≤ s.room → heap_words new ≤ room
 within_added all new object bs r room s v e h =
     let fits : heap_words all + object_words object ≤ room = subst (λ (x : Bounded). heap_words x.built.objects + object_words object ≤ x.room) (sym v) h in
@@ -54,13 +54,13 @@ within_added all new object bs r room s v e h =
     subst (λ n. n ≤ room) (sym words) fits
 
 -- A block of new fields.
-pub within_fields : (all new : List Obj) (tag size : ℕ) (bs : List OpenBlock) (r : Option Val) (room : ℕ) (s : Bounded) → in_room (building all bs r) room ≡ s
+pub within_fields : (all new : List Obj) (tag size : ℕ) (bs : List PendingBlock) (r : Option Val) (room : ℕ) (s : Bounded) → in_room (building all bs r) room ≡ s
     → new ≡ all ++ objs.Block tag (replicate size (vals.Int (pos 0))) ∷ [] → Fits s (Some (measures.Block size)) → heap_words new ≤ room
 within_fields all new tag size bs r room s v e h =
     within_added all new (objs.Block tag (replicate size (vals.Int (pos 0)))) bs r room s v e
     (subst (λ n. heap_words s.built.objects + (1 + n) ≤ s.room) (sym (length-replicate size (vals.Int (pos 0)))) h)
 
-pub within_block : (all new : List Obj) (tag size : ℕ) (bs : List OpenBlock) (r : Option Val) (room : ℕ) (s : Bounded) → in_room (building all bs r) room ≡ s
+pub within_block : (all new : List Obj) (tag size : ℕ) (bs : List PendingBlock) (r : Option Val) (room : ℕ) (s : Bounded) → in_room (building all bs r) room ≡ s
     → new ≡ all ++ objs.Block tag (replicate size (vals.Int (pos 0))) ∷ [] → 0 < size → Fits s (block_measure size) → heap_words new ≤ room
 within_block all new tag zero bs r room s v e some h = absurd (omega arith)
 within_block all new tag (suc n) bs r room s v e some h = within_fields all new tag (suc n) bs r room s v e h
@@ -88,16 +88,16 @@ heap_words-blank (leaf (objs.Native z)) h = heap_words-one (objs.Native z)
 
 -- ---- tokens
 
-heap_words-fill : (v : Val) (all : List Obj) (bs : List OpenBlock) (r : Option Val) → AreOpen all bs → heap_words (fill v all bs r).objects ≡ heap_words all
+heap_words-fill : (v : Val) (all : List Obj) (bs : List PendingBlock) (r : Option Val) → AreOpen all bs → heap_words (fill v all bs r).objects ≡ heap_words all
 heap_words-fill v all [] r h = refl
 heap_words-fill v all (b ∷ outer) r h = heap_words-set_field all b.object b.next v h.0.object
 
 -- Storing a value needs no words.
-pub within_filled : (v : Val) (all : List Obj) (bs same : List OpenBlock) (r : Option Val) (room : ℕ) (new : Building) → AreOpen all bs → same ≡ bs → new ≡ fill v all same r
+pub within_filled : (v : Val) (all : List Obj) (bs same : List PendingBlock) (r : Option Val) (room : ℕ) (new : Building) → AreOpen all bs → same ≡ bs → new ≡ fill v all same r
     → heap_words all ≤ room → heap_words new.objects ≤ room
 within_filled v all bs same r room new h s e w =
     subst (λ (b : Building). heap_words b.objects ≤ room) (sym e)
-    (subst (λ (blocks : List OpenBlock). heap_words (fill v all blocks r).objects ≤ room) (sym s) (subst (λ n. n ≤ room) (sym (heap_words-fill v all bs r h)) w))
+    (subst (λ (blocks : List PendingBlock). heap_words (fill v all blocks r).objects ≤ room) (sym s) (subst (λ n. n ≤ room) (sym (heap_words-fill v all bs r h)) w))
 
 pub heap_words-absorb : (state : Building) (t : Token) → IsToken t → WellOpen state
     → heap_words (absorb state t).objects ≡ heap_words state.objects + of_object words64 (measure_of t)

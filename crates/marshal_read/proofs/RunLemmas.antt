@@ -2,9 +2,9 @@
 use Rattle.std.proofs.Common.{ℕ, zero, suc, ◌≡◌, ◌+◌, ◌*◌, ◌-◌, ◌^◌, ◌<◌, ◌≤◌, List, [], Option, Some, true, arith, refl, ap}
 use Rattle.marshal_spec.specs.format.Raw.{block_measure}
 use Rattle.marshal_spec.specs.format.Words.{of_object, fields, words32, words64}
-use Rattle.marshal_read.specs.declared.totals.Totals.{Totals}
-use Rattle.marshal_read.specs.declared.left.Left.{Left}
-use Rattle.marshal_read.specs.declared.left.Run.{Run}
+use Rattle.marshal_read.specs.declared.read_totals.ReadTotals.{ReadTotals}
+use Rattle.marshal_read.specs.declared.remaining_room.RemainingRoom.{RemainingRoom}
+use Rattle.marshal_read.specs.declared.remaining_room.Run.{Run}
 use Rattle.base_data.specs.declared.model.code.Measure.{Measure}
 use Rattle.marshal_read.specs.Totals.{AreFew, Advances}
 use Rattle.marshal_read.specs.Build.{Bounded}
@@ -22,10 +22,10 @@ few_fields (suc n) h = omega arith
 
 -- ---- a token of a run
 
-module _ (first position : Totals) (n k : ℕ) (from left : Left) (old new : Run) (measure : Option Measure) (leaves : Leaves first n position left) (runs : Runs from left old) (enough : HasEnough left)
+module _ (first position : ReadTotals) (n k : ℕ) (from left : RemainingRoom) (old new : Run) (measure : Option Measure) (leaves : Leaves first n position left) (runs : Runs from left old) (enough : HasEnough left)
     (is_open : 0 < old.pending) (some : 0 < k) (short : k ≤ 32) (few : of_object fields measure < 8) (goes : Goes old measure new)
     (few32 : AreFew words32 measure k) (few64 : AreFew words64 measure k) where
-  spent : Left
+  spent : RemainingRoom
   spent = record {
     slack = left.slack - (k - 1 + of_object fields measure);
     pending = left.pending - 1 + of_object fields measure;
@@ -43,7 +43,7 @@ module _ (first position : Totals) (n k : ℕ) (from left : Left) (old new : Run
     w64 = omega (arith, enough.2, few64);
   }
 
-  pub run_goes_on : (next : Totals) × (left' : Left) × Leaves first (n + k) next left' × Runs from left' new × Keeps left k left' × Advances position k measure next true
+  pub run_goes_on : (next : ReadTotals) × (left' : RemainingRoom) × Leaves first (n + k) next left' × Runs from left' new × Keeps left k left' × Advances position k measure next true
   unfolding spent
   run_goes_on =
       let m = goes_on first position n k left spent measure leaves (omega (arith, runs.pending)) some spends (λ last. absurd (omega (arith, runs.pending, goes.pending, goes.some, last))) few32 few64 in (
@@ -61,22 +61,22 @@ module _ (first position : Totals) (n k : ℕ) (from left : Left) (old new : Run
       )
 
 -- The words of a token do not overflow the excess of the run.
-pub extra_room : (from left : Left) (run : Run) (words : ℕ) → Runs from left run → words ≤ left.w32 → run.extra + words < 2 ^ 64
+pub extra_room : (from left : RemainingRoom) (run : Run) (words : ℕ) → Runs from left run → words ≤ left.w32 → run.extra + words < 2 ^ 64
 extra_room from left run words h le = omega (arith, h.extra, h.fewer, h.short)
 
 -- Tokens of `k` bytes are read in a run, and the room suffices for all tokens that begin in the
 -- first `most` bytes.
-abbrev pub IsUnderway : Totals → ℕ → List ℕ → List ℕ → Left → Run → Bounded → ℕ → ℕ → Type 0
+abbrev pub IsUnderway : ReadTotals → ℕ → List ℕ → List ℕ → RemainingRoom → Run → Bounded → ℕ → ℕ → Type 0
 IsUnderway first limit taken bytes from run state k most =
-    (next : Totals) × (left : Left) × Leaves first (0 + k) next left × Runs from left run × AtLeast (16 * most + 512 - 16 * k) left × TakesCommon limit taken bytes next state k
+    (next : ReadTotals) × (left : RemainingRoom) × Leaves first (0 + k) next left × Runs from left run × AtLeast (16 * most + 512 - 16 * k) left × TakesCommon limit taken bytes next state k
 
 -- ---- the beginning and the end of a run
 
-pub run_begins : (from : Left) → from.w32 < 2 ^ 64 → Runs from from (record { pending = from.pending; extra = 0 })
+pub run_begins : (from : RemainingRoom) → from.w32 < 2 ^ 64 → Runs from from (record { pending = from.pending; extra = 0 })
 run_begins from short = record { pending = refl; short = short; fewer = omega arith; extra = omega arith }
 
 -- The room that the run consumed.
-pub run_ends : (first next : Totals) (n limit : ℕ) (taken before : List ℕ) (from left : Left) (run : Run) (state state' : Bounded) → LeadsAs (Some first) limit before state [] → LeadsAs (Some next) limit taken state' []
+pub run_ends : (first next : ReadTotals) (n limit : ℕ) (taken before : List ℕ) (from left : RemainingRoom) (run : Run) (state state' : Bounded) → LeadsAs (Some first) limit before state [] → LeadsAs (Some next) limit taken state' []
     → Leaves first 0 first from → Leaves first (0 + n) next left → Runs from left run
     → (heap_words state.built.objects ≤ heap_words state'.built.objects)
     × IsAfter from left run n (heap_words state'.built.objects - heap_words state.built.objects)

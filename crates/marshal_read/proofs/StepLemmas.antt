@@ -15,7 +15,7 @@ use Rattle.marshal_spec.proofs.format.RawLemmas.{raw_length-ok, raw_measure-ok}
 use Rattle.marshal_spec.proofs.format.TokenStepLemmas.{token_steps-ok, token_steps-err, token_steps-within}
 use Rattle.marshal_read.specs.declared.unread.Unread.{Unread}
 use Rattle.marshal_read.specs.declared.unread.Unread.TheVariants.{NeedMore, Refused}
-use Rattle.marshal_read.specs.declared.totals.Totals.{Totals}
+use Rattle.marshal_read.specs.declared.read_totals.ReadTotals.{ReadTotals}
 use Rattle.marshal_read.specs.Totals.{IsNext, after, after_kind}
 use Rattle.marshal_read.specs.Progress.{Progress, passed, waiting, failed, and_then, once, progress, answered}
 use Rattle.marshal_read.proofs.TotalsLemmas.{progress-append}
@@ -71,7 +71,7 @@ steps_are c code kind rest e =
     ∙ ap (λ m. progress m (token_steps c (code ∷ rest))) (add-one (length rest))
 
 -- Case: an error.
-pub judged_stop : (c : Context) (bytes : List ℕ) (x : Result Totals Unread) → answered x ≡ progress (length bytes) (token_steps c bytes) → IsErr x → IsNext c bytes x
+pub judged_stop : (c : Context) (bytes : List ℕ) (x : Result ReadTotals Unread) → answered x ≡ progress (length bytes) (token_steps c bytes) → IsErr x → IsNext c bytes x
 judged_stop c bytes (Ok next) e h = cc
 judged_stop c bytes (Err NeedMore) e h = (
   subst (λ p. Reports p (first_refusal (length bytes) (token_steps c bytes))) (sym e) (progress-reports (length bytes) (token_steps c bytes)),

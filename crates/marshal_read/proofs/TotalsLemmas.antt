@@ -2,7 +2,7 @@
 use Rattle.std.proofs.Common.{ℕ, ◌≡◌, List, [], ◌∷◌, ◌++◌, Bool, true, false, Option, Some, None, Result, Ok, Err, ap, subst, sym, ◌∙◌, refl, ltb}
 use Rattle.base_data.specs.declared.model.refusal.ReadRefusal.{ReadRefusal}
 use Rattle.marshal_spec.specs.format.Step.{Context, Step, or_else}
-use Rattle.marshal_read.specs.declared.totals.Totals.{Totals}
+use Rattle.marshal_read.specs.declared.read_totals.ReadTotals.{ReadTotals}
 use Rattle.marshal_read.specs.Totals.{AreTotals, IsNext, context_of, sums}
 use Rattle.marshal_read.specs.declared.unread.Unread.{Unread}
 use Rattle.marshal_read.specs.declared.unread.Unread.TheVariants.{NeedMore, Refused}
@@ -39,7 +39,7 @@ progress-append n (x ∷ xs) ys = ap (and_then (once (ltb n x.ends) x.refusal)) 
     regroup (failed s) q r = refl
 
 -- If the totals have the sums of a context, then they describe that context.
-pub totals_are : (position : Totals) (c : Context) → AreTotals position c → c ≡ context_of position
+pub totals_are : (position : ReadTotals) (c : Context) → AreTotals position c → c ≡ context_of position
 totals_are position c h = λ i. record {
   head = h.head i;
   start = h.start i;
@@ -48,7 +48,7 @@ totals_are position c h = λ i. record {
 }
 
 -- The next token at the totals is the next token in the context.
-pub next_there : (position : Totals) (c : Context) (bytes : List ℕ) (x : Result Totals Unread) → AreTotals position c → IsNext (context_of position) bytes x → IsNext c bytes x
+pub next_there : (position : ReadTotals) (c : Context) (bytes : List ℕ) (x : Result ReadTotals Unread) → AreTotals position c → IsNext (context_of position) bytes x → IsNext c bytes x
 next_there position c bytes x h n = subst (λ (y : Context). IsNext y bytes x) (sym (totals_are position c h)) n
 
 -- If the result is an error, then not all steps passed.

@@ -9,7 +9,7 @@ use Rattle.base_data.specs.declared.model.value.Obj.TheVariants as objs
 use Rattle.marshal_spec.specs.format.Token.{Token, integer, atom, shared, block, leaf}
 use Rattle.marshal_spec.specs.format.Tree.{Tree, Forest, node, none, more, trees_in, IsTree, AreTrees, tokens, forest_tokens, made, value_of, root, roots, objects_of, all_objects}
 use Rattle.marshal_read.specs.Build.{building, start, still_open, advanced, blank, opened, absorb, absorb_all}
-use Rattle.marshal_read.specs.declared.build.OpenBlock.{OpenBlock}
+use Rattle.marshal_read.specs.declared.build.PendingBlock.{PendingBlock}
 use Rattle.marshal_heap.specs.heap.Heap.{set_field, word_of}
 use Rattle.marshal_heap.proofs.heap.FieldLemmas.{length-set_field, set_field-append}
 use Rattle.marshal_spec.proofs.format.Counts.{leaf_fields, length-objects_of, length-roots}
@@ -18,7 +18,7 @@ use Rattle.marshal_read.proofs.FieldLemmas.{set_fields, set_fields-append, set_f
 -- The tokens of the trees set the next fields of an open block, and their objects are appended.
 abbrev pub FillsFields : Forest → Type 0
 FillsFields f =
-    (all : List Obj) (b : OpenBlock) (outer : List OpenBlock) (r : Option Val)
+    (all : List Obj) (b : PendingBlock) (outer : List PendingBlock) (r : Option Val)
     → b.object < length all → b.next + trees_in f ≤ b.size
     → absorb_all (building all (still_open b outer) r) (forest_tokens f)
     ≡ building (set_fields all b.object b.next (roots f (length all)) ++ all_objects f (length all)) (still_open (advanced b (trees_in f)) outer) r
@@ -26,7 +26,7 @@ FillsFields f =
 -- The trees after a token complete the object of the token.
 abbrev CompletesObject : Token → Forest → Type 0
 CompletesObject t f =
-    (xs : List Obj) (c at : ℕ) (outer : List OpenBlock) (r : Option Val) → length xs ≡ c
+    (xs : List Obj) (c at : ℕ) (outer : List PendingBlock) (r : Option Val) → length xs ≡ c
     → absorb_all (building (xs ++ blank t) (opened t c at ++ outer) r) (forest_tokens f) ≡ building (xs ++ objects_of (node t f) c) outer r
 
 -- A token without fields is followed by no trees.
@@ -36,7 +36,7 @@ no_trees t (more tree f) e h = absurd (omega arith)
 
 completes_block : (tag size : ℕ) (f : Forest) → 0 < size → trees_in f ≡ size → FillsFields f → CompletesObject (block tag size) f
 completes_block tag size f h e fills xs c at outer r l =
-    let b : OpenBlock = record { object = c; next = 0; size = size; at = at } in
+    let b : PendingBlock = record { object = c; next = 0; size = size; at = at } in
     let old : List Val = replicate size (vals.Int (pos 0)) in
     let all : List Obj = xs ++ objs.Block tag old ∷ [] in
     let n : length all ≡ c + 1 = length_push xs (objs.Block tag old) ∙ ap (λ n. n + 1) l in
@@ -59,7 +59,7 @@ completes (leaf o) f h fills = no_trees (leaf o) f (h.1 ∙ leaf_fields o) (λ x
 
 -- The tokens of a tree set the next field of an open block.
 mutual
-  pub absorb_tree : (tree : Tree) (all : List Obj) (b : OpenBlock) (outer : List OpenBlock) (r : Option Val)
+  pub absorb_tree : (tree : Tree) (all : List Obj) (b : PendingBlock) (outer : List PendingBlock) (r : Option Val)
       → IsTree tree → b.object < length all
       → absorb_all (building all (b ∷ outer) r) (tokens tree)
       ≡ building (set_field all b.object b.next (root tree (length all)) ++ objects_of tree (length all)) (still_open (advanced b 1) outer) r

@@ -12,18 +12,18 @@ use Rattle.marshal_spec.specs.format.Words.{of_object, fields, words64}
 use Rattle.marshal_spec.specs.format.Token.{Token, integer, atom, shared, block, leaf, measure_of}
 use Rattle.marshal_spec.specs.format.Tree.{value_of, object_of}
 use Rattle.marshal_heap.specs.heap.Heap.{set_field, heap_words, word_of}
-use Rattle.marshal_read.specs.declared.build.OpenBlock.{OpenBlock}
+use Rattle.marshal_read.specs.declared.build.PendingBlock.{PendingBlock}
 
 -- ---- the graph under construction
 
 -- The objects so far, the open blocks (innermost first), and the root once it is read.
 pub record Building : Type 0 where
   pub objects : List Obj
-  pub open_blocks : List OpenBlock
+  pub open_blocks : List PendingBlock
   pub root : Option Val
 
 -- The record of the three.
-abbrev pub building : List Obj → List OpenBlock → Option Val → Building
+abbrev pub building : List Obj → List PendingBlock → Option Val → Building
 building all open_blocks root = record { objects = all; open_blocks = open_blocks; root = root }
 
 -- Nothing is built yet.
@@ -33,20 +33,20 @@ start = building [] [] None
 -- ---- a value is stored
 
 -- A full block is no longer open.
-abbrev pub still_open : OpenBlock → List OpenBlock → List OpenBlock
+abbrev pub still_open : PendingBlock → List PendingBlock → List PendingBlock
 still_open b outer = if b.next == b.size then outer else b ∷ outer
 
 -- The open blocks, innermost first: `inner`, unless it is full, and then the blocks of `outer`, the
 -- last one first.
-abbrev pub stack : OpenBlock → List OpenBlock → List OpenBlock
+abbrev pub stack : PendingBlock → List PendingBlock → List PendingBlock
 stack inner outer = still_open inner (reverse outer)
 
 -- `n` more fields are read.
-abbrev pub advanced : OpenBlock → ℕ → OpenBlock
+abbrev pub advanced : PendingBlock → ℕ → PendingBlock
 advanced b n = record b { next = b.next + n }
 
 -- Stores a value as the root, or as the next field of the innermost open block.
-abbrev pub fill : Val → List Obj → List OpenBlock → Option Val → Building
+abbrev pub fill : Val → List Obj → List PendingBlock → Option Val → Building
 fill v all [] root = building all [] (Some v)
 fill v all (b ∷ outer) root =
     building (set_field all b.object b.next v) (still_open (advanced b 1) outer) root
@@ -62,7 +62,7 @@ abbrev pub blank : Token → List Obj
 blank token = object_of token (blank_fields token)
 
 -- The block that the token opens. It becomes object `c`, and `at` is the word that refers to it.
-abbrev pub opened : Token → ℕ → ℕ → List OpenBlock
+abbrev pub opened : Token → ℕ → ℕ → List PendingBlock
 opened (integer z) c at = []
 opened (atom tag) c at = []
 opened (shared offset) c at = []
@@ -92,7 +92,7 @@ root_to_come None = 1
 root_to_come (Some v) = 0
 
 -- The number of pending fields of the open blocks.
-abbrev pub fields_to_come : List OpenBlock → ℕ
+abbrev pub fields_to_come : List PendingBlock → ℕ
 fields_to_come blocks = sum_by (λ b. b.size - b.next) blocks
 
 -- The number of pending values: the root and the fields of the open blocks.
@@ -111,14 +111,14 @@ HasSize size (objects.Native z) = ⊥
 
 -- The object of an open block is a block of its size, its next field is one of its fields, and its
 -- word refers to it.
-pub record IsOpenIn (all : List Obj) (b : OpenBlock) : Type 0 where
+pub record IsOpenIn (all : List Obj) (b : PendingBlock) : Type 0 where
   pub object : b.object < length all
   pub next : b.next < b.size
   pub size : HoldsAt (HasSize b.size) all b.object
   pub at : b.at ≡ word_of all (vals.Ref b.object)
 
 -- All blocks are open, and each has a later object than the blocks that enclose it.
-abbrev pub AreOpen : List Obj → List OpenBlock → Type 0
+abbrev pub AreOpen : List Obj → List PendingBlock → Type 0
 AreOpen all [] = Unit {0}
 AreOpen all (b ∷ outer) = IsOpenIn all b × All (λ o. o.object < b.object) outer × AreOpen all outer
 

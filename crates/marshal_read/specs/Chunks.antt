@@ -8,7 +8,7 @@ use Rattle.marshal_spec.specs.format.Raw.{IsPart}
 use Rattle.marshal_spec.specs.format.Prefix.{token_refusal, HeaderPasses, TokensPass, InHeader}
 use Rattle.marshal_read.specs.declared.unread.Unread.{Unread}
 use Rattle.marshal_read.specs.declared.unread.Unread.TheVariants.{NeedMore, Refused}
-use Rattle.marshal_read.specs.declared.totals.Totals.{Totals}
+use Rattle.marshal_read.specs.declared.read_totals.ReadTotals.{ReadTotals}
 use Rattle.marshal_read.specs.declared.reading.Reading.{Reading}
 use Rattle.marshal_read.specs.declared.chunks.Chunks.{Chunks}
 use Rattle.marshal_read.specs.Build.{Bounded, start}
@@ -18,7 +18,7 @@ use Rattle.marshal_read.specs.Reading.{Builds, RefusedIn}
 -- build. The rest is a part of the next token and passes every step that it decides. After the last
 -- token the rest is empty.
 pub record LeadsTokens (limit : ℕ) (taken header : List ℕ) (before : List (List ℕ))
-    (totals : Totals) (state : Bounded) (part : List ℕ) : Type 0 where
+    (totals : ReadTotals) (state : Bounded) (part : List ℕ) : Type 0 where
   pub bytes_are : taken ≡ header ++ (concat before ++ part)
   pub header_passes : HeaderPasses limit header
   pub tokens_pass : TokensPass header [] before
@@ -29,14 +29,14 @@ pub record LeadsTokens (limit : ℕ) (taken header : List ℕ) (before : List (L
 
 -- Either the bytes are a part of a header that passes every step that it decides, or they are a
 -- header and what follows it.
-abbrev pub LeadsAs : Option Totals → ℕ → List ℕ → Bounded → List ℕ → Type 0
+abbrev pub LeadsAs : Option ReadTotals → ℕ → List ℕ → Bounded → List ℕ → Type 0
 LeadsAs None limit taken state part = (taken ≡ part) × InHeader limit part × (state.built ≡ start)
 LeadsAs (Some totals) limit taken state part =
     (header : List ℕ) × (before : List (List ℕ))
     × LeadsTokens limit taken header before totals state part
 
 -- All tokens are read.
-abbrev pub IsWhole : Option Totals → Type 0
+abbrev pub IsWhole : Option ReadTotals → Type 0
 IsWhole None = ⊥
 IsWhole (Some totals) = totals.pending ≡ 0
 
@@ -51,7 +51,7 @@ NextRead limit taken part more new (Err NeedMore) =
 NextRead limit taken part more new (Err (Refused refusal)) = RefusedIn limit (taken ++ more) refusal
 
 -- Tokens of `n` bytes are read. After the last token of the value, all of its data are read.
-abbrev pub TakesCommon : ℕ → List ℕ → List ℕ → Totals → Bounded → ℕ → Type 0
+abbrev pub TakesCommon : ℕ → List ℕ → List ℕ → ReadTotals → Bounded → ℕ → Type 0
 TakesCommon limit taken bytes next new n =
     (n ≤ length bytes)
     × (next.pending ≡ 0 → (0 < n) × (next.taken ≡ next.head.length))

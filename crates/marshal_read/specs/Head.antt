@@ -4,17 +4,17 @@ use Rattle.std.specs.Prelude.{if◌then◌else◌, Some, None, Result, Ok, Err}
 use Rattle.marshal_spec.specs.format.Header.{header_length}
 use Rattle.base_data.specs.declared.model.header.Head.{Head}
 use Rattle.base_data.specs.declared.model.refusal.ReadRefusal.TheVariants.{TooLarge, Overlong}
-use Rattle.base_data.specs.declared.model.refusal.Stated.TheVariants.{Words, Length}
+use Rattle.base_data.specs.declared.model.refusal.StatedNumber.TheVariants.{Words, Length}
 use Rattle.marshal_spec.specs.format.Step.{Step, step, fails_if, first_refusal, length_limit}
 use Rattle.marshal_spec.specs.format.Prefix.{context, header_refusal}
 use Rattle.marshal_read.specs.declared.unread.Unread.{Unread}
 use Rattle.marshal_read.specs.declared.unread.Unread.TheVariants.{NeedMore, Refused}
-use Rattle.marshal_read.specs.declared.totals.Totals.{Totals}
+use Rattle.marshal_read.specs.declared.read_totals.ReadTotals.{ReadTotals}
 use Rattle.marshal_read.specs.Totals.{AreTotals}
 
 -- The result is a refusal, or the header is incomplete, or the result is the totals after the
 -- header.
-abbrev pub JudgedHeader : ℕ → List ℕ → Result Totals Unread → Type 0
+abbrev pub JudgedHeader : ℕ → List ℕ → Result ReadTotals Unread → Type 0
 JudgedHeader limit bytes (Err (Refused r)) = header_refusal limit bytes ≡ Some r
 JudgedHeader limit bytes (Err NeedMore) =
     (header_refusal limit bytes ≡ None) × (length bytes < header_length bytes)
@@ -31,13 +31,13 @@ stated_steps limit head =
     ∷ []
 
 -- The totals after a header, before the first token.
-abbrev pub start_of : Head → Totals → Type 0
+abbrev pub start_of : Head → ReadTotals → Type 0
 start_of head position =
     (position.head ≡ head) × (position.start ≡ (if head.big then 32 else 20)) × (position.taken ≡ 0)
     × (position.objects ≡ 0) × (position.pending ≡ 1) × (position.w32 ≡ 0) × (position.w64 ≡ 0)
 
 -- The result of `stated_steps`.
-abbrev pub Begins : ℕ → Head → Result Totals Unread → Type 0
+abbrev pub Begins : ℕ → Head → Result ReadTotals Unread → Type 0
 Begins limit head (Err (Refused r)) = first_refusal 0 (stated_steps limit head) ≡ Some r
 Begins limit head (Err NeedMore) = ⊥
 Begins limit head (Ok position) =

@@ -3,9 +3,9 @@ use Rattle.std.specs.Prelude.{ℕ, ◌≡◌, ◌+◌, ◌*◌, ◌^◌, ◌<◌
 use Rattle.base_data.specs.declared.model.header.Head.{Head}
 use Rattle.base_data.specs.declared.model.code.Measure.{Measure}
 use Rattle.marshal_spec.specs.format.Words.{of_object, fields, words32, words64}
-use Rattle.marshal_read.specs.declared.totals.Totals.{Totals}
-use Rattle.marshal_read.specs.declared.left.Left.{Left}
-use Rattle.marshal_read.specs.declared.left.Run.{Run}
+use Rattle.marshal_read.specs.declared.read_totals.ReadTotals.{ReadTotals}
+use Rattle.marshal_read.specs.declared.remaining_room.RemainingRoom.{RemainingRoom}
+use Rattle.marshal_read.specs.declared.remaining_room.Run.{Run}
 use Rattle.marshal_read.specs.Build.{Bounded}
 use Rattle.marshal_read.specs.Reading.{Builds, TakesOne}
 use Rattle.marshal_read.specs.Chunks.{TakesCommon}
@@ -15,7 +15,8 @@ abbrev pub limit_of : Head → ℕ
 limit_of head = if head.big then 2 ^ 62 else head.w32
 
 -- `left` is the room that remains at `position`, which is `n` bytes after `first`.
-pub record Leaves (first : Totals) (n : ℕ) (position : Totals) (left : Left) : Type 0 where
+pub record Leaves (first : ReadTotals) (n : ℕ) (position : ReadTotals)
+    (left : RemainingRoom) : Type 0 where
   pub head : position.head ≡ first.head
   pub start : position.start ≡ first.start
   pub taken : position.taken ≡ first.taken + n
@@ -25,14 +26,15 @@ pub record Leaves (first : Totals) (n : ℕ) (position : Totals) (left : Left) :
   pub w64 : left.w64 + position.w64 ≡ position.head.w64
 
 -- A token of `n` bytes whose object has this measure reduces the room from `old` to `new`.
-pub record Spends (old : Left) (n : ℕ) (measure : Option Measure) (new : Left) : Type 0 where
+pub record Spends (old : RemainingRoom) (n : ℕ) (measure : Option Measure)
+    (new : RemainingRoom) : Type 0 where
   pub slack : new.slack + (n + of_object fields measure) ≡ old.slack + 1
   pub pending : new.pending + 1 ≡ old.pending + of_object fields measure
   pub w32 : new.w32 + of_object words32 measure ≡ old.w32
   pub w64 : new.w64 + of_object words64 measure ≡ old.w64
 
 -- No room remains, and if the header states a number of objects, then it is the number of objects.
-pub record IsSpent (head : Head) (objects : ℕ) (left : Left) : Type 0 where
+pub record IsSpent (head : Head) (objects : ℕ) (left : RemainingRoom) : Type 0 where
   pub slack : left.slack ≡ 0
   pub w32 : head.big ≡ false → left.w32 ≡ 0
   pub w64 : left.w64 ≡ 0
@@ -40,49 +42,51 @@ pub record IsSpent (head : Head) (objects : ℕ) (left : Left) : Type 0 where
 
 -- `position` is `n` bytes after `first`, `left` is the room that remains there, and the tokens
 -- before it build `state`.
-pub record Stands (first : Totals) (n : ℕ) (header : List ℕ) (before : List (List ℕ))
-    (position : Totals) (left : Left) (state : Bounded) : Type 0 where
+pub record Stands (first : ReadTotals) (n : ℕ) (header : List ℕ) (before : List (List ℕ))
+    (position : ReadTotals) (left : RemainingRoom) (state : Bounded) : Type 0 where
   pub leaves : Leaves first n position left
   pub builds : Builds header before position state
 
 -- Either one token of `k` bytes is read and leads to the new state, or `k` is 0 and nothing
 -- changes.
-abbrev pub TakesLeft : Totals → ℕ → List ℕ → List (List ℕ) → List ℕ → Totals → Left → Bounded → Left
+abbrev pub TakesLeft : ReadTotals → ℕ → List ℕ → List (List ℕ) → List ℕ → ReadTotals → RemainingRoom
+    → Bounded → RemainingRoom
     → Bounded → ℕ → Type 0
 TakesLeft first n header before bytes position left state left' state' k =
     (k ≡ 0 → (left' ≡ left) × (state' ≡ state))
     × (0 < k
-    → (next : Totals) × Leaves first (n + k) next left'
+    → (next : ReadTotals) × Leaves first (n + k) next left'
     × TakesOne header before bytes position state next state' k)
 
 -- Tokens of `k` bytes are read.
-abbrev pub TakesAll : Totals → ℕ → ℕ → List ℕ → List ℕ → Left → Bounded → ℕ → Type 0
+abbrev pub TakesAll : ReadTotals → ℕ → ℕ → List ℕ → List ℕ → RemainingRoom → Bounded → ℕ → Type 0
 TakesAll first n limit taken bytes left' state' k =
-    (next : Totals) × Leaves first (n + k) next left' × TakesCommon limit taken bytes next state' k
+    (next : ReadTotals) × Leaves first (n + k) next left'
+    × TakesCommon limit taken bytes next state' k
 
 -- ---- runs
 
 -- At least `k` of each resource remains.
-abbrev pub AtLeast : ℕ → Left → Type 0
+abbrev pub AtLeast : ℕ → RemainingRoom → Type 0
 AtLeast k left = (k ≤ left.slack) × (k ≤ left.w32) × (k ≤ left.w64)
 
 -- The room suffices for one common token.
-abbrev pub HasEnough : Left → Type 0
+abbrev pub HasEnough : RemainingRoom → Type 0
 HasEnough left = AtLeast 512 left
 
 -- The room suffices for all common tokens that begin in `most` bytes.
-abbrev pub HasPlenty : Left → ℕ → Type 0
+abbrev pub HasPlenty : RemainingRoom → ℕ → Type 0
 HasPlenty left most = AtLeast (16 * most + 512) left
 
 -- A token of `k` bytes needs no more than this room.
-pub record Keeps (old : Left) (k : ℕ) (new : Left) : Type 0 where
+pub record Keeps (old : RemainingRoom) (k : ℕ) (new : RemainingRoom) : Type 0 where
   pub slack : old.slack ≤ new.slack + 16 * k
   pub w32 : old.w32 ≤ new.w32 + 16 * k
   pub w64 : old.w64 ≤ new.w64 + 16 * k
 
 -- `from` is the room where the run began, `left` is the room now, and `run` is the state of the
 -- run.
-pub record Runs (from left : Left) (run : Run) : Type 0 where
+pub record Runs (from left : RemainingRoom) (run : Run) : Type 0 where
   pub pending : left.pending ≡ run.pending
   pub short : from.w32 < 2 ^ 64
   pub fewer : left.w64 ≤ from.w64
@@ -96,23 +100,26 @@ pub record Goes (old : Run) (measure : Option Measure) (new : Run) : Type 0 wher
 
 -- Either one token of `k` bytes is read, leads to the new state, and leaves a value pending; or `k`
 -- is 0 and nothing changes.
-abbrev pub RunsOn : Totals → ℕ → List ℕ → List (List ℕ) → List ℕ → Totals → Left → Left → Run
+abbrev pub RunsOn : ReadTotals → ℕ → List ℕ → List (List ℕ) → List ℕ → ReadTotals → RemainingRoom
+    → RemainingRoom → Run
     → Bounded → Run → Bounded → ℕ → Type 0
 RunsOn first n header before bytes position from left run state run' state' k =
     (k ≡ 0 → (run' ≡ run) × (state' ≡ state))
     × (0 < k
-    → (next : Totals) × (left' : Left) × Leaves first (n + k) next left' × Runs from left' run'
+    → (next : ReadTotals) × (left' : RemainingRoom) × Leaves first (n + k) next left'
+    × Runs from left' run'
     × Keeps left k left' × (0 < run'.pending)
     × TakesOne header before bytes position state next state' k)
 
 -- Tokens of `k` bytes are read in a run.
-abbrev pub RunsAll : Totals → ℕ → List ℕ → List ℕ → Left → Run → Bounded → ℕ → Type 0
+abbrev pub RunsAll : ReadTotals → ℕ → List ℕ → List ℕ → RemainingRoom → Run → Bounded → ℕ → Type 0
 RunsAll first limit taken bytes from run state' k =
-    (next : Totals) × (left : Left) × Leaves first (0 + k) next left × Runs from left run
+    (next : ReadTotals) × (left : RemainingRoom) × Leaves first (0 + k) next left
+    × Runs from left run
     × TakesCommon limit taken bytes next state' k
 
 -- The run consumed `n` bytes and `spent` words on 64 bits.
-pub record IsAfter (from left : Left) (run : Run) (n spent : ℕ) : Type 0 where
+pub record IsAfter (from left : RemainingRoom) (run : Run) (n spent : ℕ) : Type 0 where
   pub runs : Runs from left run
   pub taken : left.slack + left.pending + n ≡ from.slack + from.pending
   pub words : left.w64 + spent ≡ from.w64

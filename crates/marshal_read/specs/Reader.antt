@@ -8,7 +8,7 @@ use Rattle.marshal_spec.specs.format.Tree.{Tree}
 use Rattle.marshal_spec.specs.format.Encoded.{EncodedUnder}
 use Rattle.marshal_spec.specs.format.Prefix.{IsPrefix}
 use Rattle.marshal_heap.specs.heap.Heap.{heap_words}
-use Rattle.marshal_read.specs.declared.totals.Totals.{Totals}
+use Rattle.marshal_read.specs.declared.read_totals.ReadTotals.{ReadTotals}
 use Rattle.marshal_read.specs.declared.reader.Reader.{Reader}
 use Rattle.marshal_read.specs.declared.reader.Fed.{Fed}
 use Rattle.marshal_read.specs.declared.reader.Truncated.{Truncated}
@@ -57,7 +57,7 @@ pub record Feeds (limit : ℕ) (taken chunk : List ℕ) (new : Reader) (fed : Fe
 
 -- There are no more pending values than remaining data bytes. There are no more words than the
 -- header states, and the header states no more than the limit.
-abbrev pub IsWithin : ℕ → Option Totals → Bounded → Type 0
+abbrev pub IsWithin : ℕ → Option ReadTotals → Bounded → Type 0
 IsWithin limit None built = heap_words built.built.objects ≡ 0
 IsWithin limit (Some totals) built =
     (totals.taken + totals.pending ≤ totals.head.length)

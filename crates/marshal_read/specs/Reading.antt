@@ -13,14 +13,15 @@ use Rattle.base_data.specs.model.Graph.{IsValue}
 use Rattle.marshal_spec.specs.format.Prefix.{context, with_next, IsRefused}
 use Rattle.marshal_read.specs.declared.unread.Unread.{Unread}
 use Rattle.marshal_read.specs.declared.unread.Unread.TheVariants.{NeedMore, Refused}
-use Rattle.marshal_read.specs.declared.totals.Totals.{Totals}
+use Rattle.marshal_read.specs.declared.read_totals.ReadTotals.{ReadTotals}
 use Rattle.marshal_read.specs.declared.value.Value.{Value}
 use Rattle.marshal_read.specs.Totals.{AreTotals}
 use Rattle.marshal_read.specs.Build.{Bounded, start, absorb_all}
 
 -- The totals are those after these bytes. The graph is built from the tokens that the bytes encode,
 -- within the words that the header states.
-pub record Builds (header : List ℕ) (before : List (List ℕ)) (position : Totals) (state : Bounded)
+pub record Builds (header : List ℕ) (before : List (List ℕ)) (position : ReadTotals)
+    (state : Bounded)
     : Type 0 where
   pub tokens : List Token
   pub sums : AreTotals position (context header before)
@@ -31,7 +32,7 @@ pub record Builds (header : List ℕ) (before : List (List ℕ)) (position : Tot
 
 -- The result of the next token in the remaining bytes: a refusal, or an incomplete token, or the
 -- totals after it.
-abbrev pub NextOf : List ℕ → List (List ℕ) → List ℕ → Bounded → Result Totals Unread → Type 0
+abbrev pub NextOf : List ℕ → List (List ℕ) → List ℕ → Bounded → Result ReadTotals Unread → Type 0
 NextOf header before rest state (Err NeedMore) =
     (first_refusal (length rest) (token_steps (context header before) rest) ≡ None)
     × (length rest < raw_length rest)
@@ -43,7 +44,8 @@ NextOf header before rest state (Ok next) =
 
 -- Either one token is read and leads to the new state, or nothing is read and nothing changes.
 -- After the last value, all data are read.
-abbrev pub TakesOne : List ℕ → List (List ℕ) → List ℕ → Totals → Bounded → Totals → Bounded → ℕ
+abbrev pub TakesOne : List ℕ → List (List ℕ) → List ℕ → ReadTotals → Bounded → ReadTotals → Bounded
+    → ℕ
     → Type 0
 TakesOne header before bytes position state next new n =
     (n ≡ 0 → (next ≡ position) × (new ≡ state))

@@ -11,14 +11,14 @@ use Rattle.marshal_spec.specs.format.Words.{Sums, one_more, of_object, fields}
 use Rattle.marshal_spec.specs.format.Step.{Context, first_refusal, field_refusal, token_steps}
 use Rattle.marshal_read.specs.declared.unread.Unread.{Unread}
 use Rattle.marshal_read.specs.declared.unread.Unread.TheVariants.{NeedMore, Refused}
-use Rattle.marshal_read.specs.declared.totals.Totals.{Totals}
+use Rattle.marshal_read.specs.declared.read_totals.ReadTotals.{ReadTotals}
 
 -- The record of the four sums.
 abbrev pub sums : ℕ → ℕ → ℕ → ℕ → Sums
 sums objects pending w32 w64 = record { objects = objects; pending = pending; w32 = w32; w64 = w64 }
 
 -- The context that the totals describe.
-abbrev pub context_of : Totals → Context
+abbrev pub context_of : ReadTotals → Context
 context_of position = record {
   head = position.head;
   start = position.start;
@@ -27,7 +27,7 @@ context_of position = record {
 }
 
 -- The totals describe this context, stated field by field.
-pub record AreTotals (position : Totals) (c : Context) : Type 0 where
+pub record AreTotals (position : ReadTotals) (c : Context) : Type 0 where
   pub head : c.head ≡ position.head
   pub start : c.start ≡ position.start
   pub taken : c.taken ≡ position.taken
@@ -43,7 +43,7 @@ after c bytes =
 
 -- The result of the steps of a token in bytes that begin with it: a refusal, or an incomplete
 -- token, or the totals after it.
-abbrev pub IsNext : Context → List ℕ → Result Totals Unread → Type 0
+abbrev pub IsNext : Context → List ℕ → Result ReadTotals Unread → Type 0
 IsNext c bytes (Err (Refused r)) = first_refusal (length bytes) (token_steps c bytes) ≡ Some r
 IsNext c bytes (Err NeedMore) =
     (first_refusal (length bytes) (token_steps c bytes) ≡ None) × (length bytes < raw_length bytes)
@@ -66,7 +66,7 @@ abbrev pub AreFew : (Measure → ℕ) → Option Measure → ℕ → Type 0
 AreFew words measure n = of_object words measure + 1 ≤ 3 * n + of_object fields measure
 
 -- All data, words and objects that the header states are consumed.
-pub record Ends (position : Totals) : Type 0 where
+pub record Ends (position : ReadTotals) : Type 0 where
   pub taken : position.taken ≡ position.head.length
   pub w32 : position.head.big ≡ false → position.w32 ≡ position.head.w32
   pub w64 : position.w64 ≡ position.head.w64
@@ -74,7 +74,7 @@ pub record Ends (position : Totals) : Type 0 where
 
 -- If the result is true, then the totals advance by this token, and after the last value all that
 -- the header states is consumed. If it is false, the totals do not change.
-abbrev pub Advances : Totals → ℕ → Option Measure → Totals → Bool → Type 0
+abbrev pub Advances : ReadTotals → ℕ → Option Measure → ReadTotals → Bool → Type 0
 Advances old n measure new true =
     (new.pending ≡ 0 → Ends new) × AreTotals new (moved (context_of old) n measure)
 Advances old n measure new false = new ≡ old
@@ -86,7 +86,8 @@ IsPlain kind = Unit {0}
 
 -- A token of this kind is complete in the bytes after its code, its fields are sound, and it leads
 -- to the totals `next`. After the last value, all that the header states is consumed.
-pub record PassesTo (position : Totals) (code : ℕ) (kind : CodeKind) (rest : List ℕ) (next : Totals)
+pub record PassesTo (position : ReadTotals) (code : ℕ) (kind : CodeKind) (rest : List ℕ)
+    (next : ReadTotals)
     : Type 0 where
   pub whole : fixed_bytes kind + variable_bytes kind rest ≤ length rest
   pub plain : IsPlain kind

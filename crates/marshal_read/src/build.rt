@@ -19,7 +19,7 @@ use std::marker::Model;
 /// A block whose fields are not all read yet: the number of its object, the index of its next
 /// field, its number of fields, and the word that refers to the block.
 #[derive(Clone, Copy)]
-pub struct OpenBlock {
+pub struct PendingBlock {
     pub object: u64,
     pub next: u64,
     pub size: u64,
@@ -33,8 +33,8 @@ pub struct OpenBlock {
 #[derive(Drop)]
 pub struct Builder {
     heap: Heap,
-    inner: OpenBlock,
-    outer: Vec<OpenBlock>,
+    inner: PendingBlock,
+    outer: Vec<PendingBlock>,
     root: Option<Val>,
     room: u64,
 }
@@ -52,7 +52,7 @@ impl Model for Builder {
 
 /// If the innermost block is full, replaces it by the next enclosing block.
 #[inline(always)]
-fn settle(_heap: &Heap, inner: &mut OpenBlock, outer: &mut Vec<OpenBlock>)
+fn settle(_heap: &Heap, inner: &mut PendingBlock, outer: &mut Vec<PendingBlock>)
     requires { AreOpen _heap.now (stack inner.old outer.old.items) }
     ensures same { stack inner.new outer.new.items ≡ stack inner.old outer.old.items }
     ensures settled { inner.new.next ≡ inner.new.size → vec_len outer.new ≡ 0 }
@@ -71,8 +71,8 @@ fn settle(_heap: &Heap, inner: &mut OpenBlock, outer: &mut Vec<OpenBlock>)
 #[inline(always)]
 fn fill_next(
     heap: &mut Heap,
-    inner: &mut OpenBlock,
-    _outer: &Vec<OpenBlock>,
+    inner: &mut PendingBlock,
+    _outer: &Vec<PendingBlock>,
     root: &mut Option<Val>,
     v: Val,
     word: u64,
@@ -96,7 +96,7 @@ fn fill_next(
 /// Makes a block the innermost open one. The capacity of `outer` suffices for the previous
 /// innermost block.
 #[inline(always)]
-fn open_in_room(inner: &mut OpenBlock, outer: &mut Vec<OpenBlock>, block: OpenBlock)
+fn open_in_room(inner: &mut PendingBlock, outer: &mut Vec<PendingBlock>, block: PendingBlock)
     requires room { inner.old.next ≢ inner.old.size → vec_len outer.old < vec_capacity outer.old }
     requires some { block.next ≢ block.size }
     ensures { stack inner.new outer.new.items ≡ block ∷ stack inner.old outer.old.items }
@@ -110,9 +110,9 @@ fn open_in_room(inner: &mut OpenBlock, outer: &mut Vec<OpenBlock>, block: OpenBl
 /// Makes a block the innermost open one and reserves memory for one more block in `outer`. If
 /// memory runs out, nothing changes.
 fn open_block(
-    inner: &mut OpenBlock,
-    outer: &mut Vec<OpenBlock>,
-    block: OpenBlock,
+    inner: &mut PendingBlock,
+    outer: &mut Vec<PendingBlock>,
+    block: PendingBlock,
 ) -> Result<(), Memory>
     requires { block.next ≢ block.size }
     ensures { MatchResult result
@@ -145,7 +145,7 @@ impl Builder {
         heap.clear();
         Builder {
             heap,
-            inner: OpenBlock {
+            inner: PendingBlock {
                 object: 0,
                 next: 0,
                 size: 0,
@@ -247,7 +247,7 @@ impl Builder {
         let object = self.heap.add_block(tag, size)?;
         let at = self.heap.word(Val::Ref(object));
         self.fill(Val::Ref(object));
-        let block = OpenBlock {
+        let block = PendingBlock {
             object,
             next: 0,
             size,
@@ -284,7 +284,7 @@ impl Builder {
             Val::Ref(object),
             at,
         );
-        let block = OpenBlock {
+        let block = PendingBlock {
             object,
             next: 0,
             size,
@@ -390,7 +390,7 @@ impl Builder {
         ensures { self.new ≡ empty 0 }
     {
         self.heap.clear();
-        self.inner = OpenBlock {
+        self.inner = PendingBlock {
             object: 0,
             next: 0,
             size: 0,

@@ -8,27 +8,27 @@ ghost use Rattle.marshal_spec.specs.format.Code.{kind_of};
 ghost use Rattle.marshal_spec.specs.format.Raw.{fixed_bytes, variable_bytes, measure_after};
 ghost use Rattle.marshal_spec.specs.format.Words.{of_object, fields};
 ghost use Rattle.marshal_spec.specs.format.Step.{Context, field_refusal};
-ghost use Rattle.marshal_read.specs.declared.totals.Totals.{Totals};
+ghost use Rattle.marshal_read.specs.declared.read_totals.ReadTotals.{ReadTotals};
 ghost use Rattle.marshal_read.specs.Totals.{IsPlain};
 ghost use Rattle.marshal_read.specs.Left.{Leaves, Stands, TakesLeft, TakesAll};
 ghost use Rattle.marshal_read.specs.Chunks.{LeadsAs, TakesCommon};
 
 use crate::build::Builder;
 use crate::decode::decode_in_room;
-use crate::left::Left;
+use crate::read_totals::ReadTotals;
+use crate::remaining_room::RemainingRoom;
 use crate::run::run;
 use crate::token::{measure_at, number_at};
-use crate::totals::Totals;
 use base_data::model::bytes::skip;
 use base_data::model::code::CodeKind;
-use marshal_codec::codes::{Known, code_kind};
+use marshal_codec::codes::{KnownKind, code_kind};
 
 /// Returns the number of bytes after the code of a token, if the token is of a common kind,
 /// complete, and its fields are sound. A reference is sound if it refers to one of the `objects`
 /// objects so far and the header states some objects.
 #[tactic(auto, using(crate::proofs::RunLemmas::few_fields))]
 #[inline(always)]
-pub fn sound_len(stated: u64, objects: u64, kind: Known, rest: &[u8]) -> Option<usize>
+pub fn sound_len(stated: u64, objects: u64, kind: KnownKind, rest: &[u8]) -> Option<usize>
     ensures len { IfSome result
         (λ len. (len ≡ fixed_bytes kind.kind + variable_bytes kind.kind rest.now) × (len < 32)
         × (len ≤ length rest.now) × IsPlain kind.kind) }
@@ -63,8 +63,8 @@ pub fn sound_len(stated: u64, objects: u64, kind: Known, rest: &[u8]) -> Option<
 #[tactic(auto, using(crate::proofs::SizeLemmas::measure_small))]
 #[inline(always)]
 fn take_kind(
-    first: &Totals,
-    left: &mut Left,
+    first: &ReadTotals,
+    left: &mut RemainingRoom,
     builder: &mut Builder,
     kind: CodeKind,
     bytes: &[u8],
@@ -72,15 +72,16 @@ fn take_kind(
     requires some { 0 < length bytes.now }
     requires kind { kind_of (slice_index bytes.now 0) ≡ Ok kind }
     requires open { 0 < left.old.pending }
-    requires stands { (n : ℕ) × (header : List ℕ) × (before : List (List ℕ)) × (position : Totals)
+    requires stands { (n : ℕ) × (header : List ℕ) × (before : List (List ℕ))
+        × (position : ReadTotals)
         × Stands first.now n header before position left.old builder.old }
-    ensures { (n : ℕ) (header : List ℕ) (before : List (List ℕ)) (position : Totals)
+    ensures { (n : ℕ) (header : List ℕ) (before : List (List ℕ)) (position : ReadTotals)
         → Stands first.now n header before position left.old builder.old
         → TakesLeft first.now n header before bytes.now position left.old builder.old left.new
         builder.new result }
 {
     let rest = skip(bytes, 1);
-    let known = Known { kind };
+    let known = KnownKind { kind };
     let objects = builder.count();
     let Some(len) = sound_len(first.head.objects, objects, known, rest) else {
         return 0;
@@ -103,12 +104,18 @@ fn take_kind(
 /// Reads the next token, if it surely passes and needs no new memory. Returns its length in bytes,
 /// or 0 if it was not read.
 #[inline(always)]
-fn take_one(first: &Totals, left: &mut Left, builder: &mut Builder, bytes: &[u8]) -> usize
+fn take_one(
+    first: &ReadTotals,
+    left: &mut RemainingRoom,
+    builder: &mut Builder,
+    bytes: &[u8],
+) -> usize
     requires some { 0 < length bytes.now }
     requires open { 0 < left.old.pending }
-    requires stands { (n : ℕ) × (header : List ℕ) × (before : List (List ℕ)) × (position : Totals)
+    requires stands { (n : ℕ) × (header : List ℕ) × (before : List (List ℕ))
+        × (position : ReadTotals)
         × Stands first.now n header before position left.old builder.old }
-    ensures { (n : ℕ) (header : List ℕ) (before : List (List ℕ)) (position : Totals)
+    ensures { (n : ℕ) (header : List ℕ) (before : List (List ℕ)) (position : ReadTotals)
         → Stands first.now n header before position left.old builder.old
         → TakesLeft first.now n header before bytes.now position left.old builder.old left.new
         builder.new result }
@@ -140,7 +147,12 @@ fn take_one(first: &Totals, left: &mut Left, builder: &mut Builder, bytes: &[u8]
 /// Reads tokens that surely pass and need no new memory, and returns their length in bytes. All the
 /// bytes are data of the value, so no bytes remain after its last token.
 #[inline(always)]
-fn take_all(first: &Totals, left: &mut Left, builder: &mut Builder, bytes: &[u8]) -> usize
+fn take_all(
+    first: &ReadTotals,
+    left: &mut RemainingRoom,
+    builder: &mut Builder,
+    bytes: &[u8],
+) -> usize
     requires open { 0 < first.now.pending }
     requires within { first.now.taken + length bytes.now ≤ first.now.head.length }
     requires leaves { Leaves first.now 0 first.now left.old }
@@ -162,7 +174,7 @@ fn take_all(first: &Totals, left: &mut Left, builder: &mut Builder, bytes: &[u8]
 
 /// Returns the prefix of the bytes that is data of the value.
 #[inline(always)]
-fn data_in<'a>(first: &Totals, bytes: &'a [u8]) -> &'a [u8]
+fn data_in<'a>(first: &ReadTotals, bytes: &'a [u8]) -> &'a [u8]
     ensures { result.now ≡ take (first.now.head.length - first.now.taken) bytes.now }
 {
     let left = (first.head.length - first.taken) as usize;
@@ -176,7 +188,12 @@ fn data_in<'a>(first: &Totals, bytes: &'a [u8]) -> &'a [u8]
 /// Reads tokens that surely pass and need no new memory, and returns their length in bytes. While
 /// there is enough room for every token, the room is not checked at each token.
 #[inline(always)]
-fn take_many(first: &Totals, left: &mut Left, builder: &mut Builder, bytes: &[u8]) -> usize
+fn take_many(
+    first: &ReadTotals,
+    left: &mut RemainingRoom,
+    builder: &mut Builder,
+    bytes: &[u8],
+) -> usize
     requires open { 0 < first.now.pending }
     requires within { first.now.taken + length bytes.now ≤ first.now.head.length }
     requires leaves { Leaves first.now 0 first.now left.old }
@@ -194,7 +211,7 @@ fn take_many(first: &Totals, left: &mut Left, builder: &mut Builder, bytes: &[u8
 }
 
 /// Reads tokens that surely pass and need no new memory. Returns their length in bytes.
-pub fn take_common(totals: &mut Totals, builder: &mut Builder, bytes: &[u8]) -> usize
+pub fn take_common(totals: &mut ReadTotals, builder: &mut Builder, bytes: &[u8]) -> usize
     requires open { 0 < totals.old.pending }
     requires leads { (limit : ℕ) × (taken : List ℕ)
         × LeadsAs (Some totals.old) limit taken builder.old [] }
@@ -202,7 +219,7 @@ pub fn take_common(totals: &mut Totals, builder: &mut Builder, bytes: &[u8]) -> 
         TakesCommon limit taken bytes.now totals.new builder.new result }
 {
     let first = *totals;
-    let mut left = Left::at(&first);
+    let mut left = RemainingRoom::at(&first);
     let n = take_many(&first, &mut left, builder, data_in(&first, bytes));
     *totals = left.position(&first, n as u64, builder.count());
     n

@@ -17,7 +17,7 @@ use crate::token::{double_bits, number_at, signed_four};
 use base_data::model::Memory;
 use base_data::model::bytes::{big_endian, double, signed, skip};
 use base_data::model::code::CodeKind;
-use marshal_codec::codes::Known;
+use marshal_codec::codes::KnownKind;
 use std::alloc::Global;
 
 /// Adds the block or atom that a header word describes.
@@ -55,7 +55,7 @@ fn doubles(
 /// Adds the token of this kind whose bytes after the code are `rest`, if the kind is common and no
 /// new memory is needed. Returns whether the token was added.
 #[inline(always)]
-pub fn decode_in_room(builder: &mut Builder, kind: Known, rest: &[u8]) -> bool
+pub fn decode_in_room(builder: &mut Builder, kind: KnownKind, rest: &[u8]) -> bool
     requires small { length rest.now < 2 ^ 53 }
     requires size { of_object fields (measure_after kind.kind rest.now) < 2 ^ 53 }
     requires fits { Fits builder.old (measure_after kind.kind rest.now) }
@@ -97,7 +97,12 @@ pub fn decode_in_room(builder: &mut Builder, kind: Known, rest: &[u8]) -> bool
 /// Adds the token of this kind whose bytes after the code are `rest`. Fails with `Memory` if memory
 /// runs out.
 #[inline(always)]
-pub fn decode(alloc: Global, builder: &mut Builder, kind: Known, rest: &[u8]) -> Result<(), Memory>
+pub fn decode(
+    alloc: Global,
+    builder: &mut Builder,
+    kind: KnownKind,
+    rest: &[u8],
+) -> Result<(), Memory>
     requires small { length rest.now < 2 ^ 53 }
     requires size { of_object fields (measure_after kind.kind rest.now) < 2 ^ 53 }
     requires fits { Fits builder.old (measure_after kind.kind rest.now) }

@@ -3,10 +3,10 @@
 ghost use Rattle.std.specs.Prelude.{◌≤◌, IfOk};
 ghost use Rattle.marshal_read.specs.Head.{JudgedHeader, Begins};
 
-use crate::totals::Totals;
+use crate::read_totals::ReadTotals;
 use crate::unread::Unread;
 use base_data::model::header::Head;
-use base_data::model::refusal::{ReadRefusal, Stated};
+use base_data::model::refusal::{ReadRefusal, StatedNumber};
 use marshal_codec::headers::{HeadFault, HeaderStep, parse};
 
 /// The maximum length in bytes of a value's data.
@@ -15,7 +15,7 @@ const LENGTH_LIMIT: u64 = (1 << 48) - 1;
 /// Checks the header on all bytes that are there. Returns the totals after the header if it is
 /// complete and passes. Fails with `NeedMore` if the header is incomplete, and with `Refused` if a
 /// step fails. `limit` is the maximum number of 64-bit words.
-pub fn judge_header(bytes: &[u8], limit: u64) -> Result<Totals, Unread>
+pub fn judge_header(bytes: &[u8], limit: u64) -> Result<ReadTotals, Unread>
     ensures judged { JudgedHeader limit bytes.now result }
     ensures limited { IfOk result (λ position. position.head.w64 ≤ limit) }
 {
@@ -29,17 +29,17 @@ pub fn judge_header(bytes: &[u8], limit: u64) -> Result<Totals, Unread>
 
 /// Checks that the header states at least one byte of data and no more words and bytes than the
 /// limits. Returns the totals after the header.
-fn begin(head: Head, limit: u64) -> Result<Totals, Unread>
+fn begin(head: Head, limit: u64) -> Result<ReadTotals, Unread>
     ensures begins { Begins limit head result }
     ensures limited { IfOk result (λ position. position.head.w64 ≤ limit) }
 {
     let start = if head.big { 32 } else { 20 };
     if limit < head.w64 {
-        return Err(Unread::Refused(ReadRefusal::TooLarge(Stated::Words, head.w64, limit)));
+        return Err(Unread::Refused(ReadRefusal::TooLarge(StatedNumber::Words, head.w64, limit)));
     }
     if LENGTH_LIMIT < head.length {
         return Err(Unread::Refused(ReadRefusal::TooLarge(
-            Stated::Length,
+            StatedNumber::Length,
             head.length,
             LENGTH_LIMIT,
         )));
@@ -47,7 +47,7 @@ fn begin(head: Head, limit: u64) -> Result<Totals, Unread>
     if head.length == 0 {
         return Err(Unread::Refused(ReadRefusal::Overlong(start, 1, 0)));
     }
-    Ok(Totals {
+    Ok(ReadTotals {
         head,
         start,
         taken: 0,

@@ -24,13 +24,13 @@ mod common;
 mod content;
 mod decode;
 mod head;
-mod left;
 mod read;
+mod read_totals;
 mod reader;
 mod reading;
+mod remaining_room;
 mod run;
 mod token;
-mod totals;
 mod unread;
 mod value;
 

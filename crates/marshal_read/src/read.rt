@@ -10,11 +10,11 @@ ghost use Rattle.marshal_read.specs.Reading.{Builds, NextOf};
 
 use crate::build::Builder;
 use crate::decode::decode;
-use crate::totals::Totals;
+use crate::read_totals::ReadTotals;
 use crate::unread::Unread;
 use base_data::model::Memory;
 use base_data::model::bytes::skip;
-use marshal_codec::codes::{Known, code_kind};
+use marshal_codec::codes::{KnownKind, code_kind};
 use std::alloc::Global;
 
 /// Adds the value that a complete token encodes. The graph has room for the token's object.
@@ -28,7 +28,7 @@ fn add(alloc: Global, builder: &mut Builder, token: &[u8]) -> Result<(), Memory>
         ((t : Token) → Encodes t token.now → builder.new ≡ absorb_in builder.old t) }
 {
     match code_kind(token[0]) {
-        Ok(kind) => decode(alloc, builder, Known { kind }, skip(token, 1)),
+        Ok(kind) => decode(alloc, builder, KnownKind { kind }, skip(token, 1)),
         Err(_) => unreachable!(),
     }
 }
@@ -37,9 +37,9 @@ fn add(alloc: Global, builder: &mut Builder, token: &[u8]) -> Result<(), Memory>
 pub fn next_token(
     alloc: Global,
     builder: &mut Builder,
-    position: &Totals,
+    position: &ReadTotals,
     rest: &[u8],
-) -> Result<Totals, Unread>
+) -> Result<ReadTotals, Unread>
     requires open { 0 < position.now.pending }
     requires leads { (header : List ℕ) × (before : List (List ℕ))
         × Builds header before position.now builder.old }

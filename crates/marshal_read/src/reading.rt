@@ -6,7 +6,7 @@ use crate::build::Builder;
 use crate::common::take_common;
 use crate::head::judge_header;
 use crate::read::next_token;
-use crate::totals::Totals;
+use crate::read_totals::ReadTotals;
 use crate::unread::Unread;
 use marshal_heap::heap::Heap;
 use std::alloc::Global;
@@ -16,7 +16,7 @@ use std::alloc::Global;
 #[derive(Drop)]
 pub struct Reading {
     pub limit: u64,
-    pub totals: Option<Totals>,
+    pub totals: Option<ReadTotals>,
     pub builder: Builder,
 }
 

@@ -5,8 +5,8 @@
 ghost use Rattle.std.specs.Prelude.{◌≡◌, ◌<◌, ◌≤◌, ◌^◌, ℕ, List, [], length, drop};
 ghost use Rattle.std.specs.Prelude.{slice_index, Some, Ok};
 ghost use Rattle.marshal_spec.specs.format.Code.{kind_of};
-ghost use Rattle.marshal_read.specs.declared.left.Left.{Left};
-ghost use Rattle.marshal_read.specs.declared.totals.Totals.{Totals};
+ghost use Rattle.marshal_read.specs.declared.remaining_room.RemainingRoom.{RemainingRoom};
+ghost use Rattle.marshal_read.specs.declared.read_totals.ReadTotals.{ReadTotals};
 ghost use Rattle.marshal_read.specs.Left.{Leaves, Stands, TakesAll, Runs, HasEnough, HasPlenty};
 ghost use Rattle.marshal_read.specs.Left.{RunsOn, RunsAll};
 ghost use Rattle.marshal_read.specs.Chunks.{LeadsAs};
@@ -14,11 +14,11 @@ ghost use Rattle.marshal_read.specs.Chunks.{LeadsAs};
 use crate::build::Builder;
 use crate::common::sound_len;
 use crate::decode::decode_in_room;
-use crate::left::{Left, Run};
+use crate::read_totals::ReadTotals;
+use crate::remaining_room::{RemainingRoom, Run};
 use crate::token::measure_at;
-use crate::totals::Totals;
 use base_data::model::code::CodeKind;
-use marshal_codec::codes::Known;
+use marshal_codec::codes::KnownKind;
 
 /// Returns the bytes after a token's code. There is at least one byte.
 #[inline(always)]
@@ -34,7 +34,7 @@ fn after_code(bytes: &[u8]) -> &[u8]
 #[tactic(auto, using(crate::proofs::SizeLemmas::measure_small))]
 #[inline(always)]
 fn run_kind(
-    first: &Totals,
+    first: &ReadTotals,
     now: &mut Run,
     builder: &mut Builder,
     kind: CodeKind,
@@ -43,18 +43,19 @@ fn run_kind(
     requires some { 0 < length bytes.now }
     requires kind { kind_of (slice_index bytes.now 0) ≡ Ok kind }
     requires open { 0 < now.old.pending }
-    requires runs { (n : ℕ) × (header : List ℕ) × (before : List (List ℕ)) × (position : Totals)
-        × (from : Left) × (left : Left) × Stands first.now n header before position left builder.old
+    requires runs { (n : ℕ) × (header : List ℕ) × (before : List (List ℕ)) × (position : ReadTotals)
+        × (from : RemainingRoom) × (left : RemainingRoom)
+        × Stands first.now n header before position left builder.old
         × Runs from left now.old × HasEnough left }
-    ensures { (n : ℕ) (header : List ℕ) (before : List (List ℕ)) (position : Totals)
-        (from left : Left)
+    ensures { (n : ℕ) (header : List ℕ) (before : List (List ℕ)) (position : ReadTotals)
+        (from left : RemainingRoom)
         → Stands first.now n header before position left builder.old → Runs from left now.old
         → HasEnough left
         → RunsOn first.now n header before bytes.now position from left now.old builder.old now.new
         builder.new result }
 {
     let rest = after_code(bytes);
-    let known = Known { kind };
+    let known = KnownKind { kind };
     let objects = builder.count();
     let Some(len) = sound_len(first.head.objects, objects, known, rest) else {
         return 0;
@@ -74,14 +75,15 @@ fn run_kind(
 /// integers and strings.
 #[tactic(auto, unfolding(marshal_spec::specs::format::Code::kind_of))]
 #[inline(always)]
-fn run_large(first: &Totals, now: &mut Run, builder: &mut Builder, bytes: &[u8]) -> usize
+fn run_large(first: &ReadTotals, now: &mut Run, builder: &mut Builder, bytes: &[u8]) -> usize
     requires some { 0 < length bytes.now }
     requires open { 0 < now.old.pending }
-    requires runs { (n : ℕ) × (header : List ℕ) × (before : List (List ℕ)) × (position : Totals)
-        × (from : Left) × (left : Left) × Stands first.now n header before position left builder.old
+    requires runs { (n : ℕ) × (header : List ℕ) × (before : List (List ℕ)) × (position : ReadTotals)
+        × (from : RemainingRoom) × (left : RemainingRoom)
+        × Stands first.now n header before position left builder.old
         × Runs from left now.old × HasEnough left }
-    ensures { (n : ℕ) (header : List ℕ) (before : List (List ℕ)) (position : Totals)
-        (from left : Left)
+    ensures { (n : ℕ) (header : List ℕ) (before : List (List ℕ)) (position : ReadTotals)
+        (from left : RemainingRoom)
         → Stands first.now n header before position left builder.old → Runs from left now.old
         → HasEnough left
         → RunsOn first.now n header before bytes.now position from left now.old builder.old now.new
@@ -103,14 +105,15 @@ fn run_large(first: &Totals, now: &mut Run, builder: &mut Builder, bytes: &[u8])
 /// its length in bytes, or 0 if it was not read. One test each recognizes the most common tokens.
 #[tactic(auto, unfolding(marshal_spec::specs::format::Code::kind_of))]
 #[inline(always)]
-fn run_one(first: &Totals, now: &mut Run, builder: &mut Builder, bytes: &[u8]) -> usize
+fn run_one(first: &ReadTotals, now: &mut Run, builder: &mut Builder, bytes: &[u8]) -> usize
     requires some { 0 < length bytes.now }
     requires open { 0 < now.old.pending }
-    requires runs { (n : ℕ) × (header : List ℕ) × (before : List (List ℕ)) × (position : Totals)
-        × (from : Left) × (left : Left) × Stands first.now n header before position left builder.old
+    requires runs { (n : ℕ) × (header : List ℕ) × (before : List (List ℕ)) × (position : ReadTotals)
+        × (from : RemainingRoom) × (left : RemainingRoom)
+        × Stands first.now n header before position left builder.old
         × Runs from left now.old × HasEnough left }
-    ensures { (n : ℕ) (header : List ℕ) (before : List (List ℕ)) (position : Totals)
-        (from left : Left)
+    ensures { (n : ℕ) (header : List ℕ) (before : List (List ℕ)) (position : ReadTotals)
+        (from left : RemainingRoom)
         → Stands first.now n header before position left builder.old → Runs from left now.old
         → HasEnough left
         → RunsOn first.now n header before bytes.now position from left now.old builder.old now.new
@@ -144,7 +147,7 @@ fn run_one(first: &Totals, now: &mut Run, builder: &mut Builder, bytes: &[u8]) -
 /// the state of the run. This function is not inlined, so that it has all registers.
 #[inline(never)]
 fn run_all(
-    first: &Totals,
+    first: &ReadTotals,
     begun: Run,
     builder: &mut Builder,
     bytes: &[u8],
@@ -152,10 +155,10 @@ fn run_all(
 ) -> (usize, Run)
     requires open { 0 < begun.pending }
     requires within { most ≤ length bytes.now }
-    requires runs { (limit : ℕ) × (taken : List ℕ) × (from : Left)
+    requires runs { (limit : ℕ) × (taken : List ℕ) × (from : RemainingRoom)
         × LeadsAs (Some first.now) limit taken builder.old [] × Leaves first.now 0 first.now from
         × Runs from from begun × HasPlenty from most }
-    ensures { (limit : ℕ) (taken : List ℕ) (from : Left)
+    ensures { (limit : ℕ) (taken : List ℕ) (from : RemainingRoom)
         → LeadsAs (Some first.now) limit taken builder.old [] → Leaves first.now 0 first.now from
         → Runs from from begun → HasPlenty from most
         → RunsAll first.now limit taken bytes.now from result.1 builder.new result.0 }
@@ -184,8 +187,8 @@ fn within(most: usize, len: usize) -> usize
 /// Reads a run of common tokens, if there is enough room for those that begin in the first `most`
 /// bytes. Returns their length in bytes.
 pub fn run(
-    first: &Totals,
-    left: &mut Left,
+    first: &ReadTotals,
+    left: &mut RemainingRoom,
     builder: &mut Builder,
     bytes: &[u8],
     most: usize,

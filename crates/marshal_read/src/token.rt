@@ -10,7 +10,7 @@ ghost use Rattle.marshal_spec.specs.format.Words.{of_object, fields};
 
 use base_data::model::bytes::big_endian;
 use base_data::model::code::{CodeKind, CustomKind, Measure};
-use marshal_codec::codes::Known;
+use marshal_codec::codes::KnownKind;
 use marshal_codec::customs::ident;
 
 /// Returns the number of bytes that every token of the kind has after its code.
@@ -116,7 +116,7 @@ pub fn custom_len(custom: Option<CustomKind>, kind: u8) -> u64
 }
 
 /// Returns the number of bytes that the token has after the fixed bytes of its kind.
-pub fn variable_len(kind: Known, rest: &[u8]) -> u128
+pub fn variable_len(kind: KnownKind, rest: &[u8]) -> u128
     requires whole { field_bytes kind.kind ≤ length rest.now }
     ensures { result ≡ variable_bytes kind.kind rest.now }
 {
@@ -156,7 +156,7 @@ pub fn custom_measure_of(custom: Option<CustomKind>) -> Option<Measure>
 }
 
 /// Returns the measure of the object that the token makes, if it makes one.
-pub fn measure_at(kind: Known, rest: &[u8]) -> Option<Measure>
+pub fn measure_at(kind: KnownKind, rest: &[u8]) -> Option<Measure>
     requires whole { field_bytes kind.kind ≤ length rest.now }
     ensures measure { result ≡ measure_after kind.kind rest.now }
     ensures few { of_object fields result < 2 ^ 60 }

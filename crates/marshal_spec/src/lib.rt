@@ -2,7 +2,7 @@
 //!
 //! It owns the definitions of token codes, headers, tokens, trees of tokens, the steps that refuse
 //! bytes, prefixes, and streams of values. They follow `intext.h`, `intern.c` and `extern.c`; the
-//! limits, the offsets in refusals, and which bytes may still become a value are definitions of
+//! limits, the offsets in refusals, and which bytes are incomplete are definitions of
 //! this project.
 //!
 //! - `format`: When bytes encode a tree of tokens (`EncodedUnder`), are a prefix of an encoding

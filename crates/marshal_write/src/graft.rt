@@ -6,7 +6,7 @@ mod blank;
 mod copy;
 mod fill;
 mod laws;
-mod order;
+mod write_order;
 
 pub use copy::append_copy;
 pub use laws::copies_are_the_same;

@@ -11,7 +11,7 @@ mod marks;
 mod measure;
 mod numbers;
 mod text;
-mod walk;
+mod write_walk;
 mod writer;
 mod writer32;
 

@@ -19,7 +19,7 @@ ghost use Rattle.run_types.specs.Types.{GivesScript, FindsTypeIn, FindsScriptIn}
 use crate::fetch::{Fetch, fetch_file};
 use crate::gather::{Gathered, InputEnd};
 use crate::requested::{Prepared, Requested};
-use base_data::lines::Positions;
+use base_data::lines::PositionStyle;
 use base_data::model::list::List;
 use base_io::Opener;
 use cli_errors::made::{refused_line, refused_type, unopened_file};
@@ -38,7 +38,7 @@ use types_wellformed::declarations::{
 fn declarations_exit(alloc: Global, lines: bool, text: &[u8], fault: &DeclFault) -> Exit
     ensures { IsDeclarationsExit lines text.now fault.now result }
 {
-    match fault_text(alloc, &Positions::of_text(lines, text), fault) {
+    match fault_text(alloc, &PositionStyle::of_text(lines, text), fault) {
         Ok(refusal) => Exit::Declarations(refusal),
         Err(_) => Exit::Memory,
     }
@@ -48,7 +48,7 @@ fn declarations_exit(alloc: Global, lines: bool, text: &[u8], fault: &DeclFault)
 fn type_exit(alloc: Global, lines: bool, text: &[u8], fault: &DeclFault) -> Exit
     ensures { IsTypeExit lines text.now fault.now result }
 {
-    match fault_text(alloc, &Positions::of_text(lines, text), fault) {
+    match fault_text(alloc, &PositionStyle::of_text(lines, text), fault) {
         Ok(refusal) => Exit::RequestedType(refusal),
         Err(_) => Exit::Memory,
     }
@@ -69,7 +69,7 @@ fn lexer_exit(alloc: Global, lines: bool, number: usize, fault: LexFault) -> Exi
     ensures { IsOrMemory (script_line number (text_of_lexer (position_on lines number) fault))
         result }
 {
-    match lexer_text(alloc, &Positions::of_line(lines, number as u64), fault) {
+    match lexer_text(alloc, &PositionStyle::of_line(lines, number as u64), fault) {
         Ok(refusal) => Exit::Script(number, refusal),
         Err(_) => Exit::Memory,
     }
@@ -81,7 +81,11 @@ fn syntax_exit(alloc: Global, lines: bool, number: usize, position: usize) -> Ex
         (script_line number
         (placed_text (codes "Syntax") (position_on lines number position))) result }
 {
-    match syntax_text(alloc, &Positions::of_line(lines, number as u64), position) {
+    match syntax_text(
+        alloc,
+        &PositionStyle::of_line(lines, number as u64),
+        position,
+    ) {
         Ok(refusal) => Exit::Script(number, refusal),
         Err(_) => Exit::Memory,
     }

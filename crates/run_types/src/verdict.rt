@@ -13,7 +13,7 @@ use base_data::model::Memory;
 use check_fault::laws::texts_are_of_types;
 use check_fault::{find_near, write_fault, write_missed, write_near};
 use check_heap::check::{Steps, Verdict, check};
-use check_stream::search::{Found, found_has_line};
+use check_stream::search::{FoundMismatch, found_has_line};
 use cli_errors::write::write;
 use marshal_heap::heap::Rooted;
 use std::alloc::Global;
@@ -90,7 +90,7 @@ pub fn write_missed_no(
     text: &mut Vec<u8>,
     alloc: Global,
     requested: &Requested,
-    found: &Found,
+    found: &FoundMismatch,
 ) -> Result<(), Memory>
     requires number { found.now.ty < length requested.now.table.nodes }
     ensures { OnOk result ((limit n : ℕ) (bytes : List ℕ)

@@ -3,7 +3,7 @@ use Rattle.std.proofs.Common.{◌≡◌, ◌⊎◌, ℕ, zero, suc, Bool, true, 
 use Rattle.cli_spec.specs.declared.status.Status.{Status}
 use Rattle.std.specs.Borrow.{Bor}
 use Rattle.cli_spec.specs.Outcome.{Found, unfetched, AskedType, asked_with, Request, get, edit, dump, compare, Asks, ReadsTypeOf, ReadsScriptOf, dumps, compares}
-use Rattle.cli_spec.specs.declared.reading.Reading.{Reading}
+use Rattle.cli_spec.specs.declared.read_options.ReadOptions.{ReadOptions}
 use Rattle.cli_spec.specs.declared.style.Style.{Style}
 use Rattle.cli_spec.specs.declared.exit.Exit.{Exit}
 use Rattle.cli_spec.specs.declared.exit.Exit.TheVariants.{BadPath as bad_path, Memory as out_of_memory}
@@ -60,7 +60,7 @@ none_fetched : (arguments : List (List ℕ)) (files : FilesState) → FetchesFor
 none_fetched arguments = nothing_fetched on_values_after arguments 2 values_in_turns
 
 -- PATH is not a path, or memory ran out.
-pub path_account : (arguments : List (List ℕ)) (name type text : List ℕ) (style : Style) (lines : Bool) (reading : Reading) → Asks arguments (get name type text style lines reading)
+pub path_account : (arguments : List (List ℕ)) (name type text : List ℕ) (style : Style) (lines : Bool) (reading : ReadOptions) → Asks arguments (get name type text style lines reading)
     → (fault : PathFault) → UnlessMemory (λ f. IsAnswer text (Err f)) fault → (exit : Exit) → IsPathExit fault exit
     → (input out : ByteState) (files : FilesState) (err : Change ByteState) (status : Status)
     → Reports exit err status → Account on_values_after arguments (call (change input input) (change files files) (change out out) err status)
@@ -72,7 +72,7 @@ path_account arguments name type text style lines reading asks fault refused exi
           inl (subst (λ s. Prepares on_values_after arguments nothing_found (Err s)) (sym is)
           (Ok (get name type text style lines reading), asks, (Err bad_path, (Err bad_path, (path_refused text fault some refused, refl), refl), refl)))
 
-module _ (arguments : List (List ℕ)) (name : List ℕ) (type : AskedType) (query : Query) (reading : Reading) (asks : AsksToReport arguments name type (query_of query) reading) (files : Change FilesState) (found : Found) (fetched : Fetched files name found) where
+module _ (arguments : List (List ℕ)) (name : List ℕ) (type : AskedType) (query : Query) (reading : ReadOptions) (asks : AsksToReport arguments name type (query_of query) reading) (files : Change FilesState) (found : Found) (fetched : Fetched files name found) where
   is_wanted : WantsFile declared_types asks.request name
   is_wanted = record { has_path = asks.has_path; type = type; typed = asks.typed }
 
@@ -113,7 +113,7 @@ module _ (arguments : List (List ℕ)) (name : List ℕ) (type : AskedType) (que
 -- ---- SCRIPT
 
 -- FILE or TYPE cannot be read.
-module _ (arguments : List (List ℕ)) (file type script : List ℕ) (compat lines decimal : Bool) (reading : Reading) (asks : Asks arguments (edit file type script compat lines decimal reading)) (files : Change FilesState) (found : Found)
+module _ (arguments : List (List ℕ)) (file type script : List ℕ) (compat lines decimal : Bool) (reading : ReadOptions) (asks : Asks arguments (edit file type script compat lines decimal reading)) (files : Change FilesState) (found : Found)
     (fetched : Fetched files file found) where
   abbrev file_found : Fetches
   file_found = two_found found unfetched
@@ -137,7 +137,7 @@ module _ (arguments : List (List ℕ)) (file type script : List ℕ) (compat lin
   file_account exit gives input out err status r = exit_account on_values_after arguments file_found input out files file_fetches err status exit (file_gives exit gives) r
 
 -- FILE and TYPE are read, and SCRIPT is next.
-module _ (arguments : List (List ℕ)) (r : Bor Prepared) (script : List ℕ) (compat : Bool) (reading : Reading) (a b c : FilesState) (asks : AsksToEdit arguments r.now script compat reading (change a b))
+module _ (arguments : List (List ℕ)) (r : Bor Prepared) (script : List ℕ) (compat : Bool) (reading : ReadOptions) (a b c : FilesState) (asks : AsksToEdit arguments r.now script compat reading (change a b))
     (found : Found) (fetched : Fetched (change b c) script found) where
   abbrev both_found : Fetches
   both_found = two_found asks.found found
@@ -194,7 +194,7 @@ module _ (arguments : List (List ℕ)) (r : Bor Prepared) (script : List ℕ) (c
       does arguments both_found (change a c) both_fetched
       (Ok request, asks.asks, (refl, (refl, (Ok (task_of value_task).work, (Ok (type_over r.now), asks.gives.0, (Ok s.now.lines, read, refl)), refl))))
 
-module _ (arguments : List (List ℕ)) (reading : Reading) (files : FilesState) (input out err : Change ByteState) (status : Status) where
+module _ (arguments : List (List ℕ)) (reading : ReadOptions) (files : FilesState) (input out err : Change ByteState) (status : Status) where
   -- The untyped dumps of the values are written.
   pub dump_account : Asks arguments (dump reading) → DoesValueTask (value_tasks.Print printings.Dump reading.limit) (passed_in reading) reading.only input out err status → Account on_values_after arguments (call input (change files files) out err status)
   dump_account asks does = does arguments nothing_found (change files files) (none_fetched arguments files) (Ok (dump reading), asks, (refl, (refl, (Ok dumps, refl, refl))))

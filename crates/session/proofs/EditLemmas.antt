@@ -17,7 +17,7 @@ use Rattle.base_data.specs.lines.Lines.{position_on}
 use Rattle.edit_values.specs.Reasons.{Reason, no_field, no_literal, misread, ill_typed, reason_text, reason_or_none, literal_reason, reason_of}
 use Rattle.edit_values.specs.declared.refusal.EditRefusal.{EditRefusal}
 use Rattle.edit_values.specs.declared.refusal.EditRefusal.TheVariants as refusals
-use Rattle.edit_values.specs.declared.refusal.Side.{Side}
+use Rattle.edit_values.specs.declared.refusal.EditSide.{EditSide}
 use Rattle.types_spec.specs.declared.types.fault.Fault.{Fault}
 use Rattle.text_literal.specs.parser.Reading.{mismatch_at, int_range_at, label_at}
 use Rattle.text_literal.specs.declared.parser.fault.LiteralFault.{LiteralFault}
@@ -88,7 +88,7 @@ literal_known (literals.Label position) some = (misread (label_at position), ref
 literal_known literals.Memory some = absurd (some refl)
 
 -- A missing step and a value that would lose its type have reasons.
-pub step_known : (refusal : EditRefusal) (side : Side) (step : ℕ) → refusal ≡ refusals.NoField side step → (reason : Reason ℕ) × (reason_of refusal ≡ Some reason)
+pub step_known : (refusal : EditRefusal) (side : EditSide) (step : ℕ) → refusal ≡ refusals.NoField side step → (reason : Reason ℕ) × (reason_of refusal ≡ Some reason)
 step_known refusal side step is = (no_field side step, ap reason_of is)
 
 pub type_known : (refusal : EditRefusal) (fault : Fault) → refusal ≡ refusals.IllTyped fault → (reason : Reason ℕ) × (reason_of refusal ≡ Some reason)

@@ -28,7 +28,7 @@ use Rattle.types_table.specs.type_table.Made.{types_of, table_of}
 use Rattle.check_stream.specs.theory.OnePass.{IsTypedPrefix}
 use Rattle.check_stream.specs.declared.chunks.stream_check.StreamCheck.{StreamCheck}
 use Rattle.check_stream.specs.chunks.StreamCheck.{IsTypedNext, IsMissedNext, held}
-use Rattle.check_stream.specs.declared.search.mismatch.Found.{Found}
+use Rattle.check_stream.specs.declared.search.mismatch.FoundMismatch.{FoundMismatch}
 use Rattle.check_stream.specs.search.Find.{IsFound}
 use Rattle.cli_spec.specs.RefusalText.{truncated_text}
 use Rattle.cli_spec.specs.Outcome as outcome
@@ -86,7 +86,7 @@ yes_next r ready first decide limit old chunk new n it = record {
 
 -- If a value has exactly one mismatch, then the line of this mismatch is the verdict.
 pub no_prefix :
-    (r : Prepared) (limit n : ℕ) (bytes : List ℕ) (found : Found) (f : IsFound (table_of r.table) limit n bytes found) (text : List ℕ) → WritesNo (type_over r) (objects_of f.prefix.tree 0) (root f.prefix.tree 0) [] text
+    (r : Prepared) (limit n : ℕ) (bytes : List ℕ) (found : FoundMismatch) (f : IsFound (table_of r.table) limit n bytes found) (text : List ℕ) → WritesNo (type_over r) (objects_of f.prefix.tree 0) (root f.prefix.tree 0) [] text
     → IsVerdictOn r limit n bytes (no_in (line text))
 no_prefix r limit n bytes found f text writes =
     let write = no_line outcome.the_verdict r (objects_of f.prefix.tree 0) (root f.prefix.tree 0) [] text writes in record {
@@ -96,12 +96,12 @@ no_prefix r limit n bytes found f text writes =
       outputs = (write.0, write.1, ap line write.2);
     }
 
-same_found : (found other : Found) (holds : Option Found) → holds ≡ Some found → holds ≡ Some other → found ≡ other
+same_found : (found other : FoundMismatch) (holds : Option FoundMismatch) → holds ≡ Some found → holds ≡ Some other → found ≡ other
 same_found found other holds is also = let same : Some found ≡ Some other = sym is ∙ also in cc same
 
 -- The line of the mismatch is reported.
 pub no_next :
-    (r : Prepared) (limit : ℕ) (old : StreamCheck) (chunk : List ℕ) (new : StreamCheck) (n : ℕ) → IsMissedNext (table_of r.table) limit old chunk new n → (found : Found) → held new ≡ Some found → (text : List ℕ)
+    (r : Prepared) (limit : ℕ) (old : StreamCheck) (chunk : List ℕ) (new : StreamCheck) (n : ℕ) → IsMissedNext (table_of r.table) limit old chunk new n → (found : FoundMismatch) → held new ≡ Some found → (text : List ℕ)
     → ((limit n : ℕ) (bytes : List ℕ) → IsFound (table_of r.table) limit n bytes found → IsVerdictOn r limit n bytes (no_in text)) → IsVerdictNext r limit old chunk new n (no_in text)
 no_next r limit old chunk new n it found holds text outputs =
     let same : it.missed.0 ≡ found = same_found it.missed.0 found (held new) it.missed.1 holds in

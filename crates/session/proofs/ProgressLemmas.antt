@@ -30,7 +30,7 @@ use Rattle.session.specs.declared.edit.Edits.{Edits}
 use Rattle.session.specs.declared.verdict.Query.TheVariants as queries
 use Rattle.session.specs.declared.verdict.Printing.TheVariants as printings
 use Rattle.session.specs.FastCheck.{IsBetween, Later, verdict_value_task}
-use Rattle.session.specs.Progress.{IsGlanced, HasTaken}
+use Rattle.session.specs.Progress.{IsChecked, HasTaken}
 use Rattle.session.specs.Values.{MayTake, HasRead, task_of, word_limit}
 use Rattle.marshal_read.specs.declared.reader.Reader.{Reader}
 use Rattle.marshal_read.specs.declared.reader.Fed.{Fed}
@@ -67,23 +67,23 @@ none_kept g taken before none whole = sym (whole ∙ (ap (λ kept. before ++ kep
 pub all_read : (w : ValueTask) (values : Values) (g : StreamCheck) (taken : List ℕ) (output : List Output) → g.kept.items ≡ [] → HasTaken w values g taken output → HasRead w values taken output
 all_read w values g taken output none h = subst (λ bytes. HasRead w values bytes output) (none_kept g taken h.before none h.whole) h.read
 
-pub read_taken : (w : ValueTask) (values : Values) (g : StreamCheck) (taken : List ℕ) (output : List Output) → g.kept.items ≡ [] → IsGlanced w values g → HasRead w values taken output → HasTaken w values g taken output
-read_taken w values g taken output none glanced h = record {
+pub read_taken : (w : ValueTask) (values : Values) (g : StreamCheck) (taken : List ℕ) (output : List Output) → g.kept.items ≡ [] → IsChecked w values g → HasRead w values taken output → HasTaken w values g taken output
+read_taken w values g taken output none checked h = record {
   before = taken;
   whole = sym (ap (λ kept. taken ++ kept) none ∙ append-nil taken);
   read = h;
-  glanced = glanced;
+  checked = checked;
 }
 
 -- No bytes are kept, whatever was checked.
-pub fresh_glanced : (w : ValueTask) (values : Values) (g : StreamCheck) → g.kept.items ≡ [] → ((r : Bor Prepared) (limit : ℕ) → IsStreamCheck (table_of r.now.table) limit g) → IsGlanced w values g
-fresh_glanced (value_tasks.Print (printings.Report r queries.Verdict) limit) values g none stream_check = (stream_check r limit, inl none)
-fresh_glanced (value_tasks.Print (printings.Report r (queries.Text style)) limit) values g none stream_check = none
-fresh_glanced (value_tasks.Print (printings.Report r (queries.Part path style)) limit) values g none stream_check = none
-fresh_glanced (value_tasks.Print (printings.Report r queries.Trees) limit) values g none stream_check = none
-fresh_glanced (value_tasks.Print printings.Dump limit) values g none stream_check = none
-fresh_glanced (value_tasks.Edit e limit) values g none stream_check = (stream_check e.requested limit, inl none)
-fresh_glanced (value_tasks.Compare limit) values g none stream_check = none
+pub fresh_checked : (w : ValueTask) (values : Values) (g : StreamCheck) → g.kept.items ≡ [] → ((r : Bor Prepared) (limit : ℕ) → IsStreamCheck (table_of r.now.table) limit g) → IsChecked w values g
+fresh_checked (value_tasks.Print (printings.Report r queries.Verdict) limit) values g none stream_check = (stream_check r limit, inl none)
+fresh_checked (value_tasks.Print (printings.Report r (queries.Text style)) limit) values g none stream_check = none
+fresh_checked (value_tasks.Print (printings.Report r (queries.Part path style)) limit) values g none stream_check = none
+fresh_checked (value_tasks.Print (printings.Report r queries.Trees) limit) values g none stream_check = none
+fresh_checked (value_tasks.Print printings.Dump limit) values g none stream_check = none
+fresh_checked (value_tasks.Edit e limit) values g none stream_check = (stream_check e.requested limit, inl none)
+fresh_checked (value_tasks.Compare limit) values g none stream_check = none
 
 -- The kept bytes are a prefix of the next value.
 pub record IsKeptPrefix (w : ValueTask) (values : Values) (g : StreamCheck) : Type 0 where
@@ -92,7 +92,7 @@ pub record IsKeptPrefix (w : ValueTask) (values : Values) (g : StreamCheck) : Ty
   pub between : IsBetween values
   pub may : (n : ℕ) → MayTake w n
 
-pub kept_prefix : (w : ValueTask) (values : Values) (g : StreamCheck) → IsGlanced w values g → (g.kept.items ≡ []) ⊎ IsKeptPrefix w values g
+pub kept_prefix : (w : ValueTask) (values : Values) (g : StreamCheck) → IsChecked w values g → (g.kept.items ≡ []) ⊎ IsKeptPrefix w values g
 kept_prefix (value_tasks.Print (printings.Report r queries.Verdict) limit) values g (stream_check, inl none) = inl none
 kept_prefix (value_tasks.Print (printings.Report r queries.Verdict) limit) values g (stream_check, inr between) =
     inr (record { bytes = stream_check.bytes; is_prefix = stream_check.is_prefix; between = between; may = λ n. tt })
@@ -111,7 +111,7 @@ module _ (w : ValueTask) (values : Values) (g : StreamCheck) (taken : List ℕ) 
   holds_taken = ⊎_elim
       (λ none. holds w taken output values (all_read w values g taken output none h))
       (λ (k : IsKeptPrefix w values g). subst (λ bytes. HaveNoExit (commands declared_types) (task_of w) bytes output) (sym h.whole) (holds_kept w h.before output values h.read k.between g.kept.items (k.may (length h.read.trees)) k.bytes k.is_prefix))
-      (kept_prefix w values g h.glanced)
+      (kept_prefix w values g h.checked)
 
   -- Memory ran out.
   pub memory_aborts_taken : (buffered : List ℕ) (o : ByteState) → AbortsIn (commands declared_types) (task_of w) taken buffered output (change o o) (aborts.Exit out_of_memory)
@@ -127,14 +127,14 @@ module _ (w : ValueTask) (values : Values) (g : StreamCheck) (taken : List ℕ) 
       subst (λ bytes. (holds : HaveNoExit (commands declared_types) (task_of w) bytes output) × WritesLast (commands declared_types) (task_of w) output holds.items holds.rest (change o o) (Err (aborts.Exit exit)))
       (sym h.whole)
       (holds_kept w h.before output values h.read k.between g.kept.items may k.bytes k.is_prefix, ends_kept w h.before output values h.read k.between g.kept.items may k.bytes k.is_prefix some o exit known))
-      (kept_prefix w values g h.glanced)
+      (kept_prefix w values g h.checked)
 
   -- The reader takes the kept bytes.
   pub kept_read : (new : Values) → ((taken : List ℕ) → HasRead w values taken output → MayTake w values.count → HasRead w new (taken ++ g.kept.items) output) → (g.kept.items ≡ [] → ⊥) → HasRead w new taken output
   kept_read new reads some = ⊎_elim
       (λ none. absurd (some none))
       (λ (k : IsKeptPrefix w values g). subst (λ bytes. HasRead w new bytes output) (sym h.whole) (reads h.before h.read (k.may values.count)))
-      (kept_prefix w values g h.glanced)
+      (kept_prefix w values g h.checked)
 
 -- All current bytes were kept.
 pub more_taken :
@@ -146,7 +146,7 @@ more_taken r limit values old new taken output buffered due same stream_check h 
       before = h.before;
       whole = ap (λ rest. taken ++ rest) all ∙ (ap (λ bytes. bytes ++ buffered) h.whole ∙ (append_assoc h.before old.kept.items buffered ∙ ap (λ kept. h.before ++ kept) (sym same)));
       read = h.read;
-      glanced = (stream_check, inr (⊎_elim due (λ between. between) h.glanced.1));
+      checked = (stream_check, inr (⊎_elim due (λ between. between) h.checked.1));
     })
 
 -- The reader takes a prefix of the next value.
@@ -169,12 +169,12 @@ module _ (w : ValueTask) (r : Bor Prepared) (limit : ℕ) (is : IsVerdict w r li
   pub ready_to_inspect : (taken : List ℕ) (output : List Output) → HasTaken w values g taken output → IsStreamCheck (table_of r.now.table) limit g
   ready_to_inspect taken output =
       let P : ValueTask → Type 0 = λ w. HasTaken w values g taken output → IsStreamCheck (table_of r.now.table) limit g in
-      subst P (sym is) (λ h. h.glanced.0)
+      subst P (sym is) (λ h. h.checked.0)
 
   pub is_between : (taken : List ℕ) (output : List Output) → (g.kept.items ≡ [] → IsBetween values) → HasTaken w values g taken output → IsBetween values
   is_between taken output due =
       let P : ValueTask → Type 0 = λ w. HasTaken w values g taken output → IsBetween values in
-      subst P (sym is) (λ h. ⊎_elim due (λ between. between) h.glanced.1)
+      subst P (sym is) (λ h. ⊎_elim due (λ between. between) h.checked.1)
 
   pub short_before : (taken : List ℕ) (output : List Output) (more : ℕ) → length taken + more < 2 ^ 63 → HasTaken w values g taken output
       → (before : List ℕ) × (output : List Output) × HasRead (verdict_value_task r limit) values before output × (length before < 2 ^ 63)
@@ -216,7 +216,7 @@ module _ (w : ValueTask) (r : Bor Prepared) (limit : ℕ) (is : IsVerdict w r li
         before = h.before;
         whole = h.whole ∙ ap (λ kept. h.before ++ kept) (sym same);
         read = h.read;
-        glanced = (stream_check, ⊎_elim (λ none. inl (same ∙ none)) (λ between. inr between) h.glanced.1);
+        checked = (stream_check, ⊎_elim (λ none. inl (same ∙ none)) (λ between. inr between) h.checked.1);
       })
 
 -- ---- edits
@@ -226,7 +226,7 @@ module _ (w : ValueTask) (e : Edits) (limit : ℕ) (is : w ≡ value_tasks.Edit 
   pub ready_to_leave : (taken : List ℕ) (output : List Output) → HasTaken w values g taken output → IsStreamCheck (table_of e.requested.now.table) limit g
   ready_to_leave taken output =
       let P : ValueTask → Type 0 = λ w. HasTaken w values g taken output → IsStreamCheck (table_of e.requested.now.table) limit g in
-      subst P (sym is) (λ h. h.glanced.0)
+      subst P (sym is) (λ h. h.checked.0)
 
   pub short_edited : (taken : List ℕ) (output : List Output) (more : ℕ) → length taken + more < 2 ^ 63 → HasTaken w values g taken output
       → (before : List ℕ) × (output : List Output) × HasRead (value_tasks.Edit e limit) values before output × (length before < 2 ^ 63)
@@ -267,7 +267,7 @@ module _ (w : ValueTask) (e : Edits) (limit : ℕ) (is : w ≡ value_tasks.Edit 
             before = bytes;
             whole = ap (λ rest. bytes ++ rest) (all ∙ sym same);
             read = all_read v values g bytes output none h;
-            glanced = (stream_check, inr between);
+            checked = (stream_check, inr between);
           }),
           writes_nothing o,
         ),
@@ -289,11 +289,11 @@ read_feeds w w' same values new g g' g'' buffered out result to feeds =
     (feeds_weaker (commands declared_types) (task_of w) (HasTaken w values g') (HasTaken w values g) (HasTaken w new g'') (HasTaken w new g'') buffered out result to (λ bytes output h. h) feeds)
 
 -- If no bytes are kept, then the earlier checks do not matter.
-pub glanced_any : (w : ValueTask) (old new : Values) (g : StreamCheck) → g.kept.items ≡ [] → IsGlanced w old g → IsGlanced w new g
-glanced_any (value_tasks.Print (printings.Report r queries.Verdict) limit) old new g none glanced = (glanced.0, inl none)
-glanced_any (value_tasks.Print (printings.Report r (queries.Text style)) limit) old new g none glanced = none
-glanced_any (value_tasks.Print (printings.Report r (queries.Part path style)) limit) old new g none glanced = none
-glanced_any (value_tasks.Print (printings.Report r queries.Trees) limit) old new g none glanced = none
-glanced_any (value_tasks.Print printings.Dump limit) old new g none glanced = none
-glanced_any (value_tasks.Edit e limit) old new g none glanced = (glanced.0, inl none)
-glanced_any (value_tasks.Compare limit) old new g none glanced = none
+pub checked_any : (w : ValueTask) (old new : Values) (g : StreamCheck) → g.kept.items ≡ [] → IsChecked w old g → IsChecked w new g
+checked_any (value_tasks.Print (printings.Report r queries.Verdict) limit) old new g none checked = (checked.0, inl none)
+checked_any (value_tasks.Print (printings.Report r (queries.Text style)) limit) old new g none checked = none
+checked_any (value_tasks.Print (printings.Report r (queries.Part path style)) limit) old new g none checked = none
+checked_any (value_tasks.Print (printings.Report r queries.Trees) limit) old new g none checked = none
+checked_any (value_tasks.Print printings.Dump limit) old new g none checked = none
+checked_any (value_tasks.Edit e limit) old new g none checked = (checked.0, inl none)
+checked_any (value_tasks.Compare limit) old new g none checked = none

@@ -1,6 +1,6 @@
 -- The arguments of a command, after the type and the script were read.
 use Rattle.std.specs.Prelude.{ℕ, Bool, List, Ok}
-use Rattle.cli_spec.specs.declared.reading.Reading.{Reading}
+use Rattle.cli_spec.specs.declared.read_options.ReadOptions.{ReadOptions}
 use Rattle.cli_spec.specs.Outcome.{Found, AskedType, Query}
 use Rattle.base_io.specs.State.{FilesState, Change, change}
 use Rattle.text_path.specs.declared.edits.Script.{Script}
@@ -11,7 +11,7 @@ use Rattle.run_types.specs.Types.{GivesType, GivesScript}
 
 -- FILE and TYPE gave this type, and the arguments request this report.
 pub record AsksToPrint (arguments : List (List ℕ)) (r : Prepared) (query : Query)
-    (reading : Reading) (files : Change FilesState) : Type 0 where
+    (reading : ReadOptions) (files : Change FilesState) : Type 0 where
   pub file : List ℕ
   pub type : AskedType
   pub asks : AsksToReport arguments file type query reading
@@ -21,7 +21,7 @@ pub record AsksToPrint (arguments : List (List ℕ)) (r : Prepared) (query : Que
 
 -- FILE and TYPE gave this type, and SCRIPT gave these lines.
 pub record AsksForLines (arguments : List (List ℕ)) (r : Prepared) (script : Script) (compat : Bool)
-    (reading : Reading) (files : Change FilesState) : Type 0 where
+    (reading : ReadOptions) (files : Change FilesState) : Type 0 where
   pub name : List ℕ
   pub between : FilesState
   pub asks : AsksToEdit arguments r name compat reading (change files.before between)

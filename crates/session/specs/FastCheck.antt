@@ -20,8 +20,8 @@ use Rattle.run_types.specs.Types.{type_over}
 use Rattle.run_types.specs.declared.requested.Prepared.{Prepared}
 use Rattle.session.specs.Earlier.{IsUsedUpTo}
 use Rattle.session.specs.declared.edit.Edits.{Edits}
-use Rattle.session.specs.declared.fast_check.Seen.{Seen}
-use Rattle.session.specs.declared.fast_check.Seen.TheVariants as seen
+use Rattle.session.specs.declared.fast_check.FastResult.{FastResult}
+use Rattle.session.specs.declared.fast_check.FastResult.TheVariants as seen
 use Rattle.session.specs.declared.fast_check.Unchanged.{Unchanged}
 use Rattle.session.specs.declared.fast_check.Unchanged.TheVariants as unchanged
 use Rattle.session.specs.declared.values.Values.{Values}
@@ -61,7 +61,8 @@ pub record IsVerdictNext (r : Prepared) (limit : ℕ) (old : StreamCheck) (chunk
 
 -- The result of the streaming check on a chunk. It is the verdict on the value, with this text if
 -- it is `no`. Or more bytes are needed, or the check is inconclusive.
-abbrev pub IsFastCheck : Prepared → ℕ → StreamCheck → List ℕ → StreamCheck → List ℕ → Seen → Type 0
+abbrev pub IsFastCheck : Prepared → ℕ → StreamCheck → List ℕ → StreamCheck → List ℕ → FastResult
+    → Type 0
 IsFastCheck r limit old chunk new text (seen.Yes n) = IsVerdictNext r limit old chunk new n yes
 IsFastCheck r limit old chunk new text (seen.No n) =
     IsVerdictNext r limit old chunk new n (no_in text)

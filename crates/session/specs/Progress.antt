@@ -14,14 +14,14 @@ use Rattle.session.specs.Values.{HasRead}
 
 -- The streaming check keeps bytes only for verdicts and edits, and only of a value of which the
 -- reader has taken none. They are a prefix of that value.
-abbrev pub IsGlanced : ValueTask → Values → StreamCheck → Type 0
-IsGlanced (value_tasks.Print (printings.Report r queries.Verdict) limit) values stream_check =
+abbrev pub IsChecked : ValueTask → Values → StreamCheck → Type 0
+IsChecked (value_tasks.Print (printings.Report r queries.Verdict) limit) values stream_check =
     IsStreamCheck (table_of r.now.table) limit stream_check
     × ((stream_check.kept.items ≡ []) ⊎ IsBetween values)
-IsGlanced (value_tasks.Edit e limit) values stream_check =
+IsChecked (value_tasks.Edit e limit) values stream_check =
     IsStreamCheck (table_of e.requested.now.table) limit stream_check
     × ((stream_check.kept.items ≡ []) ⊎ IsBetween values)
-IsGlanced value_task values stream_check = stream_check.kept.items ≡ []
+IsChecked value_task values stream_check = stream_check.kept.items ≡ []
 
 -- All bytes except the kept ones were read, and this is the output for their values.
 pub record HasTaken
@@ -31,4 +31,4 @@ pub record HasTaken
   pub before : List ℕ
   pub whole : taken ≡ before ++ stream_check.kept.items
   pub read : HasRead value_task values before output
-  pub glanced : IsGlanced value_task values stream_check
+  pub checked : IsChecked value_task values stream_check

@@ -1,6 +1,6 @@
 -- The arguments that request a report on the values at a FILE and a TYPE, or edits by a SCRIPT.
 use Rattle.std.specs.Prelude.{ℕ, ◌≡◌, Bool, false, List, Some, Result, Ok}
-use Rattle.cli_spec.specs.declared.reading.Reading.{Reading}
+use Rattle.cli_spec.specs.declared.read_options.ReadOptions.{ReadOptions}
 use Rattle.cli_spec.specs.Outcome.{Found, Fetches, AskedType, asked_with, Query, Work, Request}
 use Rattle.cli_spec.specs.Outcome.{edit, Asks, typed_by, limit_of, ReportsAt, FindsWork}
 use Rattle.cli_spec.specs.declared.exit.Exit.{Exit}
@@ -16,13 +16,13 @@ use Rattle.run_spec.specs.value_commands.Tasks.{HasPath}
 use Rattle.run_types.specs.Types.{GivesType}
 
 -- Skipped bytes are not written.
-abbrev pub passed_in : Reading → Passed
+abbrev pub passed_in : ReadOptions → Passed
 passed_in reading = record { bytes = reading.skip; copied = false }
 
 -- If there is a PATH, it is a path. The report uses FILE and TYPE.
 pub record AsksToReport (arguments : List (List ℕ)) (name : List ℕ) (type : AskedType)
     (query : Query)
-    (reading : Reading) : Type 0 where
+    (reading : ReadOptions) : Type 0 where
   pub request : Request
   pub asks : Asks arguments request
   pub typed : typed_by request ≡ Some (name, type)
@@ -36,7 +36,7 @@ pub record AsksToReport (arguments : List (List ℕ)) (name : List ℕ) (type : 
 
 -- FILE and TYPE gave this type, and SCRIPT is read next.
 pub record AsksToEdit (arguments : List (List ℕ)) (r : Prepared) (script : List ℕ) (compat : Bool)
-    (reading : Reading) (files : Change FilesState) : Type 0 where
+    (reading : ReadOptions) (files : Change FilesState) : Type 0 where
   pub file : List ℕ
   pub type : List ℕ
   pub lines : Bool

@@ -12,7 +12,7 @@ ghost use Rattle.session.specs.All.{on_texts};
 use base_io::{Opener, Sink, Source};
 use cli_errors::exit::report_exit;
 use cli_spec::status::Status;
-use cmd_build::command::Texts;
+use cmd_build::command::BuildState;
 use run_loop::work::run_reported;
 use run_types::{Requested, find_type};
 use std::alloc::Global;
@@ -30,7 +30,13 @@ fn build_over<S: Source, K: Sink, E: Sink>(
         (change (K.state out.old) (K.state out.new)) (change (E.state err.old) (E.state err.new))
         result }
 {
-    run_reported(alloc, &mut Texts::new(alloc, &requested), input, out, err)
+    run_reported(
+        alloc,
+        &mut BuildState::new(alloc, &requested),
+        input,
+        out,
+        err,
+    )
 }
 
 /// Reads FILE and TYPE, and writes the bytes of the values that the lines denote. Returns the exit

@@ -85,11 +85,11 @@ type EachValue = OnValues<DeclaredTypes>;
 
 type ValuesAtOnce = OnlyCommand<OneByArguments, EachValue>;
 
-type Values = Skipping<ByArguments, ValuesAtOnce>;
+type ValueCommands = Skipping<ByArguments, ValuesAtOnce>;
 
-type Texts = OnTexts<DeclaredTexts>;
+type TextCommands = OnTexts<DeclaredTexts>;
 
-type Made = OnMade<DeclaredTypes>;
+type MadeCommand = OnMade<DeclaredTypes>;
 
 type CertificatesAtOnce = OnCertificates<DeclaredSections>;
 
@@ -99,17 +99,17 @@ type SectionsAtOnce = OnCertified<DeclaredCertificates>;
 
 type Sections = Skipping<ByArguments, SectionsAtOnce>;
 
-type Positions = OnStretches<Scans>;
+type ScanCommand = OnStretches<Scans>;
 
-type ValuesOrTexts = CommandSum<Values, Texts>;
+type ValuesOrTexts = CommandSum<ValueCommands, TextCommands>;
 
 type Others = CommandSum<ValuesOrTexts, Certificates>;
 
-type Items = CommandSum<Others, Sections>;
+type ItemCommands = CommandSum<Others, Sections>;
 
-type Input = CommandSum<Items, Positions>;
+type Input = CommandSum<ItemCommands, ScanCommand>;
 
-type All = CommandSum<Input, Made>;
+type All = CommandSum<Input, MadeCommand>;
 
 /// Proves that the set of all commands is lawful, and that its commands fetch their files in turns.
 pub fn all_commands_are_lawful()
@@ -129,8 +129,8 @@ pub fn all_commands_are_lawful()
     building_is_lawful::<DeclaredTexts>();
     building_takes_turns::<DeclaredTexts>();
     building_stands_disjoint::<DeclaredTexts>();
-    only_command_stands_disjoint::<OneByArguments, EachValue, Texts>();
-    skipping_stands_disjoint::<ByArguments, ValuesAtOnce, Texts>();
+    only_command_stands_disjoint::<OneByArguments, EachValue, TextCommands>();
+    skipping_stands_disjoint::<ByArguments, ValuesAtOnce, TextCommands>();
     verifying_is_lawful::<DeclaredSections>();
     verifying_takes_turns::<DeclaredSections>();
     skipping_is_lawful::<ByArguments, CertificatesAtOnce>();
@@ -138,11 +138,11 @@ pub fn all_commands_are_lawful()
     certificates_stand_disjoint::<DeclaredSections>();
     only_command_stands_disjoint::<OneByArguments, EachValue, CertificatesAtOnce>();
     skipping_stands_disjoint::<ByArguments, ValuesAtOnce, CertificatesAtOnce>();
-    others_stand_disjoint::<ByArguments, CertificatesAtOnce, Values>();
+    others_stand_disjoint::<ByArguments, CertificatesAtOnce, ValueCommands>();
     certificates_stand_disjoint_from_texts::<DeclaredTexts, DeclaredSections>();
-    others_stand_disjoint::<ByArguments, CertificatesAtOnce, Texts>();
+    others_stand_disjoint::<ByArguments, CertificatesAtOnce, TextCommands>();
     certificates_stand_disjoint_from_made::<DeclaredSections, DeclaredTypes>();
-    skipping_stands_disjoint::<ByArguments, CertificatesAtOnce, Made>();
+    skipping_stands_disjoint::<ByArguments, CertificatesAtOnce, MadeCommand>();
     certifying_is_lawful::<DeclaredCertificates>();
     certifying_takes_turns::<DeclaredCertificates>();
     skipping_is_lawful::<ByArguments, SectionsAtOnce>();
@@ -150,51 +150,51 @@ pub fn all_commands_are_lawful()
     sections_stand_disjoint::<DeclaredCertificates>();
     only_command_stands_disjoint::<OneByArguments, EachValue, SectionsAtOnce>();
     skipping_stands_disjoint::<ByArguments, ValuesAtOnce, SectionsAtOnce>();
-    others_stand_disjoint::<ByArguments, SectionsAtOnce, Values>();
+    others_stand_disjoint::<ByArguments, SectionsAtOnce, ValueCommands>();
     sections_stand_disjoint_from_texts::<DeclaredTexts, DeclaredCertificates>();
-    others_stand_disjoint::<ByArguments, SectionsAtOnce, Texts>();
+    others_stand_disjoint::<ByArguments, SectionsAtOnce, TextCommands>();
     sections_stand_disjoint_from_certificates::<DeclaredSections, DeclaredCertificates>();
     skipping_stands_disjoint::<ByArguments, CertificatesAtOnce, SectionsAtOnce>();
     others_stand_disjoint::<ByArguments, SectionsAtOnce, Certificates>();
     sections_stand_disjoint_from_made::<DeclaredCertificates, DeclaredTypes>();
-    skipping_stands_disjoint::<ByArguments, SectionsAtOnce, Made>();
+    skipping_stands_disjoint::<ByArguments, SectionsAtOnce, MadeCommand>();
     searching_is_lawful::<Scans>();
     searching_takes_turns::<Scans>();
     searches_stand_disjoint::<DeclaredTypes>();
-    only_command_stands_disjoint::<OneByArguments, EachValue, Positions>();
-    skipping_stands_disjoint::<ByArguments, ValuesAtOnce, Positions>();
+    only_command_stands_disjoint::<OneByArguments, EachValue, ScanCommand>();
+    skipping_stands_disjoint::<ByArguments, ValuesAtOnce, ScanCommand>();
     searches_stand_disjoint_from_texts::<DeclaredTexts>();
     searches_stand_disjoint_from_certificates::<DeclaredSections>();
-    skipping_stands_disjoint::<ByArguments, CertificatesAtOnce, Positions>();
+    skipping_stands_disjoint::<ByArguments, CertificatesAtOnce, ScanCommand>();
     searches_stand_disjoint_from_sections::<DeclaredCertificates>();
-    skipping_stands_disjoint::<ByArguments, SectionsAtOnce, Positions>();
+    skipping_stands_disjoint::<ByArguments, SectionsAtOnce, ScanCommand>();
     searches_stand_disjoint_from_made::<DeclaredTypes>();
     gen_spec_is_lawful::<DeclaredTypes>();
     gen_spec_takes_turns::<DeclaredTypes>();
     made_stands_disjoint::<DeclaredTypes>();
-    only_command_stands_disjoint::<OneByArguments, EachValue, Made>();
-    skipping_stands_disjoint::<ByArguments, ValuesAtOnce, Made>();
+    only_command_stands_disjoint::<OneByArguments, EachValue, MadeCommand>();
+    skipping_stands_disjoint::<ByArguments, ValuesAtOnce, MadeCommand>();
     made_stands_disjoint_from_texts::<DeclaredTexts, DeclaredTypes>();
-    command_sums_are_lawful::<Values, Texts>();
-    command_sums_take_turns::<Values, Texts>();
-    command_sums_are_disjoint::<Values, Texts, Certificates>();
+    command_sums_are_lawful::<ValueCommands, TextCommands>();
+    command_sums_take_turns::<ValueCommands, TextCommands>();
+    command_sums_are_disjoint::<ValueCommands, TextCommands, Certificates>();
     command_sums_are_lawful::<ValuesOrTexts, Certificates>();
     command_sums_take_turns::<ValuesOrTexts, Certificates>();
-    command_sums_are_disjoint::<Values, Texts, Sections>();
+    command_sums_are_disjoint::<ValueCommands, TextCommands, Sections>();
     command_sums_are_disjoint::<ValuesOrTexts, Certificates, Sections>();
     command_sums_are_lawful::<Others, Sections>();
     command_sums_take_turns::<Others, Sections>();
-    command_sums_are_disjoint::<Values, Texts, Positions>();
-    command_sums_are_disjoint::<ValuesOrTexts, Certificates, Positions>();
-    command_sums_are_disjoint::<Others, Sections, Positions>();
-    command_sums_are_lawful::<Items, Positions>();
-    command_sums_take_turns::<Items, Positions>();
-    command_sums_are_disjoint::<Values, Texts, Made>();
-    command_sums_are_disjoint::<ValuesOrTexts, Certificates, Made>();
-    command_sums_are_disjoint::<Others, Sections, Made>();
-    command_sums_are_disjoint::<Items, Positions, Made>();
-    command_sums_are_lawful::<Input, Made>();
-    command_sums_take_turns::<Input, Made>();
+    command_sums_are_disjoint::<ValueCommands, TextCommands, ScanCommand>();
+    command_sums_are_disjoint::<ValuesOrTexts, Certificates, ScanCommand>();
+    command_sums_are_disjoint::<Others, Sections, ScanCommand>();
+    command_sums_are_lawful::<ItemCommands, ScanCommand>();
+    command_sums_take_turns::<ItemCommands, ScanCommand>();
+    command_sums_are_disjoint::<ValueCommands, TextCommands, MadeCommand>();
+    command_sums_are_disjoint::<ValuesOrTexts, Certificates, MadeCommand>();
+    command_sums_are_disjoint::<Others, Sections, MadeCommand>();
+    command_sums_are_disjoint::<ItemCommands, ScanCommand, MadeCommand>();
+    command_sums_are_lawful::<Input, MadeCommand>();
+    command_sums_take_turns::<Input, MadeCommand>();
 }
 
 /// Proves that the specification of a run follows from its `Account`. Also proves which exit
@@ -240,20 +240,20 @@ pub fn all_commands_have_parts()
     certifying_is_idle_elsewhere::<DeclaredCertificates>();
     searching_is_idle_elsewhere::<Scans>();
     gen_spec_is_idle_elsewhere::<DeclaredTypes>();
-    command_sums_are_idle::<Values, Texts>();
+    command_sums_are_idle::<ValueCommands, TextCommands>();
     command_sums_are_idle::<ValuesOrTexts, Certificates>();
     command_sums_are_idle::<Others, Sections>();
-    command_sums_are_idle::<Items, Positions>();
-    command_sums_specify_as_the_first::<Values, Texts>();
-    command_sums_specify_as_the_second::<Values, Texts>();
+    command_sums_are_idle::<ItemCommands, ScanCommand>();
+    command_sums_specify_as_the_first::<ValueCommands, TextCommands>();
+    command_sums_specify_as_the_second::<ValueCommands, TextCommands>();
     command_sums_specify_as_the_first::<ValuesOrTexts, Certificates>();
     command_sums_specify_as_the_second::<ValuesOrTexts, Certificates>();
     command_sums_specify_as_the_first::<Others, Sections>();
     command_sums_specify_as_the_second::<Others, Sections>();
-    command_sums_specify_as_the_first::<Items, Positions>();
-    command_sums_specify_as_the_second::<Items, Positions>();
-    command_sums_specify_as_the_first::<Input, Made>();
-    command_sums_specify_as_the_second::<Input, Made>();
+    command_sums_specify_as_the_first::<ItemCommands, ScanCommand>();
+    command_sums_specify_as_the_second::<ItemCommands, ScanCommand>();
+    command_sums_specify_as_the_first::<Input, MadeCommand>();
+    command_sums_specify_as_the_second::<Input, MadeCommand>();
 }
 
 /// Proves the exit status specification of the commands on values: each status has its cause, and

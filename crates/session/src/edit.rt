@@ -12,7 +12,7 @@ ghost use Rattle.edit_values.specs.Reasons.{Reason, literal_reason, reason_of};
 ghost use Rattle.run_types.specs.Language.{lines_of_value};
 
 use crate::earlier::{Earlier, earlier_value};
-use base_data::lines::Positions;
+use base_data::lines::PositionStyle;
 use base_data::model::Memory;
 use base_io::Sink;
 use cli_errors::exit::Error;
@@ -186,7 +186,7 @@ fn line_exit(
     if is_memory(refusal) {
         return Err(Memory);
     }
-    let positions = Positions::of_line(requested.lines(), number as u64);
+    let positions = PositionStyle::of_line(requested.lines(), number as u64);
     let text = refusal_text(alloc, requested.table(), &positions, refusal)?;
     Ok(Exit::Script(number, text))
 }

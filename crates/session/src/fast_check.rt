@@ -11,8 +11,8 @@ ghost use Rattle.session.specs.FastCheck.{IsFastCheck, IsUnchangedFastCheck, IsV
 ghost use Rattle.marshal_write.specs.canonical_check.Canonicity.{IsCanonicalBytes};
 
 use base_data::model::Memory;
-use check_stream::chunks::{Answer, StreamCheck};
-use check_stream::search::Found;
+use check_stream::chunks::{ChunkResult, StreamCheck};
+use check_stream::search::FoundMismatch;
 use marshal_write::canonical_check::is_canonical_bytes;
 use run_types::{Requested, write_missed_no};
 use std::alloc::Global;
@@ -28,15 +28,15 @@ const SKIPPED: u8 = 64;
 /// The number of useless streaming checks in a row, and the number of values still to be read
 /// without one.
 #[derive(Clone, Copy)]
-pub struct Inspects {
+pub struct CheckBackoff {
     useless: u8,
     skipped: u8,
 }
 
-impl Inspects {
+impl CheckBackoff {
     /// Creates the initial counters. The first values are checked.
-    pub fn new() -> Inspects {
-        Inspects {
+    pub fn new() -> CheckBackoff {
+        CheckBackoff {
             useless: 0,
             skipped: 0,
         }
@@ -69,7 +69,7 @@ impl Inspects {
 
 /// The result of a streaming check of the current value.
 #[derive(Clone, Copy)]
-pub enum Seen {
+pub enum FastResult {
     /// The first bytes of the chunk, this many, complete the value, and its verdict is `yes`.
     Yes(usize),
     /// The first bytes of the chunk, this many, complete the value. Its verdict is `no`, and its
@@ -87,7 +87,7 @@ fn write_missed_line(
     line: &mut Vec<u8>,
     alloc: Global,
     requested: &Requested,
-    found: &Found,
+    found: &FoundMismatch,
 ) -> Result<(), Memory>
     requires number { found.now.ty < length requested.now.table.nodes }
     ensures { OnOk result ((limit n : ℕ) (bytes : List ℕ)
@@ -110,7 +110,7 @@ pub fn fast_check<'a>(
     stream_check: &mut StreamCheck<'a>,
     chunk: &[u8],
     line: &mut Vec<u8>,
-) -> Result<Seen, Memory>
+) -> Result<FastResult, Memory>
     requires stream_check { IsStreamCheck (table_of requested.now.table) limit stream_check.old }
     ensures { IfOk result (IsFastCheck requested.now limit stream_check.old chunk.now
         stream_check.new line.new.items) }
@@ -119,16 +119,16 @@ pub fn fast_check<'a>(
     tables_decide();
     let answer = stream_check.feed(alloc, requested.table(), limit, chunk)?;
     match answer {
-        Answer::Typed(n) => Ok(Seen::Yes(n)),
-        Answer::Missed(n) => {
+        ChunkResult::Typed(n) => Ok(FastResult::Yes(n)),
+        ChunkResult::Missed(n) => {
             let Some(found) = stream_check.missed() else {
                 unreachable!()
             };
             write_missed_line(line, alloc, requested, found)?;
-            Ok(Seen::No(n))
+            Ok(FastResult::No(n))
         }
-        Answer::More => Ok(Seen::More),
-        Answer::Inconclusive => Ok(Seen::Inconclusive),
+        ChunkResult::More => Ok(FastResult::More),
+        ChunkResult::Inconclusive => Ok(FastResult::Inconclusive),
     }
 }
 
@@ -170,15 +170,15 @@ pub fn fast_check_unchanged<'a>(
     tables_decide();
     let answer = stream_check.feed(alloc, requested.table(), limit, chunk)?;
     match answer {
-        Answer::Typed(n) => {
+        ChunkResult::Typed(n) => {
             if is_canonical_prefix(chunk, n) {
                 Ok(Unchanged::Whole(n))
             } else {
                 Ok(Unchanged::Inconclusive)
             }
         }
-        Answer::Missed(_) => Ok(Unchanged::Inconclusive),
-        Answer::More => Ok(Unchanged::More),
-        Answer::Inconclusive => Ok(Unchanged::Inconclusive),
+        ChunkResult::Missed(_) => Ok(Unchanged::Inconclusive),
+        ChunkResult::More => Ok(Unchanged::More),
+        ChunkResult::Inconclusive => Ok(Unchanged::Inconclusive),
     }
 }

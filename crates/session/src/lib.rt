@@ -27,7 +27,7 @@ mod commands;
 mod earlier;
 mod edit;
 mod fast_check;
-mod progress;
+mod session_state;
 mod top;
 mod values;
 mod verdict;

@@ -43,14 +43,14 @@ use crate::commands::{
     statuses_of_texts_have_causes, statuses_of_values_have_causes, values_have_one_outcome,
 };
 use crate::edit::Edits;
-use crate::progress::Progress;
+use crate::session_state::SessionState;
 use crate::values::ValueTask;
 use crate::verdict::{Printing, Query};
 use base_io::{Opener, Sink, Source};
-use cli_args::{Request, Unread, read_arguments};
+use cli_args::{ArgumentsError, Request, read_arguments};
 use cli_errors::exit::report_exit;
 use cli_spec::exit::Exit;
-use cli_spec::reading::Reading;
+use cli_spec::read_options::ReadOptions;
 use cli_spec::status::Status;
 use cli_spec::style::Style;
 use cmd_certify::command::certify;
@@ -90,7 +90,7 @@ fn take_values<S: Source, K: Sink, E: Sink>(
         (change (K.state out.old) (K.state out.new)) (change (E.state err.old) (E.state err.new))
         result }
 {
-    let work = Progress::new(alloc, value_task);
+    let work = SessionState::new(alloc, value_task);
     let only_command = OnlyCommand::<OneByArguments, _>::new(work, only);
     let mut skip_command = SkipCommand::<ByArguments, _>::new(only_command, over);
     run_reported(alloc, &mut skip_command, input, out, err)
@@ -101,7 +101,7 @@ fn report_over<S: Source, K: Sink, E: Sink>(
     alloc: Global,
     requested: Requested,
     query: Query<'_>,
-    reading: Reading,
+    reading: ReadOptions,
     input: &mut S,
     out: &mut K,
     err: &mut E,
@@ -129,7 +129,7 @@ fn announce<S: Source, O: Opener, K: Sink, E: Sink>(
     type_text: &str,
     lines: bool,
     query: Query<'_>,
-    reading: Reading,
+    reading: ReadOptions,
     input: &mut S,
     files: &mut O,
     out: &mut K,
@@ -158,7 +158,7 @@ fn get<S: Source, O: Opener, K: Sink, E: Sink>(
     path_text: &str,
     style: Style,
     lines: bool,
-    reading: Reading,
+    reading: ReadOptions,
     input: &mut S,
     files: &mut O,
     out: &mut K,
@@ -189,7 +189,7 @@ fn edit_with<S: Source, K: Sink, E: Sink>(
     requested: &Requested,
     script: Script,
     compat: bool,
-    reading: Reading,
+    reading: ReadOptions,
     input: &mut S,
     out: &mut K,
     err: &mut E,
@@ -222,7 +222,7 @@ fn edit_by<S: Source, O: Opener, K: Sink, E: Sink>(
     requested: &Requested,
     script: &str,
     compat: bool,
-    reading: Reading,
+    reading: ReadOptions,
     input: &mut S,
     files: &mut O,
     out: &mut K,
@@ -249,7 +249,7 @@ fn edit_over<S: Source, O: Opener, K: Sink, E: Sink>(
     requested: Requested,
     script: &str,
     compat: bool,
-    reading: Reading,
+    reading: ReadOptions,
     input: &mut S,
     files: &mut O,
     out: &mut K,
@@ -277,7 +277,7 @@ fn edit<S: Source, O: Opener, K: Sink, E: Sink>(
     compat: bool,
     lines: bool,
     decimal: bool,
-    reading: Reading,
+    reading: ReadOptions,
     input: &mut S,
     files: &mut O,
     out: &mut K,
@@ -474,8 +474,8 @@ fn run_command<S: Source, O: Opener, K: Sink, E: Sink>(
 {
     match read_arguments(alloc, arguments) {
         Ok(request) => run_request(alloc, request, input, files, out, err),
-        Err(Unread::Usage) => report(alloc, err, Exit::Usage),
-        Err(Unread::Memory) => report(alloc, err, Exit::Memory),
+        Err(ArgumentsError::Usage) => report(alloc, err, Exit::Usage),
+        Err(ArgumentsError::Memory) => report(alloc, err, Exit::Memory),
     }
 }
 

@@ -4,7 +4,7 @@ use base_data::model::Memory;
 use base_data::model::code::Custom;
 use base_data::model::refusal::ReadRefusal;
 use base_data::model::value::{Obj, Val};
-use marshal_heap::heap::{Kind, Placed};
+use marshal_heap::heap::{Kind, NumberedObject};
 use marshal_read::Value;
 use std::alloc::{AllocError, Global};
 use test_oracles::{Graph, Judgement, graph_of, judge};
@@ -38,7 +38,11 @@ fn push_doubles(alloc: Global, text: &mut String, all: &[u64]) -> Result<(), All
 }
 
 // Appends the contents of an object of a heap, after its kind.
-fn push_content(alloc: Global, text: &mut String, placed: &Placed<'_>) -> Result<(), AllocError> {
+fn push_content(
+    alloc: Global,
+    text: &mut String,
+    placed: &NumberedObject<'_>,
+) -> Result<(), AllocError> {
     let heap = placed.heap;
     let o = placed.object;
     match heap.kind(o) {
@@ -73,7 +77,7 @@ pub fn value_text(alloc: Global, value: &Value) -> Result<String, AllocError> {
         push_content(
             alloc,
             &mut text,
-            &Placed {
+            &NumberedObject {
                 heap: &value.heap,
                 object: o,
             },

@@ -9,7 +9,7 @@ use types_spec::types::shape::{Constr, PolyTag, ShapeOf};
 /// The row of a type: its text, its shape over indices, the index of the first type that is equal
 /// to it, and its names.
 #[derive(Drop)]
-pub struct Row<'a> {
+pub struct TypeRow<'a> {
     pub text: List<u8>,
     pub shape: &'a ShapeOf<usize>,
     pub first: usize,
@@ -161,7 +161,7 @@ fn write_all_names(out: &mut Vec<u8>, names: &Names) -> Result<(), Memory> {
 }
 
 /// Appends the row of a type.
-pub fn write_row(out: &mut Vec<u8>, row: &Row<'_>) -> Result<(), Memory> {
+pub fn write_row(out: &mut Vec<u8>, row: &TypeRow<'_>) -> Result<(), Memory> {
     write(out, row.text.as_slice())?;
     write(out, b": ")?;
     write_shape(out, row.shape)?;

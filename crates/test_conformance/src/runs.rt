@@ -23,7 +23,7 @@ use std::io::{ErrorKind, Write};
 
 /// The inputs of a run.
 #[derive(Drop)]
-struct Given {
+struct RunInputs {
     settings: String,
     input: Vec<u8>,
     file: Option<Vec<u8>>,
@@ -46,17 +46,17 @@ fn setting_in<'a>(settings: &'a str, name: &str) -> Option<&'a str> {
 }
 
 /// Returns the text after `=` of a setting.
-fn setting<'a>(given: &'a Given, name: &str) -> Option<&'a str> {
+fn setting<'a>(given: &'a RunInputs, name: &str) -> Option<&'a str> {
     setting_in(given.settings.as_str(), name)
 }
 
 /// Returns the number of a setting.
-fn number(given: &Given, name: &str) -> Option<u64> {
+fn number(given: &RunInputs, name: &str) -> Option<u64> {
     setting(given, name)?.parse().ok()
 }
 
-// Appends the numbers of the calls of a kind that fail.
-fn add_failing(found: &mut Vec<u64>, given: &Given, name: &str) -> io::Result<()> {
+// Appends the numbers of the calls that must fail, for one kind of call.
+fn add_failing(found: &mut Vec<u64>, given: &RunInputs, name: &str) -> io::Result<()> {
     let Some(numbers) = setting(given, name) else {
         return Ok(());
     };
@@ -69,15 +69,15 @@ fn add_failing(found: &mut Vec<u64>, given: &Given, name: &str) -> io::Result<()
     Ok(())
 }
 
-// Returns the numbers of the calls of a kind that fail.
-fn failing(alloc: Global, given: &Given, name: &str) -> io::Result<Vec<u64>> {
+// Returns the numbers of the calls that must fail, for one kind of call.
+fn failing(alloc: Global, given: &RunInputs, name: &str) -> io::Result<Vec<u64>> {
     let mut found = Vec::new(alloc);
     add_failing(&mut found, given, name)?;
     Ok(found)
 }
 
 // Returns the number of bytes for which a sink has room.
-fn room(given: &Given, name: &str) -> usize {
+fn room(given: &RunInputs, name: &str) -> usize {
     match number(given, name) {
         Some(room) => room as usize,
         None => 20_000,
@@ -93,7 +93,7 @@ fn decoded(alloc: Global, digits: &str) -> io::Result<Vec<u8>> {
 }
 
 // Returns the files `f.ml` and `script`, if they are given.
-fn files_of(alloc: Global, given: &Given) -> io::Result<Vec<(String, Vec<u8>)>> {
+fn files_of(alloc: Global, given: &RunInputs) -> io::Result<Vec<(String, Vec<u8>)>> {
     let mut pairs = Vec::new(alloc);
     if let Some(text) = &given.file {
         let name = String::from_str(alloc, "f.ml")?;
@@ -111,7 +111,8 @@ fn files_of(alloc: Global, given: &Given) -> io::Result<Vec<(String, Vec<u8>)>> 
     Ok(pairs)
 }
 
-// Appends what was written, and whether its last line is truncated.
+// If something was written, appends `before` and the written bytes. If the last line has no line
+// feed, also appends ` (cut)` and a line feed.
 fn write_written(text: &mut Vec<u8>, before: &[u8], written: &[u8]) -> io::Result<()> {
     match written {
         [] => Ok(()),
@@ -163,7 +164,7 @@ struct World {
 }
 
 // Returns the input, of which a read returns at most `chunk` bytes.
-fn input_of(alloc: Global, given: &Given, chunk: usize) -> io::Result<MemSource> {
+fn input_of(alloc: Global, given: &RunInputs, chunk: usize) -> io::Result<MemSource> {
     let bytes = Vec::from_slice(alloc, given.input.as_slice())?;
     let takes = failing(alloc, given, "take")?;
     if chunk == 0 {
@@ -173,7 +174,7 @@ fn input_of(alloc: Global, given: &Given, chunk: usize) -> io::Result<MemSource>
 }
 
 // Returns the files, with the calls on them that fail.
-fn opener_of(alloc: Global, given: &Given) -> io::Result<MemFiles> {
+fn opener_of(alloc: Global, given: &RunInputs) -> io::Result<MemFiles> {
     let pairs = files_of(alloc, given)?;
     let fetches = failing(alloc, given, "fetch")?;
     let reads = failing(alloc, given, "read")?;
@@ -184,7 +185,7 @@ fn opener_of(alloc: Global, given: &Given) -> io::Result<MemFiles> {
 }
 
 // Returns a sink with its room. Its own failing calls are added to those of both sinks.
-fn sink_of(alloc: Global, given: &Given, name: &str, own: &str) -> io::Result<MemSink> {
+fn sink_of(alloc: Global, given: &RunInputs, name: &str, own: &str) -> io::Result<MemSink> {
     let mut writes = failing(alloc, given, "put")?;
     add_failing(&mut writes, given, own)?;
     match MemSink::new(alloc, room(given, name), writes) {
@@ -193,7 +194,7 @@ fn sink_of(alloc: Global, given: &Given, name: &str, own: &str) -> io::Result<Me
     }
 }
 
-fn world_of(alloc: Global, given: &Given, chunk: usize) -> io::Result<World> {
+fn world_of(alloc: Global, given: &RunInputs, chunk: usize) -> io::Result<World> {
     Ok(World {
         input: input_of(alloc, given, chunk)?,
         files: opener_of(alloc, given)?,
@@ -231,7 +232,7 @@ fn text_of(alloc: Global, words: &[String], world: &World, status: Status) -> io
 
 /// Returns what a run writes to out and to err, its status, and the numbers of failed calls. The
 /// input comes in chunks of at most `chunk` bytes.
-fn ending(alloc: Global, given: &Given, chunk: usize) -> io::Result<Vec<u8>> {
+fn ending(alloc: Global, given: &RunInputs, chunk: usize) -> io::Result<Vec<u8>> {
     let mut world = world_of(alloc, given, chunk)?;
     let status = run_environment(alloc, given.words.as_slice(), &mut world);
     text_of(alloc, given.words.as_slice(), &world, status)
@@ -254,7 +255,7 @@ fn decoded_word(alloc: Global, digits: &str) -> io::Result<String> {
 }
 
 // Parses the inputs of a run from a question.
-fn given_by(alloc: Global, question: &str) -> io::Result<Given> {
+fn given_by(alloc: Global, question: &str) -> io::Result<RunInputs> {
     let mut parts = question.split('\t');
     let (Some(settings), Some(digits), Some(file)) = (parts.next(), parts.next(), parts.next())
     else {
@@ -268,7 +269,7 @@ fn given_by(alloc: Global, question: &str) -> io::Result<Given> {
     if let Some(digits) = setting_in(settings, "word") {
         words.push(decoded_word(alloc, digits)?)?;
     }
-    Ok(Given {
+    Ok(RunInputs {
         settings: String::from_str(alloc, settings)?,
         input,
         file: file_of(alloc, file)?,

@@ -16,7 +16,7 @@ ghost use Rattle.check_heap.specs.check.Verdict.{IsVerdict};
 
 use crate::compare::value_text;
 use crate::tables::accepted;
-use base_data::lines::Positions;
+use base_data::lines::PositionStyle;
 use base_data::model::path::Path;
 use base_io::StdSink;
 use check_fault::is_fault;
@@ -168,7 +168,7 @@ fn write_verdict(rt: &HostRuntime, value: &Rooted<'_>, table: &TypeTable) -> io:
 }
 
 fn write_refusal(rt: &HostRuntime, table: &TypeTable, refusal: &EditRefusal) -> io::Result<()> {
-    let Ok(text) = refusal_text(rt.alloc(), table, &Positions::Bytes, refusal) else {
+    let Ok(text) = refusal_text(rt.alloc(), table, &PositionStyle::Bytes, refusal) else {
         return Err(ErrorKind::OutOfMemory.into());
     };
     rt.stdout().write_all(text.as_slice())

@@ -4,7 +4,7 @@
 ghost use Rattle.std.specs.Prelude.{◌<◌, length, IfSome};
 ghost use Rattle.types_spec.specs.types.Accepted.{AreWellFormed, AreSound, IsSoundType};
 
-use crate::rows::{Row, write, write_number, write_row};
+use crate::rows::{TypeRow, write, write_number, write_row};
 use crate::written::write_type;
 use base_data::model::Memory;
 use base_data::model::list::List;
@@ -42,7 +42,7 @@ fn write_line_of(
     if number >= table.len() || number >= table.count() {
         return Err(Memory);
     }
-    let row = Row {
+    let row = TypeRow {
         text: table.text(alloc, number)?,
         shape: table.shape(number),
         first: first_of_class(table, number),

@@ -3,23 +3,23 @@
 use crate::rows::write;
 use base_data::model::Memory;
 use std::alloc::Global;
-use types_spec::types::ty::Node;
+use types_spec::types::ty::TypeTreeNode;
 
 /// A type under construction: its first node, the text of the parts that were added, their number,
 /// and whether the last part is a tuple.
 #[derive(Drop)]
 struct Partial<'a> {
-    first: &'a Node,
+    first: &'a TypeTreeNode,
     parts: Vec<u8>,
     many: usize,
     tuple: bool,
 }
 
 // Returns the separator of two parts.
-fn separator(first: &Node) -> &'static [u8] {
+fn separator(first: &TypeTreeNode) -> &'static [u8] {
     match first {
-        Node::Bracket => b" | ",
-        Node::Tuple => b" * ",
+        TypeTreeNode::Bracket => b" | ",
+        TypeTreeNode::Tuple => b" * ",
         _ => b", ",
     }
 }
@@ -38,15 +38,15 @@ fn write_arguments(out: &mut Vec<u8>, partial: &Partial<'_>) -> Result<(), Memor
 // Appends the text of a type.
 fn write_partial(out: &mut Vec<u8>, partial: &Partial<'_>) -> Result<(), Memory> {
     match partial.first {
-        Node::Variable(name) => {
+        TypeTreeNode::Variable(name) => {
             write(out, b"'")?;
             write(out, name.as_slice())
         }
-        Node::Named(name) => {
+        TypeTreeNode::Named(name) => {
             write_arguments(out, partial)?;
             write(out, name.as_slice())
         }
-        Node::Bracket => {
+        TypeTreeNode::Bracket => {
             write(out, b"[ ")?;
             write(out, partial.parts.as_slice())?;
             write(out, b" ]")
@@ -91,8 +91,8 @@ fn write_type_at(
     let Some(part) = before.get(position) else {
         return Err(Memory);
     };
-    partial.tuple = matches!(part.first, Node::Tuple);
-    let enclosed = partial.tuple && matches!(partial.first, Node::Tuple);
+    partial.tuple = matches!(part.first, TypeTreeNode::Tuple);
+    let enclosed = partial.tuple && matches!(partial.first, TypeTreeNode::Tuple);
     write(&mut partial.parts, if enclosed { b"(" } else { b"" })?;
     write_partial(&mut partial.parts, part)?;
     write(&mut partial.parts, if enclosed { b")" } else { b"" })
@@ -102,20 +102,20 @@ fn write_type_at(
 fn partial_of<'a>(
     alloc: Global,
     before: &[Partial<'a>],
-    node: &'a Node,
+    node: &'a TypeTreeNode,
 ) -> Result<Partial<'a>, Memory> {
     match node {
-        Node::Part(whole, added) | Node::Including(whole, added) => {
+        TypeTreeNode::Part(whole, added) | TypeTreeNode::Including(whole, added) => {
             let mut partial = with_part(alloc, before, *whole)?;
             write_type_at(&mut partial, before, *added)?;
             Ok(partial)
         }
-        Node::Tag(whole, name) => {
+        TypeTreeNode::Tag(whole, name) => {
             let mut partial = with_part(alloc, before, *whole)?;
             write_tag(&mut partial, name.as_slice())?;
             Ok(partial)
         }
-        Node::TagOf(whole, name, argument) => {
+        TypeTreeNode::TagOf(whole, name, argument) => {
             let mut partial = with_part(alloc, before, *whole)?;
             write_tag(&mut partial, name.as_slice())?;
             write(&mut partial.parts, b" of ")?;
@@ -132,7 +132,7 @@ fn partial_of<'a>(
 }
 
 /// Appends the text of the type of the last node.
-pub fn write_type(out: &mut Vec<u8>, alloc: Global, nodes: &[Node]) -> Result<(), Memory> {
+pub fn write_type(out: &mut Vec<u8>, alloc: Global, nodes: &[TypeTreeNode]) -> Result<(), Memory> {
     let mut all = Vec::new(alloc);
     for node in nodes {
         let partial = partial_of(alloc, all.as_slice(), node)?;

@@ -10,7 +10,7 @@ use crate::code::{custom_of, kind_of, native_bytes};
 use crate::cut::{byte_at, first, number_of};
 use base_data::model::bytes::skip;
 use base_data::model::code::{CodeKind, CustomKind, Measure};
-use marshal_codec::codes::Known;
+use marshal_codec::codes::KnownKind;
 
 /// Returns the number of bytes that each token of the kind has after its code.
 pub fn fixed_bytes(kind: CodeKind) -> u128
@@ -91,7 +91,7 @@ fn custom_measure(custom: Option<CustomKind>) -> Option<Measure>
 
 /// Returns the number of bytes after the fixed ones, for a string, an array or a custom value.
 /// `rest` are the bytes after the code.
-pub fn variable_bytes(kind: Known, rest: &[u8]) -> u128
+pub fn variable_bytes(kind: KnownKind, rest: &[u8]) -> u128
     ensures bytes { result ≡ variable_bytes kind.kind rest.now }
     ensures few { result < 2 ^ 68 }
 {
@@ -116,7 +116,7 @@ fn block_measure(size: u64) -> Option<Measure>
 }
 
 /// Returns the object that a token makes. `rest` are the bytes after the code.
-pub fn measure_after(kind: Known, rest: &[u8]) -> Option<Measure>
+pub fn measure_after(kind: KnownKind, rest: &[u8]) -> Option<Measure>
     ensures { result ≡ measure_after kind.kind rest.now }
 {
     match kind.kind {
@@ -155,7 +155,7 @@ pub fn raw_length(bytes: &[u8]) -> u128
     match kind_of(*code) {
         Ok(kind) => {
             let rest = skip(bytes, 1);
-            1 + (fixed_bytes(kind) + variable_bytes(Known { kind }, rest))
+            1 + (fixed_bytes(kind) + variable_bytes(KnownKind { kind }, rest))
         }
         Err(_) => 1,
     }
@@ -169,7 +169,7 @@ pub fn raw_measure(bytes: &[u8]) -> Option<Measure>
         return None;
     };
     match kind_of(*code) {
-        Ok(kind) => measure_after(Known { kind }, skip(bytes, 1)),
+        Ok(kind) => measure_after(KnownKind { kind }, skip(bytes, 1)),
         Err(_) => None,
     }
 }

@@ -3,7 +3,7 @@
 ghost use Rattle.std.specs.Prelude.{◌≡◌, ◌<◌, ◌^◌, ◌↔◌, IfSome, IsSome, IsTrue};
 ghost use Rattle.test_oracles.specs.Refusal.{refusal_of, IsNarrow};
 
-use base_data::model::refusal::{ReadRefusal, Stated, WordSum};
+use base_data::model::refusal::{ReadRefusal, StatedNumber, WordSum};
 use std::fmt;
 
 /// A refusal. For most variants the first number is the offset in bytes.
@@ -14,7 +14,7 @@ pub enum Refusal {
     /// The magic number is that of compressed data.
     Compressed,
     /// The header states a number above the limit: what it states, the number, and the limit.
-    TooLarge(Stated, u64, u64),
+    TooLarge(StatedNumber, u64, u64),
     /// The code begins no token.
     BadCode(u128, u8),
     /// The code is that of a code pointer or an infix pointer.

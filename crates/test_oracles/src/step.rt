@@ -8,7 +8,7 @@ ghost use Rattle.test_oracles.specs.Step.{steps_of, differ};
 
 use crate::header::{BIG_MAGIC, COMPRESSED_MAGIC, SMALL_MAGIC, head_of, header_length, magic};
 use crate::refusal::Refusal;
-use base_data::model::refusal::Stated;
+use base_data::model::refusal::StatedNumber;
 
 /// A step: the number of bytes of the header or token that contain the fields it reads, and the
 /// refusal if it fails.
@@ -103,14 +103,14 @@ pub fn header_steps(limit: u64, header: &[u8]) -> [Step; 4]
             ends: n,
             refusal: fails_if(
                 limit < head.w64,
-                Refusal::TooLarge(Stated::Words, head.w64, limit),
+                Refusal::TooLarge(StatedNumber::Words, head.w64, limit),
             ),
         },
         Step {
             ends: n,
             refusal: fails_if(
                 LENGTH_LIMIT < head.length,
-                Refusal::TooLarge(Stated::Length, head.length, LENGTH_LIMIT),
+                Refusal::TooLarge(StatedNumber::Length, head.length, LENGTH_LIMIT),
             ),
         },
         Step {

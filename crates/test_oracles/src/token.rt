@@ -15,7 +15,7 @@ use base_data::model::bytes::{big_endian, double, signed, skip};
 use base_data::model::code::{CodeKind, CustomKind};
 use base_data::model::list::List;
 use base_data::model::value::Obj;
-use marshal_codec::codes::Known;
+use marshal_codec::codes::KnownKind;
 use std::alloc::{AllocError, Global};
 
 /// A token. A reference has the offset back from the next object. A block has its tag and size, and
@@ -100,7 +100,7 @@ fn doubles_token(
 }
 
 /// Returns the token of this kind. `rest` are the bytes after the code.
-fn token_after(alloc: Global, kind: Known, rest: &[u8]) -> Result<Token, AllocError>
+fn token_after(alloc: Global, kind: KnownKind, rest: &[u8]) -> Result<Token, AllocError>
     requires encoded { (t : Encoded) × EncodesAfter kind.kind rest.now t }
     ensures { IfOk result
         (λ t. (u : Encoded) → EncodesAfter kind.kind rest.now u → token_of t ≡ u) }
@@ -129,7 +129,7 @@ fn token_encoded(alloc: Global, bytes: &[u8]) -> Result<Token, AllocError>
     ensures { IfOk result (λ t. Encodes (token_of t) bytes.now) }
 {
     match kind_of(bytes[0]) {
-        Ok(kind) => token_after(alloc, Known { kind }, skip(bytes, 1)),
+        Ok(kind) => token_after(alloc, KnownKind { kind }, skip(bytes, 1)),
         Err(_) => unreachable!(),
     }
 }

@@ -25,7 +25,7 @@ use base_data::model::bytes::skip;
 use base_data::model::code::{CodeFault, CodeKind, CustomKind};
 use base_data::model::header::Head;
 use base_data::model::refusal::WordSum;
-use marshal_codec::codes::Known;
+use marshal_codec::codes::KnownKind;
 use std::alloc::{AllocError, Global};
 
 /// Returns the offset of the token from the first byte of the header.
@@ -89,7 +89,7 @@ fn shared_refusal(c: &Context, offset: u64) -> Option<Refusal>
 }
 
 /// Returns the refusal of the fields of the token.
-fn field_refusal(c: &Context, code: u8, kind: Known, rest: &[u8]) -> Option<Refusal>
+fn field_refusal(c: &Context, code: u8, kind: KnownKind, rest: &[u8]) -> Option<Refusal>
     ensures { refusal_in result ≡ field_refusal (context_of c.now) code kind.kind rest.now }
 {
     match kind.kind {
@@ -135,7 +135,7 @@ fn native_steps(c: &Context, kind: u8) -> [Step; 3]
 /// Appends the steps of the bytes after the fixed ones.
 fn add_variable(
     c: &Context,
-    kind: Known,
+    kind: KnownKind,
     custom: Option<CustomKind>,
     rest: &[u8],
     steps: &mut Vec<Step>,
@@ -206,7 +206,7 @@ fn end_steps(c: &Context, n: u128, all: Sums) -> [Step; 4]
 }
 
 /// Returns the steps of the fixed bytes and of the fields.
-fn entry_steps(c: &Context, code: u8, kind: Known, rest: &[u8]) -> [Step; 2]
+fn entry_steps(c: &Context, code: u8, kind: KnownKind, rest: &[u8]) -> [Step; 2]
     ensures { steps_of result ≡ entry_steps (context_of c.now) code kind.kind rest.now }
 {
     [
@@ -225,7 +225,7 @@ fn entry_steps(c: &Context, code: u8, kind: Known, rest: &[u8]) -> [Step; 2]
 /// steps of the end of the value.
 fn add_closing(
     c: &Context,
-    kind: Known,
+    kind: KnownKind,
     rest: &[u8],
     steps: &mut Vec<Step>,
 ) -> Result<(), AllocError>
@@ -261,7 +261,7 @@ fn steps_after(
     alloc: Global,
     c: &Context,
     code: u8,
-    kind: Known,
+    kind: KnownKind,
     rest: &[u8],
 ) -> Result<Vec<Step>, AllocError>
     ensures { IfOk result
@@ -283,7 +283,7 @@ pub fn token_steps(alloc: Global, c: &Context, token: &[u8]) -> Result<Vec<Step>
         return Ok(Vec::new(alloc));
     };
     match kind_of(*code) {
-        Ok(kind) => steps_after(alloc, c, *code, Known { kind }, skip(token, 1)),
+        Ok(kind) => steps_after(alloc, c, *code, KnownKind { kind }, skip(token, 1)),
         Err(fault) => Vec::from_slice(
             alloc,
             &[Step {

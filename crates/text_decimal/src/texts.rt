@@ -3,11 +3,11 @@
 //! them. The law `TextsAreReadBack` proves that the second undoes the first. Single decimals are in
 //! `decimal`.
 
+mod decimal_prefix;
 mod decimals;
 mod find;
 mod laws;
 mod plain;
-mod prefix;
 mod texts;
 
 pub use decimals::{Decimal, given_position};

@@ -4,15 +4,15 @@
 //! the unique literal, or that the error is the first one. The literal's type is not checked here.
 
 mod laws;
-mod node;
-mod nodes;
-mod open;
-mod placed;
+mod literal_node;
+mod literal_nodes;
+mod pending_node;
+mod placed_nodes;
 mod read;
 mod step;
 
 pub use laws::{firsts_in_range, literal_or_syntax, one_literal, worked_literals};
-pub use node::{Form, Node, TreeFault};
-pub use nodes::Nodes;
-pub use placed::{Placed, PlacedFault, read_placed_tree};
+pub use literal_node::{LiteralNode, NodeForm, TreeFault};
+pub use literal_nodes::LiteralNodes;
+pub use placed_nodes::{PlacedFault, PlacedNodes, read_placed_tree};
 pub use read::read_literal_tree;

@@ -2,11 +2,13 @@
 //! objects that it consists of, or the first fault. The law `one_literal_answer` says that each
 //! text has exactly one answer. The law `worked_literals_fit` covers worked examples.
 
+mod block_stack;
 mod doubles;
 mod fault;
 mod fields;
 mod laws;
 mod leaf;
+mod literal_text;
 mod named;
 mod opening;
 mod part;
@@ -14,9 +16,7 @@ mod parts;
 mod read;
 mod rows;
 mod siblings;
-mod stack;
 mod start;
-mod text;
 
 pub use fault::LiteralFault;
 pub use laws::{one_literal_answer, worked_literals_fit};

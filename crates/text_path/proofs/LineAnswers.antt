@@ -23,7 +23,7 @@ use Rattle.text_path.specs.declared.edits.Action.TheVariants as actions
 use Rattle.text_path.specs.declared.edits.Edit.TheVariants as edits
 use Rattle.text_path.specs.declared.edits.ScriptLine.{ScriptLine}
 use Rattle.text_path.specs.declared.edits.ScriptFault.TheVariants as faults
-use Rattle.text_path.specs.declared.prefix.Role.TheVariants as roles
+use Rattle.text_path.specs.declared.line_prefix.Role.TheVariants as roles
 use Rattle.text_path.proofs.LineTable.{line_table}
 
 -- ---- at most one answer

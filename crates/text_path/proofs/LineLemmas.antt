@@ -27,24 +27,24 @@ use Rattle.text_path.specs.declared.edits.Edit.TheVariants as edits
 use Rattle.text_path.specs.declared.edits.ScriptLine.{ScriptLine}
 use Rattle.text_path.specs.declared.edits.ScriptFault.{ScriptFault}
 use Rattle.text_path.specs.declared.edits.ScriptFault.TheVariants as faults
-use Rattle.text_path.specs.declared.prefix.Role.{Role}
-use Rattle.text_path.specs.declared.prefix.Role.TheVariants as roles
-use Rattle.text_path.specs.declared.prefix.Prefix.{Prefix}
-use Rattle.text_path.specs.declared.prefix.Prefix.TheVariants as prefixes
-use Rattle.text_path.specs.declared.prefix.Known.{Known}
-use Rattle.text_path.specs.declared.prefix.Known.TheVariants as tolds
-use Rattle.text_path.specs.declared.prefix.Next.{Next}
-use Rattle.text_path.specs.declared.prefix.Next.TheVariants as nexts
+use Rattle.text_path.specs.declared.line_prefix.Role.{Role}
+use Rattle.text_path.specs.declared.line_prefix.Role.TheVariants as roles
+use Rattle.text_path.specs.declared.line_prefix.LinePrefix.{LinePrefix}
+use Rattle.text_path.specs.declared.line_prefix.LinePrefix.TheVariants as prefixes
+use Rattle.text_path.specs.declared.line_prefix.LineLexemes.{LineLexemes}
+use Rattle.text_path.specs.declared.line_prefix.LineLexemes.TheVariants as tolds
+use Rattle.text_path.specs.declared.line_prefix.LexemeResult.{LexemeResult}
+use Rattle.text_path.specs.declared.line_prefix.LexemeResult.TheVariants as nexts
 use Rattle.text_path.proofs.PathTable.{zeros}
 use Rattle.text_path.proofs.LineTable.{flat, line_table, literal_leads}
 
 -- The lexemes before this index lead to this state.
-abbrev pub LineReached : List Lexeme → ℕ → Prefix → Type 0
+abbrev pub LineReached : List Lexeme → ℕ → LinePrefix → Type 0
 LineReached lexemes position f = run line_step line_start (take position (kinds_of lexemes)) ≡ Some (reading f)
 
-module _ (lexemes : List Lexeme) (position : ℕ) (f : Prefix) (reached : LineReached lexemes position f) where
+module _ (lexemes : List Lexeme) (position : ℕ) (f : LinePrefix) (reached : LineReached lexemes position f) where
   module _ (l : Lexeme) (within : position < length lexemes) (is : l ≡ get_or lexemes position l) where
-    pub further : (next : Next) → next_of f l.kind ≡ next → run line_step line_start (take (suc position) (kinds_of lexemes)) ≡ state_of next
+    pub further : (next : LexemeResult) → next_of f l.kind ≡ next → run line_step line_start (take (suc position) (kinds_of lexemes)) ≡ state_of next
     further next h =
         ap (run line_step line_start) (kinds_next lexemes position l within is)
         ∙ run_more line_step (take position (kinds_of lexemes)) line_start (reading f) (state_of next) l.kind reached (ap state_of h)
@@ -69,7 +69,7 @@ no_end_in number value roles.Unshare (Some path) h = absurd (cc)
 no_end_in number value (roles.Part target other) (Some path) h = absurd (cc)
 no_end_in number value role (Some path) h = refl
 
-no_end : (number : ℕ) (f : Prefix) → ended_line number f ≡ None → line_accepted (reading f) ≡ None
+no_end : (number : ℕ) (f : LinePrefix) → ended_line number f ≡ None → line_accepted (reading f) ≡ None
 no_end number prefixes.Start h = refl
 no_end number (prefixes.Value value) h = refl
 no_end number (prefixes.Other value path) h = refl
@@ -94,7 +94,7 @@ is_end_in number value (roles.Part target other) (Some path) line h =
     subst (Ends number (Some (graft_line value target other path))) is (record { numbers = refl; encoded = refl; free = λ lexemes end. tt })
 is_end_in number value role (Some path) line h = absurd (cc)
 
-is_end : (number : ℕ) (f : Prefix) (line : ScriptLine) → ended_line number f ≡ Some line → Ends number (line_accepted (reading f)) line
+is_end : (number : ℕ) (f : LinePrefix) (line : ScriptLine) → ended_line number f ≡ Some line → Ends number (line_accepted (reading f)) line
 is_end number prefixes.Start line h = absurd (cc)
 is_end number (prefixes.Value value) line h = absurd (cc)
 is_end number (prefixes.Other value path) line h = absurd (cc)
@@ -122,7 +122,7 @@ past_end lexemes end = ap (λ o. unwrap_or (option_map (λ (l : Lexeme). l.span.
 -- ---- the result of the code
 
 module _ (lexemes : List Lexeme) (number end : ℕ) where
-  pub ends_early : 0 < length lexemes → (f : Prefix) → run line_step line_start (kinds_of lexemes) ≡ Some (reading f) → ended_line number f ≡ None →
+  pub ends_early : 0 < length lexemes → (f : LinePrefix) → run line_step line_start (kinds_of lexemes) ≡ Some (reading f) → ended_line number f ≡ None →
       IsRead number lexemes end (Err (faults.Syntax number end))
   ends_early some f h e = (
     refl,
@@ -149,7 +149,7 @@ module _ (lexemes : List Lexeme) (number end : ℕ) where
       (n, subst (IsAction lexemes end line.value) same is, subst (IsInTime line.value) same no.1))
       (leb_tells line.value other))
 
-  pub is_ended : (f : Prefix) → run line_step line_start (kinds_of lexemes) ≡ Some (reading f) → (line : ScriptLine) → ended_line number f ≡ Some line →
+  pub is_ended : (f : LinePrefix) → run line_step line_start (kinds_of lexemes) ≡ Some (reading f) → (line : ScriptLine) → ended_line number f ≡ Some line →
       (result : Result ScriptLine ScriptFault) → result ≡ in_time line → Judged line result
   is_ended f h line e result is =
       let i = is_end number f line e in
@@ -176,10 +176,10 @@ module _ (lexemes : List Lexeme) (number end : ℕ) where
       subst (λ l. IsRead number lexemes end (Ok (Some l))) (sym e)
       (refl, (text_is_read line_table (set_line value path last) (literal value path last) (kinds_of lexemes) ran refl, ((take position lexemes, sym (take-append-drop position lexemes)), refl)), tt)
 
-pub known_all : (lexemes : List Lexeme) (known : Known) (f : Prefix) → known ≡ tolds.All f → IsKnown lexemes known → run line_step line_start (kinds_of lexemes) ≡ Some (reading f)
+pub known_all : (lexemes : List Lexeme) (known : LineLexemes) (f : LinePrefix) → known ≡ tolds.All f → IsKnown lexemes known → run line_step line_start (kinds_of lexemes) ≡ Some (reading f)
 known_all lexemes known f e h = subst (IsKnown lexemes) e h
 
-pub known_literal : (lexemes : List Lexeme) (known : Known) (value : ℕ) (path : List ℕ) (position : ℕ) → known ≡ tolds.Literal value path position → IsKnown lexemes known →
+pub known_literal : (lexemes : List Lexeme) (known : LineLexemes) (value : ℕ) (path : List ℕ) (position : ℕ) → known ≡ tolds.Literal value path position → IsKnown lexemes known →
     run line_step line_start (take position (kinds_of lexemes)) ≡ Some (literal value path [])
 known_literal lexemes known value path position e h = let i = subst (IsKnown lexemes) e h in i.1
 

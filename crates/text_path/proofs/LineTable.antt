@@ -16,9 +16,9 @@ use Rattle.types_parse.specs.grammar.Lexemes.{number_of, number}
 use Rattle.text_path.specs.Machine.{State, at, step, prefix, accepted}
 use Rattle.text_path.specs.LineGrammar.{LineTree, set_line, link_line, unshare_line, graft_line, equals, assigned, line_kinds}
 use Rattle.text_path.specs.LineMachine.{LineState, reading, literal, line_start, valued, named_role, role_of, begun, is_equals, after_equals, with_other, along, state_of, line_step, role_kinds, line_prefix, ended, line_accepted, line_ends}
-use Rattle.text_path.specs.declared.prefix.Role.{Role}
-use Rattle.text_path.specs.declared.prefix.Role.TheVariants as roles
-use Rattle.text_path.specs.declared.prefix.Prefix.TheVariants as prefixes
+use Rattle.text_path.specs.declared.line_prefix.Role.{Role}
+use Rattle.text_path.specs.declared.line_prefix.Role.TheVariants as roles
+use Rattle.text_path.specs.declared.line_prefix.LinePrefix.TheVariants as prefixes
 use Rattle.types_parse.proofs.grammar.LexemeLemmas.{number_is, open_more}
 use Rattle.text_path.proofs.PathTable.{none, zeros, final, path_table, leads as path_leads}
 

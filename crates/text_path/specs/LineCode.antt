@@ -14,14 +14,14 @@ use Rattle.text_path.specs.declared.edits.Edit.TheVariants as edits
 use Rattle.text_path.specs.declared.edits.ScriptFault.{ScriptFault}
 use Rattle.text_path.specs.declared.edits.ScriptFault.TheVariants as faults
 use Rattle.text_path.specs.declared.edits.ScriptLine.{ScriptLine}
-use Rattle.text_path.specs.declared.prefix.Role.{Role}
-use Rattle.text_path.specs.declared.prefix.Role.TheVariants as roles
-use Rattle.text_path.specs.declared.prefix.Prefix.{Prefix}
-use Rattle.text_path.specs.declared.prefix.Prefix.TheVariants as prefixes
-use Rattle.text_path.specs.declared.prefix.Known.{Known}
-use Rattle.text_path.specs.declared.prefix.Known.TheVariants as tolds
+use Rattle.text_path.specs.declared.line_prefix.Role.{Role}
+use Rattle.text_path.specs.declared.line_prefix.Role.TheVariants as roles
+use Rattle.text_path.specs.declared.line_prefix.LinePrefix.{LinePrefix}
+use Rattle.text_path.specs.declared.line_prefix.LinePrefix.TheVariants as prefixes
+use Rattle.text_path.specs.declared.line_prefix.LineLexemes.{LineLexemes}
+use Rattle.text_path.specs.declared.line_prefix.LineLexemes.TheVariants as tolds
 
-abbrev pub IsKnown : List Lexeme → Known → Type 0
+abbrev pub IsKnown : List Lexeme → LineLexemes → Type 0
 IsKnown lexemes (tolds.All f) = run line_step line_start (kinds_of lexemes) ≡ Some (reading f)
 IsKnown lexemes (tolds.Literal value path position) =
     (position ≤ length lexemes)
@@ -43,7 +43,7 @@ abbrev pub whole_line : ℕ → ℕ → Role → Option (List ℕ) → Option Sc
 whole_line number value role None = None
 whole_line number value role (Some path) = numbered number value (action_of role path)
 
-abbrev pub ended_line : ℕ → Prefix → Option ScriptLine
+abbrev pub ended_line : ℕ → LinePrefix → Option ScriptLine
 ended_line number (prefixes.Steps value role path after_dot) =
     whole_line number value role (accepted (at path after_dot))
 ended_line number f = None

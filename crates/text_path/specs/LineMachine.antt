@@ -10,16 +10,16 @@ use Rattle.types_parse.specs.grammar.Lexemes.{number_of, number}
 use Rattle.text_path.specs.Machine.{State, at, step, prefix, accepted}
 use Rattle.text_path.specs.LineGrammar.{LineTree, set_line, link_line, unshare_line, graft_line}
 use Rattle.text_path.specs.LineGrammar.{assigned, line_kinds}
-use Rattle.text_path.specs.declared.prefix.Role.{Role}
-use Rattle.text_path.specs.declared.prefix.Role.TheVariants as roles
-use Rattle.text_path.specs.declared.prefix.Prefix.{Prefix}
-use Rattle.text_path.specs.declared.prefix.Prefix.TheVariants as prefixes
-use Rattle.text_path.specs.declared.prefix.Next.{Next}
-use Rattle.text_path.specs.declared.prefix.Next.TheVariants as nexts
+use Rattle.text_path.specs.declared.line_prefix.Role.{Role}
+use Rattle.text_path.specs.declared.line_prefix.Role.TheVariants as roles
+use Rattle.text_path.specs.declared.line_prefix.LinePrefix.{LinePrefix}
+use Rattle.text_path.specs.declared.line_prefix.LinePrefix.TheVariants as prefixes
+use Rattle.text_path.specs.declared.line_prefix.LexemeResult.{LexemeResult}
+use Rattle.text_path.specs.declared.line_prefix.LexemeResult.TheVariants as nexts
 
 -- The lexemes read so far: up to the `=` of `set`, or beyond it.
 pub data LineState : Type 0 where
-  reading : Prefix → LineState
+  reading : LinePrefix → LineState
   literal : (value : ℕ) (path : List ℕ) (read : Kinds) → LineState
 
 abbrev pub line_start : LineState
@@ -27,7 +27,7 @@ line_start = reading prefixes.Start
 
 -- ---- steps on a lexeme
 
-abbrev pub valued : Option ℕ → Next
+abbrev pub valued : Option ℕ → LexemeResult
 valued None = nexts.Nowhere
 valued (Some value) = nexts.Onward (prefixes.Value value)
 
@@ -42,7 +42,7 @@ abbrev pub role_of : LexemeKind → Option Role
 role_of (kinds.Lower name) = named_role name
 role_of kind = None
 
-abbrev pub begun : ℕ → Option Role → Next
+abbrev pub begun : ℕ → Option Role → LexemeResult
 begun value None = nexts.Nowhere
 begun value (Some role) = nexts.Onward (prefixes.Steps value role [] false)
 
@@ -51,7 +51,7 @@ is_equals (kinds.Symbol symbols.Equals) = true
 is_equals kind = false
 
 -- After the equals sign, if a complete path comes before it.
-abbrev pub after_equals : ℕ → Role → Option (List ℕ) → Next
+abbrev pub after_equals : ℕ → Role → Option (List ℕ) → LexemeResult
 after_equals value role None = nexts.Nowhere
 after_equals value roles.Set (Some path) = nexts.Literal value path
 after_equals value roles.Link (Some path) =
@@ -60,28 +60,28 @@ after_equals value roles.Graft (Some path) = nexts.Onward (prefixes.Other value 
 after_equals value role (Some path) = nexts.Nowhere
 
 -- After the number of the value that is copied from.
-abbrev pub with_other : ℕ → List ℕ → Option ℕ → Next
+abbrev pub with_other : ℕ → List ℕ → Option ℕ → LexemeResult
 with_other value path None = nexts.Nowhere
 with_other value path (Some other) =
     nexts.Onward (prefixes.Steps value (roles.Part path other) [] false)
 
-abbrev pub along : ℕ → Role → Option State → Next
+abbrev pub along : ℕ → Role → Option State → LexemeResult
 along value role None = nexts.Nowhere
 along value role (Some (at path after_dot)) =
     nexts.Onward (prefixes.Steps value role path after_dot)
 
-abbrev pub steps_next : ℕ → Role → State → LexemeKind → Next
+abbrev pub steps_next : ℕ → Role → State → LexemeKind → LexemeResult
 steps_next value role s kind =
     if is_equals kind then after_equals value role (accepted s) else along value role (step s kind)
 
-abbrev pub next_of : Prefix → LexemeKind → Next
+abbrev pub next_of : LinePrefix → LexemeKind → LexemeResult
 next_of prefixes.Start kind = valued (number_of kind)
 next_of (prefixes.Value value) kind = begun value (role_of kind)
 next_of (prefixes.Steps value role path after_dot) kind =
     steps_next value role (at path after_dot) kind
 next_of (prefixes.Other value path) kind = with_other value path (number_of kind)
 
-abbrev pub state_of : Next → Option LineState
+abbrev pub state_of : LexemeResult → Option LineState
 state_of (nexts.Onward f) = Some (reading f)
 state_of (nexts.Literal value path) = Some (literal value path [])
 state_of nexts.Nowhere = None
@@ -101,7 +101,7 @@ role_kinds roles.Graft = kinds.Lower (codes "graft") ∷ []
 role_kinds (roles.Part path other) =
     kinds.Lower (codes "graft") ∷ assigned path (number other ∷ [])
 
-abbrev pub prefix_kinds : Prefix → Kinds
+abbrev pub prefix_kinds : LinePrefix → Kinds
 prefix_kinds prefixes.Start = []
 prefix_kinds (prefixes.Value value) = number value ∷ []
 prefix_kinds (prefixes.Steps value role path after_dot) =

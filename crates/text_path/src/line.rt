@@ -12,7 +12,7 @@ ghost use Rattle.text_path.specs.declared.edits.Action.TheVariants as actions;
 ghost use Rattle.text_path.specs.declared.edits.Edit.TheVariants as edits;
 
 use crate::edits::{Action, Edit, ScriptFault, ScriptLine, line_fault};
-use crate::prefix::{Known, Next, Prefix, Role};
+use crate::line_prefix::{LexemeResult, LineLexemes, LinePrefix, Role};
 use crate::read::{is_whole, number_of, step};
 use base_data::model::Memory;
 use base_data::model::list::List;
@@ -51,22 +51,22 @@ fn role_of(kind: &LexemeKind) -> Option<Role>
 }
 
 /// Parses the number of the edited value.
-fn valued(kind: &LexemeKind) -> Next
+fn valued(kind: &LexemeKind) -> LexemeResult
     ensures { result ≡ valued (number_of kind.now) }
 {
     match number_of(kind) {
-        Some(value) => Next::Onward(Prefix::Value(value)),
-        None => Next::Nowhere,
+        Some(value) => LexemeResult::Onward(LinePrefix::Value(value)),
+        None => LexemeResult::Nowhere,
     }
 }
 
 /// Parses the command word.
-fn begun(alloc: Global, value: u64, kind: &LexemeKind) -> Next
+fn begun(alloc: Global, value: u64, kind: &LexemeKind) -> LexemeResult
     ensures { result ≡ begun value (role_of kind.now) }
 {
     match role_of(kind) {
-        Some(role) => Next::Onward(Prefix::Steps(value, role, Path::new(alloc), false)),
-        None => Next::Nowhere,
+        Some(role) => LexemeResult::Onward(LinePrefix::Steps(value, role, Path::new(alloc), false)),
+        None => LexemeResult::Nowhere,
     }
 }
 
@@ -81,29 +81,34 @@ fn is_equals(kind: &LexemeKind) -> bool
 }
 
 /// Returns the state after a complete path and an equals sign.
-fn after_equals(alloc: Global, value: u64, role: Role, path: Path) -> Next
+fn after_equals(alloc: Global, value: u64, role: Role, path: Path) -> LexemeResult
     ensures { result ≡ after_equals value role (Some path) }
 {
     match role {
-        Role::Set => Next::Literal(value, path),
+        Role::Set => LexemeResult::Literal(value, path),
         Role::Link => {
-            Next::Onward(Prefix::Steps(value, Role::Source(path), Path::new(alloc), false))
+            LexemeResult::Onward(LinePrefix::Steps(
+                value,
+                Role::Source(path),
+                Path::new(alloc),
+                false,
+            ))
         }
-        Role::Graft => Next::Onward(Prefix::Other(value, path)),
-        _ => Next::Nowhere,
+        Role::Graft => LexemeResult::Onward(LinePrefix::Other(value, path)),
+        _ => LexemeResult::Nowhere,
     }
 }
 
 /// Parses the number of the value that `graft` copies from.
-fn with_other(alloc: Global, value: u64, path: Path, kind: &LexemeKind) -> Next
+fn with_other(alloc: Global, value: u64, path: Path, kind: &LexemeKind) -> LexemeResult
     ensures { result ≡ with_other value path (number_of kind.now) }
 {
     match number_of(kind) {
         Some(other) => {
             let role = Role::Part(path, other);
-            Next::Onward(Prefix::Steps(value, role, Path::new(alloc), false))
+            LexemeResult::Onward(LinePrefix::Steps(value, role, Path::new(alloc), false))
         }
-        None => Next::Nowhere,
+        None => LexemeResult::Nowhere,
     }
 }
 
@@ -115,49 +120,53 @@ fn steps_next(
     mut path: Path,
     after_dot: bool,
     kind: &LexemeKind,
-) -> Result<Next, Memory>
+) -> Result<LexemeResult, Memory>
     ensures { IfOk result (λ next. steps_next value role (at path after_dot) kind.now ≡ next) }
 {
     if is_equals(kind) {
         if is_whole(&path, after_dot) {
             return Ok(after_equals(alloc, value, role, path));
         }
-        return Ok(Next::Nowhere);
+        return Ok(LexemeResult::Nowhere);
     }
     if step(&mut path, after_dot, kind)? {
-        Ok(Next::Onward(Prefix::Steps(value, role, path, !after_dot)))
+        Ok(LexemeResult::Onward(LinePrefix::Steps(value, role, path, !after_dot)))
     } else {
-        Ok(Next::Nowhere)
+        Ok(LexemeResult::Nowhere)
     }
 }
 
 /// Parses one lexeme and returns the next state.
-fn next_of(alloc: Global, prefix: Prefix, kind: &LexemeKind) -> Result<Next, Memory>
+fn next_of(alloc: Global, prefix: LinePrefix, kind: &LexemeKind) -> Result<LexemeResult, Memory>
     ensures { IfOk result (λ next. next_of prefix kind.now ≡ next) }
 {
     match prefix {
-        Prefix::Start => Ok(valued(kind)),
-        Prefix::Value(value) => Ok(begun(alloc, value, kind)),
-        Prefix::Steps(value, role, path, after_dot) => {
+        LinePrefix::Start => Ok(valued(kind)),
+        LinePrefix::Value(value) => Ok(begun(alloc, value, kind)),
+        LinePrefix::Steps(value, role, path, after_dot) => {
             steps_next(alloc, value, role, path, after_dot, kind)
         }
-        Prefix::Other(value, path) => Ok(with_other(alloc, value, path, kind)),
+        LinePrefix::Other(value, path) => Ok(with_other(alloc, value, path, kind)),
     }
 }
 
 /// Reads lexemes until the `=` of `set`, until a syntax error, or to the end.
-fn known(alloc: Global, lexemes: &[Lexeme]) -> Result<Known, Memory>
+fn known(alloc: Global, lexemes: &[Lexeme]) -> Result<LineLexemes, Memory>
     ensures { IfOk result (IsKnown lexemes.now) }
 {
-    let mut prefix = Prefix::Start;
+    let mut prefix = LinePrefix::Start;
     for (position, lexeme) in lexemes.iter().enumerate() {
         match next_of(alloc, prefix, &lexeme.kind)? {
-            Next::Onward(next) => prefix = next,
-            Next::Literal(value, path) => return Ok(Known::Literal(value, path, position + 1)),
-            Next::Nowhere => return Ok(Known::Stuck(position)),
+            LexemeResult::Onward(next) => prefix = next,
+            LexemeResult::Literal(value, path) => return Ok(LineLexemes::Literal(
+                value,
+                path,
+                position + 1,
+            )),
+            LexemeResult::Nowhere => return Ok(LineLexemes::Stuck(position)),
         }
     }
-    Ok(Known::All(prefix))
+    Ok(LineLexemes::All(prefix))
 }
 
 /// Returns the request of a line that ends after a complete path, or `None` if a line with this
@@ -174,10 +183,10 @@ fn action_of(role: Role, path: Path) -> Option<Action>
 }
 
 /// Returns the line that ends here, or `None` if no line can end here.
-fn ended(prefix: Prefix, number: usize) -> Option<ScriptLine>
+fn ended(prefix: LinePrefix, number: usize) -> Option<ScriptLine>
     ensures { result ≡ ended_line number prefix }
 {
-    let Prefix::Steps(value, role, path, after_dot) = prefix else {
+    let LinePrefix::Steps(value, role, path, after_dot) = prefix else {
         return None;
     };
     if !is_whole(&path, after_dot) {
@@ -232,7 +241,7 @@ fn in_time(line: ScriptLine) -> Result<ScriptLine, ScriptFault>
 
 /// Returns the line for the result of reading its lexemes. The line must not be blank.
 fn line_of(
-    known: Known,
+    known: LineLexemes,
     lexemes: Vec<Lexeme>,
     number: usize,
     end: usize,
@@ -244,14 +253,14 @@ fn line_of(
         (UnlessMemory (λ fault. IsRead number lexemes.items end (Err fault))) }
 {
     match known {
-        Known::All(prefix) => match ended(prefix, number) {
+        LineLexemes::All(prefix) => match ended(prefix, number) {
             Some(line) => in_time(line),
             None => Err(ScriptFault::Syntax(number, end)),
         },
-        Known::Literal(value, path, position) => {
+        LineLexemes::Literal(value, path, position) => {
             Ok(set_line(number, value, path, lexemes, position, end)?)
         }
-        Known::Stuck(position) => Err(ScriptFault::Syntax(
+        LineLexemes::Stuck(position) => Err(ScriptFault::Syntax(
             number,
             byte_of(lexemes.as_slice(), end, position),
         )),

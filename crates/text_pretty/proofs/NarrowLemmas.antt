@@ -5,8 +5,8 @@ use Rattle.std.specs.Bool.{MatchBool}
 use Rattle.std.proofs.lemmas.Bool.{cond_both, both_ways, false≢true, ne_eqb, eqb-true}
 use Rattle.text_pretty.specs.declared.break_point.BreakPoint.{BreakPoint}
 use Rattle.text_pretty.specs.declared.break_point.BreakPoint.TheVariants as break_points
-use Rattle.text_pretty.specs.declared.break_point.Mark.{Mark}
-use Rattle.text_pretty.specs.declared.break_point.Mark.TheVariants as marks
+use Rattle.text_pretty.specs.declared.break_point.ByteRole.{ByteRole}
+use Rattle.text_pretty.specs.declared.break_point.ByteRole.TheVariants as marks
 use Rattle.text_pretty.specs.BreakPoints.{bare_mark, mark_of, next_break_point}
 use Rattle.text_pretty.specs.Lines.{line_text}
 use Rattle.text_pretty.specs.Narrow.{is_behind_position, is_before_position, Seen, nothing, seen_more, IsNarrow, AreNarrow}
@@ -20,10 +20,10 @@ abbrev Opens : ℕ → Type 0
 Opens b = (b ≡ 40) ⊎ ((b ≡ 124) ⊎ (b ≡ 123))
 
 -- A fact that follows from a test of a role.
-abbrev Gives : (Mark → Bool) → Type 0 → Mark → Type 0
+abbrev Gives : (ByteRole → Bool) → Type 0 → ByteRole → Type 0
 Gives test P mark = test mark ≡ true → P
 
-bare_parts : (paren bar : Mark) (b : ℕ) → is_behind_position paren ≡ false → Gives is_behind_position (Parts b) (bare_mark paren bar b)
+bare_parts : (paren bar : ByteRole) (b : ℕ) → is_behind_position paren ≡ false → Gives is_behind_position (Parts b) (bare_mark paren bar b)
 bare_parts paren bar b none =
     cond_both (b == 40) paren _ (Gives is_behind_position (Parts b)) (λ _ h. absurd (both_ways (is_behind_position paren) none h))
     (λ _. cond_both (b == 124) bar _ (Gives is_behind_position (Parts b)) (λ e _. inl (eqb-true b 124 e))
@@ -34,7 +34,7 @@ bare_parts paren bar b none =
     (λ _. cond_both (b == 59) marks.Parts marks.Other (Gives is_behind_position (Parts b)) (λ e _. inr (inr (inr (inr (eqb-true b 59 e)))))
     (λ _ h. absurd (false≢true h))))))))
 
-bare_opens : (paren bar : Mark) (b : ℕ) → Gives is_before_position (Opens b) (bare_mark paren bar b)
+bare_opens : (paren bar : ByteRole) (b : ℕ) → Gives is_before_position (Opens b) (bare_mark paren bar b)
 bare_opens paren bar b =
     cond_both (b == 40) paren _ (Gives is_before_position (Opens b)) (λ e _. inl (eqb-true b 40 e))
     (λ _. cond_both (b == 124) bar _ (Gives is_before_position (Opens b)) (λ e _. inr (inl (eqb-true b 124 e)))

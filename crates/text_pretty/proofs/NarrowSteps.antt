@@ -7,10 +7,10 @@ use Rattle.std.specs.List.{AllByRecursion}
 use Rattle.std.proofs.lemmas.Bool.{cond_both, both_ways, false≢true, cond-true, cond-false, eqb-true, leb-true, ltb-false, lt-ltb, le-ltb, and_parts, and_left, and_from, cases_Bool, cases_lt}
 use Rattle.text_pretty.specs.declared.break_point.BreakPoint.{BreakPoint}
 use Rattle.text_pretty.specs.declared.break_point.BreakPoint.TheVariants as break_points
-use Rattle.text_pretty.specs.declared.break_point.Mark.{Mark}
-use Rattle.text_pretty.specs.declared.break_point.Mark.TheVariants as marks
-use Rattle.text_pretty.specs.declared.bracket.Bracket.{Bracket}
-use Rattle.text_pretty.specs.declared.bracket.Bracket.TheVariants as kinds
+use Rattle.text_pretty.specs.declared.break_point.ByteRole.{ByteRole}
+use Rattle.text_pretty.specs.declared.break_point.ByteRole.TheVariants as marks
+use Rattle.text_pretty.specs.declared.broken_bracket.BrokenBracket.{BrokenBracket}
+use Rattle.text_pretty.specs.declared.broken_bracket.BrokenBracket.TheVariants as kinds
 use Rattle.text_pretty.specs.declared.layout.Layout.{Layout}
 use Rattle.text_pretty.specs.BreakPoints.{mark_of, next_break_point}
 use Rattle.text_pretty.specs.Fit.{closing_length, depth_after, counted, to_close, within}
@@ -95,7 +95,7 @@ room_found left None some = absurd (omega (arith, some))
 room_found left (Some n) some =
     cond_both (leb n left) n 0 (λ m. 0 < m → (Some n ≡ Some m) × (m ≤ left)) (λ less _. (refl, leb-true n left less)) (λ _ h. absurd (omega (arith, h))) some
 
-list_found : (at : Layout) (top : Option Bracket) (bytes : List ℕ) → 0 < list_room at top bytes → (to_close at.break_point 0 bytes ≡ Some (list_room at top bytes)) × (list_room at top bytes ≤ at.left)
+list_found : (at : Layout) (top : Option BrokenBracket) (bytes : List ℕ) → 0 < list_room at top bytes → (to_close at.break_point 0 bytes ≡ Some (list_room at top bytes)) × (list_room at top bytes ≤ at.left)
 list_found at None bytes some = room_found at.left (to_close at.break_point 0 bytes) some
 list_found at (Some (kinds.Block indent)) bytes some = room_found at.left (to_close at.break_point 0 bytes) some
 list_found at (Some (kinds.Chain indent)) bytes some =
@@ -111,24 +111,24 @@ record Passed (at : Layout) (columns : ℕ) (seen : Seen) (plain : List ℕ) : T
   flat : at.flat ≡ 0
   stale : at.fresh ≡ false
 
-opened_flat : (room : ℕ) (fresh : Bool) (bracket : Bracket) (at : Layout) (columns : ℕ) (seen : Seen) (bytes : List ℕ) → Passed at columns seen bytes → 0 < room → (to_close at.break_point 0 bytes ≡ Some room) × (room ≤ at.left) → Goes (record at { flat = room; parted = false }) columns seen bytes
+opened_flat : (room : ℕ) (fresh : Bool) (bracket : BrokenBracket) (at : Layout) (columns : ℕ) (seen : Seen) (bytes : List ℕ) → Passed at columns seen bytes → 0 < room → (to_close at.break_point 0 bytes ≡ Some room) × (room ≤ at.left) → Goes (record at { flat = room; parted = false }) columns seen bytes
 opened_flat room fresh bracket at columns seen bytes p some found = record {
   known = record { left = p.left; break_point = p.break_point; fresh = λ is. absurd (both_ways at.fresh p.stale is); regular = p.regular };
   mode = Flat (record { some = some; depth = 0; closes = found.0; room = omega (arith, found.1, p.left, some); stale = p.stale });
 }
 
-opened_over : (bracket : Bracket) (fresh : Bool) (at : Layout) (columns : ℕ) (seen : Seen) (bytes : List ℕ) → Passed at columns seen bytes → seen.placed ≡ false → (seen.opened ≡ true → fresh ≡ true) → (fresh ≡ true → (at.break_point ≡ break_points.Outside) × (has_no_blank bytes ≡ true) × ((indent : ℕ) × (bracket ≡ kinds.Block indent))) → Goes (record at { fresh = fresh; parted = false; brackets = bracket ∷ at.brackets }) columns seen bytes
+opened_over : (bracket : BrokenBracket) (fresh : Bool) (at : Layout) (columns : ℕ) (seen : Seen) (bytes : List ℕ) → Passed at columns seen bytes → seen.placed ≡ false → (seen.opened ≡ true → fresh ≡ true) → (fresh ≡ true → (at.break_point ≡ break_points.Outside) × (has_no_blank bytes ≡ true) × ((indent : ℕ) × (bracket ≡ kinds.Block indent))) → Goes (record at { fresh = fresh; parted = false; brackets = bracket ∷ at.brackets }) columns seen bytes
 opened_over bracket fresh at columns seen bytes p placed opens if_fresh = record {
   known = record {
     left = p.left;
     break_point = p.break_point;
-    fresh = λ is. let h = if_fresh is in record { outside = h.0; indent = h.2.0; block = ap (λ (k : Bracket). Some k) h.2.1; next = h.1 };
+    fresh = λ is. let h = if_fresh is in record { outside = h.0; indent = h.2.0; block = ap (λ (k : BrokenBracket). Some k) h.2.1; next = h.1 };
     regular = p.regular;
   };
   mode = Word (record { flat = p.flat; placed = placed; opened = opens });
 }
 
-opened_goes : (room : ℕ) (fresh : Bool) (bracket : Bracket) (at : Layout) (columns : ℕ) (seen : Seen) (bytes : List ℕ) → Passed at columns seen bytes → seen.placed ≡ false → (seen.opened ≡ true → fresh ≡ true) → (fresh ≡ true → (at.break_point ≡ break_points.Outside) × (has_no_blank bytes ≡ true) × ((indent : ℕ) × (bracket ≡ kinds.Block indent))) → (0 < room → (to_close at.break_point 0 bytes ≡ Some room) × (room ≤ at.left)) → Goes (opened room fresh bracket at) columns seen bytes
+opened_goes : (room : ℕ) (fresh : Bool) (bracket : BrokenBracket) (at : Layout) (columns : ℕ) (seen : Seen) (bytes : List ℕ) → Passed at columns seen bytes → seen.placed ≡ false → (seen.opened ≡ true → fresh ≡ true) → (fresh ≡ true → (at.break_point ≡ break_points.Outside) × (has_no_blank bytes ≡ true) × ((indent : ℕ) × (bracket ≡ kinds.Block indent))) → (0 < room → (to_close at.break_point 0 bytes ≡ Some room) × (room ≤ at.left)) → Goes (opened room fresh bracket at) columns seen bytes
 opened_goes room fresh bracket at columns seen bytes p placed opens if_fresh found =
     cond_both (ltb 0 room) (record at { flat = room; parted = false })
     (record at { fresh = fresh; parted = false; brackets = bracket ∷ at.brackets }) (λ (to : Layout). Goes to columns seen bytes)
@@ -140,7 +140,7 @@ opened_goes room fresh bracket at columns seen bytes p placed opens if_fresh fou
 
 -- ---- by the role of a byte, before any break position
 
-record IsGoing (mark : Mark) (at : Layout) (seen : Seen) (plain : List ℕ) : Type 0 where
+record IsGoing (mark : ByteRole) (at : Layout) (seen : Seen) (plain : List ℕ) : Type 0 where
   placed : seen.placed ≡ false
   opened : seen.opened ≡ is_before_position mark
   opening : mark ≡ marks.Opens → (at.break_point ≡ break_points.Outside) × (has_no_blank plain ≡ true)
@@ -156,7 +156,7 @@ stays_word at to columns seen bytes p placed opened same_left same_break_point s
   mode = Word (record { flat = same_flat ∙ p.flat; placed = placed; opened = λ is. absurd (both_ways seen.opened opened is) });
 }
 
-marked_goes : (mark : Mark) (bytes : List ℕ) (at : Layout) (columns : ℕ) (seen : Seen) → Passed at columns seen bytes → IsGoing mark at seen bytes → Goes (marked mark bytes at) columns seen bytes
+marked_goes : (mark : ByteRole) (bytes : List ℕ) (at : Layout) (columns : ℕ) (seen : Seen) → Passed at columns seen bytes → IsGoing mark at seen bytes → Goes (marked mark bytes at) columns seen bytes
 marked_goes marks.Opens bytes at columns seen p g =
     opened_goes (within at.left (to_close at.break_point 0 bytes)) true (kinds.Block (child_indent at.parted (first at.brackets))) at columns seen bytes p g.placed (λ _. refl)
     (λ _. ((g.opening refl).0, (g.opening refl).1, (child_indent at.parted (first at.brackets), refl)))
@@ -170,7 +170,7 @@ marked_goes marks.Other bytes at columns seen p g = stays_word at at columns see
 
 -- ---- the bytes that may follow
 
-follows_opens : (mark : Mark) (b : ℕ) (break_point : BreakPoint) (bytes : List ℕ) → follows mark b break_point bytes ≡ true → mark ≡ marks.Opens → has_no_blank bytes ≡ true
+follows_opens : (mark : ByteRole) (b : ℕ) (break_point : BreakPoint) (bytes : List ℕ) → follows mark b break_point bytes ≡ true → mark ≡ marks.Opens → has_no_blank bytes ≡ true
 follows_opens marks.Opens b break_point bytes h is = h
 follows_opens marks.OpensList b break_point bytes h is = absurd (cc)
 follows_opens marks.Parts b break_point bytes h is = absurd (cc)
@@ -191,14 +191,14 @@ closing_goes b at columns seen bytes known stale flat room next =
 
 -- ---- positions at which a line begins or does not
 
-chain_room : (left b : ℕ) (top : Option Bracket) → None ≡ closing_line left b top → closing_length b ≤ left
+chain_room : (left b : ℕ) (top : Option BrokenBracket) → None ≡ closing_line left b top → closing_length b ≤ left
 chain_room left b None is = absurd (cc)
 chain_room left b (Some (kinds.Block indent)) is = absurd (cc)
 chain_room left b (Some (kinds.Chain indent)) is =
     cond_both (ltb left (closing_length b)) (Some indent) None (λ (o : Option ℕ). None ≡ o → closing_length b ≤ left)
     (λ _ h. absurd (cc)) (λ is_false _. ltb-false left (closing_length b) is_false) is
 
-line_none : (mark : Mark) (at : Layout) (b : ℕ) → None ≡ line_at at mark b → ((mark ≡ marks.Closes) × (closing_length b ≤ at.left)) ⊎ (is_behind_position mark ≡ false)
+line_none : (mark : ByteRole) (at : Layout) (b : ℕ) → None ≡ line_at at mark b → ((mark ≡ marks.Closes) × (closing_length b ≤ at.left)) ⊎ (is_behind_position mark ≡ false)
 line_none marks.Parts at b is = absurd (cc)
 line_none marks.Closes at b is = inl (refl, chain_room at.left b (first at.brackets) is)
 line_none marks.Opens at b is = inr refl
@@ -209,7 +209,7 @@ begins_fresh : (fresh blank : Bool) (line : Option ℕ) (indent : ℕ) → Some 
 begins_fresh true blank line indent is = refl
 begins_fresh false blank line indent is = absurd (cc)
 
-line_some : (mark : Mark) (at : Layout) (b indent : ℕ) → Some indent ≡ line_at at mark b → (is_behind_position mark ≡ true) ⊎ (at.fresh ≡ true)
+line_some : (mark : ByteRole) (at : Layout) (b indent : ℕ) → Some indent ≡ line_at at mark b → (is_behind_position mark ≡ true) ⊎ (at.fresh ≡ true)
 line_some marks.Parts at b indent is = inl refl
 line_some marks.Closes at b indent is = inl refl
 line_some marks.Opens at b indent is = inr (begins_fresh at.fresh (not (b == 32)) (Some (inner (base (first at.brackets)))) indent is)
@@ -221,7 +221,7 @@ fresh_begins at b fresh no_blank is =
     let line = cond-true (at.fresh && not (b == 32)) (Some (inner (base (first at.brackets)))) None (and_from at.fresh (not (b == 32)) fresh no_blank) in
     cc
 
-fresh_line : (mark : Mark) (at : Layout) (b : ℕ) (bytes : List ℕ) → at.fresh ≡ true → IsFresh at (b ∷ bytes) → None ≡ line_at at mark b → ⊥
+fresh_line : (mark : ByteRole) (at : Layout) (b : ℕ) (bytes : List ℕ) → at.fresh ≡ true → IsFresh at (b ∷ bytes) → None ≡ line_at at mark b → ⊥
 fresh_line marks.Parts at b bytes fresh h is = absurd (cc)
 fresh_line marks.Closes at b bytes fresh h is = let line = ap (λ top. closing_line at.left b top) h.block in absurd (cc)
 fresh_line marks.Opens at b bytes fresh h is = fresh_begins at b fresh h.next is
@@ -291,7 +291,7 @@ module _ (at : Layout) (b : ℕ) (bytes : List ℕ) (columns : ℕ) (seen : Seen
   parts_go indent flat position =
       some_goes indent flat (sym (parts_lead at.break_point b position)) (parts_open_nothing at.break_point b position ∙ sym (not_both (mark_of at.break_point b) position))
     where
-      not_both : (mark : Mark) → is_behind_position mark ≡ true → is_before_position mark ≡ false
+      not_both : (mark : ByteRole) → is_behind_position mark ≡ true → is_before_position mark ≡ false
       not_both marks.Parts h = refl
       not_both marks.Closes h = refl
       not_both marks.Opens h = absurd (false≢true h)
@@ -407,7 +407,7 @@ module _ (at : Layout) (b : ℕ) (bytes : List ℕ) (columns : ℕ) (seen : Seen
   flat_goes : IsFlat at columns (b ∷ bytes) → (line : Option ℕ) → line ≡ line_before at b → Next line (behind line b bytes at)
   flat_goes f line is = by line is
     where
-      depth_none : (mark : Mark) (depth : ℕ) → None ≡ depth_after mark depth → mark ≡ marks.Closes
+      depth_none : (mark : ByteRole) (depth : ℕ) → None ≡ depth_after mark depth → mark ≡ marks.Closes
       depth_none marks.Opens depth h = absurd (cc)
       depth_none marks.OpensList depth h = absurd (cc)
       depth_none marks.Parts depth h = absurd (cc)

@@ -5,7 +5,7 @@ use Rattle.std.proofs.lemmas.Bool.{and_from, not_from_false}
 use Rattle.std.proofs.lemmas.List.{append-nil, append_assoc}
 use Rattle.text_pretty.specs.declared.break_point.BreakPoint.{BreakPoint}
 use Rattle.text_pretty.specs.declared.break_point.BreakPoint.TheVariants as break_points
-use Rattle.text_pretty.specs.declared.break_point.Mark.{Mark}
+use Rattle.text_pretty.specs.declared.break_point.ByteRole.{ByteRole}
 use Rattle.text_pretty.specs.BreakPoints.{mark_of, next_break_point}
 use Rattle.text_pretty.specs.Narrow.{goes_on, has_no_blank, follows, is_regular}
 use Rattle.text_pretty.specs.Parts.{MayFollow, MayBegin, Leads, PartsAreRegular}
@@ -15,7 +15,7 @@ use Rattle.text_pretty.proofs.NarrowLemmas.{parts_lead}
 led : (word : List ℕ) (break_point to : BreakPoint) (rest : List ℕ) → Leads break_point word to → is_regular break_point (word ++ rest) ≡ is_regular to rest
 led [] break_point to rest leads = ap (λ s. is_regular s rest) leads
 led (b ∷ bytes) break_point to rest leads =
-    ap (λ (m : Mark). follows m b (next_break_point break_point b) (bytes ++ rest) && is_regular (next_break_point break_point b) (bytes ++ rest)) leads.0
+    ap (λ (m : ByteRole). follows m b (next_break_point break_point b) (bytes ++ rest) && is_regular (next_break_point break_point b) (bytes ++ rest)) leads.0
     ∙ led bytes (next_break_point break_point b) to rest leads.1
 
 -- The same bytes may follow a name as any other part.

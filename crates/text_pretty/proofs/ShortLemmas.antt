@@ -3,10 +3,10 @@
 use Rattle.std.proofs.Common.{ℕ, suc, ◌+◌, ◌*◌, ◌≤◌, Bool, true, false, not, ◌&&◌, ◌==◌, cond, ltb, List, [], ◌∷◌, ◌++◌, length, Option, Some, None, arith, length-append}
 use Rattle.std.proofs.lemmas.Bool.{cond_both, ltb-true}
 use Rattle.std.proofs.lemmas.List.{length-replicate}
-use Rattle.text_pretty.specs.declared.break_point.Mark.{Mark}
-use Rattle.text_pretty.specs.declared.break_point.Mark.TheVariants as marks
-use Rattle.text_pretty.specs.declared.bracket.Bracket.{Bracket}
-use Rattle.text_pretty.specs.declared.bracket.Bracket.TheVariants as kinds
+use Rattle.text_pretty.specs.declared.break_point.ByteRole.{ByteRole}
+use Rattle.text_pretty.specs.declared.break_point.ByteRole.TheVariants as marks
+use Rattle.text_pretty.specs.declared.broken_bracket.BrokenBracket.{BrokenBracket}
+use Rattle.text_pretty.specs.declared.broken_bracket.BrokenBracket.TheVariants as kinds
 use Rattle.text_pretty.specs.declared.layout.Layout.{Layout}
 use Rattle.text_pretty.specs.Fit.{closing_length, to_close, within}
 use Rattle.text_pretty.specs.BreakPoints.{mark_of}
@@ -16,7 +16,7 @@ use Rattle.text_pretty.specs.Laws.{PrettyIsShort}
 
 -- ---- indentations
 
-abbrev AreSmall : List Bracket → Type 0
+abbrev AreSmall : List BrokenBracket → Type 0
 AreSmall [] = Unit {0}
 AreSmall (bracket ∷ outer) = (base (Some bracket) ≤ 40) × AreSmall outer
 
@@ -28,7 +28,7 @@ inner_small : (indent : ℕ) → inner indent ≤ 40
 inner_small indent =
     cond_both (ltb indent 38) (indent + 2) 40 (λ n. n ≤ 40) (λ less. omega (arith, ltb-true indent 38 less)) (λ _. omega arith)
 
-base_small : (all : List Bracket) → AreSmall all → base (first all) ≤ 40
+base_small : (all : List BrokenBracket) → AreSmall all → base (first all) ≤ 40
 base_small [] small = omega arith
 base_small (bracket ∷ outer) small = small.0
 
@@ -36,7 +36,7 @@ either_small : (parted : Bool) (n m : ℕ) → n ≤ 40 → m ≤ 40 → cond pa
 either_small true n m h k = h
 either_small false n m h k = k
 
-child_small : (parted : Bool) (all : List Bracket) → AreSmall all → child_indent parted (first all) ≤ 40
+child_small : (parted : Bool) (all : List BrokenBracket) → AreSmall all → child_indent parted (first all) ≤ 40
 child_small parted [] small = omega arith
 child_small parted (kinds.Block indent ∷ outer) small = inner_small indent
 child_small parted (kinds.Chain indent ∷ outer) small = either_small parted indent (inner indent) small.0 (inner_small indent)
@@ -47,7 +47,7 @@ line_if : (t : Bool) (x y : Option ℕ) → IsSmallLine x → IsSmallLine y → 
 line_if true x y h k = h
 line_if false x y h k = k
 
-closing_small : (left b : ℕ) (all : List Bracket) → AreSmall all → IsSmallLine (closing_line left b (first all))
+closing_small : (left b : ℕ) (all : List BrokenBracket) → AreSmall all → IsSmallLine (closing_line left b (first all))
 closing_small left b [] small = omega arith
 closing_small left b (kinds.Block indent ∷ outer) small = small.0
 closing_small left b (kinds.Chain indent ∷ outer) small = line_if (ltb left (closing_length b)) (Some indent) None small.0 tt
@@ -56,7 +56,7 @@ fresh_small : (at : Layout) (b : ℕ) → IsSmallLine (cond (at.fresh && not (b 
 fresh_small at b =
     line_if (at.fresh && not (b == 32)) (Some (inner (base (first at.brackets)))) None (inner_small (base (first at.brackets))) tt
 
-at_small : (at : Layout) (mark : Mark) (b : ℕ) → AreSmall at.brackets → IsSmallLine (line_at at mark b)
+at_small : (at : Layout) (mark : ByteRole) (b : ℕ) → AreSmall at.brackets → IsSmallLine (line_at at mark b)
 at_small at marks.Parts b small = base_small at.brackets small
 at_small at marks.Closes b small = closing_small at.left b at.brackets small
 at_small at marks.Opens b small = fresh_small at b
@@ -72,7 +72,7 @@ line_short (Some indent) small = omega (arith, length-replicate {A = ℕ} indent
 
 -- ---- the state after a byte
 
-others_small : (all : List Bracket) → AreSmall all → AreSmall (others all)
+others_small : (all : List BrokenBracket) → AreSmall all → AreSmall (others all)
 others_small [] small = small
 others_small (bracket ∷ outer) small = small.1
 
@@ -80,12 +80,12 @@ layout_if : (t : Bool) (x y : Layout) → AreSmall x.brackets → AreSmall y.bra
 layout_if true x y h k = h
 layout_if false x y h k = k
 
-opened_small : (room : ℕ) (fresh : Bool) (bracket : Bracket) (at : Layout) → base (Some bracket) ≤ 40 → AreSmall at.brackets → AreSmall (opened room fresh bracket at).brackets
+opened_small : (room : ℕ) (fresh : Bool) (bracket : BrokenBracket) (at : Layout) → base (Some bracket) ≤ 40 → AreSmall at.brackets → AreSmall (opened room fresh bracket at).brackets
 opened_small room fresh bracket at this small =
     layout_if (ltb 0 room) (record at { flat = room; parted = false })
     (record at { fresh = fresh; parted = false; brackets = bracket ∷ at.brackets }) small (this, small)
 
-marked_small : (mark : Mark) (bytes : List ℕ) (at : Layout) → AreSmall at.brackets → AreSmall (marked mark bytes at).brackets
+marked_small : (mark : ByteRole) (bytes : List ℕ) (at : Layout) → AreSmall at.brackets → AreSmall (marked mark bytes at).brackets
 marked_small marks.Opens bytes at small =
     opened_small (within at.left (to_close at.break_point 0 bytes)) true
     (kinds.Block (child_indent at.parted (first at.brackets))) at (child_small at.parted at.brackets small) small

@@ -5,14 +5,14 @@ use Rattle.std.specs.Prelude.{ℕ, ◌||◌, ◌==◌, if◌then◌else◌}
 use Rattle.std.specs.Char.{is_ascii_alphanumeric}
 use Rattle.text_pretty.specs.declared.break_point.BreakPoint.{BreakPoint}
 use Rattle.text_pretty.specs.declared.break_point.BreakPoint.TheVariants as break_points
-use Rattle.text_pretty.specs.declared.break_point.Mark.{Mark}
-use Rattle.text_pretty.specs.declared.break_point.Mark.TheVariants as marks
+use Rattle.text_pretty.specs.declared.break_point.ByteRole.{ByteRole}
+use Rattle.text_pretty.specs.declared.break_point.ByteRole.TheVariants as marks
 
 -- ---- the roles of bytes: 40 and 41 are `(` and `)`, 123 and 125 `{` and `}`, 124 `|`, 44 and 59
 -- `,` and `;`
 
 -- The role of a byte outside of quotes, given the roles of `(` and of `|`.
-abbrev pub bare_mark : Mark → Mark → ℕ → Mark
+abbrev pub bare_mark : ByteRole → ByteRole → ℕ → ByteRole
 bare_mark paren bar b =
     if b == 40 then paren
     else (if b == 124 then bar
@@ -24,7 +24,7 @@ bare_mark paren bar b =
 
 -- A bar opens a bracket after `[`, and otherwise closes one. After `::`, a parenthesis is that of a
 -- list.
-abbrev pub mark_of : BreakPoint → ℕ → Mark
+abbrev pub mark_of : BreakPoint → ℕ → ByteRole
 mark_of break_points.Outside b = bare_mark marks.Opens marks.Closes b
 mark_of break_points.Name b = bare_mark marks.Opens marks.Closes b
 mark_of break_points.Square b = bare_mark marks.Opens marks.Opens b

@@ -2,8 +2,8 @@
 use Rattle.std.specs.Prelude.{ℕ, suc, ◌+◌, ◌-◌, ◌==◌, nat_le, if◌then◌else◌, List, [], ◌∷◌, Option}
 use Rattle.std.specs.Prelude.{Some, None, option_map}
 use Rattle.text_pretty.specs.declared.break_point.BreakPoint.{BreakPoint}
-use Rattle.text_pretty.specs.declared.break_point.Mark.{Mark}
-use Rattle.text_pretty.specs.declared.break_point.Mark.TheVariants as marks
+use Rattle.text_pretty.specs.declared.break_point.ByteRole.{ByteRole}
+use Rattle.text_pretty.specs.declared.break_point.ByteRole.TheVariants as marks
 use Rattle.text_pretty.specs.BreakPoints.{mark_of, next_break_point}
 
 -- The closing bracket `|]` has two bytes.
@@ -12,7 +12,7 @@ closing_length b = if b == 124 then 2 else 1
 
 -- The number of open inner brackets after a byte, given the number before it, or `None` if the byte
 -- closes the outer bracket.
-abbrev pub depth_after : Mark → ℕ → Option ℕ
+abbrev pub depth_after : ByteRole → ℕ → Option ℕ
 depth_after marks.Opens depth = Some (depth + 1)
 depth_after marks.OpensList depth = Some (depth + 1)
 depth_after marks.Closes depth = if depth == 0 then None else Some (depth - 1)

@@ -14,11 +14,11 @@
 -- The indentation is at most 40, so a text of n bytes has a pretty text of at most 42 n bytes.
 use Rattle.std.specs.Prelude.{ℕ, ◌+◌, ◌-◌, Bool, true, false, not, ◌&&◌, ◌==◌, nat_lt}
 use Rattle.std.specs.Prelude.{if◌then◌else◌, List, [], ◌∷◌, ◌++◌, replicate, Option, Some, None}
-use Rattle.text_pretty.specs.declared.break_point.Mark.{Mark}
-use Rattle.text_pretty.specs.declared.break_point.Mark.TheVariants as marks
+use Rattle.text_pretty.specs.declared.break_point.ByteRole.{ByteRole}
+use Rattle.text_pretty.specs.declared.break_point.ByteRole.TheVariants as marks
 use Rattle.text_pretty.specs.declared.break_point.BreakPoint.TheVariants as break_points
-use Rattle.text_pretty.specs.declared.bracket.Bracket.{Bracket}
-use Rattle.text_pretty.specs.declared.bracket.Bracket.TheVariants as brackets
+use Rattle.text_pretty.specs.declared.broken_bracket.BrokenBracket.{BrokenBracket}
+use Rattle.text_pretty.specs.declared.broken_bracket.BrokenBracket.TheVariants as brackets
 use Rattle.text_pretty.specs.declared.layout.Layout.{Layout}
 use Rattle.text_pretty.specs.Fit.{closing_length, to_close, within}
 use Rattle.text_pretty.specs.BreakPoints.{mark_of, next_break_point}
@@ -31,13 +31,13 @@ abbrev pub inner : ℕ → ℕ
 inner indent = if nat_lt indent 38 then indent + 2 else 40
 
 -- The indentation of a bracket.
-abbrev pub base : Option Bracket → ℕ
+abbrev pub base : Option BrokenBracket → ℕ
 base None = 0
 base (Some (brackets.Block indent)) = indent
 base (Some (brackets.Chain indent)) = indent
 
 -- The indentation of a bracket that opens in this one. `parted` is true after a separator.
-abbrev pub child_indent : Bool → Option Bracket → ℕ
+abbrev pub child_indent : Bool → Option BrokenBracket → ℕ
 child_indent parted None = 0
 child_indent parted (Some (brackets.Block indent)) = inner indent
 child_indent parted (Some (brackets.Chain indent)) = if parted then indent else inner indent
@@ -46,14 +46,14 @@ child_indent parted (Some (brackets.Chain indent)) = if parted then indent else 
 
 -- The indentation of a line that begins with this closing bracket, if `left` bytes fit the line
 -- before it. The closing bracket of a list begins a line only if it does not fit.
-abbrev pub closing_line : ℕ → ℕ → Option Bracket → Option ℕ
+abbrev pub closing_line : ℕ → ℕ → Option BrokenBracket → Option ℕ
 closing_line left b None = Some 0
 closing_line left b (Some (brackets.Block indent)) = Some indent
 closing_line left b (Some (brackets.Chain indent)) =
     if nat_lt left (closing_length b) then Some indent else None
 
 -- The indentation of a line that begins with a byte with this role. The byte 32 is a blank.
-abbrev pub line_at : Layout → Mark → ℕ → Option ℕ
+abbrev pub line_at : Layout → ByteRole → ℕ → Option ℕ
 line_at at marks.Parts b = Some (base (first at.brackets))
 line_at at marks.Closes b = closing_line at.left b (first at.brackets)
 line_at at mark b =
@@ -86,18 +86,18 @@ passed line b at = record {
 
 -- The state after a bracket is opened. `room` is the number of its bytes if it fits its line,
 -- otherwise 0.
-abbrev pub opened : ℕ → Bool → Bracket → Layout → Layout
+abbrev pub opened : ℕ → Bool → BrokenBracket → Layout → Layout
 opened room fresh bracket at =
     if nat_lt 0 room then record at { flat = room; parted = false }
     else record at { fresh = fresh; parted = false; brackets = bracket ∷ at.brackets }
 
-abbrev pub list_room : Layout → Option Bracket → List ℕ → ℕ
+abbrev pub list_room : Layout → Option BrokenBracket → List ℕ → ℕ
 list_room at (Some (brackets.Chain indent)) bytes =
     if at.parted then 0 else within at.left (to_close at.break_point 0 bytes)
 list_room at top bytes = within at.left (to_close at.break_point 0 bytes)
 
 -- The state after a byte with this role, before these bytes.
-abbrev pub marked : Mark → List ℕ → Layout → Layout
+abbrev pub marked : ByteRole → List ℕ → Layout → Layout
 marked marks.Opens bytes at =
     opened (within at.left (to_close at.break_point 0 bytes)) true
     (brackets.Block (child_indent at.parted (first at.brackets))) at

@@ -7,21 +7,21 @@ use Rattle.std.specs.List.{AllByRecursion}
 use Rattle.std.specs.Bool.{MatchBool}
 use Rattle.text_pretty.specs.declared.break_point.BreakPoint.{BreakPoint}
 use Rattle.text_pretty.specs.declared.break_point.BreakPoint.TheVariants as break_points
-use Rattle.text_pretty.specs.declared.break_point.Mark.{Mark}
-use Rattle.text_pretty.specs.declared.break_point.Mark.TheVariants as marks
+use Rattle.text_pretty.specs.declared.break_point.ByteRole.{ByteRole}
+use Rattle.text_pretty.specs.declared.break_point.ByteRole.TheVariants as marks
 use Rattle.text_pretty.specs.BreakPoints.{mark_of, next_break_point}
 use Rattle.text_pretty.specs.Lines.{pretty}
 
 -- ---- lines
 
 -- A line may be broken before a separator or a closing bracket.
-abbrev pub is_behind_position : Mark → Bool
+abbrev pub is_behind_position : ByteRole → Bool
 is_behind_position marks.Parts = true
 is_behind_position marks.Closes = true
 is_behind_position mark = false
 
 -- A line may be broken after an opening bracket other than that of a list.
-abbrev pub is_before_position : Mark → Bool
+abbrev pub is_before_position : ByteRole → Bool
 is_before_position marks.Opens = true
 is_before_position mark = false
 
@@ -77,7 +77,7 @@ has_no_blank [] = true
 has_no_blank (b ∷ bytes) = not (b == 32)
 
 -- These bytes may follow a byte with this role.
-abbrev pub follows : Mark → ℕ → BreakPoint → List ℕ → Bool
+abbrev pub follows : ByteRole → ℕ → BreakPoint → List ℕ → Bool
 follows marks.Closes b break_point bytes =
     if b == 124 then bar_goes_on break_point bytes else goes_on break_point bytes
 follows marks.Opens b break_point bytes = has_no_blank bytes

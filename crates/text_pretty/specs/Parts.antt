@@ -2,7 +2,7 @@
 use Rattle.std.specs.Prelude.{◌≡◌, ◌⊎◌, ℕ, true, false, ◌==◌, List, [], ◌∷◌, ◌++◌, codes}
 use Rattle.text_pretty.specs.declared.break_point.BreakPoint.{BreakPoint}
 use Rattle.text_pretty.specs.declared.break_point.BreakPoint.TheVariants as break_points
-use Rattle.text_pretty.specs.declared.break_point.Mark.TheVariants as marks
+use Rattle.text_pretty.specs.declared.break_point.ByteRole.TheVariants as marks
 use Rattle.text_pretty.specs.BreakPoints.{mark_of, next_break_point}
 use Rattle.text_pretty.specs.Narrow.{goes_on, has_no_blank, is_regular}
 

@@ -26,7 +26,7 @@ pub enum BreakPoint {
 
 /// The role of a byte for brackets.
 #[derive(Clone, Copy)]
-pub enum Mark {
+pub enum ByteRole {
     /// The byte opens a bracket.
     Opens,
     /// The byte opens the bracket around the first item and the rest of a list.
@@ -39,31 +39,31 @@ pub enum Mark {
 }
 
 /// Returns the role of a byte outside of quotes, given the roles of a parenthesis and of a bar.
-fn bare_mark(paren: Mark, bar: Mark, byte: u8) -> Mark
+fn bare_mark(paren: ByteRole, bar: ByteRole, byte: u8) -> ByteRole
     ensures { result ≡ bare_mark paren bar byte }
 {
     match byte {
         b'(' => paren,
         b'|' => bar,
-        b'{' => Mark::Opens,
-        b')' => Mark::Closes,
-        b'}' => Mark::Closes,
-        b',' => Mark::Parts,
-        b';' => Mark::Parts,
-        _ => Mark::Other,
+        b'{' => ByteRole::Opens,
+        b')' => ByteRole::Closes,
+        b'}' => ByteRole::Closes,
+        b',' => ByteRole::Parts,
+        b';' => ByteRole::Parts,
+        _ => ByteRole::Other,
     }
 }
 
 /// Returns the role of a byte in this context.
-pub fn mark_of(break_point: BreakPoint, byte: u8) -> Mark
+pub fn mark_of(break_point: BreakPoint, byte: u8) -> ByteRole
     ensures { result ≡ mark_of break_point byte }
 {
     match break_point {
-        BreakPoint::Outside => bare_mark(Mark::Opens, Mark::Closes, byte),
-        BreakPoint::Name => bare_mark(Mark::Opens, Mark::Closes, byte),
-        BreakPoint::Square => bare_mark(Mark::Opens, Mark::Opens, byte),
-        BreakPoint::Colon => bare_mark(Mark::OpensList, Mark::Closes, byte),
-        _ => Mark::Other,
+        BreakPoint::Outside => bare_mark(ByteRole::Opens, ByteRole::Closes, byte),
+        BreakPoint::Name => bare_mark(ByteRole::Opens, ByteRole::Closes, byte),
+        BreakPoint::Square => bare_mark(ByteRole::Opens, ByteRole::Opens, byte),
+        BreakPoint::Colon => bare_mark(ByteRole::OpensList, ByteRole::Closes, byte),
+        _ => ByteRole::Other,
     }
 }
 

@@ -3,7 +3,7 @@
 ghost use Rattle.std.specs.Prelude.{◌≡◌, ◌+◌, ◌<◌, ◌^◌};
 ghost use Rattle.text_pretty.specs.Fit.{closing_length, depth_after, to_close, at_most, within};
 
-use crate::break_point::{BreakPoint, Mark, mark_of, next_break_point};
+use crate::break_point::{BreakPoint, ByteRole, mark_of, next_break_point};
 
 /// Returns the length in bytes of a closing bracket that begins with this byte.
 pub fn closing_length(byte: u8) -> usize
@@ -14,14 +14,14 @@ pub fn closing_length(byte: u8) -> usize
 
 /// Returns the number of open inner brackets after a byte, given the number before it. Returns
 /// `None` if the byte closes the outer bracket.
-fn depth_after(mark: Mark, depth: usize) -> Option<usize>
+fn depth_after(mark: ByteRole, depth: usize) -> Option<usize>
     requires { depth + 1 < 2 ^ 64 }
     ensures { result ≡ depth_after mark depth }
 {
     match mark {
-        Mark::Opens => Some(depth + 1),
-        Mark::OpensList => Some(depth + 1),
-        Mark::Closes => { if depth == 0 { None } else { Some(depth - 1) } }
+        ByteRole::Opens => Some(depth + 1),
+        ByteRole::OpensList => Some(depth + 1),
+        ByteRole::Closes => { if depth == 0 { None } else { Some(depth - 1) } }
         _ => Some(depth),
     }
 }

@@ -5,8 +5,8 @@ ghost use Rattle.text_pretty.specs.Lines.{inner, base, child_indent, closing_lin
 ghost use Rattle.text_pretty.specs.Lines.{line_before, left_behind, passed, opened, list_room};
 ghost use Rattle.text_pretty.specs.Lines.{marked, behind, start};
 
-use crate::bracket::{Bracket, Brackets};
-use crate::break_point::{BreakPoint, Mark, mark_of, next_break_point};
+use crate::break_point::{BreakPoint, ByteRole, mark_of, next_break_point};
+use crate::broken_bracket::{Brackets, BrokenBracket};
 use crate::fit::{bytes_to_close, closing_length};
 use base_data::model::Memory;
 use std::alloc::Global;
@@ -35,35 +35,35 @@ fn inner(indent: u8) -> u8
 }
 
 /// Returns the indentation of a bracket, or 0 if there is none.
-fn base(top: Option<Bracket>) -> u8
+fn base(top: Option<BrokenBracket>) -> u8
     ensures { result ≡ base top }
 {
     match top {
         None => 0,
-        Some(Bracket::Block(indent)) => indent,
-        Some(Bracket::Chain(indent)) => indent,
+        Some(BrokenBracket::Block(indent)) => indent,
+        Some(BrokenBracket::Chain(indent)) => indent,
     }
 }
 
 /// Returns the indentation of a bracket that opens in this one.
-fn child_indent(parted: bool, top: Option<Bracket>) -> u8
+fn child_indent(parted: bool, top: Option<BrokenBracket>) -> u8
     ensures { result ≡ child_indent parted top }
 {
     match top {
         None => 0,
-        Some(Bracket::Block(indent)) => inner(indent),
-        Some(Bracket::Chain(indent)) => { if parted { indent } else { inner(indent) } }
+        Some(BrokenBracket::Block(indent)) => inner(indent),
+        Some(BrokenBracket::Chain(indent)) => { if parted { indent } else { inner(indent) } }
     }
 }
 
 /// Returns the indentation of the line that begins with this closing bracket, if it begins a line.
-fn closing_line(left: usize, byte: u8, top: Option<Bracket>) -> Option<u8>
+fn closing_line(left: usize, byte: u8, top: Option<BrokenBracket>) -> Option<u8>
     ensures { result ≡ closing_line left byte top }
 {
     match top {
         None => Some(0),
-        Some(Bracket::Block(indent)) => Some(indent),
-        Some(Bracket::Chain(indent)) => {
+        Some(BrokenBracket::Block(indent)) => Some(indent),
+        Some(BrokenBracket::Chain(indent)) => {
             if left < closing_length(byte) {
                 Some(indent)
             } else {
@@ -102,13 +102,13 @@ impl Layout {
 
     // Returns the indentation of the line that begins with this byte, if it begins a line. The byte
     // has this mark and is outside of brackets that fit their line.
-    fn line_at(&self, mark: Mark, byte: u8) -> Option<u8>
+    fn line_at(&self, mark: ByteRole, byte: u8) -> Option<u8>
         ensures { result ≡ line_at self.now mark byte }
     {
         let top = self.brackets.top();
         match mark {
-            Mark::Parts => Some(base(top)),
-            Mark::Closes => closing_line(self.left, byte, top),
+            ByteRole::Parts => Some(base(top)),
+            ByteRole::Closes => closing_line(self.left, byte, top),
             _ => {
                 if self.fresh && byte != b' ' {
                     Some(inner(base(top)))
@@ -140,7 +140,7 @@ impl Layout {
     }
 
     // Opens a bracket. `room` is the number of its bytes if it fits its line, otherwise 0.
-    fn enter(&mut self, room: usize, fresh: bool, bracket: Bracket) -> Result<(), Memory>
+    fn enter(&mut self, room: usize, fresh: bool, bracket: BrokenBracket) -> Result<(), Memory>
         ensures { OnOk result (self.new ≡ opened room fresh bracket self.old) }
     {
         self.parted = false;
@@ -154,40 +154,40 @@ impl Layout {
 
     // Returns the number of bytes of a list if it fits its line, otherwise 0. In a broken list, the
     // rest after each item is broken too.
-    fn list_room(&self, top: Option<Bracket>, bytes: &[u8]) -> usize
+    fn list_room(&self, top: Option<BrokenBracket>, bytes: &[u8]) -> usize
         ensures { result ≡ list_room self.now top bytes.now }
     {
         match top {
-            Some(Bracket::Chain(_)) if self.parted => 0,
+            Some(BrokenBracket::Chain(_)) if self.parted => 0,
             _ => bytes_to_close(self.left, self.break_point, bytes),
         }
     }
 
     // Updates the state for the mark of the byte that was passed. `bytes` are the bytes after it.
-    fn meet(&mut self, mark: Mark, bytes: &[u8]) -> Result<(), Memory>
+    fn meet(&mut self, mark: ByteRole, bytes: &[u8]) -> Result<(), Memory>
         ensures { OnOk result (self.new ≡ marked mark bytes.now self.old) }
     {
         let top = self.brackets.top();
         let indent = child_indent(self.parted, top);
         match mark {
-            Mark::Opens => {
+            ByteRole::Opens => {
                 let room = bytes_to_close(self.left, self.break_point, bytes);
-                self.enter(room, true, Bracket::Block(indent))
+                self.enter(room, true, BrokenBracket::Block(indent))
             }
-            Mark::OpensList => {
+            ByteRole::OpensList => {
                 let room = self.list_room(top, bytes);
-                self.enter(room, false, Bracket::Chain(indent))
+                self.enter(room, false, BrokenBracket::Chain(indent))
             }
-            Mark::Parts => {
+            ByteRole::Parts => {
                 self.parted = true;
                 Ok(())
             }
-            Mark::Closes => {
+            ByteRole::Closes => {
                 self.parted = false;
                 self.brackets.pop();
                 Ok(())
             }
-            Mark::Other => Ok(()),
+            ByteRole::Other => Ok(()),
         }
     }
 

@@ -16,8 +16,8 @@
 //! shortest.
 #![tactic(auto)]
 
-mod bracket;
 mod break_point;
+mod broken_bracket;
 mod fit;
 mod laws;
 mod layout;

@@ -9,11 +9,11 @@ mod ends;
 mod flat;
 mod known;
 mod labels;
-mod order;
 mod plain;
+mod print_walk;
 mod shown;
 mod sink;
-mod walk;
+mod visit_order;
 
 pub use dumped::write_dump;
 pub use known::is_shown;

@@ -3,18 +3,18 @@
 //! only if all its sets and maps are search trees. The law `tree_verdicts_are_one` says that each
 //! value has exactly one verdict.
 
+mod element_span;
 mod judging;
 mod laws;
 mod levels;
-mod node;
 mod order;
-mod span;
 mod sweep;
+mod tree_node;
 mod types;
 mod verdict;
 
-pub use judging::{Judgement, judge};
+pub use judging::{NodesVerdict, judge};
 pub use laws::{sound_trees_are_search_trees, tree_verdicts_are_one};
-pub use node::{Node, TreeKind};
-pub use types::{Layout, tree_types};
+pub use tree_node::{TreeKind, TreeNode};
+pub use types::{NodeRepresentation, tree_types};
 pub use verdict::TreeVerdict;

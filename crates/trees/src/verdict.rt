@@ -4,8 +4,8 @@
 
 mod found;
 mod laws;
-mod nodes;
 mod text;
+mod tree_nodes;
 mod verdict;
 
 pub use laws::{sound_verdicts_report_search_trees, tables_have_the_verdict, tables_judge_trees};

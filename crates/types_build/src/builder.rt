@@ -2,13 +2,13 @@
 //! classes. `build` promises that the table represents exactly these types (`IsTypeTable`), or that
 //! there are more than 65,536 of them.
 
-mod entry;
+mod discovered_types;
 mod fault;
 mod head;
 mod listing;
-mod met;
 mod shape;
 mod table;
+mod type_entry;
 
 pub use fault::TypeFault;
 pub use table::build;

@@ -8,9 +8,9 @@ use Rattle.types_lex.specs.declared.lexeme.Symbol.{Symbol}
 use Rattle.types_lex.specs.declared.lexeme.Symbol.TheVariants as symbols
 use Rattle.types_lex.specs.declared.lexeme.LexFault.{LexFault}
 use Rattle.types_lex.specs.declared.lexeme.LexFault.TheVariants as faults
-use Rattle.types_lex.specs.declared.found.Found.{Found}
-use Rattle.types_lex.specs.declared.found.Step.{Step}
-use Rattle.types_lex.specs.declared.found.Step.TheVariants.{Gap, Word}
+use Rattle.types_lex.specs.declared.found_lexeme.FoundLexeme.{FoundLexeme}
+use Rattle.types_lex.specs.declared.found_lexeme.LexStep.{LexStep}
+use Rattle.types_lex.specs.declared.found_lexeme.LexStep.TheVariants.{Gap, Word}
 use Rattle.types_lex.specs.Lexeme.{is_separator, starts_name, starts_lower, is_name_byte, is_plain}
 use Rattle.types_lex.specs.declared.lexeme.Lexeme.{Lexeme}
 use Rattle.types_lex.specs.Lexemes.{lexeme_in, lexeme_from, Reached}
@@ -27,14 +27,14 @@ reads_to_end text at value end r is = (_, reads_plain text at value end _ r (rec
 pub end_onward : (text : List ℕ) (at end : ℕ) → end ≡ at + prefix_len is_plain (drop at text) → at ≤ end
 end_onward text at end is = omega (arith, is)
 
-pub closes_brief : (e : Result Found LexFault) (value kept : List ℕ) (len : ℕ) → e ≡ Ok (record { kind = kinds.Text value; len = len }) → kept ≡ [] → FindsBrief (Ok (record { kind = kinds.Text kept; len = len })) e
+pub closes_brief : (e : Result FoundLexeme LexFault) (value kept : List ℕ) (len : ℕ) → e ≡ Ok (record { kind = kinds.Text value; len = len }) → kept ≡ [] → FindsBrief (Ok (record { kind = kinds.Text kept; len = len })) e
 closes_brief e value kept len is none =
     subst (FindsBrief (Ok (record { kind = kinds.Text kept; len = len }))) (sym is) (refl, inr (ap (λ (x : List ℕ). kinds.Text x) none))
 
 -- ---- words
 
-pub same_brief : (w full : Found) → full ≡ w → FindsBrief (Ok w) (Ok full)
-same_brief w full e = (ap (λ (f : Found). f.len) (sym e), inl (ap (λ (f : Found). f.kind) (sym e)))
+pub same_brief : (w full : FoundLexeme) → full ≡ w → FindsBrief (Ok w) (Ok full)
+same_brief w full e = (ap (λ (f : FoundLexeme). f.len) (sym e), inl (ap (λ (f : FoundLexeme). f.kind) (sym e)))
 
 pub none_word : (text : List ℕ) (len : ℕ) → len ≡ prefix_len is_name_byte text → keyword_of (take len text) ≡ None → word_form (take_while is_name_byte text) ≡ cased_form (take len text)
 unfolding word_form
@@ -121,7 +121,7 @@ prefix_gap (b ∷ bs) some is = take_first (is_separator b) _ _ _ is refl
 
 -- ---- symbols
 
-abbrev symbol_step : Symbol → Result Step LexFault
+abbrev symbol_step : Symbol → Result LexStep LexFault
 symbol_step s = Ok (Word (record { kind = kinds.Symbol s; len = 1 }))
 
 comma_step : (bs : List ℕ) → step_at (44 ∷ bs) ≡ symbol_step symbols.Comma
@@ -168,18 +168,18 @@ pub prefix_symbol : (text : List ℕ) (s : Symbol) → 0 < length text → lone_
 prefix_symbol [] s some is = absurd (omega (arith, some))
 prefix_symbol (b ∷ bs) s some is = subst (StepsBrief (symbol_step s)) (sym (lone_step b bs s is)) (refl, inl refl)
 
-pub steps_word : (w : Found) (e : Result Found LexFault) → FindsBrief (Ok w) e → StepsBrief (Ok (Word w)) (word_of e)
+pub steps_word : (w : FoundLexeme) (e : Result FoundLexeme LexFault) → FindsBrief (Ok w) e → StepsBrief (Ok (Word w)) (word_of e)
 steps_word w (Ok full) is = is
 steps_word w (Err fault) is = absurd is
 
-pub steps_fault : (f : LexFault) (e : Result Found LexFault) → FindsBrief (Err f) e → StepsBrief (Err f) (word_of e)
+pub steps_fault : (f : LexFault) (e : Result FoundLexeme LexFault) → FindsBrief (Err f) e → StepsBrief (Err f) (word_of e)
 steps_fault (faults.BadByte n) e is = rw is refl
 steps_fault (faults.OpenString n) e is = rw is refl
 steps_fault (faults.OpenComment n) e is = rw is refl
 steps_fault (faults.TooBig n) e is = rw is refl
 steps_fault faults.Memory e is = tt
 
-pub steps_whole : (r e : Result Step LexFault) → Answers (λ s. s) r e → StepsBrief r e
+pub steps_whole : (r e : Result LexStep LexFault) → Answers (λ s. s) r e → StepsBrief r e
 steps_whole (Ok (Gap n)) e is = is
 steps_whole (Ok (Word w)) e is = subst (StepsBrief (Ok (Word w))) (sym is) (refl, inl refl)
 steps_whole (Err f) e is = is
@@ -187,18 +187,18 @@ steps_whole (Err f) e is = is
 -- ---- found lexemes
 
 -- The whole lexeme at that position.
-pub record Full (w : Found) (e : Result Step LexFault) : Type 0 where
-  pub full : Found
+pub record Full (w : FoundLexeme) (e : Result LexStep LexFault) : Type 0 where
+  pub full : FoundLexeme
   pub is : e ≡ Ok (Word full)
   pub len : w.len ≡ full.len
   pub kind : IsBrief full.kind w.kind
 
-pub word_full : (w : Found) (e : Result Step LexFault) → StepsBrief (Ok (Word w)) e → Full w e
+pub word_full : (w : FoundLexeme) (e : Result LexStep LexFault) → StepsBrief (Ok (Word w)) e → Full w e
 word_full w (Ok (Gap n)) is = absurd is
 word_full w (Ok (Word full)) is = record { full = full; is = refl; len = is.0; kind = is.1 }
 word_full w (Err f) is = absurd is
 
-module _ (text : List ℕ) (at : ℕ) (w : Found) (f : Full w (step_at (drop at text))) where
+module _ (text : List ℕ) (at : ℕ) (w : FoundLexeme) (f : Full w (step_at (drop at text))) where
   pub full_lexeme : lexeme_from text at ≡ record { kind = f.full.kind; span = record { first = at; len = f.full.len } }
   full_lexeme = ap (lexeme_in at) f.is
 

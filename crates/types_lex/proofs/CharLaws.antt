@@ -8,7 +8,7 @@ use Rattle.std.proofs.lemmas.List.Folds.{length-prefix_len}
 use Rattle.std.proofs.lemmas.Option.{cond_some}
 use Rattle.types_lex.specs.declared.lexeme.LexemeKind.TheVariants as kinds
 use Rattle.types_lex.specs.declared.lexeme.LexFault.TheVariants as faults
-use Rattle.types_lex.specs.declared.found.Found.{Found}
+use Rattle.types_lex.specs.declared.found_lexeme.FoundLexeme.{FoundLexeme}
 use Rattle.types_lex.specs.Lexeme.{is_plain, Quoted, form_bytes, number_in, CharForm, Plain, Named, Decimal, Hexadecimal, char_bytes, char_value, named_char, IsCharForm}
 use Rattle.types_lex.specs.Scan.{hexadecimal_at, decimal_at, escape_at, char_at, char_found, chars_of, ended_string, string_at, TakesPlain}
 
@@ -112,7 +112,7 @@ char_at-form quote (Hexadecimal h l) more is = escape_at-hexadecimal h l more is
 
 -- ---- strings
 
-abbrev pub text_of : List ℕ → ℕ → Found
+abbrev pub text_of : List ℕ → ℕ → FoundLexeme
 text_of value len = record { kind = kinds.Text value; len = len }
 
 pub char_bytes-positive : (c : CharForm) → 0 < length (char_bytes c)

@@ -1,8 +1,8 @@
 -- The steps inside a comment.
 use Rattle.std.proofs.Common.{◌≡◌, ℕ, suc, pred, ◌+◌, ◌-◌, ◌<◌, ◌≤◌, List, [], ◌∷◌, length, get_or, drop, Option, Some, None, refl, sym, ap, ◌∙◌, arith, add-one}
 use Rattle.std.proofs.lemmas.List.{drop_more, length-drop}
-use Rattle.types_lex.specs.declared.comments.Bracket.{Bracket}
-use Rattle.types_lex.specs.declared.comments.Bracket.TheVariants.{Opening, Closing, Neither}
+use Rattle.types_lex.specs.declared.comments.CommentDelimiter.{CommentDelimiter}
+use Rattle.types_lex.specs.declared.comments.CommentDelimiter.TheVariants.{Opening, Closing, Neither}
 use Rattle.types_lex.specs.Scan.{plus, bracket_of, closing, closing_by}
 
 pub plus-plus : (m n : ℕ) (o : Option ℕ) → plus m (plus n o) ≡ plus (m + n) o
@@ -17,7 +17,7 @@ at-two xs i lt =
     drop_more xs i 0 (omega arith) ∙ ap (λ t. get_or xs i 0 ∷ t) (second ∙ ap (λ n. get_or xs (i + 1) 0 ∷ drop n xs) e)
 
 -- The effect of the next two bytes on the end of the comment.
-pub closing-at : (xs : List ℕ) (i depth : ℕ) (b : Bracket) → i + 1 < length xs → b ≡ bracket_of (get_or xs i 0) (get_or xs (i + 1) 0)
+pub closing-at : (xs : List ℕ) (i depth : ℕ) (b : CommentDelimiter) → i + 1 < length xs → b ≡ bracket_of (get_or xs i 0) (get_or xs (i + 1) 0)
     → closing depth (drop i xs) ≡ closing_by b depth (closing (suc depth) (drop (i + 2) xs)) (closing (pred depth) (drop (i + 2) xs)) (closing depth (drop (i + 1) xs))
 unfolding closing
 closing-at xs i depth b lt is =

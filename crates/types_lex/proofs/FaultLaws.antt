@@ -8,8 +8,8 @@ use Rattle.types_lex.specs.declared.lexeme.LexFault.{LexFault}
 use Rattle.types_lex.specs.declared.lexeme.LexFault.TheVariants as faults
 use Rattle.types_lex.specs.Lexeme.{is_separator, CharForm, Plain, char_bytes, IsCharForm, Form, Quoted, Mark}
 use Rattle.types_lex.specs.LexText.{Cut, cut_bytes, IsInside, Part, Separator, Comment, Word, part_bytes, IsPart, OpensString, StartsNoChar, StartsNothing, IsBadEscape, IsOpenString, IsOpenComment, IsOverlong, Breaks}
-use Rattle.types_lex.specs.declared.found.Step.{Step}
-use Rattle.types_lex.specs.declared.found.Step.TheVariants as steps
+use Rattle.types_lex.specs.declared.found_lexeme.LexStep.{LexStep}
+use Rattle.types_lex.specs.declared.found_lexeme.LexStep.TheVariants as steps
 use Rattle.types_lex.specs.Scan.{begins_with, char_at, chars_of, string_form, form_at, in_range, found_at, ended_string, string_at, lexeme_at, closing, gap_of, word_of, step_at, moved, position_of}
 use Rattle.types_lex.proofs.CharLaws.{no_value, char_at-is, char_at-form, chars_of-forms}
 use Rattle.types_lex.proofs.FormLaws.{chars_of-are, chars_of-stop}
@@ -78,7 +78,7 @@ step-breaks position text faults.Memory breaks = absurd breaks
 
 -- ---- what the lexer finds is a part or a fault of the grammar
 
-pub record IsPartAt (text : List ℕ) (step : Step) : Type 0 where
+pub record IsPartAt (text : List ℕ) (step : LexStep) : Type 0 where
   pub part : Part
   pub after : List ℕ
   pub is : text ≡ part_bytes part ++ after
@@ -89,7 +89,7 @@ pub record IsFaultAt (text : List ℕ) (fault : LexFault) : Type 0 where
   pub breaks : (position : ℕ) → Breaks position text (moved position fault)
   pub inside : position_of fault ≤ length text
 
-abbrev pub IsStepAt : List ℕ → Result Step LexFault → Type 0
+abbrev pub IsStepAt : List ℕ → Result LexStep LexFault → Type 0
 IsStepAt text (Ok step) = IsPartAt text step
 IsStepAt text (Err fault) = IsFaultAt text fault
 

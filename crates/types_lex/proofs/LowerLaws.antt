@@ -4,9 +4,9 @@ use Rattle.std.specs.List.{prefix_len, take_while}
 use Rattle.std.proofs.lemmas.Bool.{true≢false, cases_Bool}
 use Rattle.types_lex.specs.declared.lexeme.Keyword.{Keyword}
 use Rattle.types_lex.specs.declared.lexeme.LexFault.{LexFault}
-use Rattle.types_lex.specs.declared.found.Found.{Found}
-use Rattle.types_lex.specs.declared.found.Step.{Step}
-use Rattle.types_lex.specs.declared.found.Step.TheVariants as steps
+use Rattle.types_lex.specs.declared.found_lexeme.FoundLexeme.{FoundLexeme}
+use Rattle.types_lex.specs.declared.found_lexeme.LexStep.{LexStep}
+use Rattle.types_lex.specs.declared.found_lexeme.LexStep.TheVariants as steps
 use Rattle.types_lex.specs.Lexeme.{starts_lower, starts_name, is_name_byte, Form, Reserved, Lower, Upper, Tag, Variable, Character, Number, Quoted, Double, Mark, form_bytes, form_kind, IsForm}
 use Rattle.types_lex.specs.LexText.{Part, Separator, Comment, Word, part_bytes, IsPart}
 use Rattle.types_lex.specs.Lexemes.{lexeme_in, lower_name}
@@ -17,7 +17,7 @@ use Rattle.types_lex.proofs.PrefixLaws.{form_at-word}
 use Rattle.types_lex.proofs.StepLaws.{part_step, no_comment_test, lexeme-some, step-lexeme, no_separator-form}
 use Rattle.types_lex.proofs.FaultLaws.{IsStepAt, step_at-is}
 
-abbrev name_of : Result Step LexFault → List ℕ
+abbrev name_of : Result LexStep LexFault → List ℕ
 name_of r = lower_name (Some (lexeme_in 0 r).kind)
 
 -- ---- the first byte begins no lowercase name
@@ -44,9 +44,9 @@ pub lower_none : (text : List ℕ) (d : ℕ) → 0 < length text → starts_lowe
 lower_none [] d lt e = absurd (omega arith)
 lower_none (b ∷ bs) d lt e = by_step (step_at (b ∷ bs)) (step_at-is b bs)
   where
-    by_step : (r : Result Step LexFault) → IsStepAt (b ∷ bs) r → [] ≡ name_of r
+    by_step : (r : Result LexStep LexFault) → IsStepAt (b ∷ bs) r → [] ≡ name_of r
     by_step (Err f) is = refl
-    by_step (Ok step) is = no_part b bs is.after is.part e is.fits is.is ∙ ap (λ (s : Step). name_of (Ok s)) is.step_is
+    by_step (Ok step) is = no_part b bs is.after is.part e is.fits is.is ∙ ap (λ (s : LexStep). name_of (Ok s)) is.step_is
 
 pub lower_empty : (text : List ℕ) → length text < 1 → [] ≡ name_of (step_at text)
 unfolding step_at
@@ -95,5 +95,5 @@ lower_some (b ∷ bs) d n lt e long none =
 pub lower_keyword : (text : List ℕ) (d n : ℕ) (k : Keyword) → 0 < length text → starts_lower (get_or text 0 d) ≡ true → n ≡ prefix_len is_name_byte text → keyword_of (take n text) ≡ Some k → [] ≡ name_of (step_at text)
 lower_keyword [] d n k lt e long some = absurd (omega arith)
 lower_keyword (b ∷ bs) d n k lt e long some =
-    ap (λ (w : Found). name_of (Ok (steps.Word w))) (sym (reserved_word (b ∷ bs) k n long some))
+    ap (λ (w : FoundLexeme). name_of (Ok (steps.Word w))) (sym (reserved_word (b ∷ bs) k n long some))
     ∙ ap name_of (sym (lower_step b bs e))

@@ -8,7 +8,7 @@ use Rattle.std.proofs.lemmas.Bool.Decides.{nat_tests}
 use Rattle.std.proofs.lemmas.List.{take_more, length-take-le}
 use Rattle.types_lex.specs.declared.lexeme.LexemeKind.TheVariants as kinds
 use Rattle.types_lex.specs.Lexeme.{value_of_digit, number_in}
-use Rattle.types_lex.specs.declared.found.Found.{Found}
+use Rattle.types_lex.specs.declared.found_lexeme.FoundLexeme.{FoundLexeme}
 use Rattle.types_lex.specs.Scan.{double_form, found_at}
 
 power-step : (base x n : ℕ) → x * base ^ (n + 1) ≡ base * (x * base ^ n)
@@ -61,7 +61,7 @@ number_in-below (d ∷ ds) e =
     let others = number_in-below ds p.1 in
     rw pow-succ' (omega (arith, mul-le-mul_left (16 ^ length ds) digit, others))
 
-abbrev pub double_of : ℕ → Found
+abbrev pub double_of : ℕ → FoundLexeme
 double_of n = record { kind = kinds.Double n; len = 17 }
 
 -- Sixteen hexadecimal digits denote one number of 64 bits.

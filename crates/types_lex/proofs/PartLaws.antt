@@ -10,8 +10,8 @@ use Rattle.types_lex.specs.declared.lexeme.LexFault.TheVariants as faults
 use Rattle.types_lex.specs.Lexeme.{Form, form_bytes, IsForm}
 use Rattle.types_lex.specs.Lexemes.{Reached}
 use Rattle.types_lex.specs.LexText.{Part, Separator, Comment, Word, part_bytes, IsPart, AreParts, lexemes_of, Breaks, Lexes, Faults, UnlessMemory, Answers, Outcome, HasOneOutcome, SpansWithin}
-use Rattle.types_lex.specs.declared.found.Step.{Step}
-use Rattle.types_lex.specs.declared.found.Step.TheVariants as steps
+use Rattle.types_lex.specs.declared.found_lexeme.LexStep.{LexStep}
+use Rattle.types_lex.specs.declared.found_lexeme.LexStep.TheVariants as steps
 use Rattle.types_lex.specs.Scan.{form_at, step_at, moved, position_of}
 use Rattle.types_lex.proofs.CharLaws.{no_value}
 use Rattle.types_lex.proofs.PrefixLaws.{form-found}
@@ -20,11 +20,11 @@ use Rattle.types_lex.proofs.FaultLaws.{step-breaks, IsPartAt, IsFaultAt, IsStepA
 
 -- ---- a part and its step
 
-abbrev pub step_len : Step → ℕ
+abbrev pub step_len : LexStep → ℕ
 step_len (steps.Gap len) = len
 step_len (steps.Word word) = word.len
 
-abbrev pub step_lexemes : ℕ → Step → List Lexeme
+abbrev pub step_lexemes : ℕ → LexStep → List Lexeme
 step_lexemes position (steps.Gap len) = []
 step_lexemes position (steps.Word word) = record { kind = word.kind; span = record { first = position; len = word.len } } ∷ []
 
@@ -73,17 +73,17 @@ lexemes_push position (p ∷ parts) part =
     ∙ sym (append_assoc (step_lexemes position step) (lexemes_of (position + step_len step) parts) (step_lexemes (position + length (part_bytes p ++ flat_map part_bytes parts)) (part_step part)))
     ∙ ap (λ t. t ++ step_lexemes (position + length (part_bytes p ++ flat_map part_bytes parts)) (part_step part)) (sym (lexemes_of-cons position p parts))
 
-step_len-is : (text : List ℕ) (step : Step) (p : IsPartAt text step) → step_len step ≡ length (part_bytes p.part)
+step_len-is : (text : List ℕ) (step : LexStep) (p : IsPartAt text step) → step_len step ≡ length (part_bytes p.part)
 step_len-is text step p = ap step_len (sym p.step_is) ∙ step_len-part p.part
 
 -- A step advances by at least one byte.
-pub reached_further : (text : List ℕ) (at : ℕ) (step : Step) → at ≤ length text → IsPartAt (drop at text) step → (0 < step_len step) × (at + step_len step ≤ length text)
+pub reached_further : (text : List ℕ) (at : ℕ) (step : LexStep) → at ≤ length text → IsPartAt (drop at text) step → (0 < step_len step) × (at + step_len step ≤ length text)
 reached_further text at step le p =
     let len = step_len-is (drop at text) step p in
     let positive = part-positive p.part p.after p.fits in
     (omega (arith, len, positive), omega (arith, len, ap length p.is, length-append (part_bytes p.part) p.after, length-drop at text))
 
-pub reached_more : (text : List ℕ) (at : ℕ) (lexemes : List Lexeme) (step : Step) → Reached text at lexemes → IsPartAt (drop at text) step → Reached text (at + step_len step) (lexemes ++ step_lexemes at step)
+pub reached_more : (text : List ℕ) (at : ℕ) (lexemes : List Lexeme) (step : LexStep) → Reached text at lexemes → IsPartAt (drop at text) step → Reached text (at + step_len step) (lexemes ++ step_lexemes at step)
 reached_more text at lexemes step r p =
     let len = step_len-is (drop at text) step p in
     let rest : drop (at + step_len step) text ≡ p.after =
@@ -117,7 +117,7 @@ reached_end text at lexemes r end =
 
 -- The text begins with no part.
 abbrev Stops : List ℕ → Type 0
-Stops text = (step : Step) → step_at text ≢ Ok step
+Stops text = (step : LexStep) → step_at text ≢ Ok step
 
 record Same (ps qs : List Part) (r s : List ℕ) : Type 0 where
   bytes : length (flat_map part_bytes ps) ≡ length (flat_map part_bytes qs)
@@ -209,7 +209,7 @@ answers_fault text (Err (faults.TooBig p)) ok err fault is = ap (λ (f : LexFaul
 
 -- ---- the steps of the loop
 
-pub part_here : (text : List ℕ) (at : ℕ) (step : Step) → at < length text → step_at (drop at text) ≡ Ok step → IsPartAt (drop at text) step
+pub part_here : (text : List ℕ) (at : ℕ) (step : LexStep) → at < length text → step_at (drop at text) ≡ Ok step → IsPartAt (drop at text) step
 part_here text at step lt e = by_text (drop at text) (omega (arith, length-drop at text)) e
   where
     by_text : (t : List ℕ) → 0 < length t → step_at t ≡ Ok step → IsPartAt t step
@@ -320,7 +320,7 @@ read n [] le = record { parts = []; rest = []; are = tt; is = refl; ending = inl
 read zero (b ∷ bs) le = absurd (omega arith)
 read (suc n) (b ∷ bs) le = by_step (λ t fits. read n t fits) (step_at (b ∷ bs)) (step_at-is b bs)
   where
-    by_step : ((t : List ℕ) → length t ≤ n → Read t) → (r : Result Step LexFault) → IsStepAt (b ∷ bs) r → Read (b ∷ bs)
+    by_step : ((t : List ℕ) → length t ≤ n → Read t) → (r : Result LexStep LexFault) → IsStepAt (b ∷ bs) r → Read (b ∷ bs)
     by_step others (Err fault) at = record { parts = []; rest = b ∷ bs; are = tt; is = refl; ending = inr (fault, at) }
     by_step others (Ok step) at =
         let shorter : length at.after ≤ n = omega (arith, ap length at.is, length-append (part_bytes at.part) at.after, part-positive at.part at.after at.fits) in

@@ -6,15 +6,15 @@ use Rattle.std.proofs.lemmas.Option.{cond_some}
 use Rattle.types_lex.specs.declared.lexeme.LexFault.TheVariants as faults
 use Rattle.types_lex.specs.Lexeme.{is_separator, number_in, greatest, Form, Reserved, Lower, Upper, Tag, Variable, Character, Number, Quoted, Double, Mark, form_bytes, IsInRange, IsTooBig}
 use Rattle.types_lex.specs.LexText.{Cut, cut_bytes, IsInside, IsTaken, Part, Separator, Comment, Word, part_bytes, IsPart}
-use Rattle.types_lex.specs.declared.found.Step.{Step}
-use Rattle.types_lex.specs.declared.found.Step.TheVariants as steps
+use Rattle.types_lex.specs.declared.found_lexeme.LexStep.{LexStep}
+use Rattle.types_lex.specs.declared.found_lexeme.LexStep.TheVariants as steps
 use Rattle.types_lex.specs.Scan.{begins_with, chars_of, string_form, pair_at, pair_symbol, single_symbol, symbol_form, form_at, in_range, found, found_at, string_at, lexeme_at, closing, gap_of, word_of, step_at}
 use Rattle.types_lex.proofs.CharLaws.{chosen, no_value}
 use Rattle.types_lex.proofs.FormLaws.{begins_with-is}
 use Rattle.types_lex.proofs.TakenLaws.{found-taken}
 use Rattle.types_lex.proofs.InsideLaws.{inside_text, closing-inside}
 
-abbrev pub part_step : Part → Step
+abbrev pub part_step : Part → LexStep
 part_step (Separator b) = steps.Gap 1
 part_step (Comment inside) = steps.Gap (length (part_bytes (Comment inside)))
 part_step (Word form) = steps.Word (found form)

@@ -5,7 +5,7 @@ use Rattle.types_lex.specs.declared.lexeme.Symbol.{Symbol}
 use Rattle.types_lex.specs.declared.lexeme.Symbol.TheVariants as symbols
 use Rattle.types_lex.specs.Lexeme.{symbol_text}
 use Rattle.types_lex.specs.declared.lexeme.LexemeKind.TheVariants as kinds
-use Rattle.types_lex.specs.declared.found.Found.{Found}
+use Rattle.types_lex.specs.declared.found_lexeme.FoundLexeme.{FoundLexeme}
 use Rattle.types_lex.specs.Scan.{pair_symbol, single_symbol, pair_at, symbol_form, found_at}
 
 -- One test in a chain.
@@ -61,7 +61,7 @@ unfolding pair_at
 pair_at-is a [] s e = absurd (none e)
 pair_at-is a (b ∷ bs) s e = let is = pair_symbol-is a b s e in (bs, ap (λ t. t ++ bs) is, ap length (sym is))
 
-abbrev pub symbol_found : Symbol → ℕ → Found
+abbrev pub symbol_found : Symbol → ℕ → FoundLexeme
 symbol_found s len = record { kind = kinds.Symbol s; len = len }
 
 pub found_pair : (a : ℕ) (bs : List ℕ) (s : Symbol) → pair_at a bs ≡ Some s → found_at (symbol_form a bs) ≡ Ok (symbol_found s 2)

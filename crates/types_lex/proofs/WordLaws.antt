@@ -8,7 +8,7 @@ use Rattle.std.specs.List.{prefix_len, take_while}
 use Rattle.std.proofs.lemmas.List.Folds.{length-prefix_len}
 use Rattle.types_lex.specs.declared.lexeme.LexemeKind.TheVariants as kinds
 use Rattle.types_lex.specs.Lexeme.{keyword_text, is_name_byte}
-use Rattle.types_lex.specs.declared.found.Found.{Found}
+use Rattle.types_lex.specs.declared.found_lexeme.FoundLexeme.{FoundLexeme}
 use Rattle.types_lex.specs.Scan.{keyword_of, word_form, found}
 
 -- A name that is equal to the text of a keyword.
@@ -33,7 +33,7 @@ keyword_of-some name k e =
           ]
     ]
 
-abbrev pub keyword_found : Keyword → ℕ → Found
+abbrev pub keyword_found : Keyword → ℕ → FoundLexeme
 keyword_found k len = record { kind = kinds.Keyword k; len = len }
 
 -- A word that is a keyword.

@@ -9,9 +9,9 @@ use Rattle.types_lex.specs.declared.lexeme.LexemeKind.TheVariants as kinds
 use Rattle.types_lex.specs.declared.lexeme.Symbol.{Symbol}
 use Rattle.types_lex.specs.declared.lexeme.Symbol.TheVariants as symbols
 use Rattle.types_lex.specs.declared.lexeme.LexFault.{LexFault}
-use Rattle.types_lex.specs.declared.found.Found.{Found}
-use Rattle.types_lex.specs.declared.found.Step.{Step}
-use Rattle.types_lex.specs.declared.found.Step.TheVariants.{Gap, Word}
+use Rattle.types_lex.specs.declared.found_lexeme.FoundLexeme.{FoundLexeme}
+use Rattle.types_lex.specs.declared.found_lexeme.LexStep.{LexStep}
+use Rattle.types_lex.specs.declared.found_lexeme.LexStep.TheVariants.{Gap, Word}
 use Rattle.types_lex.specs.Lexemes.{lexeme_from}
 use Rattle.types_lex.specs.LexText.{UnlessMemory}
 
@@ -45,12 +45,12 @@ IsBrief kind brief = (brief ≡ kind) ⊎ (brief ≡ brief_kind kind)
 -- ---- the results of the functions
 
 -- The result is the expected lexeme, whole or brief, or the expected fault, unless memory ran out.
-abbrev pub FindsBrief : Result Found LexFault → Result Found LexFault → Type 0
+abbrev pub FindsBrief : Result FoundLexeme LexFault → Result FoundLexeme LexFault → Type 0
 FindsBrief (Ok w) (Ok full) = (w.len ≡ full.len) × IsBrief full.kind w.kind
 FindsBrief (Ok w) (Err fault) = ⊥
 FindsBrief (Err fault) expected = UnlessMemory (λ f. expected ≡ Err f) fault
 
-abbrev pub StepsBrief : Result Step LexFault → Result Step LexFault → Type 0
+abbrev pub StepsBrief : Result LexStep LexFault → Result LexStep LexFault → Type 0
 StepsBrief (Ok (Gap n)) expected = expected ≡ Ok (Gap n)
 StepsBrief (Ok (Word w)) (Ok (Word full)) = (w.len ≡ full.len) × IsBrief full.kind w.kind
 StepsBrief (Ok (Word w)) expected = ⊥

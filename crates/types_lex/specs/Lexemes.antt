@@ -7,15 +7,15 @@ use Rattle.types_lex.specs.declared.lexeme.Lexeme.{Lexeme}
 use Rattle.types_lex.specs.declared.lexeme.LexemeKind.{LexemeKind}
 use Rattle.types_lex.specs.declared.lexeme.LexemeKind.TheVariants as kinds
 use Rattle.types_lex.specs.declared.lexeme.LexFault.{LexFault}
-use Rattle.types_lex.specs.declared.found.Step.{Step}
-use Rattle.types_lex.specs.declared.found.Step.TheVariants.{Word}
+use Rattle.types_lex.specs.declared.found_lexeme.LexStep.{LexStep}
+use Rattle.types_lex.specs.declared.found_lexeme.LexStep.TheVariants.{Word}
 use Rattle.types_lex.specs.LexText.{Part, part_bytes, AreParts, lexemes_of, Lexes, Faults}
 use Rattle.types_lex.specs.LexText.{UnlessMemory}
 use Rattle.types_lex.specs.Scan.{step_at}
 
 -- The lexeme of a step at a position. If the step has no lexeme, then the result is a keyword of
 -- length 0.
-abbrev pub lexeme_in : ℕ → Result Step LexFault → Lexeme
+abbrev pub lexeme_in : ℕ → Result LexStep LexFault → Lexeme
 lexeme_in position (Ok (Word word)) =
     record { kind = word.kind; span = record { first = position; len = word.len } }
 lexeme_in position step =

@@ -20,11 +20,12 @@ use Rattle.types_lex.specs.Lexeme.{Hexadecimal}
 use Rattle.types_lex.specs.Lexeme.{char_bytes, char_value, named_char, keyword_text, Form, Reserved}
 use Rattle.types_lex.specs.Lexeme.{Lower, Upper, Tag, Variable, Character, Number, Quoted, Double}
 use Rattle.types_lex.specs.Lexeme.{Mark, form_bytes, form_kind}
-use Rattle.types_lex.specs.declared.comments.Bracket.{Bracket}
-use Rattle.types_lex.specs.declared.comments.Bracket.TheVariants.{Opening, Closing, Neither}
-use Rattle.types_lex.specs.declared.found.Found.{Found}
-use Rattle.types_lex.specs.declared.found.Step.{Step}
-use Rattle.types_lex.specs.declared.found.Step.TheVariants.{Gap, Word}
+use Rattle.types_lex.specs.declared.comments.CommentDelimiter.{CommentDelimiter}
+use Rattle.types_lex.specs.declared.comments.CommentDelimiter.TheVariants.{Opening, Closing}
+use Rattle.types_lex.specs.declared.comments.CommentDelimiter.TheVariants.{Neither}
+use Rattle.types_lex.specs.declared.found_lexeme.FoundLexeme.{FoundLexeme}
+use Rattle.types_lex.specs.declared.found_lexeme.LexStep.{LexStep}
+use Rattle.types_lex.specs.declared.found_lexeme.LexStep.TheVariants.{Gap, Word}
 
 -- ---- words
 
@@ -212,14 +213,14 @@ abbrev pub in_range : Form → Bool
 in_range (Number minus digits suffix) = nat_le (number_in 10 digits) (greatest minus)
 in_range form = true
 
-abbrev pub found : Form → Found
+abbrev pub found : Form → FoundLexeme
 found form = record { kind = form_kind form; len = length (form_bytes form) }
 
-abbrev pub found_at : Option Form → Result Found LexFault
+abbrev pub found_at : Option Form → Result FoundLexeme LexFault
 found_at None = Err (faults.BadByte 0)
 found_at (Some form) = if in_range form then Ok (found form) else Err (faults.TooBig 0)
 
-abbrev pub ended_string : List CharForm → List ℕ → Result Found LexFault
+abbrev pub ended_string : List CharForm → List ℕ → Result FoundLexeme LexFault
 ended_string chars [] = Err (faults.OpenString 0)
 ended_string chars (b ∷ bs) =
     if b == 34 then Ok (found (Quoted chars))
@@ -227,10 +228,10 @@ ended_string chars (b ∷ bs) =
     (if b == 92 then Err (faults.BadByte (length (flat_map char_bytes chars) + 2))
     else Err (faults.OpenString 0))
 
-unfoldable pub string_at : List ℕ → Result Found LexFault
+unfoldable pub string_at : List ℕ → Result FoundLexeme LexFault
 string_at text = let read = chars_of (length text) text in ended_string read.0 read.1
 
-unfoldable pub lexeme_at : List ℕ → Result Found LexFault
+unfoldable pub lexeme_at : List ℕ → Result FoundLexeme LexFault
 lexeme_at [] = Err (faults.BadByte 0)
 lexeme_at (b ∷ bs) = if b == 34 then string_at bs else found_at (form_at (b ∷ bs))
 
@@ -238,13 +239,14 @@ abbrev pub plus : ℕ → Option ℕ → Option ℕ
 plus n None = None
 plus n (Some m) = Some (n + m)
 
-abbrev pub bracket_of : ℕ → ℕ → Bracket
+abbrev pub bracket_of : ℕ → ℕ → CommentDelimiter
 bracket_of a b =
     if a == 40 && b == 42 then Opening else (if a == 42 && b == 41 then Closing else Neither)
 
--- The result for one more bracket or byte at a depth, given the results one comment deeper, one
--- comment further out, and one byte further.
-abbrev pub closing_by : Bracket → ℕ → Option ℕ → Option ℕ → Option ℕ → Option ℕ
+-- One step of `closing`. At `(*` the comment is one level deeper, and the result is `deeper` plus
+-- two bytes. At `*)` the result is `outer` plus two bytes, or the comment ends. Otherwise the
+-- result is `on` plus one byte.
+abbrev pub closing_by : CommentDelimiter → ℕ → Option ℕ → Option ℕ → Option ℕ → Option ℕ
 closing_by Opening depth deeper outer on = plus 2 deeper
 closing_by Closing zero deeper outer on = Some 2
 closing_by Closing (suc depth) deeper outer on = plus 2 outer
@@ -258,15 +260,15 @@ closing depth (a ∷ b ∷ bs) =
     closing_by (bracket_of a b) depth (closing (suc depth) bs) (closing (pred depth) bs)
     (closing depth (b ∷ bs))
 
-abbrev pub gap_of : Option ℕ → Result Step LexFault
+abbrev pub gap_of : Option ℕ → Result LexStep LexFault
 gap_of None = Err (faults.OpenComment 0)
 gap_of (Some n) = Ok (Gap (n + 2))
 
-abbrev pub word_of : Result Found LexFault → Result Step LexFault
+abbrev pub word_of : Result FoundLexeme LexFault → Result LexStep LexFault
 word_of (Ok word) = Ok (Word word)
 word_of (Err fault) = Err fault
 
-unfoldable pub step_at : List ℕ → Result Step LexFault
+unfoldable pub step_at : List ℕ → Result LexStep LexFault
 step_at [] = Err (faults.BadByte 0)
 step_at (b ∷ bs) =
     if is_separator b then Ok (Gap 1)

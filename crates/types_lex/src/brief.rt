@@ -4,7 +4,7 @@
 ghost use Rattle.std.specs.Prelude.{◌≡◌, ◌<◌, ◌≤◌, List, length, slice_index, Result, IfOk, IfSome};
 ghost use Rattle.std.specs.Prelude.{IsTrue, Ok};
 ghost use Rattle.std.specs.List.{take_while};
-ghost use Rattle.types_lex.specs.declared.found.Found.{Found};
+ghost use Rattle.types_lex.specs.declared.found_lexeme.FoundLexeme.{FoundLexeme};
 ghost use Rattle.types_lex.specs.declared.lexeme.LexFault.{LexFault};
 ghost use Rattle.types_lex.specs.declared.lexeme.Lexeme.{Lexeme};
 ghost use Rattle.types_lex.specs.Brief.{lone_symbol, begins_literal, brief_name, FindsBrief};
@@ -16,8 +16,8 @@ ghost use Rattle.types_lex.specs.Scan.{cased_form, word_form, found, string_at, 
 
 use crate::bytes::{is_separator, name_len, starts_lower, starts_name};
 use crate::characters::{char_at, plain_end};
-use crate::found::{Found, Step};
-use crate::lexeme::{LexFault, Lexeme, LexemeKind, Span, Symbol};
+use crate::found_lexeme::{FoundLexeme, LexStep};
+use crate::lexeme::{LexFault, Lexeme, LexemeKind, LexemeSpan, Symbol};
 use crate::scan::{moved, step_at};
 use crate::words::{copied, keyword_of};
 use base_data::model::list::List;
@@ -42,19 +42,19 @@ fn brief_name(alloc: Global, name: &[u8]) -> Result<List<u8>, LexFault>
 }
 
 /// Returns the brief lexeme of a name that is no keyword.
-fn brief_cased(alloc: Global, name: &[u8]) -> Result<Found, LexFault>
+fn brief_cased(alloc: Global, name: &[u8]) -> Result<FoundLexeme, LexFault>
     requires { 0 < length name.now }
     ensures { FindsBrief result (Ok (found (cased_form name.now))) }
 {
     let len = name.len();
     if starts_lower(name[0]) {
         let kept = brief_name(alloc, name)?;
-        Ok(Found {
+        Ok(FoundLexeme {
             kind: LexemeKind::Lower(kept),
             len,
         })
     } else {
-        Ok(Found {
+        Ok(FoundLexeme {
             kind: LexemeKind::Upper(List::new(alloc)),
             len,
         })
@@ -62,7 +62,7 @@ fn brief_cased(alloc: Global, name: &[u8]) -> Result<Found, LexFault>
 }
 
 /// Lexes the name or keyword at the start of the text.
-fn brief_word(alloc: Global, text: &[u8]) -> Result<Found, LexFault>
+fn brief_word(alloc: Global, text: &[u8]) -> Result<FoundLexeme, LexFault>
     requires first { 0 < length text.now }
     requires name { IsTrue (starts_name (slice_index text.now 0)) }
     ensures { FindsBrief result (Ok (found (word_form (take_while is_name_byte text.now)))) }
@@ -71,7 +71,7 @@ fn brief_word(alloc: Global, text: &[u8]) -> Result<Found, LexFault>
     let name = &text[..len];
     match keyword_of(name) {
         None => brief_cased(alloc, name),
-        Some(keyword) => Ok(Found {
+        Some(keyword) => Ok(FoundLexeme {
             kind: LexemeKind::Keyword(keyword),
             len,
         }),
@@ -79,7 +79,7 @@ fn brief_word(alloc: Global, text: &[u8]) -> Result<Found, LexFault>
 }
 
 /// Lexes the string whose opening quote precedes the text.
-fn brief_string(alloc: Global, text: &[u8]) -> Result<Found, LexFault>
+fn brief_string(alloc: Global, text: &[u8]) -> Result<FoundLexeme, LexFault>
     ensures { FindsBrief result (string_at text.now) }
 {
     let mut at = plain_end(text, 0);
@@ -91,7 +91,7 @@ fn brief_string(alloc: Global, text: &[u8]) -> Result<Found, LexFault>
     }
     let end = text[at];
     if end == b'"' {
-        Ok(Found {
+        Ok(FoundLexeme {
             kind: LexemeKind::Text(List::new(alloc)),
             len: at + 2,
         })
@@ -104,11 +104,12 @@ fn brief_string(alloc: Global, text: &[u8]) -> Result<Found, LexFault>
 
 /// Returns the step for a lexeme.
 #[inline(always)]
-fn word_step(found: Result<Found, LexFault>) -> Result<Step, LexFault>
-    ensures { (e : Result Found LexFault) → FindsBrief found e → StepsBrief result (word_of e) }
+fn word_step(found: Result<FoundLexeme, LexFault>) -> Result<LexStep, LexFault>
+    ensures { (e : Result FoundLexeme LexFault) → FindsBrief found e
+        → StepsBrief result (word_of e) }
 {
     match found {
-        Ok(word) => Ok(Step::Word(word)),
+        Ok(word) => Ok(LexStep::Word(word)),
         Err(fault) => Err(fault),
     }
 }
@@ -131,17 +132,17 @@ fn lone_symbol(byte: u8) -> Option<Symbol>
 /// Lexes the separator, comment or lexeme at the start of the text. Tests first for what is most
 /// frequent in literals.
 #[inline(always)]
-fn brief_step(alloc: Global, text: &[u8]) -> Result<Step, LexFault>
+fn brief_step(alloc: Global, text: &[u8]) -> Result<LexStep, LexFault>
     ensures { StepsBrief result (step_at text.now) }
 {
     if text.is_empty() {
         return Err(LexFault::BadByte(0));
     }
     if is_separator(text[0]) {
-        return Ok(Step::Gap(1));
+        return Ok(LexStep::Gap(1));
     }
     if let Some(symbol) = lone_symbol(text[0]) {
-        return Ok(Step::Word(Found {
+        return Ok(LexStep::Word(FoundLexeme {
             kind: LexemeKind::Symbol(symbol),
             len: 1,
         }));
@@ -172,9 +173,9 @@ pub fn next_brief(alloc: Global, text: &[u8], from: usize) -> Result<Option<Lexe
     let mut at = from;
     while at < text.len() {
         match brief_step(alloc, &text[at..]) {
-            Ok(Step::Gap(len)) => at += len,
-            Ok(Step::Word(word)) => {
-                let span = Span {
+            Ok(LexStep::Gap(len)) => at += len,
+            Ok(LexStep::Word(word)) => {
+                let span = LexemeSpan {
                     first: at,
                     len: word.len,
                 };

@@ -8,7 +8,7 @@ ghost use Rattle.types_lex.specs.Scan.{hexadecimal_at, decimal_at, escape_at, ch
 ghost use Rattle.types_lex.specs.Scan.{quote_form, string_at, found_at, TakesPlain};
 
 use crate::bytes::{digit_value, plain_len};
-use crate::found::Found;
+use crate::found_lexeme::FoundLexeme;
 use crate::lexeme::{LexFault, LexemeKind};
 use crate::words::variable;
 use base_data::model::list::List;
@@ -104,12 +104,12 @@ pub(crate) fn char_at(quote: u8, text: &[u8]) -> Option<(u8, usize)>
 /// Lexes the character or type variable whose quote precedes the text. If the text is both, then it
 /// is a character.
 #[tactic(auto, unfolding(crate::specs::Scan::quote_form, crate::specs::Scan::character_form))]
-pub fn quoted(alloc: Global, text: &[u8]) -> Result<Found, LexFault>
+pub fn quoted(alloc: Global, text: &[u8]) -> Result<FoundLexeme, LexFault>
     ensures { Answers (λ w. w) result (found_at (quote_form text.now)) }
 {
     if let Some((value, len)) = char_at(b'\'', text) {
         if len < text.len() && text[len] == b'\'' {
-            return Ok(Found {
+            return Ok(FoundLexeme {
                 kind: LexemeKind::Character(value),
                 len: len + 2,
             });
@@ -139,7 +139,7 @@ fn take_plain(value: &mut Vec<u8>, text: &[u8], at: usize) -> Result<usize, Allo
 }
 
 /// Lexes the string whose opening quote precedes the text.
-pub fn string(alloc: Global, text: &[u8]) -> Result<Found, LexFault>
+pub fn string(alloc: Global, text: &[u8]) -> Result<FoundLexeme, LexFault>
     ensures { Answers (λ w. w) result (string_at text.now) }
 {
     let mut value = Vec::new(alloc);
@@ -153,7 +153,7 @@ pub fn string(alloc: Global, text: &[u8]) -> Result<Found, LexFault>
     }
     let end = text[at];
     if end == b'"' {
-        Ok(Found {
+        Ok(FoundLexeme {
             kind: LexemeKind::Text(List::of(value)),
             len: at + 2,
         })

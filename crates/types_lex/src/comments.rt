@@ -5,22 +5,22 @@ ghost use Rattle.types_lex.specs.Scan.{bracket_of, closing};
 
 /// The meaning of two bytes in a comment.
 #[derive(Clone, Copy)]
-enum Bracket {
+enum CommentDelimiter {
     Opening,
     Closing,
     Neither,
 }
 
 /// Returns whether two bytes begin a comment, end a comment, or do neither.
-fn bracket_of(first: u8, second: u8) -> Bracket
+fn bracket_of(first: u8, second: u8) -> CommentDelimiter
     ensures { result ≡ bracket_of first second }
 {
     if first == b'(' && second == b'*' {
-        Bracket::Opening
+        CommentDelimiter::Opening
     } else if first == b'*' && second == b')' {
-        Bracket::Closing
+        CommentDelimiter::Closing
     } else {
-        Bracket::Neither
+        CommentDelimiter::Neither
     }
 }
 
@@ -35,18 +35,18 @@ pub fn closing(text: &[u8]) -> Option<usize>
     let mut at: usize = 0;
     while text.len() - at > 1 {
         match bracket_of(text[at], text[at + 1]) {
-            Bracket::Opening => {
+            CommentDelimiter::Opening => {
                 depth += 1;
                 at += 2;
             }
-            Bracket::Closing => {
+            CommentDelimiter::Closing => {
                 if depth == 0 {
                     return Some(at + 2);
                 }
                 depth -= 1;
                 at += 2;
             }
-            Bracket::Neither => at += 1,
+            CommentDelimiter::Neither => at += 1,
         }
     }
     None

@@ -73,7 +73,7 @@ pub enum LexemeKind {
 
 /// The location of a lexeme: the position of its first byte, and its length in bytes.
 #[derive(Clone, Copy)]
-pub struct Span {
+pub struct LexemeSpan {
     pub first: usize,
     pub len: usize,
 }
@@ -82,7 +82,7 @@ pub struct Span {
 #[derive(Drop)]
 pub struct Lexeme {
     pub kind: LexemeKind,
-    pub span: Span,
+    pub span: LexemeSpan,
 }
 
 /// The first fault of a text from the left, with its position in bytes.

@@ -5,7 +5,7 @@ ghost use Rattle.types_lex.specs.declared.lexeme.Lexeme.{Lexeme};
 ghost use Rattle.types_lex.specs.Lexemes.{lexeme_from, lower_name};
 
 use crate::bytes::{name_len, starts_lower};
-use crate::found::Step;
+use crate::found_lexeme::LexStep;
 use crate::lexeme::{Keyword, LexFault, Lexeme, LexemeKind};
 use crate::scan::step_at;
 use crate::words::keyword_of;
@@ -23,7 +23,7 @@ fn kind_from(alloc: Global, text: &[u8], position: usize) -> Result<LexemeKind, 
         return Ok(LexemeKind::Keyword(Keyword::Type));
     }
     match step_at(alloc, &text[position..]) {
-        Ok(Step::Word(word)) => Ok(word.kind),
+        Ok(LexStep::Word(word)) => Ok(word.kind),
         Err(LexFault::Memory) => Err(Memory),
         _ => Ok(LexemeKind::Keyword(Keyword::Type)),
     }
@@ -95,7 +95,7 @@ fn lower_of(kind: &LexemeKind) -> &[u8]
 
 /// The storage of lexemes: a slice of lexemes, or a text and the positions where its lexemes begin.
 #[derive(Clone, Copy)]
-enum Source<'a> {
+enum LexemeStorage<'a> {
     Row(&'a [Lexeme]),
     Text(&'a [u8], &'a [u32]),
 }
@@ -103,7 +103,7 @@ enum Source<'a> {
 /// A list of lexemes. Its model is that list.
 #[derive(Drop)]
 pub struct Lexemes<'a> {
-    source: Source<'a>,
+    source: LexemeStorage<'a>,
 }
 
 impl<'a> Model for Lexemes<'a> {
@@ -122,7 +122,7 @@ impl<'a> Lexemes<'a> {
         ensures { result ≡ row.now }
     {
         Lexemes {
-            source: Source::Row(row),
+            source: LexemeStorage::Row(row),
         }
     }
 
@@ -131,7 +131,7 @@ impl<'a> Lexemes<'a> {
         ensures { result ≡ map (lexeme_from text.now) positions.now }
     {
         Lexemes {
-            source: Source::Text(text, positions),
+            source: LexemeStorage::Text(text, positions),
         }
     }
 
@@ -141,8 +141,8 @@ impl<'a> Lexemes<'a> {
         ensures few { result < 2 ^ 63 }
     {
         match &self.source {
-            Source::Row(row) => row.len(),
-            Source::Text(_, positions) => positions.len(),
+            LexemeStorage::Row(row) => row.len(),
+            LexemeStorage::Text(_, positions) => positions.len(),
         }
     }
 
@@ -152,11 +152,11 @@ impl<'a> Lexemes<'a> {
         ensures { result ≡ option_map (λ (l : Lexeme). l.span.first) (slice_get self.now k) }
     {
         match &self.source {
-            Source::Row(row) => match row.get(k) {
+            LexemeStorage::Row(row) => match row.get(k) {
                 Some(lexeme) => Some(lexeme.span.first),
                 None => None,
             },
-            Source::Text(_, positions) => match positions.get(k) {
+            LexemeStorage::Text(_, positions) => match positions.get(k) {
                 Some(position) => Some(*position as usize),
                 None => None,
             },
@@ -169,11 +169,11 @@ impl<'a> Lexemes<'a> {
             ≡ lower_name (option_map (λ (l : Lexeme). l.kind) (slice_get self.now k)) }
     {
         match &self.source {
-            Source::Row(row) => match row.get(k) {
+            LexemeStorage::Row(row) => match row.get(k) {
                 Some(lexeme) => lower_of(&lexeme.kind),
                 None => &[],
             },
-            Source::Text(text, positions) => match positions.get(k) {
+            LexemeStorage::Text(text, positions) => match positions.get(k) {
                 Some(position) => lower_from(text, *position as usize),
                 None => &[],
             },
@@ -188,11 +188,11 @@ impl<'a> Lexemes<'a> {
             (λ kind. kind ≡ option_map (λ (l : Lexeme). l.kind) (slice_get self.now k)) }
     {
         match &self.source {
-            Source::Row(row) => match row.get(k) {
+            LexemeStorage::Row(row) => match row.get(k) {
                 Some(lexeme) => Ok(Some(copy_kind(alloc, &lexeme.kind)?)),
                 None => Ok(None),
             },
-            Source::Text(text, positions) => match positions.get(k) {
+            LexemeStorage::Text(text, positions) => match positions.get(k) {
                 Some(position) => Ok(Some(kind_from(alloc, text, *position as usize)?)),
                 None => Ok(None),
             },

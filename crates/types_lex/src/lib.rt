@@ -22,7 +22,7 @@ mod brief;
 mod bytes;
 mod characters;
 mod comments;
-mod found;
+mod found_lexeme;
 pub mod lexeme;
 mod lexemes;
 mod next;
@@ -32,7 +32,7 @@ mod symbols;
 mod words;
 
 pub use brief::next_brief;
-pub use found::{Found, Step};
+pub use found_lexeme::{FoundLexeme, LexStep};
 pub use lexemes::Lexemes;
 pub use next::{next_lexeme, see_lexemes};
 pub use scan::{one_outcome, step_at, tokens};

@@ -4,8 +4,8 @@ ghost use Rattle.std.specs.Prelude.{◌<◌, ◌≤◌, List, length, IfOk, IfSo
 ghost use Rattle.types_lex.specs.declared.lexeme.Lexeme.{Lexeme};
 ghost use Rattle.types_lex.specs.Lexemes.{Reached, GoesOn, StepsOn, IsNext, Ends};
 
-use crate::found::Step;
-use crate::lexeme::{LexFault, Lexeme, Span};
+use crate::found_lexeme::LexStep;
+use crate::lexeme::{LexFault, Lexeme, LexemeSpan};
 use crate::scan::{moved, step_at};
 use std::alloc::Global;
 
@@ -25,9 +25,9 @@ pub fn next_lexeme(alloc: Global, text: &[u8], from: usize) -> Result<Option<Lex
     let mut at = from;
     while at < text.len() {
         match step_at(alloc, &text[at..]) {
-            Ok(Step::Gap(len)) => at += len,
-            Ok(Step::Word(word)) => {
-                let span = Span {
+            Ok(LexStep::Gap(len)) => at += len,
+            Ok(LexStep::Word(word)) => {
+                let span = LexemeSpan {
                     first: at,
                     len: word.len,
                 };
@@ -50,8 +50,8 @@ fn step_over(alloc: Global, text: &[u8], at: usize) -> Result<usize, LexFault>
     ensures end { IfOk result (λ end. (at < end) × (end ≤ length text.now)) }
 {
     match step_at(alloc, &text[at..]) {
-        Ok(Step::Gap(len)) => Ok(at + len),
-        Ok(Step::Word(word)) => Ok(at + word.len),
+        Ok(LexStep::Gap(len)) => Ok(at + len),
+        Ok(LexStep::Word(word)) => Ok(at + word.len),
         Err(fault) => Err(moved(fault, at)),
     }
 }

@@ -9,7 +9,7 @@ ghost use Rattle.types_lex.specs.LexText.{Answers};
 ghost use Rattle.types_lex.specs.Scan.{suffix_at, number_form, double_form, found_at};
 
 use crate::bytes::digit_value;
-use crate::found::Found;
+use crate::found_lexeme::FoundLexeme;
 use crate::lexeme::{Integer, LexFault, LexemeKind, Suffix};
 
 /// Returns the number of leading decimal digits.
@@ -82,7 +82,7 @@ fn suffix_at(text: &[u8]) -> (Suffix, usize)
 /// text.
 #[tactic(auto, unfolding(crate::specs::Scan::number_form))]
 #[inline(always)]
-pub fn integer(minus: bool, text: &[u8]) -> Result<Found, LexFault>
+pub fn integer(minus: bool, text: &[u8]) -> Result<FoundLexeme, LexFault>
     ensures { Answers (λ w. w) result (found_at (number_form minus text.now)) }
 {
     let count = digits_len(text);
@@ -94,7 +94,7 @@ pub fn integer(minus: bool, text: &[u8]) -> Result<Found, LexFault>
     let len = usize::from(minus) + count + suffix_len;
     match signed(minus, number_in(10, digits)) {
         None => Err(LexFault::TooBig(0)),
-        Some(value) => Ok(Found {
+        Some(value) => Ok(FoundLexeme {
             kind: LexemeKind::Integer(Integer {
                 minus,
                 value,
@@ -107,7 +107,7 @@ pub fn integer(minus: bool, text: &[u8]) -> Result<Found, LexFault>
 
 /// Lexes the double whose `$` precedes the text: sixteen hexadecimal digits.
 #[tactic(auto, unfolding(crate::specs::Scan::double_form))]
-pub fn double(text: &[u8]) -> Result<Found, LexFault>
+pub fn double(text: &[u8]) -> Result<FoundLexeme, LexFault>
     ensures { Answers (λ w. w) result (found_at (double_form text.now)) }
 {
     if text.len() < 16 {
@@ -117,7 +117,7 @@ pub fn double(text: &[u8]) -> Result<Found, LexFault>
     if !all_hexadecimal(digits) {
         return Err(LexFault::BadByte(0));
     }
-    Ok(Found {
+    Ok(FoundLexeme {
         kind: LexemeKind::Double(number_in(16, digits)),
         len: 17,
     })

@@ -10,8 +10,8 @@ ghost use Rattle.types_lex.specs.Scan.{lexeme_at, step_at, position_of, moved};
 use crate::bytes::{is_separator, starts_name};
 use crate::characters::{quoted, string};
 use crate::comments::closing;
-use crate::found::{Found, Step};
-use crate::lexeme::{LexFault, Lexeme, Span};
+use crate::found_lexeme::{FoundLexeme, LexStep};
+use crate::lexeme::{LexFault, Lexeme, LexemeSpan};
 use crate::numbers::{double, integer};
 use crate::symbols::symbol;
 use crate::words::{tag, word};
@@ -20,7 +20,7 @@ use std::alloc::Global;
 /// Lexes the lexeme at the start of the text.
 #[tactic(auto, unfolding(crate::specs::Scan::lexeme_at, crate::specs::Scan::form_at))]
 #[inline(always)]
-fn lexeme_at(alloc: Global, text: &[u8]) -> Result<Found, LexFault>
+fn lexeme_at(alloc: Global, text: &[u8]) -> Result<FoundLexeme, LexFault>
     ensures { Answers (λ w. w) result (lexeme_at text.now) }
 {
     let [first, rest @ ..] = text else {
@@ -47,24 +47,24 @@ fn lexeme_at(alloc: Global, text: &[u8]) -> Result<Found, LexFault>
 /// Lexes the separator, comment or lexeme at the start of the text.
 #[tactic(auto, unfolding(crate::specs::Scan::step_at))]
 #[inline(always)]
-pub fn step_at(alloc: Global, text: &[u8]) -> Result<Step, LexFault>
+pub fn step_at(alloc: Global, text: &[u8]) -> Result<LexStep, LexFault>
     ensures { Answers (λ s. s) result (step_at text.now) }
 {
     let [first, rest @ ..] = text else {
         return Err(LexFault::BadByte(0));
     };
     if is_separator(*first) {
-        return Ok(Step::Gap(1));
+        return Ok(LexStep::Gap(1));
     }
     if let [b'*', inside @ ..] = rest {
         if *first == b'(' {
             return match closing(inside) {
                 None => Err(LexFault::OpenComment(0)),
-                Some(len) => Ok(Step::Gap(len + 2)),
+                Some(len) => Ok(LexStep::Gap(len + 2)),
             };
         }
     }
-    Ok(Step::Word(lexeme_at(alloc, text)?))
+    Ok(LexStep::Word(lexeme_at(alloc, text)?))
 }
 
 /// Returns the fault with its position increased by `by`.
@@ -90,9 +90,9 @@ fn scan(alloc: Global, text: &[u8]) -> Result<Vec<Lexeme>, LexFault>
     let mut at: usize = 0;
     while at < text.len() {
         match step_at(alloc, &text[at..]) {
-            Ok(Step::Gap(len)) => at += len,
-            Ok(Step::Word(word)) => {
-                let span = Span {
+            Ok(LexStep::Gap(len)) => at += len,
+            Ok(LexStep::Word(word)) => {
+                let span = LexemeSpan {
                     first: at,
                     len: word.len,
                 };

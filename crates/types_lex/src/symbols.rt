@@ -4,7 +4,7 @@ ghost use Rattle.std.specs.Prelude.{◌≡◌};
 ghost use Rattle.types_lex.specs.Scan.{pair_symbol, single_symbol, pair_at, symbol_form, found_at};
 ghost use Rattle.types_lex.specs.LexText.{Answers};
 
-use crate::found::Found;
+use crate::found_lexeme::FoundLexeme;
 use crate::lexeme::{LexFault, LexemeKind, Symbol};
 
 /// Returns the symbol that two bytes form.
@@ -66,16 +66,16 @@ fn pair_at(first: u8, rest: &[u8]) -> Option<Symbol>
 /// Lexes the symbol that begins with the byte `first`. Prefers a symbol of two bytes.
 #[tactic(auto, unfolding(crate::specs::Scan::symbol_form))]
 #[inline(always)]
-pub fn symbol(first: u8, rest: &[u8]) -> Result<Found, LexFault>
+pub fn symbol(first: u8, rest: &[u8]) -> Result<FoundLexeme, LexFault>
     ensures { Answers (λ w. w) result (found_at (symbol_form first rest.now)) }
 {
     match pair_at(first, rest) {
-        Some(symbol) => Ok(Found {
+        Some(symbol) => Ok(FoundLexeme {
             kind: LexemeKind::Symbol(symbol),
             len: 2,
         }),
         None => match single_symbol(first) {
-            Some(symbol) => Ok(Found {
+            Some(symbol) => Ok(FoundLexeme {
                 kind: LexemeKind::Symbol(symbol),
                 len: 1,
             }),

@@ -8,7 +8,7 @@ ghost use Rattle.types_lex.specs.Scan.{keyword_of, cased_form, word_form, tag_fo
 ghost use Rattle.types_lex.specs.Scan.{found, found_at};
 
 use crate::bytes::{name_len, starts_lower, starts_name};
-use crate::found::Found;
+use crate::found_lexeme::FoundLexeme;
 use crate::lexeme::{Keyword, LexFault, LexemeKind};
 use base_data::model::list::List;
 use std::alloc::Global;
@@ -38,7 +38,7 @@ pub(crate) fn copied(alloc: Global, text: &[u8]) -> Result<List<u8>, LexFault>
 }
 
 /// Returns the lexeme of a name that is no keyword.
-fn cased(alloc: Global, name: &[u8]) -> Result<Found, LexFault>
+fn cased(alloc: Global, name: &[u8]) -> Result<FoundLexeme, LexFault>
     requires { 0 < length name.now }
     ensures { Answers (λ w. w) result (Ok (found (cased_form name.now))) }
 {
@@ -50,12 +50,12 @@ fn cased(alloc: Global, name: &[u8]) -> Result<Found, LexFault>
     } else {
         LexemeKind::Upper(name)
     };
-    Ok(Found { kind, len })
+    Ok(FoundLexeme { kind, len })
 }
 
 /// Lexes the name or keyword at the start of the text.
 #[tactic(auto, unfolding(crate::specs::Scan::word_form))]
-pub fn word(alloc: Global, text: &[u8]) -> Result<Found, LexFault>
+pub fn word(alloc: Global, text: &[u8]) -> Result<FoundLexeme, LexFault>
     requires first { 0 < length text.now }
     requires name { IsTrue (starts_name (slice_index text.now 0)) }
     ensures { Answers (λ w. w) result (Ok (found (word_form (take_while is_name_byte text.now)))) }
@@ -64,7 +64,7 @@ pub fn word(alloc: Global, text: &[u8]) -> Result<Found, LexFault>
     let name = &text[..len];
     match keyword_of(name) {
         None => cased(alloc, name),
-        Some(keyword) => Ok(Found {
+        Some(keyword) => Ok(FoundLexeme {
             kind: LexemeKind::Keyword(keyword),
             len,
         }),
@@ -73,7 +73,7 @@ pub fn word(alloc: Global, text: &[u8]) -> Result<Found, LexFault>
 
 /// Lexes the variant tag whose backquote precedes the text.
 #[tactic(auto, unfolding(crate::specs::Scan::tag_form))]
-pub fn tag(alloc: Global, text: &[u8]) -> Result<Found, LexFault>
+pub fn tag(alloc: Global, text: &[u8]) -> Result<FoundLexeme, LexFault>
     ensures { Answers (λ w. w) result (found_at (tag_form text.now)) }
 {
     let [first, ..] = text else {
@@ -84,7 +84,7 @@ pub fn tag(alloc: Global, text: &[u8]) -> Result<Found, LexFault>
     }
     let len = name_len(text);
     let name = copied(alloc, &text[..len])?;
-    Ok(Found {
+    Ok(FoundLexeme {
         kind: LexemeKind::Tag(name),
         len: len + 1,
     })
@@ -92,7 +92,7 @@ pub fn tag(alloc: Global, text: &[u8]) -> Result<Found, LexFault>
 
 /// Lexes the type variable whose quote precedes the text.
 #[tactic(auto, unfolding(crate::specs::Scan::variable_form))]
-pub fn variable(alloc: Global, text: &[u8]) -> Result<Found, LexFault>
+pub fn variable(alloc: Global, text: &[u8]) -> Result<FoundLexeme, LexFault>
     ensures { Answers (λ w. w) result (found_at (variable_form text.now)) }
 {
     let [first, ..] = text else {
@@ -103,7 +103,7 @@ pub fn variable(alloc: Global, text: &[u8]) -> Result<Found, LexFault>
     }
     let len = name_len(text);
     let name = copied(alloc, &text[..len])?;
-    Ok(Found {
+    Ok(FoundLexeme {
         kind: LexemeKind::Variable(name),
         len: len + 1,
     })

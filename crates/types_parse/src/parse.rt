@@ -11,12 +11,12 @@ mod in_file;
 mod known;
 mod names;
 mod open;
+mod parse_stack;
 mod refused;
 mod so_far;
-mod stack;
 mod type_step;
 mod types;
 
 pub use files::parse_file;
-pub use refused::{Fault, byte_of};
+pub use refused::{ParseFault, byte_of};
 pub use types::parse_type;

@@ -4,7 +4,7 @@
 //! themselves.
 
 mod all_classes;
-mod form;
+mod head_form;
 mod inspect;
 mod lists;
 mod moves;

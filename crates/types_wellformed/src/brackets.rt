@@ -4,10 +4,10 @@
 //! this for the bracket as it is written. The crate does not compute the tags of included types.
 
 mod arguments;
-mod item;
 mod sightings;
-mod spellings;
+mod tag_item;
+mod tag_names;
 
 pub use arguments::least_conflict;
-pub use item::Item;
-pub use spellings::{Collision, least_collision, nearer};
+pub use tag_item::TagItem;
+pub use tag_names::{Collision, least_collision, nearer};

@@ -9,8 +9,8 @@ mod broken;
 mod conflict;
 mod first;
 mod flat;
+mod head_nodes;
 mod item;
-mod nodes;
 mod tags;
 mod variant;
 

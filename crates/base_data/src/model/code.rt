@@ -1,16 +1,16 @@
-//! The kinds of tokens by their first byte, the code, and the custom blocks that are read
-//! (`intext.h`).
+//! Kinds of tokens and of custom blocks (`intext.h`). The first byte of a token is its code, and
+//! the code determines the kind.
 
-/// The kind of a token, by its code. A number is either a value in the code itself, or the width in
-/// bytes of the token's number, header word or length. A `bool` is true for little endian, except
-/// in `Custom`.
+/// The kind of a token, by its code. If the code contains the value itself, then the number of a
+/// variant is this value. Otherwise it is the width in bytes of the number, header word or length
+/// that follows the code. A `bool` is true for little endian, except in `Custom`.
 #[derive(Clone, Copy)]
 pub enum CodeKind {
-    /// A block or an atom: tag and size, both in the code.
+    /// A block or an atom whose tag and size are bits of the code.
     SmallBlock(u8, u8),
-    /// An integer from 0 to 63, in the code.
+    /// An integer from 0 to 63, which is the low six bits of the code.
     SmallInt(u8),
-    /// A string of up to 31 bytes: its length, in the code.
+    /// A string of up to 31 bytes, whose length is the low five bits of the code.
     SmallString(u8),
     /// A signed integer: its width in bytes.
     Int(u8),
@@ -37,7 +37,7 @@ pub enum CodeFault {
     CustomLen,
 }
 
-/// A custom block that is read, by its identifier.
+/// The custom blocks that omarshal reads. The identifier of a block determines the kind.
 #[derive(Clone, Copy, PartialEq, Eq)]
 pub enum CustomKind {
     Int32,
@@ -53,9 +53,9 @@ pub enum Custom {
     Native(i64),
 }
 
-/// The size of an object. A block has a number of fields, a string a number of bytes, and a double
-/// array a number of elements. A custom block has the sizes of its data in bytes on 32 and on 64
-/// bits.
+/// The size of an object. For a block it is the number of fields, for a string the number of bytes,
+/// and for a double array the number of elements. For a custom block it is the size of the data in
+/// bytes, on 32 and on 64 bits.
 #[derive(Clone, Copy)]
 pub enum Measure {
     Block(u64),

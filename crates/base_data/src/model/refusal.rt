@@ -8,7 +8,7 @@ use std::alloc::{AllocError, AllocFailed};
 
 /// The number in a header that exceeds its limit.
 #[derive(Clone, Copy, Debug, PartialEq, Eq)]
-pub enum Stated {
+pub enum StatedNumber {
     Words,
     Length,
 }
@@ -29,7 +29,7 @@ pub enum ReadRefusal {
     /// The magic number is that of compressed data.
     Compressed,
     /// A number in the header is too large: which number, its value, and the limit.
-    TooLarge(Stated, u64, u64),
+    TooLarge(StatedNumber, u64, u64),
     /// A code does not begin a token: the offset and the code.
     BadCode(u64, u8),
     /// A code of a code pointer or infix pointer: the offset and the code.

@@ -14,10 +14,10 @@ ghost use Rattle.cert_verify.specs.certificate.Testing.{IsStart, IsPassing, IsSa
 ghost use Rattle.cert_verify.specs.certificate.Testing.{IsAmongAt, IsSettled};
 ghost use Rattle.cert_verify.specs.certificate.Testing.{IsElsewhere};
 
-use crate::certificate::stated::Stated;
+use crate::certificate::stated_pairs::StatedPairs;
 use base_data::model::Memory;
 use base_data::model::value::Val;
-use cert_format::Pairs;
+use cert_format::CertificatePairs;
 use check_heap::scan::fits_type;
 use std::alloc::Global;
 use std::collections::BTreeSet;
@@ -25,7 +25,7 @@ use types_table::type_table::TypeTable;
 
 /// Returns true if the first pair of the object is at the index equal to the object number. This is
 /// the case if each object before it has one pair.
-fn is_own_position(pairs: &Pairs, object: u64) -> bool
+fn is_own_position(pairs: &CertificatePairs, object: u64) -> bool
     ensures { OnTrue result (IsStart pairs.now object object) }
 {
     let many = pairs.len();
@@ -45,7 +45,7 @@ fn is_own_position(pairs: &Pairs, object: u64) -> bool
 }
 
 /// Returns the index of the first pair whose object is not less than this one.
-fn start_of(pairs: &Pairs, object: u64) -> usize
+fn start_of(pairs: &CertificatePairs, object: u64) -> usize
     ensures { IsStart pairs.now object result }
 {
     if is_own_position(pairs, object) {
@@ -71,7 +71,7 @@ fn start_of(pairs: &Pairs, object: u64) -> usize
 pub fn frequent_of(
     alloc: Global,
     table: &TypeTable,
-    pairs: &Pairs,
+    pairs: &CertificatePairs,
 ) -> Result<BTreeSet<(u64, usize)>, Memory>
     requires there { (k o t : ℕ) → slice_get pairs.now k ≡ Some (o, t)
         → t < length table.now.classes }
@@ -100,7 +100,7 @@ fn few_end(len: usize, start: usize) -> usize
 /// Returns true if one of the first 16 pairs of the object is at an equal type. A result of false
 /// says nothing about the other pairs.
 #[inline(never)]
-pub fn is_among_few(table: &TypeTable, pairs: &Pairs, object: u64, ty: usize) -> bool
+pub fn is_among_few(table: &TypeTable, pairs: &CertificatePairs, object: u64, ty: usize) -> bool
     requires there { (k o t : ℕ) → slice_get pairs.now k ≡ Some (o, t)
         → t < length table.now.classes }
     requires ty { ty < length table.now.classes }
@@ -121,7 +121,7 @@ pub fn is_among_few(table: &TypeTable, pairs: &Pairs, object: u64, ty: usize) ->
 /// of the object, or its object and class are in `frequent`.
 pub fn is_among(
     table: &TypeTable,
-    pairs: &Pairs,
+    pairs: &CertificatePairs,
     frequent: &BTreeSet<(u64, usize)>,
     object: u64,
     ty: usize,
@@ -152,7 +152,13 @@ pub fn is_among(
 
 /// Returns true if some pair has the object of pair `i` at an unequal type. If the pair before it
 /// has the same object, that pair decides.
-pub fn is_elsewhere(table: &TypeTable, pairs: &Pairs, i: usize, object: u64, ty: usize) -> bool
+pub fn is_elsewhere(
+    table: &TypeTable,
+    pairs: &CertificatePairs,
+    i: usize,
+    object: u64,
+    ty: usize,
+) -> bool
     requires in_range { i < length pairs.now }
     requires at { slice_get pairs.now i ≡ Some (object, ty) }
     requires there { (k o t : ℕ) → slice_get pairs.now k ≡ Some (o, t)
@@ -175,7 +181,7 @@ pub fn is_elsewhere(table: &TypeTable, pairs: &Pairs, i: usize, object: u64, ty:
 /// before `start` are at equal types.
 pub fn is_elsewhere_behind(
     table: &TypeTable,
-    pairs: &Pairs,
+    pairs: &CertificatePairs,
     start: usize,
     object: u64,
     ty: usize,
@@ -204,7 +210,12 @@ pub fn is_elsewhere_behind(
 
 /// Returns true if the value of a word is held at a type. A value is held if it fits the type and,
 /// if it is a reference, some pair has its object at an equal type.
-pub fn is_held(stated: Stated<'_>, frequent: &BTreeSet<(u64, usize)>, word: u64, ty: usize) -> bool
+pub fn is_held(
+    stated: StatedPairs<'_>,
+    frequent: &BTreeSet<(u64, usize)>,
+    word: u64,
+    ty: usize,
+) -> bool
     requires word { IsFieldWord stated.heap.now word }
     requires frequent { IsFrequent (table_in stated.fitting) stated.pairs.now frequent.now }
     requires ty { ty < length stated.fitting.table.now.nodes }

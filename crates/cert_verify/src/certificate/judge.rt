@@ -11,13 +11,13 @@ ghost use Rattle.cert_format.specs.declared.section.Section.TheVariants as secti
 
 use crate::certificate::held::{frequent_of, is_held};
 use crate::certificate::right::are_accepted;
-use crate::certificate::stated::Stated;
+use crate::certificate::stated_pairs::StatedPairs;
 use crate::certificate::test::test_pair;
 use crate::certificate::verified::{Verified, Why};
 use base_data::model::Memory;
 use base_data::model::path::Path;
 use base_data::model::value::Val;
-use cert_format::{Pairs, Section};
+use cert_format::{CertificatePairs, Section};
 use check_fault::is_fault;
 use check_heap::scan::{Fitting, rows_of};
 use marshal_heap::heap::{Heap, Rooted};
@@ -98,7 +98,7 @@ fn is_there(heap: &Heap, table: &TypeTable, pair: (u64, u64)) -> bool
 }
 
 /// Returns the first pair whose object or type does not exist.
-fn first_out(heap: &Heap, table: &TypeTable, pairs: &Pairs) -> Option<usize>
+fn first_out(heap: &Heap, table: &TypeTable, pairs: &CertificatePairs) -> Option<usize>
     ensures { MatchOption result (AreAllThere (table_of table.now) heap.now pairs.now)
         (IsFirstOut (table_of table.now) heap.now pairs.now) }
 {
@@ -115,7 +115,7 @@ fn verify_pairs<'a>(
     alloc: Global,
     value: &Rooted<'a>,
     table: &'a TypeTable,
-    pairs: &'a Pairs,
+    pairs: &'a CertificatePairs,
 ) -> Result<Verified, Memory>
     ensures { IfOk result (IsVerified (table_of table.now) value.now.heap.now value.now.root
         (sections.Pairs pairs.now)) }
@@ -125,7 +125,7 @@ fn verify_pairs<'a>(
     }
     let rows = rows_of(alloc, value.heap, table)?;
     let fitting = Fitting { table, rows: &rows };
-    let stated = Stated {
+    let stated = StatedPairs {
         heap: value.heap,
         fitting,
         pairs,
@@ -138,7 +138,7 @@ fn verify_pairs<'a>(
 
 /// Verifies the pairs one by one, and so finds the first fault of the entry. The objects and types
 /// of all pairs must exist.
-fn verify_each(alloc: Global, root: Val, stated: Stated<'_>) -> Result<Verified, Memory>
+fn verify_each(alloc: Global, root: Val, stated: StatedPairs<'_>) -> Result<Verified, Memory>
     requires value { IsValue (length stated.heap.now) root }
     ensures { IfOk result (IsVerified (table_in stated.entry.fitting) stated.entry.heap.now root
         (sections.Pairs stated.entry.pairs.now)) }

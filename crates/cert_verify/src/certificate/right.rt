@@ -16,9 +16,9 @@ ghost use Rattle.cert_verify.specs.certificate.Testing.{IsElsewhere, StandsAt, H
 ghost use Rattle.cert_verify.specs.certificate.Right.{AllFit, IsBacked, IsWorded, IsRightWithAll};
 
 use crate::certificate::held::{is_among_few, is_elsewhere_behind};
-use crate::certificate::stated::Stated;
+use crate::certificate::stated_pairs::StatedPairs;
 use base_data::model::value::Val;
-use cert_format::Pairs;
+use cert_format::CertificatePairs;
 use check_heap::fits::{Needs, is_asked, is_mutable, known_needs};
 use check_heap::scan::fits_type;
 use types_spec::types::shape::{Constr, ShapeOf};
@@ -35,7 +35,7 @@ pub struct Worded {
 /// Returns true only if the pairs are accepted for a value at type 0. May return false for accepted
 /// pairs, for example if an object has more than 16 pairs, or if a mutable object is at two equal
 /// types.
-pub fn are_accepted(root: Val, stated: Stated<'_>) -> bool
+pub fn are_accepted(root: Val, stated: StatedPairs<'_>) -> bool
     requires value { IsValue (length stated.heap.now) root }
     ensures { OnTrue result (AreAccepted (table_shapes (table_in stated.entry.fitting))
         stated.entry.heap.now root 0 stated.entry.pairs.now) }
@@ -51,7 +51,7 @@ pub fn are_accepted(root: Val, stated: Stated<'_>) -> bool
 
 /// Returns true only if all pairs are right. May return false for right pairs, in the same cases as
 /// `are_accepted`.
-fn are_right(stated: Stated<'_>) -> bool
+fn are_right(stated: StatedPairs<'_>) -> bool
     requires some { 0 < length stated.pairs.now }
     ensures { OnTrue result (AreRight (table_in stated.entry.fitting) stated.entry.heap.now
         stated.entry.pairs.now (length stated.entry.pairs.now)) }
@@ -79,7 +79,7 @@ fn position_or_last(len: usize, i: usize) -> usize
 
 /// Returns pair `i` and the word of its object. If there is no pair `i`, returns the last pair.
 #[inline(always)]
-fn pair_at(stated: Stated<'_>, i: usize) -> Worded
+fn pair_at(stated: StatedPairs<'_>, i: usize) -> Worded
     requires some { 0 < length stated.pairs.now }
     ensures { IsWorded stated.entry.heap.now stated.entry.pairs.now i result }
 {
@@ -95,7 +95,7 @@ fn pair_at(stated: Stated<'_>, i: usize) -> Worded
 /// Returns true only if pair `i` fits, and is right if all pairs fit. `near` is a neighbouring
 /// pair, which is often that of the last field of the object.
 #[inline(always)]
-fn is_right(stated: Stated<'_>, i: usize, own: Worded, near: Worded) -> bool
+fn is_right(stated: StatedPairs<'_>, i: usize, own: Worded, near: Worded) -> bool
     requires in_range { i < length stated.pairs.now }
     requires own { IsWorded stated.heap.now stated.pairs.now i own }
     requires near { StandsAt (table_in stated.fitting) stated.heap.now stated.pairs.now near.word
@@ -121,7 +121,7 @@ fn is_right(stated: Stated<'_>, i: usize, own: Worded, near: Worded) -> bool
 /// Returns the same result for a pair with any shape, given that the pair fits.
 #[inline(never)]
 fn is_any_right(
-    stated: Stated<'_>,
+    stated: StatedPairs<'_>,
     i: usize,
     own: Worded,
     near: Worded,
@@ -150,7 +150,7 @@ fn is_any_right(
 /// function is inlined for each kind of immutable shape.
 #[inline(always)]
 fn holds_needs(
-    stated: Stated<'_>,
+    stated: StatedPairs<'_>,
     _i: usize,
     own: Worded,
     near: Worded,
@@ -191,7 +191,13 @@ fn is_one_constant(blocks: &[Constr<usize>]) -> bool
 /// Returns true if pair `i` is the first pair of its object, and no pair has the object at an
 /// unequal type.
 #[inline(never)]
-fn is_at_one_type(table: &TypeTable, pairs: &Pairs, i: usize, object: u64, ty: usize) -> bool
+fn is_at_one_type(
+    table: &TypeTable,
+    pairs: &CertificatePairs,
+    i: usize,
+    object: u64,
+    ty: usize,
+) -> bool
     requires at { slice_get pairs.now i ≡ Some (object, ty) }
     requires there { (k o t : ℕ) → slice_get pairs.now k ≡ Some (o, t)
         → t < length table.now.classes }
@@ -211,7 +217,7 @@ fn is_at_one_type(table: &TypeTable, pairs: &Pairs, i: usize, object: u64, ty: u
 /// all pairs fit. This function is inlined for each kind of required fields.
 #[inline(always)]
 fn each_backed(
-    stated: Stated<'_>,
+    stated: StatedPairs<'_>,
     _object: u64,
     _ty: usize,
     word: u64,
@@ -248,7 +254,7 @@ fn each_backed(
 /// Returns true only if the value of a word is held at a type that is not a wildcard, given that
 /// all pairs fit.
 #[inline(always)]
-fn is_backed(stated: Stated<'_>, near: Worded, word: u64, ty: usize) -> bool
+fn is_backed(stated: StatedPairs<'_>, near: Worded, word: u64, ty: usize) -> bool
     requires word { IsFieldWord stated.heap.now word }
     requires ty { ty < length stated.fitting.table.now.nodes }
     requires near { StandsAt (table_in stated.fitting) stated.heap.now stated.pairs.now near.word
@@ -270,7 +276,7 @@ fn is_backed(stated: Stated<'_>, near: Worded, word: u64, ty: usize) -> bool
 /// Returns true only if some pair has the object of a word at an equal type, or if the type is a
 /// wildcard.
 #[inline(always)]
-fn is_listed(stated: Stated<'_>, word: u64, ty: usize) -> bool
+fn is_listed(stated: StatedPairs<'_>, word: u64, ty: usize) -> bool
     requires word { IsReferenceWord stated.heap.now word }
     requires ty { ty < length stated.fitting.table.now.nodes }
     ensures { OnTrue result (IsTrue (is_asked_in (table_in stated.entry.fitting) ty)
@@ -290,7 +296,7 @@ fn is_listed(stated: Stated<'_>, word: u64, ty: usize) -> bool
 
 /// Returns true only if the pair is at the index equal to its object number.
 #[inline(always)]
-fn is_at_own_position(pairs: &Pairs, object: u64, ty: usize) -> bool
+fn is_at_own_position(pairs: &CertificatePairs, object: u64, ty: usize) -> bool
     ensures { OnTrue result (Contains pairs.now (object, ty)) }
 {
     let position = object as usize;

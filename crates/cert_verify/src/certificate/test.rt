@@ -11,7 +11,7 @@ ghost use Rattle.cert_verify.specs.certificate.Testing.{IsRightAt, AreRight};
 ghost use Rattle.cert_verify.specs.certificate.Testing.{IsFirstAt};
 
 use crate::certificate::held::{is_elsewhere, is_held};
-use crate::certificate::stated::Stated;
+use crate::certificate::stated_pairs::StatedPairs;
 use crate::certificate::verified::Why;
 use base_data::model::value::Val;
 use check_heap::fits::{Needs, is_asked, is_mutable, known_needs};
@@ -20,7 +20,7 @@ use std::collections::BTreeSet;
 
 /// Returns the first required field of the object with this word that is not held.
 fn first_missing(
-    stated: Stated<'_>,
+    stated: StatedPairs<'_>,
     frequent: &BTreeSet<(u64, usize)>,
     _object: u64,
     word: u64,
@@ -58,7 +58,11 @@ fn first_missing(
 
 /// Returns what is first wrong with pair `i`. The objects and types of all pairs must exist, and
 /// the pairs before `i` must be right.
-pub fn test_pair(stated: Stated<'_>, frequent: &BTreeSet<(u64, usize)>, i: usize) -> Option<Why>
+pub fn test_pair(
+    stated: StatedPairs<'_>,
+    frequent: &BTreeSet<(u64, usize)>,
+    i: usize,
+) -> Option<Why>
     requires in_range { i < length stated.pairs.now }
     requires frequent { IsFrequent (table_in stated.fitting) stated.pairs.now frequent.now }
     requires before { AreRight (table_in stated.fitting) stated.heap.now stated.pairs.now i }

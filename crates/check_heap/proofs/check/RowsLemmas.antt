@@ -8,19 +8,19 @@ use Rattle.base_data.specs.declared.model.value.Obj.{Obj}
 use Rattle.types_spec.specs.types.Fault.{field_of}
 use Rattle.types_spec.specs.types.Table.{Table, table_shapes}
 use Rattle.check_heap.specs.declared.check.visits.Visit.{Visit}
-use Rattle.check_heap.specs.declared.check.search.Need.{Need}
+use Rattle.check_heap.specs.declared.check.search.RequiredField.{RequiredField}
 use Rattle.check_heap.specs.declared.check.visits.Visits.{Visits}
 use Rattle.check_heap.specs.check.Visits.{listed, AreLinked, Enters}
 use Rattle.check_heap.specs.check.Search.{FitAll, EntersValue, TestsNeed}
 
 pub tests_true :
-    (table : Table) (graph : List Obj) (old new : List Visit) (need : Need) (v : Val) → IsValue (length graph) v
+    (table : Table) (graph : List Obj) (old new : List Visit) (need : RequiredField) (v : Val) → IsValue (length graph) v
     → field_of graph (vals.Ref need.object) need.step ≡ Some v → (table_shapes table).fits graph v need.ty → EntersValue table old new need v
     → TestsNeed table graph old new need true
 tests_true table graph old new need v valid there fits enters = record { value = v; valid = valid; there = there; tested = (fits, enters) }
 
 pub tests_false :
-    (table : Table) (graph : List Obj) (old : List Visit) (need : Need) (v : Val) → IsValue (length graph) v
+    (table : Table) (graph : List Obj) (old : List Visit) (need : RequiredField) (v : Val) → IsValue (length graph) v
     → field_of graph (vals.Ref need.object) need.step ≡ Some v → ¬ (table_shapes table).fits graph v need.ty
     → TestsNeed table graph old old need false
 tests_false table graph old need v valid there unfit = record { value = v; valid = valid; there = there; tested = (unfit, refl) }
@@ -37,6 +37,6 @@ first_fits table graph visits t v o same linked fit at_o =
     (subst (λ p. (table_shapes table).fits graph (vals.Ref p) f.visit.ty) f.object (fit f.position f.visit f.at)))
 
 pub enters_named :
-    (table : Table) (old new : List Visit) (need : Need) (v : Val) (o : ℕ) → v ≡ vals.Ref o
+    (table : Table) (old new : List Visit) (need : RequiredField) (v : Val) (o : ℕ) → v ≡ vals.Ref o
     → Enters table old new o need.ty need.parent need.step → EntersValue table old new need v
 enters_named table old new need v o same enters = subst (EntersValue table old new need) (sym same) enters

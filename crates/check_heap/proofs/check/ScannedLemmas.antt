@@ -9,7 +9,7 @@ use Rattle.types_spec.specs.types.Fitting.{numbered_from}
 use Rattle.types_spec.specs.types.Table.{Table, table_shapes}
 use Rattle.types_spec.specs.types.Typing.{HasType}
 use Rattle.types_theory.specs.typing.StepLaws.{AreApart, key_of}
-use Rattle.check_heap.specs.declared.scan.seconds.Seconds.{Seconds}
+use Rattle.check_heap.specs.declared.scan.second_types.SecondTypes.{SecondTypes}
 use Rattle.check_heap.specs.scan.Seconds.{noted_in}
 use Rattle.check_heap.specs.scan.Scanned.{IsScanned, pairs_with}
 use Rattle.check_heap.specs.check.Verdict.{IsYes}
@@ -30,16 +30,16 @@ length_numbered s (t ∷ ts) = ap suc (length_numbered (suc s) ts)
 
 -- ---- types, and objects at further types
 
-pub length_pairs : (types : List ℕ) (seconds : Seconds) → length (pairs_with types seconds) ≡ length types + length (noted_in seconds)
+pub length_pairs : (types : List ℕ) (seconds : SecondTypes) → length (pairs_with types seconds) ≡ length types + length (noted_in seconds)
 length_pairs types seconds = length-append (numbered_from 0 types) (noted_in seconds) ∙ ap (λ n. n + length (noted_in seconds)) (length_numbered 0 types)
 
 pub pair_first :
-    (types : List ℕ) (seconds : Seconds) (k : ℕ) → k < length types → slice_get (pairs_with types seconds) k ≡ Some (k, slice_index types k)
+    (types : List ℕ) (seconds : SecondTypes) (k : ℕ) → k < length types → slice_get (pairs_with types seconds) k ≡ Some (k, slice_index types k)
 pair_first types seconds k less =
     slice_get-append_left (numbered_from 0 types) (noted_in seconds) k (k, slice_index types k) (numbered_there 0 types k k (omega arith) less)
 
 pub pair_later :
-    (types : List ℕ) (seconds : Seconds) (k m : ℕ) (p : ℕ × ℕ) → k ≡ length types + m → slice_get (noted_in seconds) m ≡ Some p
+    (types : List ℕ) (seconds : SecondTypes) (k m : ℕ) (p : ℕ × ℕ) → k ≡ length types + m → slice_get (noted_in seconds) m ≡ Some p
     → slice_get (pairs_with types seconds) k ≡ Some p
 pair_later types seconds k m p is at_m =
     ap (slice_get (pairs_with types seconds)) (is ∙ ap (λ n. n + m) (sym (length_numbered 0 types)))

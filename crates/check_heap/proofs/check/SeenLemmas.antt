@@ -9,7 +9,7 @@ use Rattle.base_data.specs.declared.model.value.Obj.{Obj}
 use Rattle.types_spec.specs.types.Table.{Table, table_shapes}
 use Rattle.marshal_heap.specs.heap.Heap.{field_at, word_of}
 use Rattle.types_table.specs.type_table.Made.{IsLawful}
-use Rattle.check_heap.specs.declared.scan.taken.Taken.{Taken}
+use Rattle.check_heap.specs.declared.scan.taken_objects.TakenObjects.{TakenObjects}
 use Rattle.check_heap.specs.scan.Taken.{types_in, all_fields, seen_of, is_unfit_field, rest_of}
 use Rattle.check_heap.specs.scan.Scanned.{IsSeen, IsSeenObject, AreTaken}
 use Rattle.check_heap.proofs.scan.PositionLemmas.{read_at}
@@ -42,7 +42,7 @@ pub need_few :
 need_few size reached i seen start steps more before inside small few one known =
     few_rest size (i + 1) seen start more (omega (arith, inside)) small (reach_more reached i seen start steps more before few one known)
 
-module _ (table : Table) (graph : List Obj) (taken : Taken) where
+module _ (table : Table) (graph : List Obj) (taken : TakenObjects) where
   -- ---- required fields
 
   pub value_seen :

@@ -13,7 +13,7 @@ use Rattle.base_data.proofs.model.Lists.{Contains-position}
 use Rattle.types_spec.specs.types.Fitting.{numbered_from}
 use Rattle.types_spec.specs.types.Table.{Table, table_shapes, is_asked_in}
 use Rattle.marshal_heap.specs.heap.Heap.{field_at, word_of}
-use Rattle.check_heap.specs.declared.scan.seconds.Seconds.{Seconds}
+use Rattle.check_heap.specs.declared.scan.second_types.SecondTypes.{SecondTypes}
 use Rattle.check_heap.specs.scan.Paths.{HasPath}
 use Rattle.check_heap.specs.scan.Seconds.{noted_in, AreSeconds, IsNoting}
 use Rattle.check_heap.specs.scan.Taken.{size_of}
@@ -51,7 +51,7 @@ extended old new p more among = subst (λ xs. Contains xs p) (sym more.is) (cont
 
 module _ (table : Table) (graph : List Obj) (types : List ℕ) where
   pub found_extended :
-      (old new : Seconds) (v : Val) (t : ℕ) → Extends (noted_in old) (noted_in new)
+      (old new : SecondTypes) (v : Val) (t : ℕ) → Extends (noted_in old) (noted_in new)
       → IsFoundIn table graph (pairs_with types old) v t → IsFoundIn table graph (pairs_with types new) v t
   found_extended old new (vals.Int z) t more found = found
   found_extended old new (vals.Atom tag) t more found = found
@@ -64,7 +64,7 @@ module _ (table : Table) (graph : List Obj) (types : List ℕ) where
 
   -- One more pair may be recorded.
   pub over_more :
-      (old new : Seconds) (o t : ℕ) → AreOver table graph types old → AreSeconds table new → IsNoting table (noted_in old) (noted_in new) o t
+      (old new : SecondTypes) (o t : ℕ) → AreOver table graph types old → AreSeconds table new → IsNoting table (noted_in old) (noted_in new) o t
       → IsNotedOver table graph types o t → HasPath table graph (vals.Ref 0) o t → AreOver table graph types new
   over_more old new o t over valid noting own path =
       let more = noting_extends table (noted_in old) (noted_in new) o t noting in
@@ -91,7 +91,7 @@ module _ (table : Table) (graph : List Obj) (types : List ℕ) where
 
   -- Case: a reference to an object that has an equal type, or was recorded at one.
   pub finds_first :
-      (seconds : Seconds) (p u t : ℕ) → AreOver table graph types seconds → slice_get types p ≡ Some u → (table_shapes table).equal u t
+      (seconds : SecondTypes) (p u t : ℕ) → AreOver table graph types seconds → slice_get types p ≡ Some u → (table_shapes table).equal u t
       → Finds table graph types seconds seconds (vals.Ref p) t
   finds_first seconds p u t over at_p same = record {
     over = over;
@@ -100,7 +100,7 @@ module _ (table : Table) (graph : List Obj) (types : List ℕ) where
   }
 
   pub finds_noted :
-      (old new : Seconds) (p t : ℕ) → AreOver table graph types old → AreSeconds table new → IsNoting table (noted_in old) (noted_in new) p t
+      (old new : SecondTypes) (p t : ℕ) → AreOver table graph types old → AreSeconds table new → IsNoting table (noted_in old) (noted_in new) p t
       → IsNotedOver table graph types p t → HasPath table graph (vals.Ref 0) p t → Finds table graph types old new (vals.Ref p) t
   finds_noted old new p t over valid noting own path =
       let listed = noting_listed table graph (noted_in old) (noted_in new) p t noting in
@@ -112,7 +112,7 @@ module _ (table : Table) (graph : List Obj) (types : List ℕ) where
 
   -- Case: a value that is no object.
   pub finds_value :
-      (seconds : Seconds) (v : Val) (t : ℕ) → AreOver table graph types seconds → ((o : ℕ) → v ≢ vals.Ref o) → (table_shapes table).fits graph v t
+      (seconds : SecondTypes) (v : Val) (t : ℕ) → AreOver table graph types seconds → ((o : ℕ) → v ≢ vals.Ref o) → (table_shapes table).fits graph v t
       → Finds table graph types seconds seconds v t
   finds_value seconds v t over other fits = record { over = over; extends = extends_none (noted_in seconds); found = by_value v other fits } where
     by_value : (w : Val) → ((o : ℕ) → w ≢ vals.Ref o) → (table_shapes table).fits graph w t → IsFoundIn table graph (pairs_with types seconds) w t
@@ -124,7 +124,7 @@ module _ (table : Table) (graph : List Obj) (types : List ℕ) where
 
   -- One more field, which is found if it is required.
   pub finds_more :
-      (old now new : Seconds) (o t r i a : ℕ) → FindsNeeds table graph types old now o t r → AreOver table graph types new
+      (old now new : SecondTypes) (o t r i a : ℕ) → FindsNeeds table graph types old now o t r → AreOver table graph types new
       → Extends (noted_in now) (noted_in new)
       → (IsTrue (is_asked_in table a) → IsFoundIn table graph (pairs_with types new) (field_at graph o i) a)
       → slice_get (object_typed table graph o t) r ≡ Some (i, a) → FindsNeeds table graph types old new o t (r + 1)
@@ -141,7 +141,7 @@ module _ (table : Table) (graph : List Obj) (types : List ℕ) where
 
   -- Case: the field's type is unconstrained.
   pub finds_wildcard :
-      (old now : Seconds) (o t r i a : ℕ) → FindsNeeds table graph types old now o t r → is_asked_in table a ≡ false
+      (old now : SecondTypes) (o t r i a : ℕ) → FindsNeeds table graph types old now o t r → is_asked_in table a ≡ false
       → slice_get (object_typed table graph o t) r ≡ Some (i, a) → FindsNeeds table graph types old now o t (r + 1)
   finds_wildcard old now o t r i a before wildcard at_r =
       finds_more old now now o t r i a before before.over (extends_none (noted_in now))
@@ -150,7 +150,7 @@ module _ (table : Table) (graph : List Obj) (types : List ℕ) where
   -- ---- pairs
 
   pub settled_extended :
-      (old new : Seconds) (o t : ℕ) → Extends (noted_in old) (noted_in new) → IsSettledAt table graph types old o t → IsSettledAt table graph types new o t
+      (old new : SecondTypes) (o t : ℕ) → Extends (noted_in old) (noted_in new) → IsSettledAt table graph types old o t → IsSettledAt table graph types new o t
   settled_extended old new o t more settled = record {
     fits = settled.fits;
     found = λ i a needed. found_extended old new (field_at graph o i) a more (settled.found i a needed);
@@ -159,7 +159,7 @@ module _ (table : Table) (graph : List Obj) (types : List ℕ) where
   }
 
   pub settling_more :
-      (old new : Seconds) (n o t : ℕ) → IsSettling table graph types old n → slice_get (noted_in old) n ≡ Some (o, t) → (table_shapes table).fits graph (vals.Ref o) t
+      (old new : SecondTypes) (n o t : ℕ) → IsSettling table graph types old n → slice_get (noted_in old) n ≡ Some (o, t) → (table_shapes table).fits graph (vals.Ref o) t
       → FindsNeeds table graph types old new o t (length (object_typed table graph o t)) → (¬ (table_shapes table).mutable graph o t)
       → ((u : ℕ) → slice_get types o ≡ Some u → ¬ (table_shapes table).mutable graph o u) → Settles table graph types old new n
   settling_more old new n o t settling at_n fits finds here first = record {
@@ -194,14 +194,14 @@ module _ (table : Table) (graph : List Obj) (types : List ℕ) where
       first = first;
     }
 
-  pub settling_none : (seconds : Seconds) → AreOver table graph types seconds → IsSettling table graph types seconds 0
+  pub settling_none : (seconds : SecondTypes) → AreOver table graph types seconds → IsSettling table graph types seconds 0
   settling_none seconds over = record { over = over; within = omega arith; settled = λ k o t less. absurd (omega (arith, less)) }
 
-  pub counting_none : (seconds : Seconds) (start : ℕ) → AreOver table graph types seconds → IsCounting table graph types seconds 0 start start
+  pub counting_none : (seconds : SecondTypes) (start : ℕ) → AreOver table graph types seconds → IsCounting table graph types seconds 0 start start
   counting_none seconds start over = record { settling = settling_none seconds over; few = omega arith }
 
   pub counting_more :
-      (old new : Seconds) (n start steps more : ℕ) (pair : ℕ × ℕ) → IsCounting table graph types old n start steps → slice_get (noted_in old) n ≡ Some pair
+      (old new : SecondTypes) (n start steps more : ℕ) (pair : ℕ × ℕ) → IsCounting table graph types old n start steps → slice_get (noted_in old) n ≡ Some pair
       → Settles table graph types old new n → more ≤ steps + (1 + size_of graph pair.0) → IsCounting table graph types new (n + 1) start more
   counting_more old new n start steps more pair counting at_n settles few = record {
     settling = settles.settling;

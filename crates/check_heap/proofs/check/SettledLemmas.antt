@@ -16,7 +16,7 @@ use Rattle.types_spec.specs.types.Typing.{IsHeld, IsTyping, HasType}
 use Rattle.types_theory.specs.typing.StepLaws.{AreApart, key_of}
 use Rattle.types_table.specs.type_table.Made.{IsLawful}
 use Rattle.marshal_heap.specs.heap.Heap.{field_at}
-use Rattle.check_heap.specs.declared.scan.seconds.Seconds.{Seconds}
+use Rattle.check_heap.specs.declared.scan.second_types.SecondTypes.{SecondTypes}
 use Rattle.check_heap.specs.scan.Paths.{HasPath}
 use Rattle.check_heap.specs.scan.Seconds.{noted_in}
 use Rattle.check_heap.specs.scan.Taken.{size_of}
@@ -57,7 +57,7 @@ apart_both {X} f xs ys one other never j k z at_j at_k =
     mapped : (all : List X) (n : ℕ) (x : X) → slice_get all n ≡ Some x → slice_get (map f all) n ≡ Some (f x)
     mapped all n x at_n = slice_get-map f all n ∙ ap (option_map f) at_n
 
-module _ (table : Table) (graph : List Obj) (types : List ℕ) (seconds : Seconds) (lawful : IsLawful table) (is_graph : IsGraph graph)
+module _ (table : Table) (graph : List Obj) (types : List ℕ) (seconds : SecondTypes) (lawful : IsLawful table) (is_graph : IsGraph graph)
     (settled : IsSettled table graph types seconds) where
   -- Each pair is a type of its object, or was recorded.
   cases : (o t : ℕ) → Contains (pairs_with types seconds) (o, t) → (slice_get types o ≡ Some t) ⊎ Contains (noted_in seconds) (o, t)

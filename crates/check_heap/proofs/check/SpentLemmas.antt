@@ -17,7 +17,7 @@ use Rattle.check_heap.specs.declared.check.visits.Visit.{Visit}
 use Rattle.check_heap.specs.check.Explored.{IsExplored}
 use Rattle.check_heap.specs.check.Search.{is_of_class, is_taken, counted, spent, pairs_of}
 use Rattle.check_heap.specs.scan.Scanned as scans
-use Rattle.check_heap.specs.declared.scan.taken.Taken.{Taken}
+use Rattle.check_heap.specs.declared.scan.taken_objects.TakenObjects.{TakenObjects}
 use Rattle.check_heap.specs.scan.Taken.{types_in, all_fields, seen_of, size_of, rest_of}
 use Rattle.check_heap.specs.scan.Scanned.{AreTaken, left_of}
 use Rattle.check_heap.proofs.scan.PositionLemmas.{read_at, mapped_at}
@@ -46,7 +46,7 @@ abbrev pair_of : Visit → ℕ × ℕ
 pair_of v = (v.object, v.ty)
 
 module _ (table : Table) (graph : List Obj) where
-  pub spent_next : (taken : Taken) (all : List Visit) (n : ℕ) (v : Visit) → slice_get all n ≡ Some v → spent table graph taken all (n + 1) ≡ spent table graph taken all n + counted table graph taken v
+  pub spent_next : (taken : TakenObjects) (all : List Visit) (n : ℕ) (v : Visit) → slice_get all n ≡ Some v → spent table graph taken all (n + 1) ≡ spent table graph taken all n + counted table graph taken v
   spent_next taken all n v at_n = let next : n + 1 ≡ suc n = omega arith in ap (spent table graph taken all) next ∙ by_position all n at_n where
     by_position : (all : List Visit) (n : ℕ) → slice_get all n ≡ Some v → spent table graph taken all (suc n) ≡ spent table graph taken all n + counted table graph taken v
     by_position [] n at_n = absurd (none-some v at_n)
@@ -54,7 +54,7 @@ module _ (table : Table) (graph : List Obj) where
     by_position (w ∷ u ∷ all) zero at_n = let same = ap (counted table graph taken) (same_Some w v at_n) in omega (arith, same)
     by_position (w ∷ all) (suc n) at_n = let rest = by_position all n at_n in omega (arith, rest)
 
-  pub spent-append : (taken : Taken) (old added : List Visit) (n : ℕ) → n ≤ length old → spent table graph taken (old ++ added) n ≡ spent table graph taken old n
+  pub spent-append : (taken : TakenObjects) (old added : List Visit) (n : ℕ) → n ≤ length old → spent table graph taken (old ++ added) n ≡ spent table graph taken old n
   spent-append taken [] [] n less = refl
   spent-append taken [] (v ∷ added) zero less = refl
   spent-append taken [] (v ∷ added) (suc n) less = absurd (omega arith)
@@ -66,7 +66,7 @@ module _ (table : Table) (graph : List Obj) where
   abbrev cost : ℕ × ℕ → ℕ
   cost entry = 1 + size_of graph entry.0
 
-  module _ (taken : Taken) where
+  module _ (taken : TakenObjects) where
     abbrev types : List ℕ
     types = types_in taken
 
@@ -253,7 +253,7 @@ module _ (table : Table) (graph : List Obj) where
     apart = pairs_apart all n r x;
   }
 
-  all_entries : (taken : Taken) (all : List Visit) (n r : ℕ) → IsLawful table → AreTaken table graph taken → IsExplored table graph all n r → AreEntries table graph (all_pairs taken all)
+  all_entries : (taken : TakenObjects) (all : List Visit) (n r : ℕ) → IsLawful table → AreTaken table graph taken → IsExplored table graph all n r → AreEntries table graph (all_pairs taken all)
   all_entries taken all n r lawful are x =
       let visited = entries all n r lawful x in
       let before = types_entries table graph (types_in taken) lawful are.many are.within in
@@ -265,7 +265,7 @@ module _ (table : Table) (graph : List Obj) where
 
   -- The steps of the root, of a scan and of the visits so far are within the bound.
   pub spent_few :
-      (taken : Taken) (all : List Visit) (n r m : ℕ) → IsLawful table → AreTaken table graph taken → IsExplored table graph all n r
+      (taken : TakenObjects) (all : List Visit) (n r m : ℕ) → IsLawful table → AreTaken table graph taken → IsExplored table graph all n r
       → 1 + (spent table graph taken all m + scans.cost_of graph (types_in taken)) ≤ left_of graph taken + most_steps table graph
   spent_few taken all n r m lawful are x =
       let few = sizes_are_few table graph (all_pairs taken all) (all_entries taken all n r lawful are x) in
@@ -274,5 +274,5 @@ module _ (table : Table) (graph : List Obj) where
       omega (arith, few, within)
 
   -- The steps of the root and of a scan are within the bound.
-  pub taken_few : (taken : Taken) → IsLawful table → AreTaken table graph taken → 1 + scans.cost_of graph (types_in taken) ≤ most_steps table graph
+  pub taken_few : (taken : TakenObjects) → IsLawful table → AreTaken table graph taken → 1 + scans.cost_of graph (types_in taken) ≤ most_steps table graph
   taken_few taken lawful are = sizes_are_few table graph (numbered_from 0 (types_in taken)) (types_entries table graph (types_in taken) lawful are.many are.within)

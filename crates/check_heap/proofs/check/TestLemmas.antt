@@ -13,13 +13,13 @@ use Rattle.check_heap.specs.check.Visits.{listed, AreLinked}
 use Rattle.check_heap.specs.check.Explored.{IsExplored}
 use Rattle.check_heap.specs.check.Search.{counted, cost_or_none, cost_at, spent, TestsVisit, IsSearching}
 use Rattle.check_heap.specs.scan.Scanned as scans
-use Rattle.check_heap.specs.declared.scan.taken.Taken.{Taken}
+use Rattle.check_heap.specs.declared.scan.taken_objects.TakenObjects.{TakenObjects}
 use Rattle.check_heap.specs.scan.Taken.{types_in}
 use Rattle.check_heap.specs.scan.Scanned.{AreTaken, left_of}
 use Rattle.check_heap.proofs.check.VisitLemmas.{grows_twice}
 use Rattle.check_heap.proofs.check.SpentLemmas.{spent_next, spent-append, spent_few}
 
-module _ (table : Table) (graph : List Obj) (taken : Taken) where
+module _ (table : Table) (graph : List Obj) (taken : TakenObjects) where
   pub cost_is : (all : List Visit) (n : ℕ) (v : Visit) → slice_get all n ≡ Some v → cost_at table graph taken all n ≡ counted table graph taken v
   cost_is all n v at_n = ap (cost_or_none table graph taken) at_n
 

@@ -22,7 +22,7 @@ use Rattle.types_theory.proofs.typing.PathLemmas.{paths_compare}
 use Rattle.types_theory.proofs.typing.SearchedLemmas.{before_transitive, never_before_itself}
 use Rattle.types_theory.proofs.typing.LeastLemmas.{mismatch_is_least}
 use Rattle.check_heap.specs.declared.check.visits.Visit.{Visit}
-use Rattle.check_heap.specs.declared.check.search.Need.{Need}
+use Rattle.check_heap.specs.declared.check.search.RequiredField.{RequiredField}
 use Rattle.check_heap.specs.check.Conflict.{IsWithin}
 use Rattle.check_heap.specs.check.Known.{AreOrdered, AreKnown}
 use Rattle.check_heap.specs.check.Explored.{entry_fields, root_of, AreExplored, IsExplored}
@@ -99,7 +99,7 @@ module _ (table : Table) (graph : List Obj) where
   -- ---- one more required field
 
   -- This is required field `r` of visit `n`.
-  pub record IsNeedOf (all : List Visit) (n r : ℕ) (need : Need) : Type 0 where
+  pub record IsNeedOf (all : List Visit) (n r : ℕ) (need : RequiredField) : Type 0 where
     pub visit : Visit
     pub at : slice_get all n ≡ Some visit
     pub parent : need.parent ≡ n
@@ -107,14 +107,14 @@ module _ (table : Table) (graph : List Obj) where
     pub needed : slice_get (visit_fields table graph visit) r ≡ Some (need.step, need.ty)
     pub asked : IsTrue (is_asked_in table need.ty)
 
-  record Known (all : List Visit) (n r : ℕ) (need : Need) (x : IsExplored table graph all n r) : Type 0 where
+  record Known (all : List Visit) (n r : ℕ) (need : RequiredField) (x : IsExplored table graph all n r) : Type 0 where
     entry : Entry ℕ
     at : slice_get x.known n ≡ Some entry
     object : entry.object ≡ need.object
     needed : slice_get (entry_fields table graph entry) r ≡ Some (need.step, need.ty)
     asked : IsTrue (is_asked_in table need.ty)
 
-  known_need : (all : List Visit) (n r : ℕ) (need : Need) (x : IsExplored table graph all n r) → IsNeedOf all n r need → Known all n r need x
+  known_need : (all : List Visit) (n r : ℕ) (need : RequiredField) (x : IsExplored table graph all n r) → IsNeedOf all n r need → Known all n r need x
   known_need all n r need x is =
       let t = reports_of all x.known n is.visit x.are_known is.at in
       record {
@@ -127,7 +127,7 @@ module _ (table : Table) (graph : List Obj) where
       }
 
   same_explored :
-      (all : List Visit) (n r : ℕ) (need : Need) (w : Val) (x : IsExplored table graph all n r) (t : Known all n r need x)
+      (all : List Visit) (n r : ℕ) (need : RequiredField) (w : Val) (x : IsExplored table graph all n r) (t : Known all n r need x)
       → field_of graph (vals.Ref need.object) need.step ≡ Some w → (table_shapes table).fits graph w need.ty
       → IsEntered (table_shapes table) x.known w need.ty (t.entry.path ++ need.step ∷ []) → IsExplored table graph all n (suc r)
   same_explored all n r need w x t field fit entered = record {
@@ -143,7 +143,7 @@ module _ (table : Table) (graph : List Obj) where
   }
 
   met_entered :
-      (all : List Visit) (n r : ℕ) (need : Need) (o : ℕ) (x : IsExplored table graph all n r) (t : Known all n r need x)
+      (all : List Visit) (n r : ℕ) (need : RequiredField) (o : ℕ) (x : IsExplored table graph all n r) (t : Known all n r need x)
       → IsMet table all o (slice_get table.classes need.ty) → IsEntered (table_shapes table) x.known (vals.Ref o) need.ty (t.entry.path ++ need.step ∷ [])
   met_entered all n r need o x t met =
       let m = reports_of all x.known met.0 met.1 x.are_known met.2 in
@@ -205,7 +205,7 @@ module _ (table : Table) (graph : List Obj) where
       (slice_get-push_cases all v k w at_k)
 
   new_explored :
-      (all : List Visit) (n r : ℕ) (need : Need) (o : ℕ) (x : IsExplored table graph all n r) (t : Known all n r need x)
+      (all : List Visit) (n r : ℕ) (need : RequiredField) (o : ℕ) (x : IsExplored table graph all n r) (t : Known all n r need x)
       → need.parent ≡ n → need.ty < length table.nodes → o < length graph
       → field_of graph (vals.Ref need.object) need.step ≡ Some (vals.Ref o) → (table_shapes table).fits graph (vals.Ref o) need.ty
       → ¬ IsMet table all o (slice_get table.classes need.ty)
@@ -230,7 +230,7 @@ module _ (table : Table) (graph : List Obj) where
 
   -- If a tested field matches, then the invariant is preserved.
   fitting_explored :
-      (all new : List Visit) (n r : ℕ) (need : Need) (w : Val) (x : IsExplored table graph all n r) → Known all n r need x
+      (all new : List Visit) (n r : ℕ) (need : RequiredField) (w : Val) (x : IsExplored table graph all n r) → Known all n r need x
       → need.parent ≡ n → need.ty < length table.nodes → IsValue (length graph) w
       → field_of graph (vals.Ref need.object) need.step ≡ Some w → (table_shapes table).fits graph w need.ty
       → EntersValue table all new need w → IsExplored table graph new n (suc r)
@@ -245,13 +245,13 @@ module _ (table : Table) (graph : List Obj) where
       subst (λ v. IsExplored table graph v n (suc r)) (sym unmet.1)
       (new_explored all n r need o x t parent type valid field fit unmet.0)
 
-  enters_grows : (all new : List Visit) (need : Need) (w : Val) → EntersValue table all new need w → Grows all new
+  enters_grows : (all new : List Visit) (need : RequiredField) (w : Val) → EntersValue table all new need w → Grows all new
   enters_grows all new need (vals.Int z) enters = subst (Grows all) (sym enters) (grows_not all)
   enters_grows all new need (vals.Atom tag) enters = subst (Grows all) (sym enters) (grows_not all)
   enters_grows all new need (vals.Ref o) (inl met) = subst (Grows all) (sym met.1) (grows_not all)
   enters_grows all new need (vals.Ref o) (inr unmet) = record { added = _; extends = unmet.1 }
 
-  still_need : (old now : List Visit) (n r : ℕ) (need : Need) → Grows old now → IsNeedOf old n r need → IsNeedOf now n r need
+  still_need : (old now : List Visit) (n r : ℕ) (need : RequiredField) → Grows old now → IsNeedOf old n r need → IsNeedOf now n r need
   still_need old now n r need grows is = record {
     visit = is.visit;
     at = at_still old now n is.visit grows is.at;
@@ -266,7 +266,7 @@ module _ (table : Table) (graph : List Obj) where
 
   -- Case: the field matches.
   pub testing_more :
-      (old now new : List Visit) (n r : ℕ) (need : Need) → IsTesting table graph old now n r → IsNeedOf old n r need
+      (old now new : List Visit) (n r : ℕ) (need : RequiredField) → IsTesting table graph old now n r → IsNeedOf old n r need
       → need.ty < length table.nodes → TestsNeed table graph now new need true → IsTesting table graph old new n (r + 1)
   testing_more old now new n r need testing is type tests =
       let is' = still_need old now n r need testing.grows is in
@@ -362,7 +362,7 @@ module _ (table : Table) (graph : List Obj) where
 
   -- Case: the field does not match.
   pub testing_until :
-      (old now new : List Visit) (n r : ℕ) (need : Need) → IsLawful table → IsTesting table graph old now n r → IsNeedOf old n r need
+      (old now new : List Visit) (n r : ℕ) (need : RequiredField) → IsLawful table → IsTesting table graph old now n r → IsNeedOf old n r need
       → TestsNeed table graph now new need false → TestsVisit table graph old new n (Some need.step)
   testing_until old now new n r need lawful testing is tests =
       let is' = still_need old now n r need testing.grows is in

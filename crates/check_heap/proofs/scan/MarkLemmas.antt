@@ -21,7 +21,7 @@ use Rattle.types_spec.specs.types.Typing.{IsListed}
 use Rattle.check_heap.specs.declared.scan.notes.First.{First}
 use Rattle.check_heap.specs.declared.scan.notes.Notes.{Notes}
 use Rattle.check_heap.specs.declared.scan.notes.Unmet.{Unmet}
-use Rattle.check_heap.specs.declared.scan.seconds.Seconds.{Seconds}
+use Rattle.check_heap.specs.declared.scan.second_types.SecondTypes.{SecondTypes}
 use Rattle.check_heap.specs.scan.Paths.{HasPath, IsLed}
 use Rattle.check_heap.specs.scan.Seconds.{noted_in, AreSeconds, IsNoting}
 use Rattle.check_heap.specs.scan.Scanned.{object_typed}
@@ -91,7 +91,7 @@ module _ (table : Table) (graph : List Obj) where
   kept_twice old middle new first second key some =
       let is = first key some in second key (omega (arith, is, some)) ∙ is
 
-  -- If nothing is noted, then no value is noted.
+  -- If the list of notes is empty, then no value is noted at any type.
   pub never_noted : (v : Val) (t : ℕ) → IsNoted table [] v t → ⊥
   never_noted (vals.Int z) t noted = noted
   never_noted (vals.Atom tag) t noted = noted
@@ -143,15 +143,16 @@ module _ (table : Table) (graph : List Obj) where
     other = second.other;
   }
 
-  pub noted_kept : (old new : List ℕ) (seconds : Seconds) → AreKept old new → AreNoted table graph old seconds → AreNoted table graph new seconds
+  pub noted_kept : (old new : List ℕ) (seconds : SecondTypes) → AreKept old new → AreNoted table graph old seconds → AreNoted table graph new seconds
   noted_kept old new seconds kept noted = record {
     valid = noted.valid;
     all = λ o t among. second_kept old new o t kept (noted.all o t among);
   }
 
-  -- One more pair may be noted.
+  -- If the pair (`o`, `t`) is second (`IsSecond`) and is added to the notes, then `AreNoted` still
+  -- holds.
   noted_more :
-      (marks : List ℕ) (old new : Seconds) (o t : ℕ) → AreNoted table graph marks old → AreSeconds table new
+      (marks : List ℕ) (old new : SecondTypes) (o t : ℕ) → AreNoted table graph marks old → AreSeconds table new
       → IsNoting table (noted_in old) (noted_in new) o t → IsSecond table graph marks o t → AreNoted table graph marks new
   noted_more marks old new o t noted valid noting second = record {
     valid = valid;

@@ -11,7 +11,7 @@ use Rattle.types_spec.specs.types.Table.{Table, table_shapes}
 use Rattle.marshal_heap.specs.heap.Heap.{key_of}
 use Rattle.check_heap.specs.declared.scan.notes.First.{First}
 use Rattle.check_heap.specs.declared.scan.notes.Notes.{Notes}
-use Rattle.check_heap.specs.declared.scan.straight.Stop.TheVariants as stops
+use Rattle.check_heap.specs.declared.scan.straight.ScanStop.TheVariants as stops
 use Rattle.check_heap.specs.scan.Paths.{IsWildcard}
 use Rattle.check_heap.specs.scan.Classed.{IsUntouched}
 use Rattle.check_heap.specs.scan.Seconds.{noted_in}

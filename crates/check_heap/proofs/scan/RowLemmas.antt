@@ -3,13 +3,13 @@ use Rattle.std.proofs.Common.{ℕ, ◌≡◌, ◌∙◌, ⊎_elim, Bool, List, [
 use Rattle.std.specs.Prelude.{slice_get, option_map, is_some, IsTrue, IsSome, ◌↔◌}
 use Rattle.types_spec.specs.declared.types.shape.ShapeOf.{ShapeOf}
 use Rattle.types_spec.specs.types.Table.{node_or_none}
-use Rattle.check_heap.specs.declared.fits.row.Row.{Row}
+use Rattle.check_heap.specs.declared.fits.word_conditions.WordConditions.{WordConditions}
 use Rattle.check_heap.specs.fits.Row.{IsRowOf}
 use Rattle.check_heap.specs.scan.FittingRows.{AreRows}
 use Rattle.check_heap.proofs.scan.PositionLemmas.{slice_get-push_cases}
 
 pub rows_more :
-    (nodes : List (ShapeOf ℕ)) (rows : List Row) (i : ℕ) (shape : ShapeOf ℕ) (row : Row) → length rows ≡ i → AreRows nodes rows
+    (nodes : List (ShapeOf ℕ)) (rows : List WordConditions) (i : ℕ) (shape : ShapeOf ℕ) (row : WordConditions) → length rows ≡ i → AreRows nodes rows
     → slice_get nodes i ≡ Some shape → IsRowOf shape row → AreRows nodes (rows ++ row ∷ [])
 rows_more nodes rows i shape row long are at_i of j other at_j = ⊎_elim
     (λ here. are j other here)

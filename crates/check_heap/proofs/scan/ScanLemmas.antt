@@ -21,7 +21,7 @@ use Rattle.types_table.specs.type_table.Made.{IsLawful}
 use Rattle.check_heap.specs.declared.scan.straight.Scanned.TheVariants as answers
 use Rattle.check_heap.specs.scan.Paths.{HasPath, IsLed, HavePaths}
 use Rattle.check_heap.specs.scan.Taken.{size_of}
-use Rattle.check_heap.specs.declared.scan.seconds.Seconds.{Seconds}
+use Rattle.check_heap.specs.declared.scan.second_types.SecondTypes.{SecondTypes}
 use Rattle.check_heap.specs.scan.Seconds.{noted_in}
 use Rattle.types_spec.proofs.types.AskedLemmas.{need_typed}
 use Rattle.check_heap.specs.scan.Scanned.{object_typed, IsScanned, IsFoundIn, IsScannedBut, cost_of}
@@ -235,7 +235,7 @@ module _ (table : Table) (graph : List Obj) where
         (λ other. (other.0, contains_right (numbered_from 0 types) noted (p, other.0) other.1, other.2))
         met
 
-    pub all_noted : (seconds : Seconds) → 0 < length graph → noted_in seconds ≡ noted → AreNoted table graph marks seconds → IsScannedBut table graph types seconds
+    pub all_noted : (seconds : SecondTypes) → 0 < length graph → noted_in seconds ≡ noted → AreNoted table graph marks seconds → IsScannedBut table graph types seconds
     all_noted seconds some is are = record {
       many = scanning.many;
       within = within_of;

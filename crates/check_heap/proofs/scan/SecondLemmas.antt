@@ -7,7 +7,7 @@ use Rattle.base_data.specs.declared.model.value.Val.TheVariants as vals
 use Rattle.types_spec.specs.types.Table.{Table, table_shapes}
 use Rattle.types_spec.specs.types.Typing.{IsListed}
 use Rattle.types_theory.specs.typing.StepLaws.{AreApart, key_of}
-use Rattle.check_heap.specs.declared.scan.seconds.Seconds.{Seconds}
+use Rattle.check_heap.specs.declared.scan.second_types.SecondTypes.{SecondTypes}
 use Rattle.check_heap.specs.scan.Classed.{Has, IsUntouched, Inserts}
 use Rattle.check_heap.specs.scan.Seconds.{noted_in, AreSeconds}
 use Rattle.check_heap.proofs.scan.PositionLemmas.{slice_get-push_cases, mapped_at, contains_push, contains_left, contains_last}
@@ -18,7 +18,7 @@ nothing_in [] none = refl
 nothing_in (x ∷ xs) none = absurd (omega (arith, none))
 
 module _ (table : Table) where
-  pub seconds_none : (seconds : Seconds) → length (noted_in seconds) ≡ 0 → IsUntouched seconds.known → AreSeconds table seconds
+  pub seconds_none : (seconds : SecondTypes) → length (noted_in seconds) ≡ 0 → IsUntouched seconds.known → AreSeconds table seconds
   seconds_none seconds none unknown = record {
     known = λ o t c among. absurd (nothing o t among);
     there = λ o c has. absurd (untouched_none seconds.known unknown o c has);
@@ -28,19 +28,19 @@ module _ (table : Table) where
     nothing o t among = Contains-none (o, t) (subst (λ xs. Contains xs (o, t)) (nothing_in (noted_in seconds) none) among)
 
   pub second_there :
-      (seconds : Seconds) (o t c : ℕ) → AreSeconds table seconds → slice_get table.classes t ≡ Some c → Has seconds.known o c
+      (seconds : SecondTypes) (o t c : ℕ) → AreSeconds table seconds → slice_get table.classes t ≡ Some c → Has seconds.known o c
       → IsListed (table_shapes table) (noted_in seconds) (vals.Ref o) t
   second_there seconds o t c are class has = let there = are.there o c has in (there.0, there.1, there.2 ∙ sym class)
 
   -- If an object is listed at an equal type, then its class is known.
   pub second_known :
-      (seconds : Seconds) (o t c : ℕ) → AreSeconds table seconds → slice_get table.classes t ≡ Some c
+      (seconds : SecondTypes) (o t c : ℕ) → AreSeconds table seconds → slice_get table.classes t ≡ Some c
       → IsListed (table_shapes table) (noted_in seconds) (vals.Ref o) t → Has seconds.known o c
   second_known seconds o t c are class listed = are.known o listed.0 c listed.1 (listed.2 ∙ class)
 
   -- The class was known already.
   pub seconds_same :
-      (old new : Seconds) (o c : ℕ) → AreSeconds table old → Has old.known o c → Inserts old.known new.known o c → noted_in new ≡ noted_in old
+      (old new : SecondTypes) (o c : ℕ) → AreSeconds table old → Has old.known o c → Inserts old.known new.known o c → noted_in new ≡ noted_in old
       → AreSeconds table new
   seconds_same old new o c are has inserts same = record {
     known = λ p u d among at_u. inserts.kept p d (are.known p u d (subst (λ xs. Contains xs (p, u)) same among) at_u);
@@ -53,7 +53,7 @@ module _ (table : Table) where
     before p d is = ⊎_elim (λ there. there) (λ own. subst (λ q. Has old.known q d) own.0 (subst (Has old.known o) own.1 has)) is
 
   -- One more pair, at a new class for the object.
-  module _ (old new : Seconds) (o t c : ℕ) (are : AreSeconds table old) (class : slice_get table.classes t ≡ Some c) (fresh : ¬ Has old.known o c)
+  module _ (old new : SecondTypes) (o t c : ℕ) (are : AreSeconds table old) (class : slice_get table.classes t ≡ Some c) (fresh : ¬ Has old.known o c)
       (inserts : Inserts old.known new.known o c) (pushed : noted_in new ≡ noted_in old ++ (o, t) ∷ []) where
     apart_pushed : AreApart (map (key_of table) (noted_in old ++ (o, t) ∷ []))
     apart_pushed j k x at_j at_k =

@@ -13,8 +13,8 @@ use Rattle.types_spec.specs.types.Table.{Table, table_shapes}
 use Rattle.marshal_heap.specs.heap.Heap.{field_at, key_of}
 use Rattle.types_table.specs.type_table.Made.{IsLawful}
 use Rattle.check_heap.specs.declared.scan.notes.Unmet.{Unmet}
-use Rattle.check_heap.specs.declared.scan.taken.Taken.{Taken}
-use Rattle.check_heap.specs.declared.scan.taken.Unfit.TheVariants as unfits
+use Rattle.check_heap.specs.declared.scan.taken_objects.TakenObjects.{TakenObjects}
+use Rattle.check_heap.specs.declared.scan.taken_objects.ScanMismatch.TheVariants as unfits
 use Rattle.check_heap.specs.scan.Taken.{types_in, all_fields, seen_of, is_unfit_field, is_unfit_object, size_of, rest_of}
 use Rattle.types_spec.proofs.types.AskedLemmas.{need_typed}
 use Rattle.check_heap.specs.scan.Scanned.{object_needs, object_typed, IsSeen, AreTaken, cost_of, left_of}
@@ -40,7 +40,7 @@ pub unfit_this : (o f i : ℕ) → f ≡ i → is_unfit_field (unfits.Field o f)
 unfit_this o f i same = ap₂ (λ b c. b && c) (eq-eqb o o refl) (eq-eqb f i same)
 
 -- The tested fields of the last object.
-last_seen : (taken : Taken) (o : ℕ) → taken.objects ≡ o + 1 → seen_of taken o ≡ taken.seen
+last_seen : (taken : TakenObjects) (o : ℕ) → taken.objects ≡ o + 1 → seen_of taken o ≡ taken.seen
 last_seen taken o objects = by_test (nat_lt (suc o) taken.objects) refl where
   by_test : (b : Bool) → nat_lt (suc o) taken.objects ≡ b → (if b then all_fields else taken.seen) ≡ taken.seen
   by_test true is = let less = ltb-true (suc o) taken.objects is in absurd (omega (arith, less, objects))
@@ -56,7 +56,7 @@ rest_within size seen = by_test (seen == all_fields) where
 
 -- The tested fields of the last object: all before the unsatisfied field, and that field too if it
 -- is a mismatch.
-pub record SeesUntil (taken : Taken) (o : ℕ) (unmet : Unmet) : Type 0 where
+pub record SeesUntil (taken : TakenObjects) (o : ℕ) (unmet : Unmet) : Type 0 where
   pub objects : taken.objects ≡ o + 1
   pub none : (p : ℕ) → IsTrue (is_unfit_object taken.unfit p) → ⊥
   pub others : (k i : ℕ) → k < o → is_unfit_field taken.unfit k i ≡ false
@@ -90,7 +90,7 @@ nothing_sees types o unmet = record {
 
 -- The tested required fields of the last object are among its fields.
 pub until_few :
-    (graph : List Obj) (taken : Taken) (types : List ℕ) (o t before steps tested : ℕ) → taken.objects ≡ o + 1 → types_in taken ≡ types ++ t ∷ [] → length types ≡ o
+    (graph : List Obj) (taken : TakenObjects) (types : List ℕ) (o t before steps tested : ℕ) → taken.objects ≡ o + 1 → types_in taken ≡ types ++ t ∷ [] → length types ≡ o
     → before ≤ cost_of graph types → steps ≤ before + (1 + tested) → tested ≤ taken.seen → tested ≤ size_of graph o
     → steps + left_of graph taken ≤ cost_of graph (types_in taken)
 until_few graph taken types o t before steps tested objects are many few more seen inside =
@@ -101,7 +101,7 @@ until_few graph taken types o t before steps tested objects are many few more se
     let rest = rest_within (size_of graph o) taken.seen in
     omega (arith, cost, own, left, rest, few, more, seen, inside)
 
-module _ (table : Table) (graph : List Obj) (lawful : IsLawful table) (marks : List ℕ) (taken : Taken) where
+module _ (table : Table) (graph : List Obj) (lawful : IsLawful table) (marks : List ℕ) (taken : TakenObjects) where
   -- The checked objects are marked with their types. An object that was found to be a mismatch is
   -- marked with a type that it does not match.
   record AreMarked : Type 0 where

@@ -11,11 +11,11 @@ use Rattle.types_spec.specs.types.Fault.{field_of}
 use Rattle.types_spec.specs.types.LeastFault.{IsLeastFault}
 use Rattle.types_spec.specs.types.Table.{Table, table_shapes, typed_fields}
 use Rattle.marshal_heap.specs.heap.Heap as heap
-use Rattle.check_heap.specs.declared.scan.taken.Taken.{Taken}
+use Rattle.check_heap.specs.declared.scan.taken_objects.TakenObjects.{TakenObjects}
 use Rattle.check_heap.specs.scan.Taken.{types_in, seen_of, size_of, rest_of}
 use Rattle.check_heap.specs.scan.Scanned.{IsSeen}
 use Rattle.check_heap.specs.declared.check.visits.Visit.{Visit}
-use Rattle.check_heap.specs.declared.check.search.Need.{Need}
+use Rattle.check_heap.specs.declared.check.search.RequiredField.{RequiredField}
 use Rattle.check_heap.specs.declared.check.visits.Visits.{Visits}
 use Rattle.check_heap.specs.check.Visits.{listed, AreLinked, Enters}
 use Rattle.check_heap.specs.check.Known.{AreOrdered, IsPathOf}
@@ -30,13 +30,14 @@ FitAll table graph all =
     → (table_shapes table).fits graph (vals.Ref v.object) v.ty
 
 -- If the value is an object, then it is visited; otherwise nothing changes.
-abbrev pub EntersValue : Table → List Visit → List Visit → Need → Val → Type 0
+abbrev pub EntersValue : Table → List Visit → List Visit → RequiredField → Val → Type 0
 EntersValue table old new need (vals.Int z) = new ≡ old
 EntersValue table old new need (vals.Atom tag) = new ≡ old
 EntersValue table old new need (vals.Ref o) = Enters table old new o need.ty need.parent need.step
 
 -- Either the value of the field matches and is visited, or it does not match and nothing changes.
-pub record TestsNeed (table : Table) (graph : List Obj) (old new : List Visit) (need : Need)
+pub record TestsNeed (table : Table) (graph : List Obj) (old new : List Visit)
+    (need : RequiredField)
     (met : Bool) : Type 0 where
   pub value : Val
   pub valid : IsValue (length graph) value
@@ -84,7 +85,7 @@ abbrev pub visit_fields : Table → List Obj → Visit → List (ℕ × ℕ)
 visit_fields table graph v = typed_fields table graph (vals.Ref v.object) v.ty
 
 -- A scan has tested the required fields below number `seen` of the visit's object.
-abbrev pub AreSeen : Table → List Obj → Taken → Visit → ℕ → Type 0
+abbrev pub AreSeen : Table → List Obj → TakenObjects → Visit → ℕ → Type 0
 AreSeen table graph taken v seen =
     (i a : ℕ) → i < seen → Contains (visit_needs table graph v) (i, a)
     → IsSeen table graph taken v.object i (heap.field_at graph v.object i) a
@@ -95,21 +96,21 @@ is_of_class table None t = false
 is_of_class table (Some u) t = slice_index table.classes u == slice_index table.classes t
 
 -- A scan has checked the visit's object at an equal type.
-abbrev pub is_taken : Table → Taken → Visit → Bool
+abbrev pub is_taken : Table → TakenObjects → Visit → Bool
 is_taken table taken v = is_of_class table (slice_get (types_in taken) v.object) v.ty
 
 -- The steps of a visit: one for the visit, and one for each field of its object. If a scan has
 -- checked the object, then one for each field that the scan did not test.
-abbrev pub counted : Table → List Obj → Taken → Visit → ℕ
+abbrev pub counted : Table → List Obj → TakenObjects → Visit → ℕ
 counted table graph taken v =
     if is_taken table taken v then rest_of (size_of graph v.object) (seen_of taken v.object)
     else 1 + size_of graph v.object
 
-abbrev pub cost_or_none : Table → List Obj → Taken → Option Visit → ℕ
+abbrev pub cost_or_none : Table → List Obj → TakenObjects → Option Visit → ℕ
 cost_or_none table graph taken None = 0
 cost_or_none table graph taken (Some v) = counted table graph taken v
 
-abbrev pub cost_at : Table → List Obj → Taken → List Visit → ℕ → ℕ
+abbrev pub cost_at : Table → List Obj → TakenObjects → List Visit → ℕ → ℕ
 cost_at table graph taken all n = cost_or_none table graph taken (slice_get all n)
 
 -- ---- all visits
@@ -122,7 +123,7 @@ pub record Searches (table : Table) (graph : List Obj) (old new : List Visit)
       (λ at. IsMismatchAt table graph new at.0 at.1)
 
 -- The steps of the first `n` visits.
-abbrev pub spent : Table → List Obj → Taken → List Visit → ℕ → ℕ
+abbrev pub spent : Table → List Obj → TakenObjects → List Visit → ℕ → ℕ
 spent table graph taken [] n = 0
 spent table graph taken (v ∷ all) zero = 0
 spent table graph taken (v ∷ all) (suc n) =
@@ -148,7 +149,7 @@ pub record IsTestingVisit (table : Table) (graph : List Obj) (old now : Visits) 
   pub few : steps ≤ start + (reached - seen)
 
 -- The required fields of the first `n` visits are tested, within the bound on the steps.
-pub record IsSearching (table : Table) (graph : List Obj) (taken : Taken) (old now : Visits)
+pub record IsSearching (table : Table) (graph : List Obj) (taken : TakenObjects) (old now : Visits)
     (n start steps : ℕ) : Type 0 where
   pub linked : AreLinked table (length graph) now
   pub grows : Grows (listed old) (listed now)

@@ -6,7 +6,7 @@ use Rattle.base_data.specs.declared.model.value.Val.TheVariants as vals
 use Rattle.base_data.specs.declared.model.value.Obj.{Obj}
 use Rattle.types_spec.specs.types.Table.{Table, table_shapes, is_asked_in}
 use Rattle.marshal_heap.specs.heap.Heap.{field_at}
-use Rattle.check_heap.specs.declared.scan.seconds.Seconds.{Seconds}
+use Rattle.check_heap.specs.declared.scan.second_types.SecondTypes.{SecondTypes}
 use Rattle.check_heap.specs.scan.Paths.{HasPath}
 use Rattle.check_heap.specs.scan.Seconds.{noted_in}
 use Rattle.check_heap.specs.scan.Taken.{size_of}
@@ -15,14 +15,14 @@ use Rattle.check_heap.specs.scan.Scanned.{IsScannedBut}
 
 -- The types of the objects are correct except for the recorded pairs, and paths lead to the
 -- recorded pairs.
-pub record AreOver (table : Table) (graph : List Obj) (types : List ℕ) (seconds : Seconds)
+pub record AreOver (table : Table) (graph : List Obj) (types : List ℕ) (seconds : SecondTypes)
     : Type 0 where
   pub scanned : IsScannedBut table graph types seconds
   pub paths : (o t : ℕ) → Contains (noted_in seconds) (o, t) → HasPath table graph (vals.Ref 0) o t
 
 -- The object matches the type's representation, all its required fields are found, and it is
 -- mutable neither at that type nor at its first one.
-pub record IsSettledAt (table : Table) (graph : List Obj) (types : List ℕ) (seconds : Seconds)
+pub record IsSettledAt (table : Table) (graph : List Obj) (types : List ℕ) (seconds : SecondTypes)
     (o t : ℕ) : Type 0 where
   pub fits : (table_shapes table).fits graph (vals.Ref o) t
   pub found :
@@ -32,7 +32,7 @@ pub record IsSettledAt (table : Table) (graph : List Obj) (types : List ℕ) (se
   pub first : (u : ℕ) → slice_get types o ≡ Some u → ¬ (table_shapes table).mutable graph o u
 
 -- The first `n` recorded pairs are settled.
-pub record IsSettling (table : Table) (graph : List Obj) (types : List ℕ) (seconds : Seconds)
+pub record IsSettling (table : Table) (graph : List Obj) (types : List ℕ) (seconds : SecondTypes)
     (n : ℕ) : Type 0 where
   pub over : AreOver table graph types seconds
   pub within : n ≤ length (noted_in seconds)
@@ -44,7 +44,8 @@ pub record Extends (old new : List (ℕ × ℕ)) : Type 0 where
   pub is : new ≡ old ++ added
 
 -- Further pairs may be recorded, and the value is found at the type.
-pub record Finds (table : Table) (graph : List Obj) (types : List ℕ) (old new : Seconds) (v : Val)
+pub record Finds (table : Table) (graph : List Obj) (types : List ℕ) (old new : SecondTypes)
+    (v : Val)
     (t : ℕ) : Type 0 where
   pub over : AreOver table graph types new
   pub extends : Extends (noted_in old) (noted_in new)
@@ -52,7 +53,7 @@ pub record Finds (table : Table) (graph : List Obj) (types : List ℕ) (old new 
 
 -- Further pairs may be recorded. Of the first `r` fields with types of an object, all required ones
 -- are found.
-pub record FindsNeeds (table : Table) (graph : List Obj) (types : List ℕ) (old new : Seconds)
+pub record FindsNeeds (table : Table) (graph : List Obj) (types : List ℕ) (old new : SecondTypes)
     (o t r : ℕ) : Type 0 where
   pub over : AreOver table graph types new
   pub extends : Extends (noted_in old) (noted_in new)
@@ -62,7 +63,8 @@ pub record FindsNeeds (table : Table) (graph : List Obj) (types : List ℕ) (old
       → IsFoundIn table graph (pairs_with types new) (field_at graph o i) a
 
 -- Further pairs may be recorded, and pair `n` is settled, too.
-pub record Settles (table : Table) (graph : List Obj) (types : List ℕ) (old new : Seconds) (n : ℕ)
+pub record Settles (table : Table) (graph : List Obj) (types : List ℕ) (old new : SecondTypes)
+    (n : ℕ)
     : Type 0 where
   pub settling : IsSettling table graph types new (n + 1)
   pub extends : Extends (noted_in old) (noted_in new)
@@ -72,12 +74,12 @@ abbrev pub cost_of_pairs : List Obj → List (ℕ × ℕ) → ℕ
 cost_of_pairs graph pairs = sum_by (λ (pair : ℕ × ℕ). 1 + size_of graph pair.0) pairs
 
 -- The first `n` pairs are settled, within the bound on the steps.
-pub record IsCounting (table : Table) (graph : List Obj) (types : List ℕ) (seconds : Seconds)
+pub record IsCounting (table : Table) (graph : List Obj) (types : List ℕ) (seconds : SecondTypes)
     (n start steps : ℕ) : Type 0 where
   pub settling : IsSettling table graph types seconds n
   pub few : steps ≤ start + cost_of_pairs graph (take n (noted_in seconds))
 
 -- All recorded pairs are settled.
-abbrev pub IsSettled : Table → List Obj → List ℕ → Seconds → Type 0
+abbrev pub IsSettled : Table → List Obj → List ℕ → SecondTypes → Type 0
 IsSettled table graph types seconds =
     IsSettling table graph types seconds (length (noted_in seconds))

@@ -8,15 +8,15 @@ use Rattle.types_spec.specs.declared.types.shape.ShapeOf.{ShapeOf}
 use Rattle.types_spec.specs.types.Fitting.{fits_int, object_fields}
 use Rattle.marshal_heap.specs.heap.Heap.{integer_word}
 use Rattle.marshal_heap.specs.heap.Words.{header_of}
-use Rattle.check_heap.specs.declared.fits.row.Row.{Row}
+use Rattle.check_heap.specs.declared.fits.word_conditions.WordConditions.{WordConditions}
 
 -- The header is the row's header or one of the `more` numbers after it.
-abbrev pub IsNear : Row → ℕ → Type 0
+abbrev pub IsNear : WordConditions → ℕ → Type 0
 IsNear row header = (row.header ≤ header) × (header ≤ row.header + row.more)
 
 -- The row of a shape gives sufficient conditions for a match. An integer matches if its word is at
 -- most `most`. An object matches if its header is near the row's header, or has the row's tag.
-pub record IsRowOf (shape : ShapeOf ℕ) (row : Row) : Type 0 where
+pub record IsRowOf (shape : ShapeOf ℕ) (row : WordConditions) : Type 0 where
   pub ints : (z : ℤ) → IsInteger z → integer_word z ≤ row.most → IsTrue (fits_int shape z)
   pub headers : (n : ℕ) (object : Obj) → IsObject n object → IsNear row (header_of object)
       → IsSome (object_fields shape object)

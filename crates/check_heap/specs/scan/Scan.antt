@@ -11,9 +11,9 @@ use Rattle.marshal_heap.specs.heap.Heap.{key_of, field_at, word_of}
 use Rattle.check_heap.specs.declared.scan.notes.First.{First}
 use Rattle.check_heap.specs.declared.scan.notes.Notes.{Notes}
 use Rattle.check_heap.specs.declared.scan.notes.Unmet.{Unmet}
-use Rattle.check_heap.specs.declared.scan.seconds.Seconds.{Seconds}
-use Rattle.check_heap.specs.declared.scan.straight.Stop.{Stop}
-use Rattle.check_heap.specs.declared.scan.straight.Stop.TheVariants as stops
+use Rattle.check_heap.specs.declared.scan.second_types.SecondTypes.{SecondTypes}
+use Rattle.check_heap.specs.declared.scan.straight.ScanStop.{ScanStop}
+use Rattle.check_heap.specs.declared.scan.straight.ScanStop.TheVariants as stops
 use Rattle.check_heap.specs.scan.Paths.{HasPath, IsLed}
 use Rattle.check_heap.specs.scan.Seconds.{noted_in, AreSeconds, IsNoting}
 use Rattle.check_heap.specs.scan.Scanned.{object_typed, cost_of}
@@ -48,7 +48,7 @@ pub record IsSecond (table : Table) (graph : List Obj) (marks : List ℕ) (o t :
   pub marked : mark_of graph marks o ≡ suc first
   pub other : ¬ (table_shapes table).equal first t
 
-pub record AreNoted (table : Table) (graph : List Obj) (marks : List ℕ) (seconds : Seconds)
+pub record AreNoted (table : Table) (graph : List Obj) (marks : List ℕ) (seconds : SecondTypes)
     : Type 0 where
   pub valid : AreSeconds table seconds
   pub all : (o t : ℕ) → Contains (noted_in seconds) (o, t) → IsSecond table graph marks o t
@@ -184,7 +184,7 @@ pub record IsScanning (table : Table) (graph : List Obj) (marks : List ℕ) (not
 
 -- The scan ends at the object: it is not marked, does not match the type that it is marked with, or
 -- matches and has a required field that is not satisfied.
-abbrev pub Stops : Table → List Obj → List ℕ → List (ℕ × ℕ) → ℕ → Stop → Type 0
+abbrev pub Stops : Table → List Obj → List ℕ → List (ℕ × ℕ) → ℕ → ScanStop → Type 0
 Stops table graph marks noted o stops.Unmarked = Unit {0}
 Stops table graph marks noted o stops.Mismatches =
     (t : ℕ) × (mark_of graph marks o ≡ suc t) × ¬ (table_shapes table).fits graph (vals.Ref o) t
@@ -195,7 +195,7 @@ Stops table graph marks noted o (stops.Needs t unmet) =
 -- Either all required fields of an object are satisfied or noted, with at most one step plus one
 -- for each; or one is the first that is not, and no step is counted.
 abbrev pub IsTried :
-    Table → List Obj → List ℕ → List (ℕ × ℕ) → ℕ → ℕ → ℕ → ℕ → Stop → Bool → Type 0
+    Table → List Obj → List ℕ → List (ℕ × ℕ) → ℕ → ℕ → ℕ → ℕ → ScanStop → Bool → Type 0
 IsTried table graph marks noted o t old new stop true =
     AreMet table graph marks noted o t (length (object_typed table graph o t))
     × (new ≤ old + 1 + length (object_typed table graph o t))
@@ -204,7 +204,7 @@ IsTried table graph marks noted o t old new stop false =
     × (IsUnmet table graph marks noted o t unmet × (new ≡ old))
 
 -- If the object matches, then `types` contains its type.
-abbrev pub IsInRow : List ℕ → ℕ → Stop → Type 0
+abbrev pub IsInRow : List ℕ → ℕ → ScanStop → Type 0
 IsInRow types o stops.Unmarked = Unit {0}
 IsInRow types o stops.Mismatches = Unit {0}
 IsInRow types o (stops.Needs t unmet) = slice_get types o ≡ Some t
@@ -235,7 +235,7 @@ pub record IsGoing (table : Table) (graph : List Obj) (marks types : List ℕ) (
 
 -- The first `o` objects were checked, and the scan ends at the next one.
 pub record IsStopped (table : Table) (graph : List Obj) (marks types : List ℕ) (notes : Notes)
-    (o steps : ℕ) (stop : Stop) : Type 0 where
+    (o steps : ℕ) (stop : ScanStop) : Type 0 where
   pub scanning :
       IsScanning table graph marks (noted_in notes.seconds) (take o types) o steps
   pub noted : AreNotes table graph marks types (o + 1) notes

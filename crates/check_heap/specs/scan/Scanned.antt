@@ -10,10 +10,10 @@ use Rattle.types_spec.specs.types.Steps.{most_steps}
 use Rattle.types_spec.specs.types.Table.{Table, table_shapes, typed_fields}
 use Rattle.types_spec.specs.types.Typing.{IsListed, IsTyping}
 use Rattle.marshal_heap.specs.heap.Heap.{field_at}
-use Rattle.check_heap.specs.declared.scan.seconds.Seconds.{Seconds}
+use Rattle.check_heap.specs.declared.scan.second_types.SecondTypes.{SecondTypes}
 use Rattle.check_heap.specs.declared.scan.straight.Scanned.{Scanned}
 use Rattle.check_heap.specs.declared.scan.straight.Scanned.TheVariants as answers
-use Rattle.check_heap.specs.declared.scan.taken.Taken.{Taken}
+use Rattle.check_heap.specs.declared.scan.taken_objects.TakenObjects.{TakenObjects}
 use Rattle.check_heap.specs.scan.Seconds.{noted_in, AreSeconds}
 use Rattle.check_heap.specs.scan.Taken.{types_in, seen_of, is_unfit_field, is_unfit_object, size_of}
 use Rattle.check_heap.specs.scan.Taken.{rest_of}
@@ -45,7 +45,7 @@ IsFoundIn table graph pairs (vals.Atom tag) t = (table_shapes table).fits graph 
 IsFoundIn table graph pairs (vals.Ref o) t = IsListed (table_shapes table) pairs (vals.Ref o) t
 
 -- The objects with their types, followed by the noted pairs.
-abbrev pub pairs_with : List ℕ → Seconds → List (ℕ × ℕ)
+abbrev pub pairs_with : List ℕ → SecondTypes → List (ℕ × ℕ)
 pairs_with types seconds = numbered_from 0 types ++ noted_in seconds
 
 -- An object that is noted at a class other than the class of its type.
@@ -59,7 +59,7 @@ pub record IsNotedOver (table : Table) (graph : List Obj) (types : List ℕ) (o 
 
 -- Each object, by object number, matches its type. The first object has type 0. The value of each
 -- required field is found at the field's type, among the types or the noted pairs.
-pub record IsScannedBut (table : Table) (graph : List Obj) (types : List ℕ) (seconds : Seconds)
+pub record IsScannedBut (table : Table) (graph : List Obj) (types : List ℕ) (seconds : SecondTypes)
     : Type 0 where
   pub many : length types ≡ length graph
   pub within : (o t : ℕ) → slice_get types o ≡ Some t → t < length table.nodes
@@ -77,14 +77,15 @@ pub record IsScannedBut (table : Table) (graph : List Obj) (types : List ℕ) (s
 
 -- An object was tested at a type. If it was checked, then it was checked at an equal type. If it
 -- was found to be a mismatch, then it does not match the type.
-pub record IsSeenObject (table : Table) (graph : List Obj) (taken : Taken) (o t : ℕ) : Type 0 where
+pub record IsSeenObject (table : Table) (graph : List Obj) (taken : TakenObjects)
+    (o t : ℕ) : Type 0 where
   pub taken_at : (u : ℕ) → slice_get (types_in taken) o ≡ Some u → (table_shapes table).equal u t
   pub unfit : IsTrue (is_unfit_object taken.unfit o)
       → ¬ (table_shapes table).fits graph (vals.Ref o) t
 
 -- Field `i` of object `o` was tested at a type. If its value is no object, then it matches, unless
 -- it was found to be a mismatch.
-abbrev pub IsSeen : Table → List Obj → Taken → ℕ → ℕ → Val → ℕ → Type 0
+abbrev pub IsSeen : Table → List Obj → TakenObjects → ℕ → ℕ → Val → ℕ → Type 0
 IsSeen table graph taken o i (vals.Int z) t =
     MatchBool (is_unfit_field taken.unfit o i) (¬ (table_shapes table).fits graph (vals.Int z) t)
     ((table_shapes table).fits graph (vals.Int z) t)
@@ -95,7 +96,7 @@ IsSeen table graph taken o i (vals.Ref p) t = IsSeenObject table graph taken p t
 
 -- The first objects, each at a type that it matches. Their required fields were tested; for the
 -- last object, only the first fields were tested.
-pub record AreTaken (table : Table) (graph : List Obj) (taken : Taken) : Type 0 where
+pub record AreTaken (table : Table) (graph : List Obj) (taken : TakenObjects) : Type 0 where
   pub many : length (types_in taken) ≤ length graph
   pub within : (o t : ℕ) → slice_get (types_in taken) o ≡ Some t → t < length table.nodes
   pub fits : (o t : ℕ) → slice_get (types_in taken) o ≡ Some t
@@ -118,7 +119,7 @@ abbrev pub cost_of : List Obj → List ℕ → ℕ
 cost_of graph types = sum_by (λ (entry : ℕ × ℕ). 1 + size_of graph entry.0) (numbered_from 0 types)
 
 -- The number of fields of the last object that were not tested.
-abbrev pub left_of : List Obj → Taken → ℕ
+abbrev pub left_of : List Obj → TakenObjects → ℕ
 left_of graph taken = rest_of (size_of graph (taken.objects - 1)) taken.seen
 
 -- Bounds on the steps.

@@ -4,15 +4,15 @@ use Rattle.base_data.specs.declared.model.value.Val.TheVariants as vals
 use Rattle.types_spec.specs.types.Table.{Table, table_shapes}
 use Rattle.types_spec.specs.types.Typing.{IsListed}
 use Rattle.types_theory.specs.typing.StepLaws.{AreApart, key_of}
-use Rattle.check_heap.specs.declared.scan.seconds.Seconds.{Seconds}
+use Rattle.check_heap.specs.declared.scan.second_types.SecondTypes.{SecondTypes}
 use Rattle.check_heap.specs.scan.Classed.{Has}
 
 -- The pairs in the order in which they were added.
-abbrev pub noted_in : Seconds → List (ℕ × ℕ)
+abbrev pub noted_in : SecondTypes → List (ℕ × ℕ)
 noted_in seconds = seconds.listed
 
 -- `known` contains exactly the classes of the pairs. No object occurs twice at the same class.
-pub record AreSeconds (table : Table) (seconds : Seconds) : Type 0 where
+pub record AreSeconds (table : Table) (seconds : SecondTypes) : Type 0 where
   pub known : (o t c : ℕ) → Contains (noted_in seconds) (o, t) → slice_get table.classes t ≡ Some c
       → Has seconds.known o c
   pub there :

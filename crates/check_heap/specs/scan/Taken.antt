@@ -3,11 +3,11 @@ use Rattle.std.specs.Prelude.{ℕ, suc, ◌-◌, ◌==◌, nat_lt, if◌then◌e
 use Rattle.std.specs.Prelude.{length, take}
 use Rattle.base_data.specs.declared.model.value.Obj.{Obj}
 use Rattle.marshal_heap.specs.heap.Heap.{object_at, fields_of}
-use Rattle.check_heap.specs.declared.scan.taken.Taken.{Taken}
-use Rattle.check_heap.specs.declared.scan.taken.Unfit.{Unfit}
-use Rattle.check_heap.specs.declared.scan.taken.Unfit.TheVariants as unfits
+use Rattle.check_heap.specs.declared.scan.taken_objects.TakenObjects.{TakenObjects}
+use Rattle.check_heap.specs.declared.scan.taken_objects.ScanMismatch.{ScanMismatch}
+use Rattle.check_heap.specs.declared.scan.taken_objects.ScanMismatch.TheVariants as unfits
 
-abbrev pub types_in : Taken → List ℕ
+abbrev pub types_in : TakenObjects → List ℕ
 types_in taken = take taken.objects taken.types
 
 -- A number above every field index.
@@ -15,14 +15,14 @@ abbrev pub all_fields : ℕ
 all_fields = 18446744073709551615
 
 -- The field index below which the required fields of a checked object were tested.
-abbrev pub seen_of : Taken → ℕ → ℕ
+abbrev pub seen_of : TakenObjects → ℕ → ℕ
 seen_of taken o = if nat_lt (suc o) taken.objects then all_fields else taken.seen
 
-abbrev pub is_unfit_field : Unfit → ℕ → ℕ → Bool
+abbrev pub is_unfit_field : ScanMismatch → ℕ → ℕ → Bool
 is_unfit_field (unfits.Field o i) object field = (o == object) && (i == field)
 is_unfit_field unfit object field = false
 
-abbrev pub is_unfit_object : Unfit → ℕ → Bool
+abbrev pub is_unfit_object : ScanMismatch → ℕ → Bool
 is_unfit_object (unfits.Object o) object = o == object
 is_unfit_object unfit object = false
 

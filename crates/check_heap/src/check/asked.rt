@@ -11,7 +11,7 @@ ghost use Rattle.check_heap.specs.check.Asked.{asked_pairs, AreAsked, AreWithin,
 
 use crate::check::typing::Typing;
 use crate::fits::is_asked;
-use crate::scan::{Cells, Seconds};
+use crate::scan::{Cells, SecondTypes};
 use base_data::model::Memory;
 use std::alloc::Global;
 use types_table::type_table::TypeTable;
@@ -34,7 +34,7 @@ pub fn settled_typing(
     alloc: Global,
     table: &TypeTable,
     types: Cells,
-    seconds: Seconds,
+    seconds: SecondTypes,
 ) -> Result<Typing, Memory>
     requires within { AreWithin (table_of table.now) types }
     requires noted { (o t : ℕ) → Contains (noted_in seconds) (o, t)
@@ -101,7 +101,7 @@ fn pairs_asked(alloc: Global, table: &TypeTable, types: &Cells) -> Result<Vec<(u
 fn write_noted(
     pairs: &mut Vec<(u64, usize)>,
     table: &TypeTable,
-    seconds: &Seconds,
+    seconds: &SecondTypes,
 ) -> Result<(), Memory>
     requires { (o t : ℕ) → Contains (noted_in seconds.now) (o, t) → t < length table.now.nodes }
     ensures { OnOk result

@@ -24,7 +24,7 @@ use crate::check::typing::Typing;
 use crate::check::verdict::Verdict;
 use crate::check::visits::Visits;
 use crate::fits::{is_asked, needs_of};
-use crate::scan::{Fitting, Noted, Scanned, Steps, Taken, rows_of, scan};
+use crate::scan::{Fitting, Noted, Scanned, Steps, TakenObjects, rows_of, scan};
 use base_data::model::Memory;
 use base_data::model::path::Path;
 use base_data::model::value::Val;
@@ -113,7 +113,7 @@ fn search_whole(
 {
     let objects = heap.count();
     let rows = rows_of(alloc, heap, table)?;
-    let none = Taken::none(alloc)?;
+    let none = TakenObjects::none(alloc)?;
     let fitting = Fitting { table, rows: &rows };
     search_object(alloc, heap, objects, object, fitting, &none, steps)
 }
@@ -173,7 +173,7 @@ fn search_object(
     objects: u64,
     object: u64,
     fitting: Fitting<'_>,
-    taken: &Taken,
+    taken: &TakenObjects,
     steps: &mut Steps,
 ) -> Result<Verdict, Memory>
     requires objects { objects ≡ length heap.now }

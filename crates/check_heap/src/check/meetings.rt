@@ -12,7 +12,7 @@ ghost use Rattle.check_heap.specs.check.Met.{AreAllMet};
 use crate::check::path::path_of;
 use crate::check::search::search;
 use crate::check::visits::Visits;
-use crate::scan::{Fitting, Steps, Taken, rows_of};
+use crate::scan::{Fitting, Steps, TakenObjects, rows_of};
 use base_data::model::Memory;
 use base_data::model::path::Path;
 use base_data::model::value::Val;
@@ -94,7 +94,7 @@ fn met_from(alloc: Global, heap: &Heap, object: u64, table: &TypeTable) -> Resul
     table.holds();
     let objects = heap.count();
     let rows = rows_of(alloc, heap, table)?;
-    let none = Taken::none(alloc)?;
+    let none = TakenObjects::none(alloc)?;
     let mut steps = Steps::new();
     let mut visits = Visits::new(alloc, objects, table, object)?;
     let fitting = Fitting { table, rows: &rows };

@@ -24,7 +24,7 @@ ghost use Rattle.check_heap.specs.check.Search.{is_taken, visit_fields};
 
 use crate::check::visits::{Visit, Visits, is_at};
 use crate::fits::{Needs, is_asked, known_needs};
-use crate::scan::{Fitting, Steps, Taken, fits_type};
+use crate::scan::{Fitting, Steps, TakenObjects, fits_type};
 use base_data::model::Memory;
 use base_data::model::value::Val;
 use marshal_heap::heap::Heap;
@@ -33,7 +33,7 @@ use types_table::type_table::TypeTable;
 /// A required field: field `step` of the object must have the type. `parent` is the index of the
 /// object's visit.
 #[derive(Clone, Copy)]
-pub struct Need {
+pub struct RequiredField {
     pub parent: usize,
     pub object: u64,
     pub step: u64,
@@ -47,7 +47,7 @@ pub fn search(
     heap: &Heap,
     fitting: Fitting<'_>,
     visits: &mut Visits,
-    taken: &Taken,
+    taken: &TakenObjects,
     steps: &mut Steps,
 ) -> Result<Option<(usize, u64)>, Memory>
     requires linked { AreLinked (table_in fitting) (length heap.now) visits.old }
@@ -76,7 +76,7 @@ fn test_visit(
     heap: &Heap,
     fitting: Fitting<'_>,
     visits: &mut Visits,
-    taken: &Taken,
+    taken: &TakenObjects,
     n: usize,
     steps: &mut Steps,
 ) -> Result<Option<u64>, Memory>
@@ -101,7 +101,7 @@ fn test_visit(
 
 /// Returns true if a scan has checked the visit's object at an equal type.
 #[inline(always)]
-fn was_taken(table: &TypeTable, taken: &Taken, visit: Visit) -> bool
+fn was_taken(table: &TypeTable, taken: &TakenObjects, visit: Visit) -> bool
     requires ty { visit.ty < length table.now.classes }
     requires types { (o t : ℕ) → slice_get (types_in taken.now) o ≡ Some t
         → t < length table.now.classes }
@@ -119,7 +119,7 @@ fn take_seen(
     heap: &Heap,
     fitting: Fitting<'_>,
     visits: &mut Visits,
-    taken: &Taken,
+    taken: &TakenObjects,
     n: usize,
     visit: Visit,
     steps: &mut Steps,
@@ -147,7 +147,7 @@ fn take_visit(
     heap: &Heap,
     fitting: Fitting<'_>,
     visits: &mut Visits,
-    taken: &Taken,
+    taken: &TakenObjects,
     n: usize,
     visit: Visit,
     seen: u64,
@@ -191,7 +191,7 @@ fn test_needs(
     heap: &Heap,
     fitting: Fitting<'_>,
     visits: &mut Visits,
-    taken: &Taken,
+    taken: &TakenObjects,
     n: usize,
     visit: Visit,
     needs: Needs<'_>,
@@ -220,7 +220,7 @@ fn test_needs(
         if !is_asked(fitting.table.shape(ty)) {
             continue;
         }
-        let need = Need {
+        let need = RequiredField {
             parent: n,
             object: visit.object,
             step,
@@ -249,8 +249,8 @@ fn take_need(
     heap: &Heap,
     fitting: Fitting<'_>,
     visits: &mut Visits,
-    taken: &Taken,
-    need: Need,
+    taken: &TakenObjects,
+    need: RequiredField,
     word: u64,
     seen: u64,
     next: &mut u64,
@@ -290,8 +290,8 @@ fn test_need(
     heap: &Heap,
     fitting: Fitting<'_>,
     visits: &mut Visits,
-    taken: &Taken,
-    need: Need,
+    taken: &TakenObjects,
+    need: RequiredField,
     word: u64,
     seen: bool,
     next: &mut u64,
@@ -343,8 +343,8 @@ fn test_need(
 fn value_fits(
     heap: &Heap,
     fitting: Fitting<'_>,
-    taken: &Taken,
-    need: Need,
+    taken: &TakenObjects,
+    need: RequiredField,
     word: u64,
     seen: bool,
 ) -> bool
@@ -374,7 +374,7 @@ fn value_fits(
 fn object_fits(
     heap: &Heap,
     fitting: Fitting<'_>,
-    taken: &Taken,
+    taken: &TakenObjects,
     object: u64,
     ty: usize,
     word: u64,

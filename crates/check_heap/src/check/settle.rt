@@ -17,7 +17,7 @@ ghost use Rattle.check_heap.specs.check.Settled.{AreOver, IsSettling, Finds, Fin
 ghost use Rattle.check_heap.specs.check.Settled.{IsSettled, cost_of_pairs};
 
 use crate::fits::{Needs, is_asked, is_mutable, known_needs};
-use crate::scan::{Cells, Fitting, Seconds, Steps, fits_type};
+use crate::scan::{Cells, Fitting, SecondTypes, Steps, fits_type};
 use base_data::model::Memory;
 use base_data::model::value::Val;
 use marshal_heap::heap::Heap;
@@ -34,10 +34,10 @@ pub fn settle(
     heap: &Heap,
     fitting: Fitting<'_>,
     types: &Cells,
-    mut seconds: Seconds,
+    mut seconds: SecondTypes,
     most: u64,
     steps: &mut Steps,
-) -> Result<Option<Seconds>, Memory>
+) -> Result<Option<SecondTypes>, Memory>
     requires over { AreOver (table_in fitting) heap.now types.now seconds }
     ensures settled { IfOk result
         (λ settled. IfSome settled (IsSettled (table_in fitting.entry) heap.now types.now)) }
@@ -63,7 +63,7 @@ fn settle_pair(
     heap: &Heap,
     fitting: Fitting<'_>,
     types: &Cells,
-    seconds: &mut Seconds,
+    seconds: &mut SecondTypes,
     n: usize,
     steps: &mut Steps,
 ) -> Result<bool, Memory>
@@ -103,7 +103,7 @@ fn settle_needs(
     heap: &Heap,
     fitting: Fitting<'_>,
     types: &Cells,
-    seconds: &mut Seconds,
+    seconds: &mut SecondTypes,
     object: u64,
     ty: usize,
     needs: Needs<'_>,
@@ -144,7 +144,7 @@ fn settle_need(
     heap: &Heap,
     fitting: Fitting<'_>,
     types: &Cells,
-    seconds: &mut Seconds,
+    seconds: &mut SecondTypes,
     _object: u64,
     _ty: usize,
     _position: u64,

@@ -7,20 +7,20 @@ ghost use Rattle.check_heap.specs.scan.Scanned.{pairs_with};
 ghost use Rattle.check_heap.specs.check.Typing.{pairs_in};
 ghost use Rattle.check_heap.specs.check.Visits.{listed};
 
-use crate::check::settled::Settled;
+use crate::check::settled_objects::SettledObjects;
 use crate::check::visits::Visits;
-use crate::scan::{Cells, Seconds};
+use crate::scan::{Cells, SecondTypes};
 use base_data::model::Memory;
 use std::marker::Model;
 
 /// Objects at types, as a search visited them, or as a scan determined or recorded them.
 #[derive(Drop)]
-pub enum Pairs {
+pub enum TypedObjects {
     Searched(Visits),
     /// The type of each object, indexed by its number.
     Scanned(Cells),
     /// The type of each object, indexed by its number, followed by objects at further types.
-    Settled(Settled),
+    Settled(SettledObjects),
     /// Objects at types, in any order.
     Listed(Vec<(u64, usize)>),
 }
@@ -29,7 +29,7 @@ pub enum Pairs {
 /// objects' numbers followed by the objects at further types.
 #[derive(Drop)]
 pub struct Typing {
-    pairs: Pairs,
+    pairs: TypedObjects,
 }
 
 impl Model for Typing {
@@ -48,7 +48,7 @@ impl Typing {
         ensures { result ≡ pairs_of (listed visits) }
     {
         Typing {
-            pairs: Pairs::Searched(visits),
+            pairs: TypedObjects::Searched(visits),
         }
     }
 
@@ -57,18 +57,18 @@ impl Typing {
         ensures { result ≡ numbered_from 0 types }
     {
         Typing {
-            pairs: Pairs::Scanned(types),
+            pairs: TypedObjects::Scanned(types),
         }
     }
 
     /// Returns the typing of each object at its type, followed by the recorded objects. Fails with
     /// `Memory` if there are too many.
-    pub fn settled(types: Cells, seconds: Seconds) -> Result<Typing, Memory>
+    pub fn settled(types: Cells, seconds: SecondTypes) -> Result<Typing, Memory>
         ensures { IfOk result (λ typing. typing ≡ pairs_with types seconds) }
     {
-        let settled = Settled::new(types, seconds)?;
+        let settled = SettledObjects::new(types, seconds)?;
         Ok(Typing {
-            pairs: Pairs::Settled(settled),
+            pairs: TypedObjects::Settled(settled),
         })
     }
 
@@ -77,7 +77,7 @@ impl Typing {
         ensures { result ≡ pairs.items }
     {
         Typing {
-            pairs: Pairs::Listed(pairs),
+            pairs: TypedObjects::Listed(pairs),
         }
     }
 
@@ -98,30 +98,30 @@ impl Typing {
 }
 
 /// Returns the number of pairs.
-fn count_in(pairs: &Pairs) -> usize
+fn count_in(pairs: &TypedObjects) -> usize
     ensures { result ≡ length (pairs_in pairs.now) }
 {
     match pairs {
-        Pairs::Searched(visits) => visits.len(),
-        Pairs::Scanned(types) => types.len(),
-        Pairs::Settled(settled) => settled.len(),
-        Pairs::Listed(pairs) => pairs.len(),
+        TypedObjects::Searched(visits) => visits.len(),
+        TypedObjects::Scanned(types) => types.len(),
+        TypedObjects::Settled(settled) => settled.len(),
+        TypedObjects::Listed(pairs) => pairs.len(),
     }
 }
 
 /// Returns the object and the type of pair `k`.
-fn pair_at(pairs: &Pairs, k: usize) -> (u64, usize)
+fn pair_at(pairs: &TypedObjects, k: usize) -> (u64, usize)
     requires { k < length (pairs_in pairs.now) }
     ensures { slice_get (pairs_in pairs.now) k ≡ Some (result.0, result.1) }
 {
     match pairs {
-        Pairs::Searched(visits) => {
+        TypedObjects::Searched(visits) => {
             let visit = visits.get(k);
             (visit.object, visit.ty)
         }
-        Pairs::Scanned(types) => (k as u64, types.get(k) as usize),
-        Pairs::Settled(settled) => settled.get(k),
-        Pairs::Listed(pairs) => listed_at(pairs, k),
+        TypedObjects::Scanned(types) => (k as u64, types.get(k) as usize),
+        TypedObjects::Settled(settled) => settled.get(k),
+        TypedObjects::Listed(pairs) => listed_at(pairs, k),
     }
 }
 

@@ -10,7 +10,7 @@ ghost use Rattle.check_heap.specs.fits.Needs.{needs_in, first_fields, constr_nee
 
 use crate::fits::parts::{block_needs, block_tag, fits_atom, fits_custom, fits_doubles, fits_int};
 use base_data::model::value::Val;
-use marshal_heap::heap::{Heap, Kind, Placed};
+use marshal_heap::heap::{Heap, Kind, NumberedObject};
 use types_spec::types::shape::{Constr, ShapeOf};
 
 /// The fields to which a shape assigns types, in a value that matches the shape, with these types.
@@ -93,7 +93,7 @@ pub fn needs_of<'a>(heap: &Heap, v: Val, shape: &'a ShapeOf<usize>) -> Option<Ne
     match v {
         Val::Int(z) => nothing_if(fits_int(shape, z)),
         Val::Atom(tag) => nothing_if(fits_atom(shape, tag)),
-        Val::Ref(object) => object_needs(&Placed { heap, object }, shape),
+        Val::Ref(object) => object_needs(&NumberedObject { heap, object }, shape),
     }
 }
 
@@ -109,7 +109,10 @@ pub fn known_needs<'a>(heap: &Heap, o: u64, shape: &'a ShapeOf<usize>) -> Option
         ShapeOf::Product(_, types) => Some(Needs::Listed(types.as_slice())),
         ShapeOf::Sum(_, blocks) if blocks.len() == 1 => Some(first_needs(blocks.as_slice())),
         ShapeOf::Sum(_, blocks) => {
-            tagged_needs(blocks.as_slice(), block_tag(&Placed { heap, object: o }))
+            tagged_needs(
+                blocks.as_slice(),
+                block_tag(&NumberedObject { heap, object: o }),
+            )
         }
         ShapeOf::Bytes(_) => Some(Needs::Nothing),
         ShapeOf::Double => Some(Needs::Nothing),
@@ -119,7 +122,7 @@ pub fn known_needs<'a>(heap: &Heap, o: u64, shape: &'a ShapeOf<usize>) -> Option
         ShapeOf::Int64 => Some(Needs::Nothing),
         ShapeOf::Native => Some(Needs::Nothing),
         ShapeOf::Anything => Some(Needs::Nothing),
-        _ => object_needs(&Placed { heap, object: o }, shape),
+        _ => object_needs(&NumberedObject { heap, object: o }, shape),
     }
 }
 
@@ -146,7 +149,7 @@ fn tagged_needs(blocks: &[Constr<usize>], tag: u8) -> Option<Needs<'_>>
 
 /// Returns the typed fields of an object at a shape, or `None` if the object does not match the
 /// shape.
-fn object_needs<'a>(placed: &Placed<'_>, shape: &'a ShapeOf<usize>) -> Option<Needs<'a>>
+fn object_needs<'a>(placed: &NumberedObject<'_>, shape: &'a ShapeOf<usize>) -> Option<Needs<'a>>
     ensures { option_map needs_in result
         ≡ option_and_then (object_fields shape.now)
         (slice_get placed.now.heap.now placed.now.object) }

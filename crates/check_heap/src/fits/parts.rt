@@ -11,7 +11,7 @@ ghost use Rattle.check_heap.specs.fits.Needs.{needs_in};
 use crate::fits::needs::Needs;
 use base_data::model::code::Custom;
 use base_data::model::value::Val;
-use marshal_heap::heap::{Heap, Kind, Placed};
+use marshal_heap::heap::{Heap, Kind, NumberedObject};
 use types_spec::types::shape::{Constr, PolyTag, ShapeOf};
 
 /// Returns true if an integer matches the shape.
@@ -91,7 +91,7 @@ pub fn fits_custom(shape: &ShapeOf<usize>, custom: Custom) -> bool
 
 /// Returns the typed fields of a block, or `None` if the block does not match the shape.
 pub fn block_needs<'a>(
-    block: &Placed<'_>,
+    block: &NumberedObject<'_>,
     tag: u8,
     size: u64,
     shape: &'a ShapeOf<usize>,
@@ -129,7 +129,11 @@ fn constr_needs(blocks: &[Constr<usize>], tag: u8, size: u64) -> Option<Needs<'_
 }
 
 /// Returns the typed fields of the block of a polymorphic variant with an argument.
-fn tag_needs<'a>(block: &Placed<'_>, size: u64, tags: &'a [PolyTag<usize>]) -> Option<Needs<'a>>
+fn tag_needs<'a>(
+    block: &NumberedObject<'_>,
+    size: u64,
+    tags: &'a [PolyTag<usize>],
+) -> Option<Needs<'a>>
     requires { size ≡ length (fields_of (object_at block.now.heap.now block.now.object)) }
     ensures { option_map needs_in result
         ≡ tag_fields tags.now (fields_of (object_at block.now.heap.now block.now.object)) }
@@ -163,7 +167,7 @@ pub fn is_mutable(heap: &Heap, o: u64, shape: &ShapeOf<usize>) -> bool
         ShapeOf::Bytes(mutable) => *mutable,
         ShapeOf::Sum(_, blocks) => is_mutable_block(
             blocks.as_slice(),
-            block_tag(&Placed { heap, object: o }),
+            block_tag(&NumberedObject { heap, object: o }),
         ),
         ShapeOf::Product(mutable, _) => *mutable,
         ShapeOf::FlatFloats(mutable, _) => *mutable,
@@ -186,7 +190,7 @@ pub fn is_asked(shape: &ShapeOf<usize>) -> bool
 }
 
 /// Returns the tag of a block, and 0 for any other object.
-pub fn block_tag(placed: &Placed<'_>) -> u8
+pub fn block_tag(placed: &NumberedObject<'_>) -> u8
     ensures { result ≡ fitting.tag_of_block (slice_get placed.now.heap.now placed.now.object) }
 {
     match placed.heap.kind(placed.object) {

@@ -10,7 +10,7 @@ use std::marker::Model;
 
 /// A vector of numbers. The element size is chosen by the largest number that will be stored.
 #[derive(Drop)]
-pub enum Row {
+pub enum NumberRow {
     Bytes(Vec<u8>),
     Shorts(Vec<u16>),
     Longs(Vec<u64>),
@@ -20,7 +20,7 @@ pub enum Row {
 /// numbers.
 #[derive(Drop)]
 pub struct Cells {
-    row: Row,
+    row: NumberRow,
 }
 
 impl Model for Cells {
@@ -47,9 +47,9 @@ impl Cells {
         ensures { result ≡ length self.now }
     {
         match &self.row {
-            Row::Bytes(row) => row.len(),
-            Row::Shorts(row) => row.len(),
-            Row::Longs(row) => row.len(),
+            NumberRow::Bytes(row) => row.len(),
+            NumberRow::Shorts(row) => row.len(),
+            NumberRow::Longs(row) => row.len(),
         }
     }
 
@@ -61,7 +61,7 @@ impl Cells {
     {
         // One test recognizes the common representation.
         match &self.row {
-            Row::Bytes(row) => u64::from(row[position]),
+            NumberRow::Bytes(row) => u64::from(row[position]),
             row => number_at(row, position),
         }
     }
@@ -77,46 +77,46 @@ impl Cells {
 }
 
 /// Creates `positions` zeros.
-fn zeros(alloc: Global, positions: usize, most: usize) -> Result<Row, Memory>
+fn zeros(alloc: Global, positions: usize, most: usize) -> Result<NumberRow, Memory>
     ensures { IfOk result (λ row. numbers_in row ≡ replicate positions 0) }
 {
     if most < 1 << 8 {
         let mut row = Vec::new(alloc);
         row.resize(positions, 0)?;
-        return Ok(Row::Bytes(row));
+        return Ok(NumberRow::Bytes(row));
     }
     if most < 1 << 16 {
         let mut row = Vec::new(alloc);
         row.resize(positions, 0)?;
-        return Ok(Row::Shorts(row));
+        return Ok(NumberRow::Shorts(row));
     }
     let mut row = Vec::new(alloc);
     row.resize(positions, 0)?;
-    Ok(Row::Longs(row))
+    Ok(NumberRow::Longs(row))
 }
 
 /// Returns the number at an index, for any representation.
 #[cold]
 #[inline(never)]
-fn number_at(row: &Row, position: usize) -> u64
+fn number_at(row: &NumberRow, position: usize) -> u64
     requires { position < length (numbers_in row.now) }
     ensures { result ≡ slice_index (numbers_in row.now) position }
 {
     match row {
-        Row::Bytes(row) => u64::from(row[position]),
-        Row::Shorts(row) => u64::from(row[position]),
-        Row::Longs(row) => row[position],
+        NumberRow::Bytes(row) => u64::from(row[position]),
+        NumberRow::Shorts(row) => u64::from(row[position]),
+        NumberRow::Longs(row) => row[position],
     }
 }
 
 /// Stores a number at an index.
 #[inline(always)]
-fn write(row: &mut Row, position: usize, number: u64) -> Result<(), Memory>
+fn write(row: &mut NumberRow, position: usize, number: u64) -> Result<(), Memory>
     requires { position < length (numbers_in row.old) }
     ensures { OnOk result (numbers_in row.new ≡ slice_set (numbers_in row.old) position number) }
 {
     match row {
-        Row::Bytes(row) if number < 1 << 8 => row[position] = number as u8,
+        NumberRow::Bytes(row) if number < 1 << 8 => row[position] = number as u8,
         row => write_in_any(row, position, number)?,
     }
     Ok(())
@@ -126,14 +126,14 @@ fn write(row: &mut Row, position: usize, number: u64) -> Result<(), Memory>
 /// for the element size.
 #[cold]
 #[inline(never)]
-fn write_in_any(row: &mut Row, position: usize, number: u64) -> Result<(), Memory>
+fn write_in_any(row: &mut NumberRow, position: usize, number: u64) -> Result<(), Memory>
     requires { position < length (numbers_in row.old) }
     ensures { OnOk result (numbers_in row.new ≡ slice_set (numbers_in row.old) position number) }
 {
     match row {
-        Row::Bytes(row) if number < 1 << 8 => row[position] = number as u8,
-        Row::Shorts(row) if number < 1 << 16 => row[position] = number as u16,
-        Row::Longs(row) => row[position] = number,
+        NumberRow::Bytes(row) if number < 1 << 8 => row[position] = number as u8,
+        NumberRow::Shorts(row) if number < 1 << 16 => row[position] = number as u16,
+        NumberRow::Longs(row) => row[position] = number,
         _ => return Err(Memory),
     }
     Ok(())

@@ -4,7 +4,7 @@ ghost use Rattle.std.specs.Prelude.{◌≡◌, None, length};
 ghost use Rattle.check_heap.specs.scan.Classed.{IsUntouched};
 ghost use Rattle.check_heap.specs.scan.Seconds.{noted_in};
 
-use crate::scan::seconds::Seconds;
+use crate::scan::second_types::SecondTypes;
 use std::alloc::Global;
 
 /// The first required field of an object that is not satisfied.
@@ -32,7 +32,7 @@ pub struct First {
 /// The objects that were referenced at a second class, and where the first of them was found.
 #[derive(Drop)]
 pub struct Notes {
-    pub seconds: Seconds,
+    pub seconds: SecondTypes,
     pub first: Option<First>,
 }
 
@@ -44,7 +44,7 @@ impl Notes {
         ensures first { result.first ≡ None }
     {
         Notes {
-            seconds: Seconds::none(alloc),
+            seconds: SecondTypes::none(alloc),
             first: None,
         }
     }

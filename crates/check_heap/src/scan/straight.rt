@@ -24,7 +24,7 @@ ghost use Rattle.check_heap.specs.scan.Scan.{first_of};
 ghost use Rattle.check_heap.specs.scan.Scan.{Continues, IsUnfit, IsWhole, IsKnownIn, IsInRow};
 ghost use Rattle.check_heap.specs.scan.Scan.{IsStoppedAt};
 ghost use Rattle.check_heap.specs.scan.Scan.{IsGoing, IsStopped, IsScanning, Stops, IsTried};
-ghost use Rattle.check_heap.specs.declared.scan.straight.Stop.TheVariants as stops;
+ghost use Rattle.check_heap.specs.declared.scan.straight.ScanStop.TheVariants as stops;
 
 use crate::fits::{Needs, is_asked, known_needs};
 use crate::scan::cells::Cells;
@@ -33,9 +33,9 @@ use crate::scan::listed::{listed_types, needs_nothing};
 use crate::scan::notes::{First, Notes, Unmet};
 use crate::scan::passed::wildcard_type;
 use crate::scan::rows::Fitting;
-use crate::scan::seconds::Seconds;
+use crate::scan::second_types::SecondTypes;
 use crate::scan::steps::Steps;
-use crate::scan::taken::{Taken, Unfit};
+use crate::scan::taken_objects::{ScanMismatch, TakenObjects};
 use base_data::model::Memory;
 use base_data::model::value::Val;
 use marshal_heap::heap::Heap;
@@ -50,7 +50,7 @@ pub enum Scanned {
     /// The type of each object, but some objects were referenced at other types too.
     Noted(Noted),
     /// The scan is inconclusive: it ended at the object after these.
-    Stopped(Taken),
+    Stopped(TakenObjects),
 }
 
 /// The result of a scan that found objects referenced at a second class.
@@ -58,9 +58,9 @@ pub enum Scanned {
 pub struct Noted {
     /// The type of each object, and the objects that the scan had checked when it first found an
     /// object referenced at a second class.
-    pub taken: Taken,
+    pub taken: TakenObjects,
     /// The objects at the other types.
-    pub seconds: Seconds,
+    pub seconds: SecondTypes,
     /// The number of steps until then ..
     pub before: u64,
     /// .. and the number of all steps.
@@ -69,7 +69,7 @@ pub struct Noted {
 
 /// The reason why the scan ends at an object.
 #[derive(Clone, Copy)]
-enum Stop {
+enum ScanStop {
     /// The object is not marked.
     Unmarked,
     /// The object does not match the type that it is marked with.
@@ -104,7 +104,7 @@ pub fn scan(
     let mut notes = Notes::none(alloc);
     let mut taken = Steps::new();
     let wildcard = wildcard_type(heap, fitting.table);
-    let mut stop = Stop::Unmarked;
+    let mut stop = ScanStop::Unmarked;
     for o in 0..heap.count() {
         if !take_object(
             heap, fitting, &mut marks, &mut notes, &mut types, o, wildcard, &mut taken, &mut stop,
@@ -170,9 +170,9 @@ fn stopped(
     notes: &Notes,
     types: Cells,
     o: u64,
-    stop: Stop,
+    stop: ScanStop,
     taken: Steps,
-) -> (Taken, u64)
+) -> (TakenObjects, u64)
     requires object { o < length heap.now }
     requires many { length types ≡ length heap.now }
     requires stopped { IsStopped (table_of table.now) heap.now marks.now types notes.now o taken
@@ -194,7 +194,7 @@ fn until_first(
     marks: &Cells,
     types: Cells,
     first: First,
-) -> (Taken, u64)
+) -> (TakenObjects, u64)
     requires many { length types ≡ length heap.now }
     requires stopped { IsStoppedAt (table_of table.now) heap.now marks.now types (length heap.now)
         first }
@@ -204,7 +204,7 @@ fn until_first(
 {
     let mut before = Steps::new();
     before.raise_by(first.steps);
-    let stop = Stop::Needs(first.ty, first.unmet);
+    let stop = ScanStop::Needs(first.ty, first.unmet);
     stop_at(heap, table, marks, types, first.object, stop, before)
 }
 
@@ -217,9 +217,9 @@ fn stop_at(
     _marks: &Cells,
     types: Cells,
     o: u64,
-    stop: Stop,
+    stop: ScanStop,
     mut taken: Steps,
-) -> (Taken, u64)
+) -> (TakenObjects, u64)
     requires object { o < length _heap.now }
     requires many { length types ≡ length _heap.now }
     requires scanning { IsScanning (table_of table.now) _heap.now _marks.now [] (take o types) o
@@ -233,42 +233,42 @@ fn stop_at(
     table.holds();
     let objects = o as usize;
     match stop {
-        Stop::Needs(_ty, unmet) => {
+        ScanStop::Needs(_ty, unmet) => {
             taken.raise();
             taken.raise_by(unmet.position);
             if unmet.unfit {
                 taken.raise();
-                let stopped = Taken {
+                let stopped = TakenObjects {
                     types,
                     objects: objects + 1,
                     seen: unmet.field + 1,
-                    unfit: Unfit::Field(o, unmet.field),
+                    unfit: ScanMismatch::Field(o, unmet.field),
                 };
                 return (stopped, taken.taken());
             }
-            let stopped = Taken {
+            let stopped = TakenObjects {
                 types,
                 objects: objects + 1,
                 seen: unmet.field,
-                unfit: Unfit::Nothing,
+                unfit: ScanMismatch::Nothing,
             };
             (stopped, taken.taken())
         }
-        Stop::Mismatches => {
-            let stopped = Taken {
+        ScanStop::Mismatches => {
+            let stopped = TakenObjects {
                 types,
                 objects,
                 seen: u64::MAX,
-                unfit: Unfit::Object(o),
+                unfit: ScanMismatch::Object(o),
             };
             (stopped, taken.taken())
         }
-        Stop::Unmarked => {
-            let stopped = Taken {
+        ScanStop::Unmarked => {
+            let stopped = TakenObjects {
                 types,
                 objects,
                 seen: u64::MAX,
-                unfit: Unfit::Nothing,
+                unfit: ScanMismatch::Nothing,
             };
             (stopped, taken.taken())
         }
@@ -288,7 +288,7 @@ fn take_object(
     o: u64,
     wildcard: Option<usize>,
     taken: &mut Steps,
-    stop: &mut Stop,
+    stop: &mut ScanStop,
 ) -> Result<bool, Memory>
     requires object { o < length heap.now }
     requires many { length types.old ≡ length heap.now }
@@ -308,13 +308,13 @@ fn take_object(
     let word = heap.word(Val::Ref(o));
     let mark = marks.get(heap.key(word));
     if mark == 0 {
-        *stop = Stop::Unmarked;
+        *stop = ScanStop::Unmarked;
         let passed = pass_object(heap, fitting.table, marks, notes, types, o, wildcard, taken)?;
         return Ok(passed);
     }
     let ty = mark as usize - 1;
     if !fits_type(heap, fitting, ty, word) {
-        *stop = Stop::Mismatches;
+        *stop = ScanStop::Mismatches;
         return Ok(false);
     }
     types.set(o as usize, ty as u64)?;
@@ -376,7 +376,7 @@ fn meet_all(
     word: u64,
     ty: usize,
     taken: &mut Steps,
-    stop: &mut Stop,
+    stop: &mut ScanStop,
 ) -> Result<bool, Memory>
     requires object { o < length heap.now }
     requires word { word ≡ word_of heap.now (vals.Ref o) }
@@ -425,7 +425,7 @@ fn meet_others(
     word: u64,
     ty: usize,
     taken: &mut Steps,
-    stop: &mut Stop,
+    stop: &mut ScanStop,
 ) -> Result<bool, Memory>
     requires object { o < length heap.now }
     requires word { word ≡ word_of heap.now (vals.Ref o) }
@@ -463,7 +463,7 @@ fn meet_counted(
     ty: usize,
     needs: Needs<'_>,
     taken: &mut Steps,
-    stop: &mut Stop,
+    stop: &mut ScanStop,
 ) -> Result<bool, Memory>
     requires object { o < length heap.now }
     requires word { word ≡ word_of heap.now (vals.Ref o) }
@@ -487,7 +487,7 @@ fn meet_counted(
 {
     let many = needs.len();
     if let Some(unmet) = meet_each(heap, fitting, marks, notes, o, word, ty, needs, taken)? {
-        *stop = Stop::Needs(ty, unmet);
+        *stop = ScanStop::Needs(ty, unmet);
         return Ok(false);
     }
     taken.raise();

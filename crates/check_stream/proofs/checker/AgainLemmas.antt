@@ -21,7 +21,7 @@ use Rattle.marshal_spec.proofs.format.EncodeValues.{IsToken-encoded}
 use Rattle.check_stream.specs.theory.Asked.{of_type, shape_at, block_needs}
 use Rattle.check_stream.specs.theory.Noted.{IsAt, IsFlat, Stands, flat_values, IsFlatNoted}
 use Rattle.check_stream.proofs.theory.NotedLemmas.{stands_after}
-use Rattle.check_stream.specs.declared.checker.again.Seen.{Seen}
+use Rattle.check_stream.specs.declared.checker.again.SeenToken.{SeenToken}
 use Rattle.check_stream.specs.checker.Again.{IsSeen, EncodeAll, Inspects, IsPosition, AreMarks, IsBlockAt, IsBlockIn, IsBlockSeen, AreFields}
 
 -- ---- one more token
@@ -68,7 +68,7 @@ no_marks prefix tokens k p is = absurd (none-some p is)
 
 -- If a token of the kind begins the bytes, then its length is known.
 pub inspected :
-    (bytes : List ℕ) (kind : CodeKind) (len : ℕ) (seen : Seen) → 0 < length bytes → kind_of (get_or bytes 0 0) ≡ Ok kind → len ≤ length (drop 1 bytes) → len ≡ fixed_bytes kind + variable_bytes kind (drop 1 bytes)
+    (bytes : List ℕ) (kind : CodeKind) (len : ℕ) (seen : SeenToken) → 0 < length bytes → kind_of (get_or bytes 0 0) ≡ Ok kind → len ≤ length (drop 1 bytes) → len ≡ fixed_bytes kind + variable_bytes kind (drop 1 bytes)
     → ((t : Token) → EncodesAfter kind (take len (drop 1 bytes)) t → IsSeen seen t) → Inspects bytes seen (1 + len)
 inspected [] kind len seen some is within whole each = absurd (omega arith)
 inspected (code ∷ after) kind len seen some is within whole each =
@@ -93,7 +93,7 @@ inspected (code ∷ after) kind len seen some is within whole each =
 
 -- ---- the next token from a position
 
-pub record Next (prefix : List ℕ) (tokens : List Token) (c : ℕ) (seen : Seen) (after : ℕ) : Type 0 where
+pub record Next (prefix : List ℕ) (tokens : List Token) (c : ℕ) (seen : SeenToken) (after : ℕ) : Type 0 where
   pub token : Token
   pub first : List Token
   pub last : List Token
@@ -105,7 +105,7 @@ pub record Next (prefix : List ℕ) (tokens : List Token) (c : ℕ) (seen : Seen
   pub encodes : EncodeAll last (drop after prefix)
 
 next_from :
-    (prefix : List ℕ) (tokens : List Token) (at c : ℕ) (seen : Seen) (len : ℕ) (first last : List Token) → tokens ≡ first ++ last → objects (map measure_of first) ≡ c → at ≤ length prefix → EncodeAll last (drop at prefix)
+    (prefix : List ℕ) (tokens : List Token) (at c : ℕ) (seen : SeenToken) (len : ℕ) (first last : List Token) → tokens ≡ first ++ last → objects (map measure_of first) ≡ c → at ≤ length prefix → EncodeAll last (drop at prefix)
     → Inspects (drop at prefix) seen len → Next prefix tokens c seen (at + len)
 next_from prefix tokens at c seen len first [] whole made within encodes l =
     let some = l.some in let few = l.within in let none = ap length encodes in absurd (omega (arith, some, few, none))
@@ -123,11 +123,11 @@ next_from prefix tokens at c seen len first (t ∷ last) whole made within encod
       encodes = subst (EncodeAll last) (drop-drop len at prefix) f.encodes;
     }
 
-pub position_next : (prefix : List ℕ) (tokens : List Token) (at c : ℕ) (seen : Seen) (len : ℕ) → IsPosition prefix tokens at c → Inspects (drop at prefix) seen len → Next prefix tokens c seen (at + len)
+pub position_next : (prefix : List ℕ) (tokens : List Token) (at c : ℕ) (seen : SeenToken) (len : ℕ) → IsPosition prefix tokens at c → Inspects (drop at prefix) seen len → Next prefix tokens c seen (at + len)
 position_next prefix tokens at c seen len p l = next_from prefix tokens at c seen len p.first p.last p.whole p.made p.within p.encodes l
 
 -- The position after it.
-pub position_after : (prefix : List ℕ) (tokens : List Token) (c : ℕ) (seen : Seen) (after d : ℕ) → (n : Next prefix tokens c seen after) → c + made_by n.token ≡ d → IsPosition prefix tokens after d
+pub position_after : (prefix : List ℕ) (tokens : List Token) (c : ℕ) (seen : SeenToken) (after d : ℕ) → (n : Next prefix tokens c seen after) → c + made_by n.token ≡ d → IsPosition prefix tokens after d
 position_after prefix tokens c seen after d n made =
     let both = objects-tokens-append n.first (n.token ∷ []) in
     let one = objects-tokens-cons n.token [] in
@@ -142,7 +142,7 @@ position_after prefix tokens c seen after d n made =
     }
 
 -- A block that was read.
-pub block_next : (prefix : List ℕ) (tokens : List Token) (c : ℕ) (seen : Seen) (after o tag size : ℕ) → (n : Next prefix tokens c seen after) → c ≡ o → n.token ≡ block tag size → IsBlockAt prefix tokens o tag size after
+pub block_next : (prefix : List ℕ) (tokens : List Token) (c : ℕ) (seen : SeenToken) (after o tag size : ℕ) → (n : Next prefix tokens c seen after) → c ≡ o → n.token ≡ block tag size → IsBlockAt prefix tokens o tag size after
 block_next prefix tokens c seen after o tag size n is same = record {
   first = n.first;
   last = n.last;
@@ -159,7 +159,7 @@ module _ (table : Table) (types : List ℕ) (o : ℕ) where
   no_fields ts = record { flat = []; rest = ts; whole = refl; many = refl; are_flat = tt; at = tt }
 
   pub next_field :
-      (bytes : List ℕ) (t : ℕ) (fields : List ℕ) (seen : Seen) (len : ℕ) → Inspects bytes seen len → ((token : Token) → IsSeen seen token → IsFlat token × IsAt table types [] (value_of token (o + 1)) t)
+      (bytes : List ℕ) (t : ℕ) (fields : List ℕ) (seen : SeenToken) (len : ℕ) → Inspects bytes seen len → ((token : Token) → IsSeen seen token → IsFlat token × IsAt table types [] (value_of token (o + 1)) t)
       → ((ts : List Token) → EncodeAll ts (drop len bytes) → AreFields table types o fields ts)
       → (ts : List Token) → EncodeAll ts bytes → AreFields table types o (t ∷ fields) ts
   next_field bytes t fields seen len l is_field later [] s = let some = l.some in let few = l.within in let none = ap length s in absurd (omega (arith, some, few, none))
@@ -178,7 +178,7 @@ module _ (table : Table) (types : List ℕ) (o : ℕ) where
 
   -- One more field of a list.
   pub fields_more :
-      (prefix : List ℕ) (start at i : ℕ) (fields : List ℕ) (seen : Seen) (len : ℕ) → i < length fields
+      (prefix : List ℕ) (start at i : ℕ) (fields : List ℕ) (seen : SeenToken) (len : ℕ) → i < length fields
       → (at ≤ length prefix) × (((ts : List Token) → EncodeAll ts (drop at prefix) → AreFields table types o (drop i fields) ts) → (ts : List Token) → EncodeAll ts (drop start prefix) → AreFields table types o fields ts)
       → Inspects (drop at prefix) seen len → ((token : Token) → IsSeen seen token → IsFlat token × IsAt table types [] (value_of token (o + 1)) (get_or fields i 0))
       → (at + len ≤ length prefix) × (((ts : List Token) → EncodeAll ts (drop (at + len) prefix) → AreFields table types o (drop (i + 1) fields) ts) → (ts : List Token) → EncodeAll ts (drop start prefix) → AreFields table types o fields ts)
@@ -221,12 +221,12 @@ flat_block table types prefix o t tag size start fields tokens b are asked many 
 
 -- ---- a block found
 
-pub inspects_from : (prefix : List ℕ) (at : ℕ) (seen : Seen) (len : ℕ) → Inspects (take (length prefix - at) (drop at prefix)) seen len → Inspects (drop at prefix) seen len
+pub inspects_from : (prefix : List ℕ) (at : ℕ) (seen : SeenToken) (len : ℕ) → Inspects (take (length prefix - at) (drop at prefix)) seen len → Inspects (drop at prefix) seen len
 inspects_from prefix at seen len l = subst (λ xs. Inspects xs seen len) (take_rest prefix at) l
 
 -- After a token was skipped.
 pub skip_more :
-    (prefix marks : List ℕ) (at made more made' : ℕ) (seen : Seen) (len : ℕ) → ((tokens : List Token) → AreMarks prefix marks tokens → IsPosition prefix tokens at made) → Inspects (drop at prefix) seen len
+    (prefix marks : List ℕ) (at made more made' : ℕ) (seen : SeenToken) (len : ℕ) → ((tokens : List Token) → AreMarks prefix marks tokens → IsPosition prefix tokens at made) → Inspects (drop at prefix) seen len
     → ((t : Token) → IsToken t → IsSeen seen t → made_by t ≡ more) → made + more ≡ made'
     → (tokens : List Token) → AreMarks prefix marks tokens → IsPosition prefix tokens (at + len) made'
 skip_more prefix marks at made more made' seen len positions l makes sum tokens are =
@@ -235,7 +235,7 @@ skip_more prefix marks at made more made' seen len positions l makes sum tokens 
     position_after prefix tokens made seen (at + len) made' n (omega (arith, one, sum))
 
 pub block_found :
-    (prefix marks : List ℕ) (object at made : ℕ) (seen : Seen) (len tag size start : ℕ) → ((tokens : List Token) → AreMarks prefix marks tokens → IsPosition prefix tokens at made) → made ≡ object → Inspects (drop at prefix) seen len
+    (prefix marks : List ℕ) (object at made : ℕ) (seen : SeenToken) (len tag size start : ℕ) → ((tokens : List Token) → AreMarks prefix marks tokens → IsPosition prefix tokens at made) → made ≡ object → Inspects (drop at prefix) seen len
     → IsBlockSeen seen (at + len) tag size start → IsBlockIn prefix marks object tag size start
 block_found prefix marks object at made seen len tag size start positions same l b = record {
   within = let some = l.some in let few = l.within in let left = length-drop at prefix in let is = b.is_after in omega (arith, some, few, left, is);

@@ -16,10 +16,10 @@ use Rattle.base_data.specs.declared.model.code.CustomKind.{CustomKind}
 use Rattle.base_data.specs.declared.model.code.CustomKind.TheVariants as customs
 use Rattle.std.specs.Prelude.{ℤ, slice_index, Some}
 use Rattle.check_stream.specs.theory.Asked.{Need}
-use Rattle.check_stream.specs.declared.checker.state.State.{State}
+use Rattle.check_stream.specs.declared.checker.check_state.CheckState.{CheckState}
 use Rattle.check_stream.specs.checker.State.{types_in, Took, TookChunk, TookPrefix, custom_leaf}
 
-module _ (table : Table) (stated : ℕ) (old new : State) (need : Need) (chunk : List ℕ) where
+module _ (table : Table) (stated : ℕ) (old new : CheckState) (need : Need) (chunk : List ℕ) where
   encoded : (kind : CodeKind) → IsKind kind → AreBytes chunk → length chunk ≡ fixed_bytes kind + variable_bytes kind chunk → AreSoundFields kind chunk (length (types_in old)) stated
       → ((t : Token) → EncodesAfter kind chunk t → Took table old new need t) → TookChunk table stated old new need kind chunk
   encoded kind known bytes whole sound took =
@@ -85,7 +85,7 @@ known_data customs.Int32 size b some whole = tt
 known_data customs.Int64 size b some whole = tt
 known_data customs.Native size b some whole = omega (arith, some, whole)
 
-module _ (table : Table) (old new : State) (need : Need) (chunk : List ℕ) where
+module _ (table : Table) (old new : CheckState) (need : Need) (chunk : List ℕ) where
   data_took : (kind : CustomKind) (t : Token) → EncodesData (Some kind) chunk t → ((z : ℤ) → Took table old new need (leaf (custom_leaf kind z))) → Took table old new need t
   data_took customs.Int32 t data' took = subst (Took table old new need) (sym data'.1) (took (signed (drop 3 chunk)))
   data_took customs.Int64 t data' took = subst (Took table old new need) (sym data'.1) (took (signed (drop 3 chunk)))
@@ -102,7 +102,7 @@ module _ (table : Table) (old new : State) (need : Need) (chunk : List ℕ) wher
 
 -- ---- by an equation of the kind
 
-module _ (table : Table) (stated : ℕ) (old new : State) (need : Need) (kind : CodeKind) (chunk : List ℕ) (known : IsKind kind) (bytes : AreBytes chunk) (whole : length chunk ≡ fixed_bytes kind + variable_bytes kind chunk) where
+module _ (table : Table) (stated : ℕ) (old new : CheckState) (need : Need) (kind : CodeKind) (chunk : List ℕ) (known : IsKind kind) (bytes : AreBytes chunk) (whole : length chunk ≡ fixed_bytes kind + variable_bytes kind chunk) where
   pub at_str : (width : ℕ) → kind ≡ kinds.Str width → ((all : List ℕ) → length all ≡ length chunk - width → Took table old new need (leaf (objects.Bytes all))) → TookChunk table stated old new need kind chunk
   at_str width is took =
       subst (λ k. TookChunk table stated old new need k chunk) (sym is)
@@ -146,7 +146,7 @@ pub rest_from : (n : ℕ) (bytes : List ℕ) → take (length bytes - n) (drop n
 rest_from n bytes = let long = length-drop n bytes in take_all (length bytes - n) (drop n bytes) (omega (arith, long))
 
 -- With the code before the bytes.
-pub with_code : (table : Table) (stated : ℕ) (old new : State) (need : Need) (rest : List ℕ) (kind : CodeKind) (len : ℕ) → 0 < length rest → kind_of (get_or rest 0 0) ≡ Ok kind → len ≤ length (drop 1 rest)
+pub with_code : (table : Table) (stated : ℕ) (old new : CheckState) (need : Need) (rest : List ℕ) (kind : CodeKind) (len : ℕ) → 0 < length rest → kind_of (get_or rest 0 0) ≡ Ok kind → len ≤ length (drop 1 rest)
     → TookChunk table stated old new need kind (take len (drop 1 rest)) → TookPrefix table stated old new need rest (1 + len)
 with_code table stated old new need [] kind len some is within p = absurd (omega arith)
 with_code table stated old new need (code ∷ rest) kind len some is within p =

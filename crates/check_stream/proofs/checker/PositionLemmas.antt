@@ -5,11 +5,11 @@ use Rattle.std.proofs.lemmas.List.{append_assoc, append-nil, length-replicate}
 use Rattle.check_stream.specs.theory.Asked.{of_type, values_in}
 use Rattle.check_stream.proofs.theory.BlockLemmas.{values_of_types}
 use Rattle.check_stream.proofs.theory.EndLemmas.{values_in-append}
-use Rattle.check_stream.specs.declared.checker.positions.Open.{Open}
+use Rattle.check_stream.specs.declared.checker.open_positions.BlockPositions.{BlockPositions}
 use Rattle.check_stream.specs.checker.Positions.{open_needs, waiting_needs}
 
 -- The last entry of the stack comes first.
-pub waiting_needs_push : (waiting : List Open) (last : Open) → waiting_needs (waiting ++ last ∷ []) ≡ open_needs last ++ waiting_needs waiting
+pub waiting_needs_push : (waiting : List BlockPositions) (last : BlockPositions) → waiting_needs (waiting ++ last ∷ []) ≡ open_needs last ++ waiting_needs waiting
 waiting_needs_push [] last = sym (append-nil (open_needs last))
 waiting_needs_push (first ∷ waiting) last =
     ap (λ needs. needs ++ open_needs first) (waiting_needs_push waiting last) ∙ append_assoc (open_needs last) (waiting_needs waiting) (open_needs first)
@@ -21,7 +21,7 @@ values_each n t = values_of_types (replicate n t) ∙ length-replicate n t
 
 -- One block fewer remains to be counted.
 pub values_less :
-    (waiting : List Open) (at n : ℕ) (default : Open) → at < length waiting → n ≡ values_in (open_needs (get_or waiting at default))
+    (waiting : List BlockPositions) (at n : ℕ) (default : BlockPositions) → at < length waiting → n ≡ values_in (open_needs (get_or waiting at default))
     → values_in (waiting_needs (drop at waiting)) ≡ values_in (waiting_needs (drop (at + 1) waiting)) + n
 values_less waiting at n default short same =
     let next : suc at ≡ at + 1 = omega arith in

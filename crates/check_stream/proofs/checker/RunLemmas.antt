@@ -25,7 +25,7 @@ use Rattle.check_stream.proofs.checker.ChunkLemmas.{rest_from}
 use Rattle.check_stream.proofs.checker.AgainLemmas.{marks_more, marks_push, no_marks}
 use Rattle.check_stream.specs.checker.Again.{AreMarks, IsReference, IsKnown}
 use Rattle.check_stream.specs.declared.checker.words.Words.{Words}
-use Rattle.check_stream.specs.declared.checker.state.State.{State}
+use Rattle.check_stream.specs.declared.checker.check_state.CheckState.{CheckState}
 use Rattle.check_stream.specs.checker.State.{IsLeft, types_in, needs_in, stated32, TookPrefix, TookFirst, TookTurn, BeginsAs, AreNoted, Leads, IsMarked, IsSpent}
 
 pub words32_push : (tokens : List Token) (token : Token) → all_words32 (map measure_of (tokens ++ token ∷ [])) ≡ all_words32 (map measure_of tokens) + of_object words32 (measure_of token)
@@ -46,7 +46,7 @@ unfolding head_of
 start_is bytes = start_by (magic bytes == big_magic) bytes
 
 leads_start :
-    (table : Table) (limit : ℕ) (bytes : List ℕ) (head : Head) (start : ℕ) (state : State) → BeginsAs limit bytes head → start ≡ header_length bytes → types_in state ≡ [] → needs_in state ≡ of_type 0 ∷ []
+    (table : Table) (limit : ℕ) (bytes : List ℕ) (head : Head) (start : ℕ) (state : CheckState) → BeginsAs limit bytes head → start ≡ header_length bytes → types_in state ≡ [] → needs_in state ≡ of_type 0 ∷ []
     → state.words.w32 ≡ stated32 head → state.words.w64 ≡ head.w64 → Leads table limit bytes head start start [] [] state
 leads_start table limit bytes head start state b start' none root w32 w64 =
     let from = header_length-from bytes in
@@ -70,7 +70,7 @@ leads_start table limit bytes head start state b start' none root w32 w64 =
 -- ---- a mark
 
 pub leads_marked :
-    (table : Table) (limit : ℕ) (bytes : List ℕ) (head : Head) (start n : ℕ) (marks after : List ℕ) (notes : List (ℕ × ℕ)) (state : State) → IsMarked marks n (length (types_in state)) after → Leads table limit bytes head start n marks notes state
+    (table : Table) (limit : ℕ) (bytes : List ℕ) (head : Head) (start n : ℕ) (marks after : List ℕ) (notes : List (ℕ × ℕ)) (state : CheckState) → IsMarked marks n (length (types_in state)) after → Leads table limit bytes head start n marks notes state
     → Leads table limit bytes head start n after notes state
 leads_marked table limit bytes head start n marks after notes state is l =
     let p = l.passing in
@@ -90,7 +90,7 @@ leads_marked table limit bytes head start n marks after notes state is l =
 
 -- Before the first token, whose offset is marked.
 pub leads_begun :
-    (table : Table) (limit : ℕ) (bytes : List ℕ) (head : Head) (start : ℕ) (state : State) → BeginsAs limit bytes head → start ≡ header_length bytes → types_in state ≡ [] → needs_in state ≡ of_type 0 ∷ []
+    (table : Table) (limit : ℕ) (bytes : List ℕ) (head : Head) (start : ℕ) (state : CheckState) → BeginsAs limit bytes head → start ≡ header_length bytes → types_in state ≡ [] → needs_in state ≡ of_type 0 ∷ []
     → state.words.w32 ≡ stated32 head → state.words.w64 ≡ head.w64 → Leads table limit bytes head start start (start ∷ []) [] state
 leads_begun table limit bytes head start state b start' none root w32 w64 =
     leads_marked table limit bytes head start start [] (start ∷ []) [] state (inr (ap (length {A = ℕ}) none, refl)) (leads_start table limit bytes head start state b start' none root w32 w64)
@@ -104,7 +104,7 @@ noted_further table types later noted tokens more are o t among =
     (let here = one.0 in omega (arith, here, long), noted_more table noted noted (λ o t kept. kept) types later tokens more o t one.0 one.1)
 
 pub leads_further :
-    (table : Table) (limit : ℕ) (bytes : List ℕ) (head : Head) (start n m : ℕ) (marks : List ℕ) (notes : List (ℕ × ℕ)) (first middle last : State) (need : Need) → Leads table limit bytes head start n marks notes first
+    (table : Table) (limit : ℕ) (bytes : List ℕ) (head : Head) (start n m : ℕ) (marks : List ℕ) (notes : List (ℕ × ℕ)) (first middle last : CheckState) (need : Need) → Leads table limit bytes head start n marks notes first
     → types_in middle ≡ types_in first → needs_in first ≡ need ∷ needs_in middle → middle.words ≡ first.words → TookPrefix table head.objects middle last need (drop n bytes) m
     → Leads table limit bytes head start (n + m) marks notes last
 leads_further table limit bytes head start n m marks notes first middle last need l types needs words prefix =
@@ -127,14 +127,14 @@ leads_further table limit bytes head start n m marks notes first middle last nee
     }
 
 pub leads_first :
-    (table : Table) (limit : ℕ) (bytes : List ℕ) (head : Head) (start n m : ℕ) (marks : List ℕ) (notes : List (ℕ × ℕ)) (first last : State) → Leads table limit bytes head start n marks notes first
+    (table : Table) (limit : ℕ) (bytes : List ℕ) (head : Head) (start n m : ℕ) (marks : List ℕ) (notes : List (ℕ × ℕ)) (first last : CheckState) → Leads table limit bytes head start n marks notes first
     → TookFirst table head.objects first last (drop n bytes) m → Leads table limit bytes head start (n + m) marks notes last
 leads_first table limit bytes head start n m marks notes first last l t =
     leads_further table limit bytes head start n m marks notes first t.middle last t.need l t.types t.needs t.words t.took
 
 -- If the same positions are open.
 pub leads_same :
-    (table : Table) (limit : ℕ) (bytes : List ℕ) (head : Head) (start n : ℕ) (marks : List ℕ) (notes : List (ℕ × ℕ)) (first last : State) → Leads table limit bytes head start n marks notes first
+    (table : Table) (limit : ℕ) (bytes : List ℕ) (head : Head) (start n : ℕ) (marks : List ℕ) (notes : List (ℕ × ℕ)) (first last : CheckState) → Leads table limit bytes head start n marks notes first
     → types_in last ≡ types_in first → needs_in last ≡ needs_in first → last.words ≡ first.words → Leads table limit bytes head start n marks notes last
 leads_same table limit bytes head start n marks notes first last l types needs words =
     record {
@@ -152,7 +152,7 @@ leads_same table limit bytes head start n marks notes first last l types needs w
 
 -- After `n` more bytes.
 pub left_further :
-    (table : Table) (limit : ℕ) (bytes : List ℕ) (head : Head) (start n : ℕ) (marks : List ℕ) (notes : List (ℕ × ℕ)) (state : State) (rest : List ℕ) → rest ≡ drop (length bytes - length rest) bytes
+    (table : Table) (limit : ℕ) (bytes : List ℕ) (head : Head) (start n : ℕ) (marks : List ℕ) (notes : List (ℕ × ℕ)) (state : CheckState) (rest : List ℕ) → rest ≡ drop (length bytes - length rest) bytes
     → Leads table limit bytes head start (length bytes - length rest + n) marks notes state → IsLeft table limit bytes head start marks notes state (take (length rest - n) (drop n rest))
 left_further table limit bytes head start n marks notes state rest same l =
     let p = l.passing in
@@ -170,7 +170,7 @@ left_further table limit bytes head start n marks notes state rest same l =
 
 -- With a note on the object to which it leads.
 leads_noted :
-    (table : Table) (limit : ℕ) (bytes : List ℕ) (head : Head) (start n m : ℕ) (marks : List ℕ) (notes after : List (ℕ × ℕ)) (first middle : State) (t offset : ℕ) → (l : Leads table limit bytes head start n marks notes first)
+    (table : Table) (limit : ℕ) (bytes : List ℕ) (head : Head) (start n m : ℕ) (marks : List ℕ) (notes after : List (ℕ × ℕ)) (first middle : CheckState) (t offset : ℕ) → (l : Leads table limit bytes head start n marks notes first)
     → types_in middle ≡ types_in first → needs_in first ≡ of_type t ∷ needs_in middle → middle.words ≡ first.words → 0 < head.objects → IsReference (drop n bytes) offset m
     → (1 ≤ offset) × (offset ≤ length (types_in middle))
     → (more : List (ℕ × ℕ)) → ((o u : ℕ) → Contains l.noted (o, u) → Contains more (o, u)) → IsBackAt more table (types_in middle) t offset → AreNoted table (types_in middle) more (l.tokens ++ shared offset ∷ [])
@@ -210,7 +210,7 @@ noted_also table types noted o t tokens more within are flat p u among =
 
 -- A reference to an object whose note is among the recorded ones.
 leads_back :
-    (table : Table) (limit : ℕ) (bytes : List ℕ) (head : Head) (start n m : ℕ) (marks : List ℕ) (notes : List (ℕ × ℕ)) (first middle : State) (t offset : ℕ) → (l : Leads table limit bytes head start n marks notes first)
+    (table : Table) (limit : ℕ) (bytes : List ℕ) (head : Head) (start n m : ℕ) (marks : List ℕ) (notes : List (ℕ × ℕ)) (first middle : CheckState) (t offset : ℕ) → (l : Leads table limit bytes head start n marks notes first)
     → types_in middle ≡ types_in first → needs_in first ≡ of_type t ∷ needs_in middle → middle.words ≡ first.words → 0 < head.objects → IsReference (drop n bytes) offset m
     → (1 ≤ offset) × (offset ≤ length (types_in middle)) → IsBackAt l.noted table (types_in middle) t offset
     → Leads table limit bytes head start (n + m) marks notes middle
@@ -221,7 +221,7 @@ leads_back table limit bytes head start n m marks notes first middle t offset l 
     l.are_known
 
 leads_known :
-    (table : Table) (limit : ℕ) (bytes : List ℕ) (head : Head) (start n m : ℕ) (marks : List ℕ) (notes after : List (ℕ × ℕ)) (first middle : State) (t offset : ℕ) → Leads table limit bytes head start n marks notes first
+    (table : Table) (limit : ℕ) (bytes : List ℕ) (head : Head) (start n m : ℕ) (marks : List ℕ) (notes after : List (ℕ × ℕ)) (first middle : CheckState) (t offset : ℕ) → Leads table limit bytes head start n marks notes first
     → types_in middle ≡ types_in first → needs_in first ≡ of_type t ∷ needs_in middle → middle.words ≡ first.words → 0 < head.objects → IsReference (drop n bytes) offset m
     → IsKnown table (types_in middle) (take n bytes) marks notes after t offset
     → Leads table limit bytes head start (n + m) marks after middle
@@ -251,7 +251,7 @@ leads_known table limit bytes head start n m marks notes after first middle t of
     (known.2 p u among))
 
 pub leads_turn :
-    (table : Table) (limit : ℕ) (bytes : List ℕ) (head : Head) (start n m : ℕ) (marks : List ℕ) (notes after : List (ℕ × ℕ)) (first middle last : State) (need : Need) → Leads table limit bytes head start n marks notes first
+    (table : Table) (limit : ℕ) (bytes : List ℕ) (head : Head) (start n m : ℕ) (marks : List ℕ) (notes after : List (ℕ × ℕ)) (first middle last : CheckState) (need : Need) → Leads table limit bytes head start n marks notes first
     → types_in middle ≡ types_in first → needs_in first ≡ need ∷ needs_in middle → middle.words ≡ first.words → TookTurn table head.objects middle last need bytes marks notes after n m
     → Leads table limit bytes head start (n + m) marks after last
 leads_turn table limit bytes head start n m marks notes after first middle last need l types needs words (inl prefix) =
@@ -263,7 +263,7 @@ leads_turn table limit bytes head start n m marks notes after first middle last 
     (leads_known table limit bytes head start n m marks notes after first middle b.type b.offset l types (subst (λ u. needs_in first ≡ u ∷ needs_in middle) b.is_asked needs) words b.some b.reference b.known)
 
 -- After the header.
-pub leads_from : (table : Table) (limit : ℕ) (bytes : List ℕ) (head : Head) (start n : ℕ) (marks : List ℕ) (notes : List (ℕ × ℕ)) (state : State) → Leads table limit bytes head start n marks notes state → start ≤ n
+pub leads_from : (table : Table) (limit : ℕ) (bytes : List ℕ) (head : Head) (start n : ℕ) (marks : List ℕ) (notes : List (ℕ × ℕ)) (state : CheckState) → Leads table limit bytes head start n marks notes state → start ≤ n
 leads_from table limit bytes head start n marks notes state l =
     let p = l.passing in
     let prefix = length-take-le n bytes p.within in
@@ -289,7 +289,7 @@ words32_stated head tokens left true is sum none = tt
 words32_stated head tokens left false is sum none = let zero' = none refl in omega (arith, sum, zero')
 
 pub leads_end :
-    (table : Table) (limit : ℕ) (bytes : List ℕ) (head : Head) (start n : ℕ) (marks : List ℕ) (notes : List (ℕ × ℕ)) (state last : State) → AreLawful (table_shapes table) Everything → Leads table limit bytes head start n marks notes state
+    (table : Table) (limit : ℕ) (bytes : List ℕ) (head : Head) (start n : ℕ) (marks : List ℕ) (notes : List (ℕ × ℕ)) (state last : CheckState) → AreLawful (table_shapes table) Everything → Leads table limit bytes head start n marks notes state
     → needs_in state ≡ [] → types_in last ≡ types_in state → last.words ≡ state.words → IsSpent head start n last → IsTypedPrefix table limit n bytes
 leads_end table limit bytes head start n marks notes state last lawful l none types words spent =
     noted_passes_type_prefixes l.noted table limit bytes head start n l.tokens (types_in state) lawful
@@ -306,7 +306,7 @@ leads_end table limit bytes head start n marks notes state last lawful l none ty
 
 -- If the current position is opened again.
 pub leads_again :
-    (table : Table) (limit : ℕ) (bytes : List ℕ) (head : Head) (start n : ℕ) (marks : List ℕ) (notes : List (ℕ × ℕ)) (first middle last : State) (need : Need) → Leads table limit bytes head start n marks notes first
+    (table : Table) (limit : ℕ) (bytes : List ℕ) (head : Head) (start n : ℕ) (marks : List ℕ) (notes : List (ℕ × ℕ)) (first middle last : CheckState) (need : Need) → Leads table limit bytes head start n marks notes first
     → types_in middle ≡ types_in first → needs_in first ≡ need ∷ needs_in middle → middle.words ≡ first.words
     → types_in last ≡ types_in middle → needs_in last ≡ need ∷ needs_in middle → last.words ≡ middle.words → Leads table limit bytes head start n marks notes last
 leads_again table limit bytes head start n marks notes first middle last need l types needs words types' needs' words' =
@@ -330,7 +330,7 @@ some_need needs need others same = let size : length needs ≡ length (need ∷ 
 -- ---- more bytes
 
 pub leads_longer :
-    (table : Table) (limit : ℕ) (bytes more : List ℕ) (head : Head) (start n : ℕ) (marks : List ℕ) (notes : List (ℕ × ℕ)) (state : State) → Leads table limit bytes head start n marks notes state → Leads table limit (bytes ++ more) head start n marks notes state
+    (table : Table) (limit : ℕ) (bytes more : List ℕ) (head : Head) (start n : ℕ) (marks : List ℕ) (notes : List (ℕ × ℕ)) (state : CheckState) → Leads table limit bytes head start n marks notes state → Leads table limit (bytes ++ more) head start n marks notes state
 leads_longer table limit bytes more head start n marks notes state l =
     let p = l.passing in
     let within' = p.within in

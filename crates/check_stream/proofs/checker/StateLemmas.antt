@@ -7,11 +7,11 @@ use Rattle.types_spec.specs.types.Fitting.{fits_int, tag_with}
 use Rattle.types_spec.specs.types.Table.{Table}
 use Rattle.marshal_spec.specs.format.Token.{integer, shared, block}
 use Rattle.check_stream.specs.theory.Asked.{Need, of_type, hash_of, shape_at, fields_ask, IsBackAt}
-use Rattle.check_stream.specs.declared.checker.state.State.{State}
+use Rattle.check_stream.specs.declared.checker.check_state.CheckState.{CheckState}
 use Rattle.check_stream.specs.checker.State.{types_in, needs_in, Took}
 use Rattle.check_stream.specs.declared.checker.words.Words.{Words}
 
-module _ (table : Table) (state : State) where
+module _ (table : Table) (state : CheckState) where
   pub took_integer : (t : ℕ) (z : ℤ) → IsTrue (fits_int (shape_at table t) z) → Took table state state (of_type t) (integer z)
   took_integer t z fits = record {
     next = [];
@@ -33,7 +33,7 @@ module _ (table : Table) (state : State) where
   }
 
 pub took_hash :
-    (table : Table) (old new : State) (tags : List (PolyTag ℕ)) (z : ℤ) (tag : PolyTag ℕ) (t : ℕ) → tag_with tags z ≡ Some tag → tag.arg ≡ Some t
+    (table : Table) (old new : CheckState) (tags : List (PolyTag ℕ)) (z : ℤ) (tag : PolyTag ℕ) (t : ℕ) → tag_with tags z ≡ Some tag → tag.arg ≡ Some t
     → types_in new ≡ types_in old → needs_in new ≡ of_type t ∷ needs_in old → new.words ≡ old.words → Took table old new (hash_of tags) (integer z)
 took_hash table old new tags z tag t has_hash has_argument types needs words = record {
   next = of_type t ∷ [];
@@ -45,7 +45,7 @@ took_hash table old new tags z tag t has_hash has_argument types needs words = r
 }
 
 pub took_block :
-    (table : Table) (old new : State) (t tag size : ℕ) (next : List Need) → fields_ask table t tag size ≡ Some next → types_in new ≡ types_in old ++ t ∷ [] → needs_in new ≡ next ++ needs_in old
+    (table : Table) (old new : CheckState) (t tag size : ℕ) (next : List Need) → fields_ask table t tag size ≡ Some next → types_in new ≡ types_in old ++ t ∷ [] → needs_in new ≡ next ++ needs_in old
     → new.words.w32 + (1 + size) ≡ old.words.w32 → new.words.w64 + (1 + size) ≡ old.words.w64 → Took table old new (of_type t) (block tag size)
 took_block table old new t tag size next asks types needs w32 w64 = record {
   next = next;

@@ -23,7 +23,7 @@ use Rattle.check_stream.specs.theory.Asked.{Need, of_type, hash_of, values_in}
 use Rattle.check_stream.specs.declared.checker.passing.Passing.{Passing}
 use Rattle.check_stream.specs.checker.State.{needs_in, stated32, IsUnderway}
 use Rattle.check_stream.proofs.checker.RunLemmas.{leads_longer}
-use Rattle.check_stream.specs.declared.search.mismatch.Found.{Found}
+use Rattle.check_stream.specs.declared.search.mismatch.FoundMismatch.{FoundMismatch}
 use Rattle.check_stream.specs.declared.search.mismatch.Seeking.{Seeking}
 use Rattle.check_stream.specs.search.Way.{way_positions}
 use Rattle.check_stream.specs.search.Find.{IsSought, IsFound}
@@ -82,7 +82,7 @@ more_taken table limit old new chunk before bytes kept prefix inspecting = (
 
 -- Case: they are a value with one mismatch, and the next value begins.
 pub missed_next :
-    (table : Table) (limit : ℕ) (old new : StreamCheck) (chunk bytes : List ℕ) (total n : ℕ) (found : Found) → total ≡ length old.kept.items + n → bytes ≡ old.kept.items ++ chunk → 0 < n → held new ≡ Some found → IsFound table limit total bytes found
+    (table : Table) (limit : ℕ) (old new : StreamCheck) (chunk bytes : List ℕ) (total n : ℕ) (found : FoundMismatch) → total ≡ length old.kept.items + n → bytes ≡ old.kept.items ++ chunk → 0 < n → held new ≡ Some found → IsFound table limit total bytes found
     → found.ty < length table.nodes → new.kept.items ≡ [] → ((other : Table) (limit' : ℕ) → IsStreamCheck other limit' new) → IsMissedNext table limit old chunk new n
 missed_next table limit old new chunk bytes total n found all same some holds is ty none stream_check =
     let here : IsFound table limit (length old.kept.items + n) (old.kept.items ++ chunk) found = subst₂ (λ m bs. IsFound table limit m bs found) all same is in

@@ -25,21 +25,21 @@ use Rattle.check_stream.proofs.mismatch_theory.StatedLemmas.{back_more}
 use Rattle.check_stream.specs.declared.checker.words.Words.{Words}
 use Rattle.check_stream.specs.checker.State.{Spends}
 use Rattle.check_stream.specs.declared.search.again.Again.{Again}
-use Rattle.check_stream.specs.declared.search.mismatch.Found.{Found}
+use Rattle.check_stream.specs.declared.search.mismatch.FoundMismatch.{FoundMismatch}
 use Rattle.check_stream.specs.declared.search.mismatch.Finding.{Finding}
 use Rattle.check_stream.specs.declared.search.summary.Summary.{Summary}
-use Rattle.check_stream.specs.declared.search.second.Seconds.{Seconds}
+use Rattle.check_stream.specs.declared.search.second.SecondReads.{SecondReads}
 use Rattle.check_stream.specs.declared.search.summary.Summary.TheVariants as sayings
 use Rattle.check_stream.specs.declared.search.mismatch.Fast.{Fast}
-use Rattle.check_stream.specs.declared.search.mismatch.Fast.TheVariants as quicks
-use Rattle.check_stream.specs.declared.search.way.Asked.{Asked}
-use Rattle.check_stream.specs.declared.search.way.Asked.TheVariants as asks
-use Rattle.check_stream.specs.declared.search.way.Left.{Left}
-use Rattle.check_stream.specs.declared.search.way.Left.TheVariants as lefts
+use Rattle.check_stream.specs.declared.search.mismatch.Fast.TheVariants as fasts
+use Rattle.check_stream.specs.declared.search.way.Expectation.{Expectation}
+use Rattle.check_stream.specs.declared.search.way.Expectation.TheVariants as asks
+use Rattle.check_stream.specs.declared.search.way.BlockExpectations.{BlockExpectations}
+use Rattle.check_stream.specs.declared.search.way.BlockExpectations.TheVariants as lefts
 use Rattle.check_stream.specs.declared.search.way.Way.{Way}
 use Rattle.check_stream.specs.search.Judge.{IsSummary, IsSummaryBy, IsNoBack, summary_fields}
 use Rattle.check_stream.specs.search.Way.{trail_of, trail_in, position_of, left_values, way_positions, opened_positions, unasked_position, IsWay, OpensAt}
-use Rattle.check_stream.specs.search.Find.{no_type, type_or_none, AreTypes, AreMarked, AlsoMarks, IsMissedAt, AreMissedAt, IsHeld, HasRoom, Passes, Adds, LeadsTo, Comes, Follows, Hastens, HastensBy, unasked_in}
+use Rattle.check_stream.specs.search.Find.{no_type, type_or_none, AreTypes, AreMarked, AlsoMarks, IsMissedAt, AreMissedAt, IsHeld, HasRoom, Passes, Adds, LeadsTo, Comes, Follows, RunsFast, RunsFastBy, unasked_in}
 use Rattle.check_stream.specs.search.Second.{Knows, Shows}
 use Rattle.check_stream.proofs.search.WayLemmas.{none_opened}
 use Rattle.check_stream.proofs.search.SummaryLemmas.{some_token}
@@ -100,7 +100,7 @@ pub many_held : (types : List ℕ) (made : List Made) → AreTypes types made �
 many_held types made are = ap length are.0 ∙ many_types made
 
 module _ (table : Table) (back : List ℕ) (tokens : List Token) (made : List Made) (missed : List Missed) (token : Token) (is : IsToken token)
-    (old new : Finding) (summary : Summary) (left : Left) (its : IsSummary summary token) (held : IsHeld back made missed old) (prefix : List ℕ) (known : Knows table prefix tokens old.seconds) where
+    (old new : Finding) (summary : Summary) (left : BlockExpectations) (its : IsSummary summary token) (held : IsHeld back made missed old) (prefix : List ℕ) (known : Knows table prefix tokens old.seconds) where
   -- The state after an object, or none, was added.
   held_after : (n : ℕ) (type : Option ℕ) (trail : List (ℕ × ℕ)) (later : List Missed) → Adds old n summary left new → n ≡ type_or_none type → ((t : ℕ) → type ≡ Some t → t < no_type) → AreMissedAt new.found later → IsHeld (back ++ []) (made ++ made_in type trail token) later new
   held_after n type trail later adds same some found = record {
@@ -132,7 +132,7 @@ module _ (table : Table) (back : List ℕ) (tokens : List Token) (made : List Ma
         trail = trail;
         missed = missed;
         passed = passed_after (Some t) trail (next ++ way_positions old.way) missed (fitting tokens made (of_type t) trail (way_positions old.way) next missed token passed takes) positions;
-        held = held_after t (Some t) trail missed adds refl (λ u same. subst (λ v. v < no_type) (same_Some t u same) some) (subst (λ (found : Option Found). AreMissedAt found missed) (sym adds.found) held.found);
+        held = held_after t (Some t) trail missed adds refl (λ u same. subst (λ v. v < no_type) (same_Some t u same) some) (subst (λ (found : Option FoundMismatch). AreMissedAt found missed) (sym adds.found) held.found);
         known = subst (Knows table prefix tokens) (sym adds.seconds) known;
       }
 
@@ -146,24 +146,24 @@ module _ (table : Table) (back : List ℕ) (tokens : List Token) (made : List Ma
         trail = [];
         missed = missed;
         passed = passed_after None [] (unasked token ++ way_positions old.way) missed (below tokens made [] (way_positions old.way) missed token passed) positions;
-        held = held_after no_type None [] missed adds refl (λ u same. absurd (none-some u same)) (subst (λ (found : Option Found). AreMissedAt found missed) (sym adds.found) held.found);
+        held = held_after no_type None [] missed adds refl (λ u same. absurd (none-some u same)) (subst (λ (found : Option FoundMismatch). AreMissedAt found missed) (sym adds.found) held.found);
         known = subst (Knows table prefix tokens) (sym adds.seconds) known;
       }
 
 -- Case: the token does not match, and is the first mismatch.
 pub miss_leads :
-    (table : Table) (back : List ℕ) (tokens : List Token) (made : List Made) (missed : List Missed) (token : Token) → IsToken token → (old middle new : Finding) (summary : Summary) (left : Left) → IsSummary summary token → IsHeld back made missed old
-    → (t : ℕ) (found : Found) → old.found ≡ None → middle.found ≡ Some found → found.links.items ≡ old.way.links.items → found.ty ≡ t → found.summary ≡ summary
+    (table : Table) (back : List ℕ) (tokens : List Token) (made : List Made) (missed : List Missed) (token : Token) → IsToken token → (old middle new : Finding) (summary : Summary) (left : BlockExpectations) → IsSummary summary token → IsHeld back made missed old
+    → (t : ℕ) (found : FoundMismatch) → old.found ≡ None → middle.found ≡ Some found → found.links.items ≡ old.way.links.items → found.ty ≡ t → found.summary ≡ summary
     → middle.way ≡ old.way → middle.types ≡ old.types → middle.again ≡ old.again → middle.seconds ≡ old.seconds → Adds middle no_type summary left new → unasked_in left token → Misses table t token
     → (prefix : List ℕ) → Knows table prefix tokens old.seconds
     → PassedBut back table tokens made (record { asks = Some (of_type t); trail = trail_in old.way } ∷ way_positions old.way) missed → LeadsTo back table prefix tokens made token new
 miss_leads table back tokens made missed token is old middle new summary left its held t found none' some links type says way types again seconds adds fields misses prefix known passed =
     let trail = trail_in old.way in
     let one : Missed = record { trail = trail; type = t; token = token } in
-    let first : missed ≡ [] = subst (λ (f : Option Found). AreMissedAt f missed) none' held.found in
+    let first : missed ≡ [] = subst (λ (f : Option FoundMismatch). AreMissedAt f missed) none' held.found in
     let at : IsMissedAt found one = record { trail = sym (ap trail_of links); type = sym type; summary = subst (λ s. IsSummary s token) (sym says) its } in
     let later : missed ++ one ∷ [] ≡ one ∷ [] = ap (λ ms. ms ++ one ∷ []) first in
-    let found_after : AreMissedAt new.found (missed ++ one ∷ []) = subst (λ (f : Option Found). AreMissedAt f (missed ++ one ∷ [])) (sym (adds.found ∙ some)) (one, later, at) in
+    let found_after : AreMissedAt new.found (missed ++ one ∷ []) = subst (λ (f : Option FoundMismatch). AreMissedAt f (missed ++ one ∷ [])) (sym (adds.found ∙ some)) (one, later, at) in
     let types_held : AreTypes middle.types.items made = subst (λ (v : Vec ℕ). AreTypes v.items made) (sym types) held.types in
     let opens = adds.opens (subst IsWay (sym way) held.is_way) in
     let positions : way_positions new.way ≡ unasked token ++ way_positions old.way =
@@ -188,7 +188,7 @@ miss_leads table back tokens made missed token is old middle new summary left it
 -- ---- what is added
 
 -- Case: the token makes no object.
-pub adds_none : (old : Finding) (type : ℕ) (summary : Summary) (left : Left) → HasRoom summary left → ((token : Token) → IsSummary summary token → measure_of token ≡ None) → Adds old type summary left old
+pub adds_none : (old : Finding) (type : ℕ) (summary : Summary) (left : BlockExpectations) → HasRoom summary left → ((token : Token) → IsSummary summary token → measure_of token ≡ None) → Adds old type summary left old
 adds_none old type summary left room none =
     let some = some_token summary in
     let no_object : (token : Token) → IsSummary summary token → made_by token ≡ 0 = λ token its. ap (of_object (λ _. 1)) (none token its) in
@@ -205,7 +205,7 @@ adds_none old type summary left room none =
 
 -- Case: the token makes one object.
 pub adds_one :
-    (old new : Finding) (type : ℕ) (summary : Summary) (left : Left) (measure : Measure) → ((token : Token) → IsSummary summary token → measure_of token ≡ Some measure)
+    (old new : Finding) (type : ℕ) (summary : Summary) (left : BlockExpectations) (measure : Measure) → ((token : Token) → IsSummary summary token → measure_of token ≡ Some measure)
     → (IsWay old.way → IsWay new.way × OpensAt old.way (length old.types.items) left new.way)
     → new.found ≡ old.found → new.seconds ≡ old.seconds → new.types.items ≡ old.types.items ++ type ∷ [] → new.again ≡ old.again → Spends old.words measure new.words → Adds old type summary left new
 adds_one old new type summary left measure is opens found seconds types again spends =
@@ -274,12 +274,12 @@ no_back_summary sayings.Double plain = tt
 no_back_summary (sayings.Doubles m) plain = tt
 no_back_summary (sayings.Custom kind) plain = tt
 
-pub none_found : (found : Option Found) → is_some found ≡ false → found ≡ None
+pub none_found : (found : Option FoundMismatch) → is_some found ≡ false → found ≡ None
 none_found None none = refl
 none_found (Some found) none = absurd (cc)
 
 pub comes_fits :
-    (table : Table) (stated : ℕ) (prefix : List ℕ) (old new : Finding) (t : ℕ) (summary : Summary) (left : Left) → t < no_type → IsNoBack summary
+    (table : Table) (stated : ℕ) (prefix : List ℕ) (old new : Finding) (t : ℕ) (summary : Summary) (left : BlockExpectations) → t < no_type → IsNoBack summary
     → ((token : Token) → IsSummary summary token → (back : List ℕ) (tokens : List Token) (made : List Made) (trail : List (ℕ × ℕ)) → Takes back table (IsPlain table tokens) made trail (of_type t) token (opened_positions (length made) trail left))
     → Adds old t summary left new → Comes table stated prefix old (asks.Type t) summary new
 comes_fits table stated prefix old new t summary left some plain takes adds = record {
@@ -291,7 +291,7 @@ comes_fits table stated prefix old new t summary left some plain takes adds = re
 }
 
 pub comes_below :
-    (table : Table) (stated : ℕ) (prefix : List ℕ) (old new : Finding) (summary : Summary) (left : Left) → ((token : Token) → IsSummary summary token → May (length old.types.items) stated token) → ((token : Token) → IsSummary summary token → unasked_in left token)
+    (table : Table) (stated : ℕ) (prefix : List ℕ) (old new : Finding) (summary : Summary) (left : BlockExpectations) → ((token : Token) → IsSummary summary token → May (length old.types.items) stated token) → ((token : Token) → IsSummary summary token → unasked_in left token)
     → Adds old no_type summary left new → Comes table stated prefix old asks.Nothing summary new
 comes_below table stated prefix old new summary left refers fields adds = record {
   leads = λ back tokens made missed token is its held known passed.
@@ -312,13 +312,13 @@ comes_below_back table stated prefix old summary offset same some first few =
     (adds_none old no_type (sayings.Shared offset) (lefts.Unasked 0) (λ token its none. refl) (λ token its. ap measure_of its)))
 
 pub comes_below_other :
-    (table : Table) (stated : ℕ) (prefix : List ℕ) (old new : Finding) (summary : Summary) (left : Left) → IsNoBack summary → ((token : Token) → IsSummary summary token → unasked_in left token)
+    (table : Table) (stated : ℕ) (prefix : List ℕ) (old new : Finding) (summary : Summary) (left : BlockExpectations) → IsNoBack summary → ((token : Token) → IsSummary summary token → unasked_in left token)
     → Adds old no_type summary left new → Comes table stated prefix old asks.Nothing summary new
 comes_below_other table stated prefix old new summary left plain fields adds =
     comes_below table stated prefix old new summary left (refers_by summary (length old.types.items) stated plain) fields adds
 
 pub comes_miss :
-    (table : Table) (stated : ℕ) (prefix : List ℕ) (old middle new : Finding) (t : ℕ) (summary : Summary) (left : Left) (found : Found) → ((token : Token) → IsSummary summary token → Misses table t token) → old.found ≡ None → middle.found ≡ Some found
+    (table : Table) (stated : ℕ) (prefix : List ℕ) (old middle new : Finding) (t : ℕ) (summary : Summary) (left : BlockExpectations) (found : FoundMismatch) → ((token : Token) → IsSummary summary token → Misses table t token) → old.found ≡ None → middle.found ≡ Some found
     → found.links.items ≡ old.way.links.items → found.ty ≡ t → found.summary ≡ summary → middle.way ≡ old.way → middle.types ≡ old.types → middle.again ≡ old.again → middle.seconds ≡ old.seconds → middle.words ≡ old.words
     → ((token : Token) → IsSummary summary token → unasked_in left token) → Adds middle no_type summary left new → Comes table stated prefix old (asks.Type t) summary new
 comes_miss table stated prefix old middle new t summary left found misses none some links type says way types again seconds words fields adds = record {
@@ -421,7 +421,7 @@ passes_follows table stated prefix old new summary p = record {
 
 -- A token that is consumed at the first position.
 pub came_follows :
-    (table : Table) (stated : ℕ) (prefix : List ℕ) (old new : Finding) (taken : Way) (asked : Asked) (summary : Summary) → IsWay taken → way_positions old.way ≡ position_of asked (trail_in taken) ∷ way_positions taken
+    (table : Table) (stated : ℕ) (prefix : List ℕ) (old new : Finding) (taken : Way) (asked : Expectation) (summary : Summary) → IsWay taken → way_positions old.way ≡ position_of asked (trail_in taken) ∷ way_positions taken
     → Comes table stated prefix (record old { way = taken }) asked summary new → Follows table stated prefix old summary new
 came_follows table stated prefix old new taken asked summary is positions c = record {
   leads = λ back tokens made missed token is_token its held known passed.
@@ -433,10 +433,10 @@ came_follows table stated prefix old new taken asked summary is positions c = re
 }
 
 -- By the summary of the token.
-pub hastens_by : (table : Table) (bytes : List ℕ) (old new : Finding) (summary : Summary) (len : ℕ) (fast : Fast) → IsSummaryBy bytes summary len → Hastens table old summary len new fast → HastensBy table bytes old new fast
-hastens_by table bytes old new summary len (quicks.Took n) by h = (summary, subst (IsSummaryBy bytes summary) (sym h.0) by, h.1)
-hastens_by table bytes old new summary len quicks.Kept by h = h
-hastens_by table bytes old new summary len quicks.Inconclusive by h = tt
+pub runs_fast_by : (table : Table) (bytes : List ℕ) (old new : Finding) (summary : Summary) (len : ℕ) (fast : Fast) → IsSummaryBy bytes summary len → RunsFast table old summary len new fast → RunsFastBy table bytes old new fast
+runs_fast_by table bytes old new summary len (fasts.Took n) by h = (summary, subst (IsSummaryBy bytes summary) (sym h.0) by, h.1)
+runs_fast_by table bytes old new summary len fasts.Kept by h = h
+runs_fast_by table bytes old new summary len fasts.Inconclusive by h = tt
 
 -- ---- a reference
 
@@ -548,7 +548,7 @@ comes_back table stated prefix old new t offset object some first few its_object
 
 -- The target has the type by its first type.
 pub has_first :
-    (table : Table) (prefix : List ℕ) (types : List ℕ) (old new : Seconds) (t object own : ℕ) → slice_get types object ≡ Some own → (own ≡ no_type → ⊥) → (table_shapes table).equal own t → new ≡ old
+    (table : Table) (prefix : List ℕ) (types : List ℕ) (old new : SecondReads) (t object own : ℕ) → slice_get types object ≡ Some own → (own ≡ no_type → ⊥) → (table_shapes table).equal own t → new ≡ old
     → (tokens : List Token) (made : List Made) → AreTypes types made → Knows table prefix tokens old → (HasFirst table made object t ⊎ IsPlain table tokens object t) × Knows table prefix tokens new
 has_first table prefix types old new t object own at typed equal same tokens made are known =
     let there = type_there made object own (ap (λ ts. slice_get ts object) (sym are.0) ∙ at) typed in
@@ -556,6 +556,6 @@ has_first table prefix types old new t object own at typed equal same tokens mad
 
 -- The target has the type by its tokens.
 pub has_second :
-    (table : Table) (prefix : List ℕ) (types : List ℕ) (old new : Seconds) (t object : ℕ) → Shows table prefix old object t new
+    (table : Table) (prefix : List ℕ) (types : List ℕ) (old new : SecondReads) (t object : ℕ) → Shows table prefix old object t new
     → (tokens : List Token) (made : List Made) → AreTypes types made → Knows table prefix tokens old → (HasFirst table made object t ⊎ IsPlain table tokens object t) × Knows table prefix tokens new
 has_second table prefix types old new t object shows tokens made are known = let both = shows tokens known in (inr both.0, both.1)

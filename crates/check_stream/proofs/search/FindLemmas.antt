@@ -26,11 +26,11 @@ use Rattle.check_stream.specs.declared.checker.words.Words.{Words}
 use Rattle.check_stream.specs.checker.State.{BeginsAs, stated32}
 use Rattle.check_stream.proofs.checker.RunLemmas.{words32_push, words64_push, words32_stated, start_from}
 use Rattle.check_stream.specs.declared.search.again.Again.{Again}
-use Rattle.check_stream.specs.declared.search.mismatch.Found.{Found}
+use Rattle.check_stream.specs.declared.search.mismatch.FoundMismatch.{FoundMismatch}
 use Rattle.check_stream.specs.declared.search.mismatch.Finding.{Finding}
 use Rattle.check_stream.specs.declared.search.summary.Summary.{Summary}
-use Rattle.check_stream.specs.declared.search.second.Seconds.{Seconds}
-use Rattle.check_stream.specs.declared.search.way.Asked.{Asked}
+use Rattle.check_stream.specs.declared.search.second.SecondReads.{SecondReads}
+use Rattle.check_stream.specs.declared.search.way.Expectation.{Expectation}
 use Rattle.check_stream.specs.declared.search.way.Link.{Link}
 use Rattle.check_stream.specs.search.Judge.{IsSummaryBy}
 use Rattle.check_stream.specs.declared.search.way.Way.{Way}
@@ -156,7 +156,7 @@ some_open way some = let many = way_many way in omega (arith, many, some)
 
 -- The offset is marked according to the number of objects before it.
 marked_there :
-    (table : Table) (limit : ℕ) (bytes : List ℕ) (head : Head) (start n made : ℕ) (finding : Finding) (new : Seconds) → (f : Finds table limit bytes head start n [] finding) → made ≡ length finding.types.items → Marks finding.seconds n made new
+    (table : Table) (limit : ℕ) (bytes : List ℕ) (head : Head) (start n made : ℕ) (finding : Finding) (new : SecondReads) → (f : Finds table limit bytes head start n [] finding) → made ≡ length finding.types.items → Marks finding.seconds n made new
     → Knows table (take n bytes) f.tokens new
 marked_there table limit bytes head start n made finding new f many m =
     let p = f.passing in
@@ -172,7 +172,7 @@ marked_there table limit bytes head start n made finding new f many m =
     }
 
 pub finds_marked :
-    (table : Table) (limit : ℕ) (bytes : List ℕ) (head : Head) (start n made : ℕ) (finding : Finding) (seconds : Seconds) → Finds table limit bytes head start n [] finding → made ≡ length finding.types.items → Marks finding.seconds n made seconds
+    (table : Table) (limit : ℕ) (bytes : List ℕ) (head : Head) (start n made : ℕ) (finding : Finding) (seconds : SecondReads) → Finds table limit bytes head start n [] finding → made ≡ length finding.types.items → Marks finding.seconds n made seconds
     → Finds table limit bytes head start n [] (record finding { seconds = seconds })
 finds_marked table limit bytes head start n made finding seconds f many m = record {
   tokens = f.tokens;
@@ -213,7 +213,7 @@ finds_led table limit bytes head start n m taken old new summary f by l refers o
     }
 
 pub finds_further :
-    (table : Table) (limit : ℕ) (bytes : List ℕ) (head : Head) (start n m : ℕ) (old new : Finding) (asked : Asked) (summary : Summary) → Finds table limit bytes head start n (position_of asked (trail_in old.way) ∷ []) old → IsSummaryBy (drop n bytes) summary m
+    (table : Table) (limit : ℕ) (bytes : List ℕ) (head : Head) (start n m : ℕ) (old new : Finding) (asked : Expectation) (summary : Summary) → Finds table limit bytes head start n (position_of asked (trail_in old.way) ∷ []) old → IsSummaryBy (drop n bytes) summary m
     → Comes table head.objects (take n bytes) old asked summary new → Finds table limit bytes head start (n + m) [] new
 finds_further table limit bytes head start n m old new asked summary f by c =
     finds_led table limit bytes head start n m (position_of asked (trail_in old.way) ∷ []) old new summary f by (c.leads f.back f.tokens f.made f.missed by.token by.is_token by.is_summary f.held f.known f.passing.passed)
@@ -238,11 +238,11 @@ alone_links back marks each (link ∷ links) alone =
     (λ among. let marked = each link.object among in let lone = All-head (IsAlone marks) link links alone in lone marked)
 
 -- The only mismatch.
-one_missed : (found : Option Found) (its : Found) (missed : List Missed) → found ≡ Some its → AreMissedAt found missed → (one : Missed) × (missed ≡ one ∷ []) × IsMissedAt its one
+one_missed : (found : Option FoundMismatch) (its : FoundMismatch) (missed : List Missed) → found ≡ Some its → AreMissedAt found missed → (one : Missed) × (missed ≡ one ∷ []) × IsMissedAt its one
 one_missed found its missed is are = subst (λ f. AreMissedAt f missed) is are
 
 pub found_end :
-    (table : Table) (limit : ℕ) (bytes : List ℕ) (head : Head) (start n : ℕ) (finding : Finding) (found : Found) → AreLawful (table_shapes table) Everything → Finds table limit bytes head start n [] finding → way_positions finding.way ≡ []
+    (table : Table) (limit : ℕ) (bytes : List ℕ) (head : Head) (start n : ℕ) (finding : Finding) (found : FoundMismatch) → AreLawful (table_shapes table) Everything → Finds table limit bytes head start n [] finding → way_positions finding.way ≡ []
     → Ends head start n finding found → IsFound table limit n bytes found
 found_end table limit bytes head start n finding found lawful f none ends =
     let one = one_missed finding.found found f.missed ends.its f.held.found in

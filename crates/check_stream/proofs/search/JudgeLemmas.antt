@@ -13,19 +13,19 @@ use Rattle.marshal_spec.specs.format.Tree.{made_by}
 use Rattle.check_stream.specs.theory.Asked.{of_type, shape_at, shape_asks, fields_ask}
 use Rattle.check_stream.proofs.theory.BlockLemmas.{fields_many}
 use Rattle.check_stream.specs.mismatch_theory.PassedBut.{positions_of, IsPlain, Takes}
-use Rattle.check_stream.specs.declared.checker.positions.Open.{Open}
+use Rattle.check_stream.specs.declared.checker.open_positions.BlockPositions.{BlockPositions}
 use Rattle.check_stream.specs.checker.Positions.{open_needs}
 use Rattle.check_stream.specs.checker.State.{custom_leaf}
 use Rattle.check_stream.specs.declared.search.summary.Summary.{Summary}
 use Rattle.check_stream.specs.declared.search.summary.Summary.TheVariants as sayings
-use Rattle.check_stream.specs.declared.search.judge.Judged.{Judged}
-use Rattle.check_stream.specs.declared.search.judge.Judged.TheVariants as judged
-use Rattle.check_stream.specs.declared.search.way.Left.{Left}
+use Rattle.check_stream.specs.declared.search.judge.TokenJudgement.{TokenJudgement}
+use Rattle.check_stream.specs.declared.search.judge.TokenJudgement.TheVariants as judged
+use Rattle.check_stream.specs.declared.search.way.BlockExpectations.{BlockExpectations}
 use Rattle.check_stream.specs.search.Judge.{IsSummary, IsNoBack, IsApt, IsJudged, has_custom, judged_by}
 use Rattle.check_stream.specs.search.Find.{HasRoom}
 
 -- Both clauses of the contract of `judge`.
-abbrev pub AreJudged : Table → ℕ → Summary → Judged → Type 0
+abbrev pub AreJudged : Table → ℕ → Summary → TokenJudgement → Type 0
 AreJudged table t summary result = IsApt summary result × ((token : Token) → IsSummary summary token → IsJudged table t token result)
 
 apt_by : (summary : Summary) → IsNoBack summary → (fits : Bool) → IsApt summary (judged_by fits)
@@ -47,7 +47,7 @@ module _ (table : Table) (t : ℕ) where
   leaf_judged object false is = is
 
   -- By what the code computed.
-  module _ (summary : Summary) (shape : ShapeOf ℕ) (fits : Bool) (result : Judged) (own : shape ≡ shape_at table t) (by : result ≡ judged_by fits) where
+  module _ (summary : Summary) (shape : ShapeOf ℕ) (fits : Bool) (result : TokenJudgement) (own : shape ≡ shape_at table t) (by : result ≡ judged_by fits) where
     judged_summary : (other : Summary) → summary ≡ other → IsNoBack other → ((token : Token) → IsSummary other token → IsJudged table t token (judged_by fits)) → AreJudged table t summary result
     judged_summary other is plain each =
         let its : AreJudged table t other (judged_by fits) = (apt_by other plain fits, each) in
@@ -88,7 +88,7 @@ module _ (table : Table) (t : ℕ) where
         (leaf_judged (custom_leaf kind its.0) fits (ap (λ s. object_fields s (custom_leaf kind its.0)) (sym own) ∙ custom_fields kind its.0 ∙ ap none_if (sym test))))
 
   -- A block, by its positions.
-  pub judged_opens : (summary : Summary) (shape : ShapeOf ℕ) (tag size : ℕ) (positions : Option Open) (open' : Open) → summary ≡ sayings.Block tag size → shape ≡ shape_at table t → option_map open_needs positions ≡ shape_asks shape t tag size → positions ≡ Some open'
+  pub judged_opens : (summary : Summary) (shape : ShapeOf ℕ) (tag size : ℕ) (positions : Option BlockPositions) (open' : BlockPositions) → summary ≡ sayings.Block tag size → shape ≡ shape_at table t → option_map open_needs positions ≡ shape_asks shape t tag size → positions ≡ Some open'
       → AreJudged table t summary (judged.Opens open')
   judged_opens summary shape tag size positions open' is own asks some =
       let its : fields_ask table t tag size ≡ Some (open_needs open') = ap (λ s. shape_asks s t tag size) (sym own) ∙ sym asks ∙ ap (option_map open_needs) some in (
@@ -98,7 +98,7 @@ module _ (table : Table) (t : ℕ) where
             (open_needs open', its, refl),
       )
 
-  pub judged_misses : (summary : Summary) (shape : ShapeOf ℕ) (tag size : ℕ) (positions : Option Open) → summary ≡ sayings.Block tag size → shape ≡ shape_at table t → option_map open_needs positions ≡ shape_asks shape t tag size → positions ≡ None
+  pub judged_misses : (summary : Summary) (shape : ShapeOf ℕ) (tag size : ℕ) (positions : Option BlockPositions) → summary ≡ sayings.Block tag size → shape ≡ shape_at table t → option_map open_needs positions ≡ shape_asks shape t tag size → positions ≡ None
       → AreJudged table t summary judged.Misses
   judged_misses summary shape tag size positions is own asks none =
       let its : fields_ask table t tag size ≡ None = ap (λ s. shape_asks s t tag size) (sym own) ∙ sym asks ∙ ap (option_map open_needs) none in (
@@ -107,7 +107,7 @@ module _ (table : Table) (t : ℕ) where
       )
 
 -- Only a block has positions.
-pub room_of_block : (summary : Summary) (left : Left) (tag size : ℕ) → summary ≡ sayings.Block tag size → HasRoom summary left
+pub room_of_block : (summary : Summary) (left : BlockExpectations) (tag size : ℕ) → summary ≡ sayings.Block tag size → HasRoom summary left
 room_of_block summary left tag size is token its none =
     let same : token ≡ block tag size = subst (λ s. IsSummary s token) is its in
     let one : made_by token ≡ 1 = ap made_by same in

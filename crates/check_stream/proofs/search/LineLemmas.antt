@@ -13,7 +13,7 @@ use Rattle.check_stream.specs.mismatch_theory.PassedBut.{Missed}
 use Rattle.check_stream.specs.mismatch_theory.MissedLine.{token_text, missed_text}
 use Rattle.check_stream.proofs.mismatch_theory.LineLemmas.{missed_has_line}
 use Rattle.check_stream.specs.checker.State.{custom_leaf}
-use Rattle.check_stream.specs.declared.search.mismatch.Found.{Found}
+use Rattle.check_stream.specs.declared.search.mismatch.FoundMismatch.{FoundMismatch}
 use Rattle.check_stream.specs.declared.search.summary.Summary.{Summary}
 use Rattle.check_stream.specs.declared.search.summary.Summary.TheVariants as sayings
 use Rattle.check_stream.specs.declared.search.way.Link.{Link}
@@ -48,7 +48,7 @@ text_summary (sayings.Custom kind) token its = ap token_text its.1 ∙ custom_su
   custom_summary customs.Int64 z = refl
   custom_summary customs.Native z = refl
 
-text_found : (type_text : ℕ → List ℕ) (found : Found) (missed : Missed) → IsMissedAt found missed → missed_text type_text missed ≡ found_text type_text found
+text_found : (type_text : ℕ → List ℕ) (found : FoundMismatch) (missed : Missed) → IsMissedAt found missed → missed_text type_text missed ≡ found_text type_text found
 text_found type_text found missed at =
     ap (λ trail. path_text (path_of trail) ++ codes ": expected " ++ type_text missed.type ++ codes ", found " ++ token_text missed.token) at.trail
     ∙ ap (λ path. path_text path ++ codes ": expected " ++ type_text missed.type ++ codes ", found " ++ token_text missed.token) (path_summary found.links.items)

@@ -9,15 +9,15 @@ use Rattle.std.proofs.lemmas.Option.{none-some, same_Some}
 use Rattle.base_data.proofs.model.Lists.{slice_get-last}
 use Rattle.check_stream.specs.theory.Asked.{Need, of_type, hash_of, values_in}
 use Rattle.types_spec.specs.declared.types.shape.PolyTag.{PolyTag}
-use Rattle.check_stream.specs.declared.checker.positions.Open.{Open}
-use Rattle.check_stream.specs.declared.checker.positions.Open.TheVariants as opens
+use Rattle.check_stream.specs.declared.checker.open_positions.BlockPositions.{BlockPositions}
+use Rattle.check_stream.specs.declared.checker.open_positions.BlockPositions.TheVariants as opens
 use Rattle.check_stream.specs.checker.Positions.{open_needs}
 use Rattle.check_stream.specs.mismatch_theory.PassedBut.{Position, positions_of, field_after, values_at}
 use Rattle.check_stream.proofs.mismatch_theory.StatedLemmas.{values_at-append, values_at-unasked}
-use Rattle.check_stream.specs.declared.search.way.Asked.{Asked}
-use Rattle.check_stream.specs.declared.search.way.Asked.TheVariants as asks
-use Rattle.check_stream.specs.declared.search.way.Left.{Left}
-use Rattle.check_stream.specs.declared.search.way.Left.TheVariants as lefts
+use Rattle.check_stream.specs.declared.search.way.Expectation.{Expectation}
+use Rattle.check_stream.specs.declared.search.way.Expectation.TheVariants as asks
+use Rattle.check_stream.specs.declared.search.way.BlockExpectations.{BlockExpectations}
+use Rattle.check_stream.specs.declared.search.way.BlockExpectations.TheVariants as lefts
 use Rattle.check_stream.specs.declared.search.way.Link.{Link}
 use Rattle.check_stream.specs.declared.search.way.Wait.{Wait}
 use Rattle.check_stream.specs.declared.search.way.Way.{Way}
@@ -33,7 +33,7 @@ trail_of_push (link ∷ links) last = ap (λ trail. trail ++ pair link ∷ []) (
 
 -- ---- links that lead to the same positions
 
--- Up to this depth the blocks are the same, and below it the fields are, too.
+-- Up to the given depth, the two lists of links lead to the same positions.
 pub record Agree (depth : ℕ) (xs ys : List Link) : Type 0 where
   pub trails : (d k : ℕ) → d ≤ depth → position_trail xs d k ≡ position_trail ys d k
 
@@ -46,7 +46,7 @@ module _ (depth : ℕ) (xs ys : List Link) (agree : Agree depth xs ys) where
       ap (λ p. p ∷ positions_asked xs d (k + values_in (need ∷ [])) needs) position
       ∙ ap (λ ps. record { asks = Some need; trail = position_trail ys d k } ∷ ps) (asked_agree d (k + values_in (need ∷ [])) needs within)
 
-  left_agree : (d k : ℕ) (left : Left) → d ≤ depth → positions_left xs d k left ≡ positions_left ys d k left
+  left_agree : (d k : ℕ) (left : BlockExpectations) → d ≤ depth → positions_left xs d k left ≡ positions_left ys d k left
   left_agree d k (lefts.Asked open') within = asked_agree d k (open_needs open') within
   left_agree d k (lefts.Unasked count) within = refl
 
@@ -75,7 +75,7 @@ push_agree links more = record { trails = trails } where
       ap (λ own. own_field own k ++ trail_of (take d (links ++ more))) (got_prefix links more d (omega (arith, within)))
       ∙ ap (λ prefix. own_field (slice_get links d) k ++ trail_of prefix) (take-append-le d links more (omega (arith, within)))
 
--- The positions of the object to which the last link leads.
+-- The trail to field `k` of the object of the last link begins with this object and `k`.
 pushed_trail : (links : List Link) (last : Link) (k : ℕ) → position_trail (links ++ last ∷ []) (suc (length links)) k ≡ (last.object, k) ∷ trail_of links
 pushed_trail links last k =
     ap (λ own. own_field own k ++ trail_of (take (length links) (links ++ last ∷ []))) (slice_get-last links last)
@@ -92,13 +92,14 @@ pushed_asked links last k (need ∷ needs) =
     ap (λ p. p ∷ positions_asked all d next needs) position
     ∙ ap (λ ps. record { asks = Some need; trail = (last.object, k) ∷ trail_of links } ∷ ps) (pushed_asked links last next needs)
 
-pub pushed_positions : (links : List Link) (last : Link) (left : Left) → positions_left (links ++ last ∷ []) (suc (length links)) 0 left ≡ opened_positions last.object (trail_of links) left
+pub pushed_positions : (links : List Link) (last : Link) (left : BlockExpectations) → positions_left (links ++ last ∷ []) (suc (length links)) 0 left ≡ opened_positions last.object (trail_of links) left
 pushed_positions links last (lefts.Asked open') = pushed_asked links last 0 (open_needs open')
 pushed_positions links last (lefts.Unasked count) = refl
 
 -- ---- the field of the last block
 
--- The links are the same except for the field of the last one.
+-- If two lists of links differ only in the field of the last link, then they lead to the same
+-- positions, also in the block of the last link.
 pub turned_agree : (links : List Link) (one two : Link) → one.object ≡ two.object → Agree (length links + 1) (links ++ two ∷ []) (links ++ one ∷ [])
 turned_agree links one two same = record { trails = trails } where
   trails : (d k : ℕ) → d ≤ length links + 1 → position_trail (links ++ two ∷ []) d k ≡ position_trail (links ++ one ∷ []) d k
@@ -155,11 +156,11 @@ no_needs [] none = refl
 no_needs (of_type t ∷ needs) none = absurd (omega (arith, none))
 no_needs (hash_of tags ∷ needs) none = absurd (omega (arith, none))
 
-none_left : (links : List Link) (d k : ℕ) (left : Left) → left_values left ≡ 0 → positions_left links d k left ≡ []
+none_left : (links : List Link) (d k : ℕ) (left : BlockExpectations) → left_values left ≡ 0 → positions_left links d k left ≡ []
 none_left links d k (lefts.Asked open') none = ap (λ needs. positions_asked links d k needs) (no_needs (open_needs open') none)
 none_left links d k (lefts.Unasked count) none = ap (λ n. replicate n unasked_position) none
 
-pub none_opened : (o : ℕ) (trail : List (ℕ × ℕ)) (left : Left) → left_values left ≡ 0 → opened_positions o trail left ≡ []
+pub none_opened : (o : ℕ) (trail : List (ℕ × ℕ)) (left : BlockExpectations) → left_values left ≡ 0 → opened_positions o trail left ≡ []
 none_opened o trail (lefts.Asked open') none = ap (λ needs. positions_of o trail 0 needs) (no_needs (open_needs open') none)
 none_opened o trail (lefts.Unasked count) none = ap (λ n. replicate n unasked_position) none
 
@@ -242,7 +243,7 @@ module _ (old new : List Link) (depth field : ℕ) (pointed : ArePointed old new
   pub pointed_waiting : (waits : List Wait) → AreAround waits depth → waiting_positions new waits ≡ waiting_positions old waits
   pointed_waiting waits around = waiting_agree depth new old pointed_agree waits around
 
-  pub pointed_left : (k : ℕ) (left : Left) → positions_left new depth k left ≡ positions_left old depth k left
+  pub pointed_left : (k : ℕ) (left : BlockExpectations) → positions_left new depth k left ≡ positions_left old depth k left
   pointed_left k left = left_agree depth new old pointed_agree depth k left (omega arith)
 
 -- ---- the first position of a block
@@ -255,25 +256,25 @@ pub first_each : (n t : ℕ) → 0 < n → map of_type (replicate n t) ≡ of_ty
 first_each zero t some = absurd (omega (arith, some))
 first_each (suc n) t some = let less : n ≡ suc n - 1 = omega arith in ap (λ m. of_type t ∷ map of_type (replicate m t)) less
 
-pub split_type : (left : Left) (open' others : Open) (t : ℕ) → left ≡ lefts.Asked open' → open_needs open' ≡ of_type t ∷ open_needs others → IsSplit left (asks.Type t) (lefts.Asked others) 1
+pub split_type : (left : BlockExpectations) (open' others : BlockPositions) (t : ℕ) → left ≡ lefts.Asked open' → open_needs open' ≡ of_type t ∷ open_needs others → IsSplit left (asks.Type t) (lefts.Asked others) 1
 split_type left open' others t is first = subst (λ l. IsSplit l (asks.Type t) (lefts.Asked others) 1) (sym is) record {
   values = let many : values_in (open_needs open') ≡ suc (values_in (open_needs others)) = ap values_in first in omega (arith, many);
   positions = λ links depth next. ap (λ needs. positions_asked links depth next needs) first;
   hash = tt;
 }
 
-split_tagged : (left : Left) (tags : Bor (List (PolyTag ℕ))) → left ≡ lefts.Asked (opens.Tagged tags) → IsSplit left (asks.Hash tags) (lefts.Asked (opens.Each 0 0)) 2
+split_tagged : (left : BlockExpectations) (tags : Bor (List (PolyTag ℕ))) → left ≡ lefts.Asked (opens.Tagged tags) → IsSplit left (asks.Hash tags) (lefts.Asked (opens.Each 0 0)) 2
 split_tagged left tags is = subst (λ l. IsSplit l (asks.Hash tags) (lefts.Asked (opens.Each 0 0)) 2) (sym is) record {
   values = refl;
   positions = λ links depth next. refl;
   hash = (refl, refl);
 }
 
-pub split_hash : (positions : Open) (tags : Bor (List (PolyTag ℕ))) → positions ≡ opens.Tagged tags → IsSplit (lefts.Asked positions) (asks.Hash tags) (lefts.Asked (opens.Each 0 0)) 2
+pub split_hash : (positions : BlockPositions) (tags : Bor (List (PolyTag ℕ))) → positions ≡ opens.Tagged tags → IsSplit (lefts.Asked positions) (asks.Hash tags) (lefts.Asked (opens.Each 0 0)) 2
 split_hash positions tags is = split_tagged (lefts.Asked positions) tags (ap lefts.Asked is)
 
 -- The result for the positions of a block.
-pub split_same : (left : Left) (positions : Open) (result : Option (Asked × Left × ℕ)) → left ≡ lefts.Asked positions
+pub split_same : (left : BlockExpectations) (positions : BlockPositions) (result : Option (Expectation × BlockExpectations × ℕ)) → left ≡ lefts.Asked positions
     → MatchOption result (left_values (lefts.Asked positions) ≡ 0) (λ first. IsSplit (lefts.Asked positions) first.0 first.1 first.2) → MatchOption result (left_values left ≡ 0) (λ first. IsSplit left first.0 first.1 first.2)
 split_same left positions None is none = ap left_values is ∙ none
 split_same left positions (Some first) is own = subst (λ l. IsSplit l first.0 first.1 first.2) (sym is) own
@@ -282,7 +283,7 @@ first_unasked : (n : ℕ) → 0 < n → replicate n unasked_position ≡ unasked
 first_unasked zero some = absurd (omega (arith, some))
 first_unasked (suc n) some = let less : n ≡ suc n - 1 = omega arith in ap (λ m. unasked_position ∷ replicate m unasked_position) less
 
-pub split_unasked : (left : Left) (count : ℕ) → left ≡ lefts.Unasked count → 0 < count → IsSplit left asks.Nothing (lefts.Unasked (count - 1)) 1
+pub split_unasked : (left : BlockExpectations) (count : ℕ) → left ≡ lefts.Unasked count → 0 < count → IsSplit left asks.Nothing (lefts.Unasked (count - 1)) 1
 split_unasked left count is some = subst (λ l. IsSplit l asks.Nothing (lefts.Unasked (count - 1)) 1) (sym is) record {
   values = omega (arith, some);
   positions = λ links depth next. first_unasked count some;
@@ -291,13 +292,14 @@ split_unasked left count is some = subst (λ l. IsSplit l asks.Nothing (lefts.Un
 
 -- ---- the first open position is taken
 
--- The first position is taken, `asked` is what it expects, and the links lead to it.
-pub record IsTaken (old : Way) (asked : Asked) (new : Way) : Type 0 where
+-- `new` is `old` without its first open position. The position expects `asked`, and the links of
+-- `new` lead to it.
+pub record IsTaken (old : Way) (asked : Expectation) (new : Way) : Type 0 where
   pub is_way : IsWay new
   pub positions : way_positions old ≡ position_of asked (trail_in new) ∷ way_positions new
   pub hash : OnHash asked (IsAfterHash new)
 
-abbrev pub taken_way : Way → ℕ → Left → Way
+abbrev pub taken_way : Way → ℕ → BlockExpectations → Way
 taken_way pointed next others = record { now = record { depth = pointed.now.depth; next = next; left = others }; waiting = pointed.waiting; links = pointed.links }
 
 -- The field after a field of a block is its next field.
@@ -312,7 +314,7 @@ after_own links (suc d) k within = by (slice_get links d) refl where
     none_short (x ∷ xs) (suc d) none short = none_short xs d none (omega (arith, short))
   by (Some link) is = refl
 
-module _ (old pointed : Way) (asked : Asked) (others : Left) (values : ℕ) (is : IsWay old) (points : PointsTo old old.now.next pointed) (split : IsSplit old.now.left asked others values) where
+module _ (old pointed : Way) (asked : Expectation) (others : BlockExpectations) (values : ℕ) (is : IsWay old) (points : PointsTo old old.now.next pointed) (split : IsSplit old.now.left asked others values) where
   abbrev next : ℕ
   next = old.now.next + values
 
@@ -330,7 +332,7 @@ module _ (old pointed : Way) (asked : Asked) (others : Left) (values : ℕ) (is 
     all_small = subst (λ (v : Vec Wait). All IsSmall v.items) (sym points.waiting) is.all_small;
   }
 
-  -- The other positions, by the old links.
+  -- The positions after the first one are the same by the old links as by the new ones.
   others_same : way_positions new ≡ positions_left old.links.items old.now.depth next others ++ waiting_positions old.links.items old.waiting.items
   others_same =
       ap (λ d. positions_left pointed.links.items d next others ++ waiting_positions pointed.links.items pointed.waiting.items) same_depth
@@ -358,7 +360,7 @@ module _ (old pointed : Way) (asked : Asked) (others : Left) (values : ℕ) (is 
             ∙ ap field_after (points.links.agree old.now.depth old.now.next (omega arith) ∙ sym points.links.trail);
       }
 
-  on_hash : (a : Asked) → OnHash a ((values ≡ 2) × (left_values others ≡ 0)) → OnHash a (IsAfterHash new)
+  on_hash : (a : Expectation) → OnHash a ((values ≡ 2) × (left_values others ≡ 0)) → OnHash a (IsAfterHash new)
   on_hash (asks.Type t) two = tt
   on_hash (asks.Hash tags) two = after_hash two
   on_hash asks.Nothing two = tt
@@ -366,8 +368,9 @@ module _ (old pointed : Way) (asked : Asked) (others : Left) (values : ℕ) (is 
   pub taken_first : IsTaken old asked new
   taken_first = record { is_way = taken_is_way; positions = taken_positions; hash = on_hash asked split.hash }
 
--- The first position is taken, and the links do not change.
-pub passed_first : (old : Way) (asked : Asked) (others : Left) (values : ℕ) → IsWay old → IsSplit old.now.left asked others values
+-- If the first open position is removed, then the other positions stay the same, and the links do
+-- not change.
+pub passed_first : (old : Way) (asked : Expectation) (others : BlockExpectations) (values : ℕ) → IsWay old → IsSplit old.now.left asked others values
     → IsWay (taken_way old (old.now.next + values) others) × (way_positions old ≡ position_of asked (position_trail old.links.items old.now.depth old.now.next) ∷ way_positions (taken_way old (old.now.next + values) others))
 passed_first old asked others values is split = (
   record {
@@ -421,7 +424,7 @@ needs_many links depth k [] = refl
 needs_many links depth k (of_type t ∷ needs) = let same = needs_many links depth (k + values_in (of_type t ∷ [])) needs in omega (arith, same)
 needs_many links depth k (hash_of tags ∷ needs) = let same = needs_many links depth (k + values_in (hash_of tags ∷ [])) needs in omega (arith, same)
 
-left_many : (links : List Link) (depth k : ℕ) (left : Left) → values_at (positions_left links depth k left) ≡ left_values left
+left_many : (links : List Link) (depth k : ℕ) (left : BlockExpectations) → values_at (positions_left links depth k left) ≡ left_values left
 left_many links depth k (lefts.Asked open') = needs_many links depth k (open_needs open')
 left_many links depth k (lefts.Unasked count) = values_at-unasked count
 
@@ -463,7 +466,7 @@ kept_some old new is links pushed = record {
   all_small = subst (All IsSmall) (sym pushed) (All-push IsSmall old.waiting.items old.now is.all_small is.small);
 }
 
-pub opened : (old kept new : Way) (object : ℕ) (left : Left) → IsWay old → Keeps old kept → new.links.items ≡ kept.links.items ++ record { object = object; field = 0 } ∷ [] → new.waiting ≡ kept.waiting
+pub opened : (old kept new : Way) (object : ℕ) (left : BlockExpectations) → IsWay old → Keeps old kept → new.links.items ≡ kept.links.items ++ record { object = object; field = 0 } ∷ [] → new.waiting ≡ kept.waiting
     → new.now.depth ≡ length new.links.items → new.now.next ≡ 0 → new.now.left ≡ left → left_values left < 2 ^ 32 → IsWay new × OpensAt old object left new
 opened old kept new object left is keeps pushed waiting depth next its small =
     let links = old.links.items in
@@ -488,7 +491,7 @@ opened old kept new object left is keeps pushed waiting depth next its small =
     ∙ ap (λ ps. wait_positions links old.now ++ ps) (waiting_agree (length links) (links ++ last ∷ []) links agree old.waiting.items (around_within old.waiting.items old.now.depth (length links) within is.around)) in (
       record {
         deep = omega (arith, depth);
-        small = subst (λ k. k + left_values new.now.left < 2 ^ 32) (sym next) (subst (λ (l : Left). 0 + left_values l < 2 ^ 32) (sym its) (omega (arith, small)));
+        small = subst (λ k. k + left_values new.now.left < 2 ^ 32) (sym next) (subst (λ (l : BlockExpectations). 0 + left_values l < 2 ^ 32) (sym its) (omega (arith, small)));
         around = subst (AreAround new.waiting.items) (sym deep) (subst (λ (v : Vec Wait). AreAround v.items (suc (length links))) (sym waiting) around);
         all_small = subst (λ (v : Vec Wait). All IsSmall v.items) (sym waiting) keeps.all_small;
       },

@@ -11,11 +11,11 @@ use Rattle.marshal_spec.specs.format.Token.{Encodes}
 use Rattle.marshal_spec.specs.format.Token.{measure_of}
 use Rattle.check_stream.specs.theory.Asked.{of_type, IsBackAt}
 use Rattle.check_stream.specs.theory.Noted.{AreAt, AreFlat, flat_values, IsFlatNoted}
-use Rattle.check_stream.specs.declared.checker.again.Seen.{Seen}
-use Rattle.check_stream.specs.declared.checker.again.Seen.TheVariants as sights
+use Rattle.check_stream.specs.declared.checker.again.SeenToken.{SeenToken}
+use Rattle.check_stream.specs.declared.checker.again.SeenToken.TheVariants as sights
 
 -- The token has these contents.
-abbrev pub IsSeen : Seen → Token → Type 0
+abbrev pub IsSeen : SeenToken → Token → Type 0
 IsSeen (sights.Integer z) token = token ≡ integer z
 IsSeen (sights.Atom tag) token = token ≡ atom tag
 IsSeen (sights.Shared offset) token = token ≡ shared offset
@@ -30,7 +30,8 @@ EncodeAll (token ∷ tokens) bytes =
 
 -- The first of the tokens that the bytes encode has these contents. The other tokens begin after
 -- `len` bytes.
-pub record IsFirst (seen : Seen) (len : ℕ) (bytes : List ℕ) (token : Token) (tokens : List Token)
+pub record IsFirst (seen : SeenToken) (len : ℕ) (bytes : List ℕ) (token : Token)
+    (tokens : List Token)
     : Type 0 where
   pub is_token : IsToken token
   pub is_seen : IsSeen seen token
@@ -38,7 +39,7 @@ pub record IsFirst (seen : Seen) (len : ℕ) (bytes : List ℕ) (token : Token) 
 
 -- For all token lists that the bytes encode, the first token has these contents, and the other
 -- tokens begin after `len` bytes.
-pub record Inspects (bytes : List ℕ) (seen : Seen) (len : ℕ) : Type 0 where
+pub record Inspects (bytes : List ℕ) (seen : SeenToken) (len : ℕ) : Type 0 where
   pub some : 0 < len
   pub within : len ≤ length bytes
   pub is_first : (token : Token) (tokens : List Token) → EncodeAll (token ∷ tokens) bytes
@@ -75,7 +76,7 @@ pub record IsBlockIn (prefix marks : List ℕ) (object tag size at : ℕ) : Type
       → IsBlockAt prefix tokens object tag size at
 
 -- A block was read, and its fields begin at byte `at`.
-pub record IsBlockSeen (seen : Seen) (after tag size at : ℕ) : Type 0 where
+pub record IsBlockSeen (seen : SeenToken) (after tag size at : ℕ) : Type 0 where
   pub is_block : seen ≡ sights.Block tag size
   pub is_after : at ≡ after
 

@@ -3,12 +3,12 @@ use Rattle.std.specs.Prelude.{ℕ, ◌+◌, ◌≡◌, ◌++◌, ◌∷◌, []}
 use Rattle.std.specs.Global.{Vec}
 use Rattle.base_data.specs.declared.model.code.Measure.{Measure}
 use Rattle.marshal_spec.specs.format.Words.{words32, words64}
-use Rattle.check_stream.specs.declared.checker.positions.Open.{Open}
-use Rattle.check_stream.specs.declared.checker.state.State.{State}
+use Rattle.check_stream.specs.declared.checker.open_positions.BlockPositions.{BlockPositions}
+use Rattle.check_stream.specs.declared.checker.check_state.CheckState.{CheckState}
 use Rattle.check_stream.specs.declared.checker.words.Words.{Words}
 
 -- The state that consists of the open positions, the types and the words.
-abbrev pub held : Open → Vec Open → Vec ℕ → Words → State
+abbrev pub held : BlockPositions → Vec BlockPositions → Vec ℕ → Words → CheckState
 held now waiting types words =
     record { positions = record { now = now; waiting = waiting }; types = types; words = words }
 

@@ -20,20 +20,20 @@ use Rattle.check_stream.specs.theory.Asked.{Need, of_type, Asks, type_in}
 use Rattle.check_stream.specs.theory.Noted.{IsFlatNoted}
 use Rattle.check_stream.specs.theory.OnePass.{IsPassing, IsTypedPrefix}
 use Rattle.check_stream.specs.declared.checker.words.Words.{Words}
-use Rattle.check_stream.specs.declared.checker.state.State.{State}
-use Rattle.check_stream.specs.declared.checker.step.Answer.{Answer}
-use Rattle.check_stream.specs.declared.checker.step.Answer.TheVariants as answers
-use Rattle.check_stream.specs.declared.checker.whole.Stop.{Stop}
-use Rattle.check_stream.specs.declared.checker.whole.Stop.TheVariants as stops
+use Rattle.check_stream.specs.declared.checker.check_state.CheckState.{CheckState}
+use Rattle.check_stream.specs.declared.checker.step.TokenResult.{TokenResult}
+use Rattle.check_stream.specs.declared.checker.step.TokenResult.TheVariants as answers
+use Rattle.check_stream.specs.declared.checker.whole.PassStop.{PassStop}
+use Rattle.check_stream.specs.declared.checker.whole.PassStop.TheVariants as stops
 use Rattle.check_stream.specs.declared.checker.passing.Passing.{Passing}
 use Rattle.check_stream.specs.checker.Again.{AreMarks, IsReference, IsKnown}
 use Rattle.check_stream.specs.checker.Positions.{positions_needs}
 
 -- The types of the objects so far, by number.
-abbrev pub types_in : State → List ℕ
+abbrev pub types_in : CheckState → List ℕ
 types_in state = state.types.items
 
-abbrev pub needs_in : State → List Need
+abbrev pub needs_in : CheckState → List Need
 needs_in state = positions_needs state.positions
 
 -- The words on a 32-bit platform that a header allows. A big header states no such number.
@@ -56,7 +56,7 @@ custom_leaf customs.Int64 z = objects.I64 z
 custom_leaf customs.Native z = objects.Native z
 
 -- A token was accepted at a position with this requirement.
-pub record Took (table : Table) (old new : State) (need : Need) (token : Token) : Type 0 where
+pub record Took (table : Table) (old new : CheckState) (need : Need) (token : Token) : Type 0 where
   pub next : List Need
   pub asks : Asks [] table (types_in old) need token next
   pub types : types_in new ≡ types_in old ++ type_in need token
@@ -65,7 +65,7 @@ pub record Took (table : Table) (old new : State) (need : Need) (token : Token) 
   pub w64 : new.words.w64 + of_object words64 (measure_of token) ≡ old.words.w64
 
 -- An object without fields was accepted, with this type and this measure.
-pub record TookLeaf (old new : State) (type : ℕ) (measure : Measure) : Type 0 where
+pub record TookLeaf (old new : CheckState) (type : ℕ) (measure : Measure) : Type 0 where
   pub types : types_in new ≡ types_in old ++ type ∷ []
   pub positions : new.positions ≡ old.positions
   pub w32 : new.words.w32 + words32 measure ≡ old.words.w32
@@ -79,7 +79,8 @@ pub record IsThere (token : Token) (made stated : ℕ) : Type 0 where
 
 -- The token that consists of a code of this kind and these bytes was accepted.
 pub record TookChunk
-    (table : Table) (stated : ℕ) (old new : State) (need : Need) (kind : CodeKind) (chunk : List ℕ)
+    (table : Table) (stated : ℕ) (old new : CheckState) (need : Need) (kind : CodeKind)
+    (chunk : List ℕ)
     : Type 0 where
   pub token : Token
   pub encodes : EncodesAfter kind chunk token
@@ -88,7 +89,7 @@ pub record TookChunk
 
 -- The token that the first `n` bytes encode was accepted.
 pub record TookPrefix
-    (table : Table) (stated : ℕ) (old new : State) (need : Need) (rest : List ℕ) (n : ℕ)
+    (table : Table) (stated : ℕ) (old new : CheckState) (need : Need) (rest : List ℕ) (n : ℕ)
     : Type 0 where
   pub within : n ≤ length rest
   pub token : Token
@@ -98,8 +99,8 @@ pub record TookPrefix
 
 -- The token that the first `n` bytes encode was accepted at the first open position.
 pub record TookFirst
-    (table : Table) (stated : ℕ) (old new : State) (rest : List ℕ) (n : ℕ) : Type 0 where
-  pub middle : State
+    (table : Table) (stated : ℕ) (old new : CheckState) (rest : List ℕ) (n : ℕ) : Type 0 where
+  pub middle : CheckState
   pub need : Need
   pub types : types_in middle ≡ types_in old
   pub needs : needs_in old ≡ need ∷ needs_in middle
@@ -107,7 +108,7 @@ pub record TookFirst
   pub took : TookPrefix table stated middle new need rest n
 
 -- The meaning of each answer for the token at the beginning of the bytes.
-abbrev pub IsAnswer : Table → ℕ → State → State → Need → List ℕ → Answer → Type 0
+abbrev pub IsAnswer : Table → ℕ → CheckState → CheckState → Need → List ℕ → TokenResult → Type 0
 IsAnswer table stated old new need rest (answers.Took n) =
     (0 < n) × TookPrefix table stated old new need rest n
 IsAnswer table stated old new need rest answers.Back = new ≡ old
@@ -128,7 +129,8 @@ pub record TookBack
 
 -- The token that `n` bytes from offset `at` on encode was accepted.
 abbrev pub TookTurn :
-    Table → ℕ → State → State → Need → List ℕ → List ℕ → List (ℕ × ℕ) → List (ℕ × ℕ) → ℕ → ℕ
+    Table → ℕ → CheckState → CheckState → Need → List ℕ → List ℕ → List (ℕ × ℕ) → List (ℕ × ℕ) → ℕ
+    → ℕ
     → Type 0
 TookTurn table stated old new need bytes marks notes notes' at n =
     ((notes' ≡ notes) × TookPrefix table stated old new need (drop at bytes) n)
@@ -153,7 +155,7 @@ AreNoted table types noted tokens =
 -- The first `n` bytes lead to this state, with these marks and these notes on second types.
 pub record Leads
     (table : Table) (limit : ℕ) (bytes : List ℕ) (head : Head) (start n : ℕ) (marks : List ℕ)
-    (notes : List (ℕ × ℕ)) (state : State)
+    (notes : List (ℕ × ℕ)) (state : CheckState)
     : Type 0 where
   pub tokens : List Token
   pub noted : List (ℕ × ℕ)
@@ -168,7 +170,7 @@ pub record Leads
 -- The bytes before the remaining bytes lead to this state.
 pub record IsLeft
     (table : Table) (limit : ℕ) (bytes : List ℕ) (head : Head) (start : ℕ) (marks : List ℕ)
-    (notes : List (ℕ × ℕ)) (state : State) (rest : List ℕ)
+    (notes : List (ℕ × ℕ)) (state : CheckState) (rest : List ℕ)
     : Type 0 where
   pub rest_is : rest ≡ drop (length bytes - length rest) bytes
   pub short : length rest ≤ length bytes
@@ -181,7 +183,7 @@ IsMarked old at made new =
     (new ≡ old) ⊎ ((made ≡ 64 * length old) × (new ≡ old ++ at ∷ []))
 
 -- The value has all the data, words and objects that the header states.
-pub record IsSpent (head : Head) (start n : ℕ) (state : State) : Type 0 where
+pub record IsSpent (head : Head) (start n : ℕ) (state : CheckState) : Type 0 where
   pub whole : n ≡ start + head.length
   pub w32 : head.big ≡ false → state.words.w32 ≡ 0
   pub w64 : state.words.w64 ≡ 0
@@ -190,7 +192,7 @@ pub record IsSpent (head : Head) (start n : ℕ) (state : State) : Type 0 where
 -- The meaning of each reason to stop: a typed value ends here, or these bytes lead to the state and
 -- a value is still to be read. An inconclusive result has no meaning.
 abbrev pub StopsAt :
-    Table → ℕ → List ℕ → Head → ℕ → List ℕ → List (ℕ × ℕ) → State → Stop → Type 0
+    Table → ℕ → List ℕ → Head → ℕ → List ℕ → List (ℕ × ℕ) → CheckState → PassStop → Type 0
 StopsAt table limit bytes head start marks notes state (stops.Typed n) =
     IsTypedPrefix table limit n bytes
 StopsAt table limit bytes head start marks notes state (stops.Truncated at) =
@@ -203,7 +205,7 @@ IsUnderway table limit bytes p =
     Leads table limit bytes p.head p.start p.at p.marks.items p.notes.items p.state
 
 -- The meaning of each reason to stop, for a check.
-abbrev pub Stops : Table → ℕ → List ℕ → Passing → Stop → Type 0
+abbrev pub Stops : Table → ℕ → List ℕ → Passing → PassStop → Type 0
 Stops table limit bytes p (stops.Typed n) = IsTypedPrefix table limit n bytes
 Stops table limit bytes p (stops.Truncated at) =
     IsUnderway table limit bytes p × (p.at ≡ at) × (0 < length (needs_in p.state))

@@ -6,10 +6,10 @@ use Rattle.check_stream.specs.truncated.Truncated.{IsTruncated}
 use Rattle.check_stream.specs.theory.OnePass.{IsTypedPrefix}
 use Rattle.check_stream.specs.checker.State.{IsUnderway}
 use Rattle.check_stream.specs.search.Find.{IsFound, IsSought}
-use Rattle.check_stream.specs.declared.search.mismatch.Found.{Found}
+use Rattle.check_stream.specs.declared.search.mismatch.FoundMismatch.{FoundMismatch}
 use Rattle.check_stream.specs.declared.chunks.inspect.Inspecting.{Inspecting}
-use Rattle.check_stream.specs.declared.chunks.inspect.Shown.{Shown}
-use Rattle.check_stream.specs.declared.chunks.inspect.Shown.TheVariants as shown
+use Rattle.check_stream.specs.declared.chunks.inspect.CheckResult.{CheckResult}
+use Rattle.check_stream.specs.declared.chunks.inspect.CheckResult.TheVariants as shown
 
 -- If the pass has begun, then the bytes lead to its state. If the search has begun, then the bytes
 -- lead to its state.
@@ -19,14 +19,14 @@ pub record IsInspecting (table : Table) (limit : ℕ) (bytes : List ℕ) (inspec
   pub sought : inspecting.sought ≡ true → IsSought table limit bytes inspecting.seeking
 
 -- The mismatch that was found last.
-abbrev pub missed_in : Inspecting → Option Found
+abbrev pub missed_in : Inspecting → Option FoundMismatch
 missed_in inspecting = inspecting.seeking.finding.found
 
 -- What each result implies for all bytes of the value so far, and for the state of the check.
-abbrev pub IsShown : Table → ℕ → List ℕ → Inspecting → Shown → Type 0
+abbrev pub IsShown : Table → ℕ → List ℕ → Inspecting → CheckResult → Type 0
 IsShown table limit bytes inspecting (shown.Typed n) = IsTypedPrefix table limit n bytes
 IsShown table limit bytes inspecting (shown.Missed n) =
-    (found : Found) × (missed_in inspecting ≡ Some found)
+    (found : FoundMismatch) × (missed_in inspecting ≡ Some found)
     × IsFound table limit n bytes found × (found.ty < length table.nodes)
 IsShown table limit bytes inspecting shown.More =
     IsPrefix limit bytes × IsInspecting table limit bytes inspecting

@@ -5,10 +5,10 @@ use Rattle.types_spec.specs.types.Table.{Table}
 use Rattle.marshal_spec.specs.format.Prefix.{IsPrefix}
 use Rattle.check_stream.specs.theory.OnePass.{IsTypedPrefix}
 use Rattle.check_stream.specs.search.Find.{IsFound}
-use Rattle.check_stream.specs.declared.search.mismatch.Found.{Found}
+use Rattle.check_stream.specs.declared.search.mismatch.FoundMismatch.{FoundMismatch}
 use Rattle.check_stream.specs.declared.chunks.stream_check.StreamCheck.{StreamCheck}
-use Rattle.check_stream.specs.declared.chunks.stream_check.Answer.{Answer}
-use Rattle.check_stream.specs.declared.chunks.stream_check.Answer.TheVariants as answers
+use Rattle.check_stream.specs.declared.chunks.stream_check.ChunkResult.{ChunkResult}
+use Rattle.check_stream.specs.declared.chunks.stream_check.ChunkResult.TheVariants as answers
 use Rattle.check_stream.specs.chunks.Inspection.{IsInspecting, missed_in}
 
 -- The buffered bytes are a prefix of a value, and they lead to the state of the check.
@@ -18,7 +18,7 @@ pub record IsStreamCheck (table : Table) (limit : ℕ) (g : StreamCheck) : Type 
   pub inspecting : IsInspecting table limit g.kept.items g.inspecting
 
 -- The mismatch that was found last.
-abbrev pub held : StreamCheck → Option Found
+abbrev pub held : StreamCheck → Option FoundMismatch
 held g = missed_in g.inspecting
 
 -- The buffered bytes and the first `n` bytes of the chunk are a value that has the table's first
@@ -42,17 +42,18 @@ pub record IsMissedNext
   pub some : 0 < n
   pub within : n ≤ length chunk
   pub missed :
-      (found : Found) × (held new ≡ Some found)
+      (found : FoundMismatch) × (held new ≡ Some found)
       × IsFound table limit (length old.kept.items + n) (old.kept.items ++ chunk) found
       × (found.ty < length table.nodes)
   pub none : new.kept.items ≡ []
   pub stream_check : (other : Table) (limit' : ℕ) → IsStreamCheck other limit' new
 
 -- The result of a chunk.
-abbrev pub Glances : Table → ℕ → StreamCheck → List ℕ → StreamCheck → Answer → Type 0
-Glances table limit old chunk new (answers.Typed n) = IsTypedNext table limit old chunk new n
-Glances table limit old chunk new (answers.Missed n) = IsMissedNext table limit old chunk new n
-Glances table limit old chunk new answers.More =
+abbrev pub IsChunkResult : Table → ℕ → StreamCheck → List ℕ → StreamCheck → ChunkResult → Type 0
+IsChunkResult table limit old chunk new (answers.Typed n) = IsTypedNext table limit old chunk new n
+IsChunkResult table limit old chunk new (answers.Missed n) =
+    IsMissedNext table limit old chunk new n
+IsChunkResult table limit old chunk new answers.More =
     (new.kept.items ≡ old.kept.items ++ chunk) × IsStreamCheck table limit new
-Glances table limit old chunk new answers.Inconclusive =
+IsChunkResult table limit old chunk new answers.Inconclusive =
     (new.kept.items ≡ old.kept.items) × IsStreamCheck table limit new

@@ -15,21 +15,21 @@ use Rattle.check_stream.specs.mismatch_theory.PassedBut.{unasked}
 use Rattle.check_stream.specs.mismatch_theory.PassedBut.{values_at}
 use Rattle.check_stream.specs.mismatch_theory.MissedPrefix.{IsPassingBut, IsMissedPrefix}
 use Rattle.check_stream.specs.checker.State.{stated32}
-use Rattle.check_stream.specs.declared.search.mismatch.End.{End}
-use Rattle.check_stream.specs.declared.search.mismatch.End.TheVariants as ends
-use Rattle.check_stream.specs.declared.search.mismatch.Found.{Found}
+use Rattle.check_stream.specs.declared.search.mismatch.SearchEnd.{SearchEnd}
+use Rattle.check_stream.specs.declared.search.mismatch.SearchEnd.TheVariants as ends
+use Rattle.check_stream.specs.declared.search.mismatch.FoundMismatch.{FoundMismatch}
 use Rattle.check_stream.specs.declared.search.mismatch.Finding.{Finding}
 use Rattle.check_stream.specs.declared.search.mismatch.Fast.{Fast}
-use Rattle.check_stream.specs.declared.search.mismatch.Fast.TheVariants as quicks
+use Rattle.check_stream.specs.declared.search.mismatch.Fast.TheVariants as fasts
 use Rattle.check_stream.specs.declared.search.mismatch.Seeking.{Seeking}
 use Rattle.check_stream.specs.declared.search.summary.Summary.{Summary}
 use Rattle.check_stream.specs.declared.search.summary.Summary.TheVariants as sayings
-use Rattle.check_stream.specs.declared.search.way.Asked.{Asked}
-use Rattle.check_stream.specs.declared.search.way.Asked.TheVariants as asks
+use Rattle.check_stream.specs.declared.search.way.Expectation.{Expectation}
+use Rattle.check_stream.specs.declared.search.way.Expectation.TheVariants as asks
 use Rattle.check_stream.specs.declared.search.way.Link.{Link}
 use Rattle.check_stream.specs.search.Judge.{IsSummary, IsSummaryBy}
 use Rattle.check_stream.specs.search.Second.{IsFresh, Knows}
-use Rattle.check_stream.specs.declared.search.way.Left.{Left}
+use Rattle.check_stream.specs.declared.search.way.BlockExpectations.{BlockExpectations}
 use Rattle.check_stream.specs.search.Way.{trail_of, trail_in, position_of, root_position}
 use Rattle.check_stream.specs.search.Way.{way_positions, IsWay}
 use Rattle.check_stream.specs.search.Way.{left_values, opened_positions, OpensAt}
@@ -78,13 +78,13 @@ abbrev pub IsAlone : List Bool → Link → Type 0
 IsAlone marks link = IsClear marks link.object
 
 -- `found` is the mismatch: its path, the expected type, and its token.
-pub record IsMissedAt (found : Found) (missed : Missed) : Type 0 where
+pub record IsMissedAt (found : FoundMismatch) (missed : Missed) : Type 0 where
   pub trail : missed.trail ≡ trail_of found.links.items
   pub type : missed.type ≡ found.ty
   pub summary : IsSummary found.summary missed.token
 
 -- There is no mismatch yet, or exactly this one.
-abbrev pub AreMissedAt : Option Found → List Missed → Type 0
+abbrev pub AreMissedAt : Option FoundMismatch → List Missed → Type 0
 AreMissedAt None missed = missed ≡ []
 AreMissedAt (Some found) missed = (one : Missed) × (missed ≡ one ∷ []) × IsMissedAt found one
 
@@ -152,17 +152,18 @@ pub record Passes (table : Table) (old : Finding) (summary : Summary) (new : Fin
   pub found : new.found ≡ old.found
 
 -- The positions are those of the token's fields, and they expect nothing.
-abbrev pub unasked_in : Left → Token → Type 0
+abbrev pub unasked_in : BlockExpectations → Token → Type 0
 unasked_in left token =
     (object : ℕ) (trail : List (ℕ × ℕ)) → opened_positions object trail left ≡ unasked token
 
 -- Only a token that makes an object has positions.
-abbrev pub HasRoom : Summary → Left → Type 0
+abbrev pub HasRoom : Summary → BlockExpectations → Type 0
 HasRoom summary left =
     (token : Token) → IsSummary summary token → made_by token ≡ 0 → left_values left ≡ 0
 
 -- The object that the token makes, if it makes one, has the type, and these positions are open.
-pub record Adds (old : Finding) (type : ℕ) (summary : Summary) (left : Left) (new : Finding)
+pub record Adds (old : Finding) (type : ℕ) (summary : Summary) (left : BlockExpectations)
+    (new : Finding)
     : Type 0 where
   pub opens :
       IsWay old.way → IsWay new.way × OpensAt old.way (length old.types.items) left new.way
@@ -216,7 +217,7 @@ pub record ComesIn
       → new.words.w64 + of_object words64 (measure_of token) ≡ old.words.w64
 
 -- The token is consumed at the position taken last, before the open ones.
-abbrev pub Comes : Table → ℕ → List ℕ → Finding → Asked → Summary → Finding → Type 0
+abbrev pub Comes : Table → ℕ → List ℕ → Finding → Expectation → Summary → Finding → Type 0
 Comes table stated prefix old asked summary new =
     ComesIn (position_of asked (trail_in old.way)
     ∷ way_positions old.way) table stated prefix old summary
@@ -229,20 +230,20 @@ Follows table stated prefix old summary new =
 
 -- The token is consumed at the first open position and has this length; or nothing changed; or the
 -- result is inconclusive.
-abbrev pub Hastens : Table → Finding → Summary → ℕ → Finding → Fast → Type 0
-Hastens table old summary len new (quicks.Took n) =
+abbrev pub RunsFast : Table → Finding → Summary → ℕ → Finding → Fast → Type 0
+RunsFast table old summary len new (fasts.Took n) =
     (n ≡ len) × ((stated : ℕ) (prefix : List ℕ) → Follows table stated prefix old summary new)
-Hastens table old summary len new quicks.Kept = new ≡ old
-Hastens table old summary len new quicks.Inconclusive = Unit {0}
+RunsFast table old summary len new fasts.Kept = new ≡ old
+RunsFast table old summary len new fasts.Inconclusive = Unit {0}
 
 -- A token at the start of the bytes is consumed at the first open position and has this length; or
 -- nothing changed; or the result is inconclusive.
-abbrev pub HastensBy : Table → List ℕ → Finding → Finding → Fast → Type 0
-HastensBy table bytes old new (quicks.Took n) =
+abbrev pub RunsFastBy : Table → List ℕ → Finding → Finding → Fast → Type 0
+RunsFastBy table bytes old new (fasts.Took n) =
     (summary : Summary) × IsSummaryBy bytes summary n
     × ((stated : ℕ) (prefix : List ℕ) → Follows table stated prefix old summary new)
-HastensBy table bytes old new quicks.Kept = new ≡ old
-HastensBy table bytes old new quicks.Inconclusive = Unit {0}
+RunsFastBy table bytes old new fasts.Kept = new ≡ old
+RunsFastBy table bytes old new fasts.Inconclusive = Unit {0}
 
 -- ---- the end
 
@@ -255,13 +256,15 @@ pub record IsSpent (head : Head) (start n : ℕ) (finding : Finding) : Type 0 wh
 
 -- Everything was read, the mismatch is `found`, and no reference leads back to a block on the path
 -- to it.
-pub record Ends (head : Head) (start n : ℕ) (finding : Finding) (found : Found) : Type 0 where
+pub record Ends (head : Head) (start n : ℕ) (finding : Finding)
+    (found : FoundMismatch) : Type 0 where
   pub its : finding.found ≡ Some found
   pub alone : All (IsAlone finding.again.marks.items) found.links.items
   pub spent : IsSpent head start n finding
 
 -- The first `n` bytes are a value under the limit whose first fault is this mismatch.
-pub record IsFound (table : Table) (limit n : ℕ) (bytes : List ℕ) (found : Found) : Type 0 where
+pub record IsFound (table : Table) (limit n : ℕ) (bytes : List ℕ)
+    (found : FoundMismatch) : Type 0 where
   pub missed : Missed
   pub prefix : IsMissedPrefix table limit n bytes missed
   pub at : IsMissedAt found missed
@@ -274,9 +277,9 @@ IsSought table limit bytes s = Finds table limit bytes s.head s.start s.at [] s.
 
 -- The result of a search step: either the end of a value whose first fault was found, or an offset
 -- where a value is pending, or inconclusive.
-abbrev pub Seeks : Table → ℕ → List ℕ → Seeking → End → Type 0
+abbrev pub Seeks : Table → ℕ → List ℕ → Seeking → SearchEnd → Type 0
 Seeks table limit bytes s (ends.Found n) =
-    (found : Found) × (s.finding.found ≡ Some found) × IsFound table limit n bytes found
+    (found : FoundMismatch) × (s.finding.found ≡ Some found) × IsFound table limit n bytes found
 Seeks table limit bytes s ends.Truncated =
     IsSought table limit bytes s × (0 < values_at (way_positions s.finding.way))
 Seeks table limit bytes s ends.Inconclusive = Unit {0}

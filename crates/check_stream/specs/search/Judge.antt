@@ -20,8 +20,8 @@ use Rattle.check_stream.specs.checker.Positions.{open_needs}
 use Rattle.check_stream.specs.checker.State.{custom_leaf}
 use Rattle.check_stream.specs.declared.search.summary.Summary.{Summary}
 use Rattle.check_stream.specs.declared.search.summary.Summary.TheVariants as sayings
-use Rattle.check_stream.specs.declared.search.judge.Judged.{Judged}
-use Rattle.check_stream.specs.declared.search.judge.Judged.TheVariants as judged
+use Rattle.check_stream.specs.declared.search.judge.TokenJudgement.{TokenJudgement}
+use Rattle.check_stream.specs.declared.search.judge.TokenJudgement.TheVariants as judged
 
 -- The token has this summary.
 abbrev pub IsSummary : Summary → Token → Type 0
@@ -104,7 +104,7 @@ has_custom shape customs.Int32 = is_int32 shape
 has_custom shape customs.Int64 = is_int64 shape
 has_custom shape customs.Native = is_native shape
 
-abbrev pub judged_by : Bool → Judged
+abbrev pub judged_by : Bool → TokenJudgement
 judged_by true = judged.Fits
 judged_by false = judged.Misses
 
@@ -114,7 +114,7 @@ IsNoBack (sayings.Shared offset) = ⊥
 IsNoBack summary = Unit {0}
 
 -- The result is possible for the token: only a block has positions.
-abbrev pub IsApt : Summary → Judged → Type 0
+abbrev pub IsApt : Summary → TokenJudgement → Type 0
 IsApt summary judged.Fits = IsNoBack summary
 IsApt summary (judged.Opens open') =
     (tag : ℕ) × (size : ℕ) × (summary ≡ sayings.Block tag size)
@@ -125,7 +125,7 @@ IsApt summary judged.Unknown = Unit {0}
 
 -- The token matches the type and opens no positions or those of a block; or it is a reference; or
 -- it does not match. `Unknown` states nothing.
-abbrev pub IsJudged : Table → ℕ → Token → Judged → Type 0
+abbrev pub IsJudged : Table → ℕ → Token → TokenJudgement → Type 0
 IsJudged table t token judged.Fits =
     (back : List ℕ) (tokens : List Token) (made : List Made) (trail : List (ℕ × ℕ))
     → Takes back table (IsPlain table tokens) made trail (of_type t) token []

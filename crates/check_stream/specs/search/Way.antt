@@ -4,10 +4,10 @@ use Rattle.std.specs.Prelude.{length, take, replicate, slice_get, Option, Some, 
 use Rattle.check_stream.specs.theory.Asked.{Need, of_type, hash_of, values_in}
 use Rattle.check_stream.specs.mismatch_theory.PassedBut.{Position, positions_of, field_after}
 use Rattle.check_stream.specs.checker.Positions.{open_needs}
-use Rattle.check_stream.specs.declared.search.way.Asked.{Asked}
-use Rattle.check_stream.specs.declared.search.way.Asked.TheVariants as asks
-use Rattle.check_stream.specs.declared.search.way.Left.{Left}
-use Rattle.check_stream.specs.declared.search.way.Left.TheVariants as lefts
+use Rattle.check_stream.specs.declared.search.way.Expectation.{Expectation}
+use Rattle.check_stream.specs.declared.search.way.Expectation.TheVariants as asks
+use Rattle.check_stream.specs.declared.search.way.BlockExpectations.{BlockExpectations}
+use Rattle.check_stream.specs.declared.search.way.BlockExpectations.TheVariants as lefts
 use Rattle.check_stream.specs.declared.search.way.Link.{Link}
 use Rattle.check_stream.specs.declared.search.way.Wait.{Wait}
 use Rattle.check_stream.specs.declared.search.way.Way.{Way}
@@ -34,7 +34,7 @@ unasked_position = record { asks = None; trail = [] }
 abbrev pub root_position : Position
 root_position = record { asks = Some (of_type 0); trail = [] }
 
-abbrev pub position_of : Asked → List (ℕ × ℕ) → Position
+abbrev pub position_of : Expectation → List (ℕ × ℕ) → Position
 position_of (asks.Type t) trail = record { asks = Some (of_type t); trail = trail }
 position_of (asks.Hash tags) trail = record { asks = Some (hash_of tags.now); trail = trail }
 position_of asks.Nothing trail = unasked_position
@@ -46,11 +46,11 @@ positions_asked links depth k (need ∷ needs) =
     record { asks = Some need; trail = position_trail links depth k }
     ∷ positions_asked links depth (k + values_in (need ∷ [])) needs
 
-abbrev pub positions_left : List Link → ℕ → ℕ → Left → List Position
+abbrev pub positions_left : List Link → ℕ → ℕ → BlockExpectations → List Position
 positions_left links depth k (lefts.Asked open') = positions_asked links depth k (open_needs open')
 positions_left links depth k (lefts.Unasked count) = replicate count unasked_position
 
-abbrev pub left_values : Left → ℕ
+abbrev pub left_values : BlockExpectations → ℕ
 left_values (lefts.Asked open') = values_in (open_needs open')
 left_values (lefts.Unasked count) = count
 
@@ -117,13 +117,14 @@ pub record IsAfterHash (way : Way) : Type 0 where
       position_trail way.links.items way.now.depth (way.now.next - 1) ≡ field_after (trail_in way)
 
 -- `P` holds if the hash of a tag is expected.
-abbrev pub OnHash : Asked → Type 0 → Type 0
+abbrev pub OnHash : Expectation → Type 0 → Type 0
 OnHash (asks.Type t) P = Unit {0}
 OnHash (asks.Hash tags) P = P
 OnHash asks.Nothing P = Unit {0}
 
 -- The first position expects `asked`, and `others` are the positions after `many` values.
-pub record IsSplit (left : Left) (asked : Asked) (others : Left) (many : ℕ) : Type 0 where
+pub record IsSplit (left : BlockExpectations) (asked : Expectation) (others : BlockExpectations)
+    (many : ℕ) : Type 0 where
   pub values : left_values left ≡ many + left_values others
   pub positions :
       (links : List Link) (depth next : ℕ)
@@ -133,10 +134,10 @@ pub record IsSplit (left : Left) (asked : Asked) (others : Left) (many : ℕ) : 
   pub hash : OnHash asked ((many ≡ 2) × (left_values others ≡ 0))
 
 -- The positions of an object that is opened at the end of the path.
-abbrev pub opened_positions : ℕ → List (ℕ × ℕ) → Left → List Position
+abbrev pub opened_positions : ℕ → List (ℕ × ℕ) → BlockExpectations → List Position
 opened_positions object trail (lefts.Asked open') = positions_of object trail 0 (open_needs open')
 opened_positions object trail (lefts.Unasked count) = replicate count unasked_position
 
-abbrev pub OpensAt : Way → ℕ → Left → Way → Type 0
+abbrev pub OpensAt : Way → ℕ → BlockExpectations → Way → Type 0
 OpensAt old object left new =
     way_positions new ≡ opened_positions object (trail_in old) left ++ way_positions old

@@ -19,7 +19,7 @@ use marshal_codec::codes::code_kind;
 
 /// The contents of a token that was re-read.
 #[derive(Clone, Copy)]
-pub enum Seen {
+pub enum SeenToken {
     Integer(i64),
     Atom(u8),
     Shared(u64),
@@ -31,18 +31,18 @@ pub enum Seen {
 
 /// Returns a block, or an atom if the size is 0.
 #[inline(always)]
-fn seen_block(tag: u8, size: u64) -> Seen
+fn seen_block(tag: u8, size: u64) -> SeenToken
     ensures { IsSeen result (block_or_atom tag size) }
 {
     if size == 0 {
-        Seen::Atom(tag)
+        SeenToken::Atom(tag)
     } else {
-        Seen::Block(tag, size)
+        SeenToken::Block(tag, size)
     }
 }
 
 /// Returns the block or atom with this header word.
-fn seen_word(word: u64) -> Seen
+fn seen_word(word: u64) -> SeenToken
     ensures { IsSeen result (word_token word) }
 {
     seen_block((word % 256) as u8, word / 1024)
@@ -50,29 +50,29 @@ fn seen_word(word: u64) -> Seen
 
 /// Decodes a token of this kind from the bytes after its code.
 #[inline(always)]
-fn seen_of(kind: CodeKind, chunk: &[u8]) -> Seen
+fn seen_of(kind: CodeKind, chunk: &[u8]) -> SeenToken
     requires known { IsKind kind }
     requires whole { length chunk.now ≡ fixed_bytes kind + variable_bytes kind chunk.now }
     ensures { (token : Token) → EncodesAfter kind chunk.now token → IsSeen result token }
 {
     match kind {
         CodeKind::SmallBlock(tag, size) => seen_block(tag, u64::from(size)),
-        CodeKind::SmallInt(value) => Seen::Integer(i64::from(value)),
-        CodeKind::Int(_) => Seen::Integer(signed_few(chunk)),
-        CodeKind::Shared(_) => Seen::Shared(big_endian(chunk)),
+        CodeKind::SmallInt(value) => SeenToken::Integer(i64::from(value)),
+        CodeKind::Int(_) => SeenToken::Integer(signed_few(chunk)),
+        CodeKind::Shared(_) => SeenToken::Shared(big_endian(chunk)),
         CodeKind::Block(_) => seen_word(big_endian(chunk)),
-        CodeKind::SmallString(_) => Seen::Leaf,
-        CodeKind::Str(_) => Seen::Leaf,
-        CodeKind::Double(_) => Seen::Leaf,
-        CodeKind::Doubles(_, _) => Seen::Leaf,
-        CodeKind::Custom(_) => Seen::Leaf,
+        CodeKind::SmallString(_) => SeenToken::Leaf,
+        CodeKind::Str(_) => SeenToken::Leaf,
+        CodeKind::Double(_) => SeenToken::Leaf,
+        CodeKind::Doubles(_, _) => SeenToken::Leaf,
+        CodeKind::Custom(_) => SeenToken::Leaf,
     }
 }
 
 /// Decodes the token of this kind at the beginning of `bytes`. Returns its contents and its length
 /// in bytes.
 #[inline(always)]
-fn inspect_kind(kind: CodeKind, bytes: &[u8]) -> Option<(Seen, usize)>
+fn inspect_kind(kind: CodeKind, bytes: &[u8]) -> Option<(SeenToken, usize)>
     requires some { 0 < length bytes.now }
     requires kind { kind_of (slice_index bytes.now 0) ≡ Ok kind }
     requires known { IsKind kind }
@@ -87,7 +87,7 @@ fn inspect_kind(kind: CodeKind, bytes: &[u8]) -> Option<(Seen, usize)>
 
 /// Decodes the token at the beginning of `bytes`, for any kind of token.
 #[inline(never)]
-fn inspect_rare(bytes: &[u8]) -> Option<(Seen, usize)>
+fn inspect_rare(bytes: &[u8]) -> Option<(SeenToken, usize)>
     ensures { IfSome result (λ inspect. Inspects bytes.now inspect.0 inspect.1) }
 {
     if bytes.is_empty() {
@@ -102,7 +102,7 @@ fn inspect_rare(bytes: &[u8]) -> Option<(Seen, usize)>
 /// Decodes the token at the beginning of `bytes`, for codes below 0x20.
 #[tactic(auto, unfolding(marshal_spec::specs::format::Code::kind_of))]
 #[inline(always)]
-fn inspect_large(code: u8, bytes: &[u8]) -> Option<(Seen, usize)>
+fn inspect_large(code: u8, bytes: &[u8]) -> Option<(SeenToken, usize)>
     requires some { 0 < length bytes.now }
     requires code { slice_index bytes.now 0 ≡ code }
     ensures { IfSome result (λ inspect. Inspects bytes.now inspect.0 inspect.1) }
@@ -118,7 +118,7 @@ fn inspect_large(code: u8, bytes: &[u8]) -> Option<(Seen, usize)>
 /// Decodes the first token of `bytes`. Returns its contents and its length in bytes.
 #[tactic(auto, unfolding(marshal_spec::specs::format::Code::kind_of))]
 #[inline(always)]
-pub fn inspect(bytes: &[u8]) -> Option<(Seen, usize)>
+pub fn inspect(bytes: &[u8]) -> Option<(SeenToken, usize)>
     ensures { IfSome result (λ inspect. Inspects bytes.now inspect.0 inspect.1) }
 {
     if bytes.is_empty() {
@@ -139,26 +139,26 @@ pub fn inspect(bytes: &[u8]) -> Option<(Seen, usize)>
 
 /// Returns true if a token creates an object.
 #[inline(always)]
-fn makes_object(seen: Seen) -> bool
+fn makes_object(seen: SeenToken) -> bool
     ensures { (token : Token) → IsToken token → IsSeen seen token
         → made_by token ≡ (if result then 1 else 0) }
 {
     match seen {
-        Seen::Block(_, _) => true,
-        Seen::Leaf => true,
-        Seen::Integer(_) => false,
-        Seen::Atom(_) => false,
-        Seen::Shared(_) => false,
+        SeenToken::Block(_, _) => true,
+        SeenToken::Leaf => true,
+        SeenToken::Integer(_) => false,
+        SeenToken::Atom(_) => false,
+        SeenToken::Shared(_) => false,
     }
 }
 
 /// Returns the tag and the size of a block that was read, and the offset of its fields. Returns
 /// `None` for other tokens.
-fn block_seen(seen: Seen, at: usize) -> Option<(u8, u64, usize)>
+fn block_seen(seen: SeenToken, at: usize) -> Option<(u8, u64, usize)>
     ensures { IfSome result (λ block. IsBlockSeen seen at block.0 block.1 block.2) }
 {
     match seen {
-        Seen::Block(tag, size) => Some((tag, size, at)),
+        SeenToken::Block(tag, size) => Some((tag, size, at)),
         _ => None,
     }
 }

@@ -6,10 +6,10 @@ ghost use Rattle.check_stream.specs.checker.Positions.{need_of};
 ghost use Rattle.check_stream.specs.checker.State.{types_in, IsMarked, TookBack, TookTurn};
 
 use crate::checker::again::reference_at;
+use crate::checker::check_state::CheckState;
 use crate::checker::flat::is_known;
-use crate::checker::positions::Asked;
-use crate::checker::state::State;
-use crate::checker::step::{Answer, step};
+use crate::checker::open_positions::Requirement;
+use crate::checker::step::{TokenResult, step};
 use base_data::model::Memory;
 use types_table::type_table::TypeTable;
 
@@ -30,8 +30,8 @@ pub fn mark(marks: &mut Vec<usize>, at: usize, made: usize) -> Result<(), Memory
 fn back(
     table: &TypeTable,
     stated: u64,
-    state: &State<'_>,
-    asked: Asked<'_>,
+    state: &CheckState<'_>,
+    asked: Requirement<'_>,
     marks: &[usize],
     notes: &mut Vec<(usize, usize)>,
     left: &mut u64,
@@ -44,7 +44,7 @@ fn back(
         → TookBack (table_of table.now) stated (types_in state.now) (take at bytes.now) marks.now
         notes.old.items notes.new.items (need_of asked.entry) (drop at bytes.now) n) }
 {
-    let Asked::Type(ty) = asked else {
+    let Requirement::Type(ty) = asked else {
         return Ok(0);
     };
     let Some((offset, n)) = reference_at(&bytes[at..]) else {
@@ -73,8 +73,8 @@ fn back(
 pub fn turn<'a>(
     table: &'a TypeTable,
     stated: u64,
-    state: &mut State<'a>,
-    asked: Asked<'a>,
+    state: &mut CheckState<'a>,
+    asked: Requirement<'a>,
     marks: &[usize],
     notes: &mut Vec<(usize, usize)>,
     left: &mut u64,
@@ -88,8 +88,8 @@ pub fn turn<'a>(
         bytes.now marks.now notes.old.items notes.new.items at n) }
 {
     match step(table, stated, state, asked, &bytes[at..])? {
-        Answer::Took(n) => Ok(n),
-        Answer::Back => back(table, stated, state, asked, marks, notes, left, bytes, at),
-        Answer::Unfit => Ok(0),
+        TokenResult::Took(n) => Ok(n),
+        TokenResult::Back => back(table, stated, state, asked, marks, notes, left, bytes, at),
+        TokenResult::Unfit => Ok(0),
     }
 }

@@ -15,16 +15,17 @@ ghost use Rattle.types_table.specs.type_table.Made.{table_of};
 ghost use Rattle.check_stream.specs.theory.Asked.{of_type, shape_at, IsBackAt};
 ghost use Rattle.check_stream.specs.checker.State.{Took, TookChunk, TookPrefix, TookFirst};
 ghost use Rattle.std.specs.Global.{Vec};
-ghost use Rattle.check_stream.specs.declared.checker.positions.Open.{Open};
+ghost use Rattle.check_stream.specs.declared.checker.open_positions.BlockPositions.{BlockPositions};
 ghost use Rattle.check_stream.specs.checker.Fast.{held, IsLeafAdded};
 ghost use Rattle.check_stream.specs.checker.Positions.{open_needs, need_of, waiting_needs};
-ghost use Rattle.check_stream.specs.declared.checker.positions.Open.TheVariants as opens;
+ghost use Rattle.check_stream.specs.declared.checker.open_positions.BlockPositions.TheVariants as
+    opens;
 
 use crate::checker::chunk::chunk_len;
 use crate::checker::fits::{
     fast_positions, fits_fast_int, is_equal, is_wildcard, shape_of, type_at,
 };
-use crate::checker::positions::{Asked, Open, is_done};
+use crate::checker::open_positions::{BlockPositions, Requirement, is_done};
 use crate::checker::words::{Words, offset_of, signed_few};
 use base_data::model::code::{CodeKind, Measure};
 use types_spec::types::shape::ShapeOf;
@@ -45,7 +46,7 @@ fn has_room(types: &Vec<u16>, ty: usize) -> bool
 /// Pushes the open positions on the stack if there are any. Returns false if the stack is full.
 #[tactic(auto, using(crate::proofs::checker::PositionLemmas::waiting_needs_push))]
 #[inline(always)]
-fn keep_reserved<'a>(waiting: &mut Vec<Open<'a>>, others: Open<'a>) -> bool
+fn keep_reserved<'a>(waiting: &mut Vec<BlockPositions<'a>>, others: BlockPositions<'a>) -> bool
     ensures added { IsTrue result
         → waiting_needs waiting.new.items
         ≡ open_needs others.entry ++ waiting_needs waiting.old.items }
@@ -66,13 +67,13 @@ fn keep_reserved<'a>(waiting: &mut Vec<Open<'a>>, others: Open<'a>) -> bool
 fn fast_block<'a>(
     table: &'a TypeTable,
     ty: usize,
-    others: Open<'a>,
+    others: BlockPositions<'a>,
     tag: u8,
     size: u64,
     types: &mut Vec<u16>,
-    waiting: &mut Vec<Open<'a>>,
+    waiting: &mut Vec<BlockPositions<'a>>,
     words: &mut Words,
-) -> Option<Open<'a>>
+) -> Option<BlockPositions<'a>>
     requires { size < 2 ^ 60 }
     ensures { MatchOption result
         (held others.entry waiting.new types.new words.new
@@ -138,7 +139,7 @@ fn fast_bytes(
 ) -> bool
     requires { size < 2 ^ 60 }
     ensures took { IsTrue result
-        → (now : Open) (waiting : Vec Open) (all : List ℕ) → length all ≡ size
+        → (now : BlockPositions) (waiting : Vec BlockPositions) (all : List ℕ) → length all ≡ size
         → Took (table_of table.now) (held now waiting types.old words.old)
         (held now waiting types.new words.new) (of_type ty) (leaf (objects.Bytes all)) }
     ensures kept { (IsTrue result → ⊥) → (types.new ≡ types.old) × (words.new ≡ words.old) }
@@ -156,7 +157,7 @@ fn fast_bytes(
 #[inline(always)]
 fn fast_double(table: &TypeTable, ty: usize, types: &mut Vec<u16>, words: &mut Words) -> bool
     ensures took { IsTrue result
-        → (now : Open) (waiting : Vec Open) (bits : ℕ)
+        → (now : BlockPositions) (waiting : Vec BlockPositions) (bits : ℕ)
         → Took (table_of table.now) (held now waiting types.old words.old)
         (held now waiting types.new words.new) (of_type ty) (leaf (objects.Double bits)) }
     ensures kept { (IsTrue result → ⊥) → (types.new ≡ types.old) × (words.new ≡ words.old) }
@@ -192,13 +193,13 @@ fn fast_chunk<'a>(
     table: &'a TypeTable,
     stated: u64,
     ty: usize,
-    others: Open<'a>,
+    others: BlockPositions<'a>,
     kind: CodeKind,
     chunk: &[u8],
     types: &mut Vec<u16>,
-    waiting: &mut Vec<Open<'a>>,
+    waiting: &mut Vec<BlockPositions<'a>>,
     words: &mut Words,
-) -> Option<Open<'a>>
+) -> Option<BlockPositions<'a>>
     requires known { IsKind kind }
     requires whole { length chunk.now ≡ fixed_bytes kind + variable_bytes kind chunk.now }
     ensures { MatchOption result
@@ -280,13 +281,13 @@ fn fast_kind<'a>(
     table: &'a TypeTable,
     stated: u64,
     ty: usize,
-    others: Open<'a>,
+    others: BlockPositions<'a>,
     kind: CodeKind,
     rest: &[u8],
     types: &mut Vec<u16>,
-    waiting: &mut Vec<Open<'a>>,
+    waiting: &mut Vec<BlockPositions<'a>>,
     words: &mut Words,
-) -> Option<(usize, Open<'a>)>
+) -> Option<(usize, BlockPositions<'a>)>
     requires some { 0 < length rest.now }
     requires kind { kind_of (slice_index rest.now 0) ≡ Ok kind }
     requires known { IsKind kind }
@@ -325,13 +326,13 @@ fn fast_large<'a, const LISTED: bool>(
     table: &'a TypeTable,
     stated: u64,
     ty: usize,
-    others: Open<'a>,
+    others: BlockPositions<'a>,
     code: u8,
     rest: &[u8],
     types: &mut Vec<u16>,
-    waiting: &mut Vec<Open<'a>>,
+    waiting: &mut Vec<BlockPositions<'a>>,
     words: &mut Words,
-) -> Option<(usize, Open<'a>)>
+) -> Option<(usize, BlockPositions<'a>)>
     requires some { 0 < length rest.now }
     requires code { slice_index rest.now 0 ≡ code }
     ensures { MatchOption result
@@ -383,12 +384,12 @@ fn fast_typed<'a, const LISTED: bool>(
     table: &'a TypeTable,
     stated: u64,
     ty: usize,
-    others: Open<'a>,
+    others: BlockPositions<'a>,
     rest: &[u8],
     types: &mut Vec<u16>,
-    waiting: &mut Vec<Open<'a>>,
+    waiting: &mut Vec<BlockPositions<'a>>,
     words: &mut Words,
-) -> Option<(usize, Open<'a>)>
+) -> Option<(usize, BlockPositions<'a>)>
     ensures { MatchOption result
         (held others.entry waiting.new types.new words.new
         ≡ held others.entry waiting.old types.old words.old)
@@ -427,13 +428,13 @@ fn fast_typed<'a, const LISTED: bool>(
 pub fn fast<'a>(
     table: &'a TypeTable,
     stated: u64,
-    asked: Asked<'a>,
-    others: Open<'a>,
+    asked: Requirement<'a>,
+    others: BlockPositions<'a>,
     rest: &[u8],
     types: &mut Vec<u16>,
-    waiting: &mut Vec<Open<'a>>,
+    waiting: &mut Vec<BlockPositions<'a>>,
     words: &mut Words,
-) -> Option<(usize, Open<'a>)>
+) -> Option<(usize, BlockPositions<'a>)>
     ensures { MatchOption result
         (held others.entry waiting.new types.new words.new
         ≡ held others.entry waiting.old types.old words.old)
@@ -441,7 +442,7 @@ pub fn fast<'a>(
         (held others.entry waiting.old types.old words.old)
         (held took.1 waiting.new types.new words.new) (need_of asked.entry) rest.now took.0) }
 {
-    let Asked::Type(ty) = asked else {
+    let Requirement::Type(ty) = asked else {
         return None;
     };
     fast_typed::<false>(table, stated, ty, others, rest, types, waiting, words)
@@ -449,14 +450,14 @@ pub fn fast<'a>(
 
 /// Returns the type of the first of these positions, and the others.
 #[inline(always)]
-fn split_listed<'a>(positions: &'a [usize]) -> Option<(usize, Open<'a>)>
+fn split_listed<'a>(positions: &'a [usize]) -> Option<(usize, BlockPositions<'a>)>
     ensures { IfSome result
         (λ first. map of_type positions.now ≡ of_type first.0 ∷ open_needs first.1) }
 {
     if positions.is_empty() {
         return None;
     }
-    Some((positions[0], Open::Listed(&positions[1..])))
+    Some((positions[0], BlockPositions::Listed(&positions[1..])))
 }
 
 /// Reads the first token of `rest` if it is a common one and the innermost block has a list of
@@ -468,9 +469,9 @@ pub fn fast_listed<'a>(
     positions: &'a [usize],
     rest: &[u8],
     types: &mut Vec<u16>,
-    waiting: &mut Vec<Open<'a>>,
+    waiting: &mut Vec<BlockPositions<'a>>,
     words: &mut Words,
-) -> Option<(usize, Open<'a>)>
+) -> Option<(usize, BlockPositions<'a>)>
     ensures { MatchOption result
         (held (opens.Listed positions.entry) waiting.new types.new words.new
         ≡ held (opens.Listed positions.entry) waiting.old types.old words.old)

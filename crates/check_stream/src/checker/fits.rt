@@ -13,7 +13,7 @@ ghost use Rattle.check_stream.specs.theory.Asked.{shape_at, block_needs, constr_
 ghost use Rattle.check_stream.specs.theory.Asked.{IsWildcard};
 ghost use Rattle.check_stream.specs.checker.Positions.{open_needs};
 
-use crate::checker::positions::Open;
+use crate::checker::open_positions::BlockPositions;
 use types_spec::types::shape::{Constr, PolyTag, ShapeOf};
 use types_table::type_table::TypeTable;
 
@@ -132,17 +132,19 @@ pub fn fits_doubles(shape: &ShapeOf<usize>, size: u64) -> bool
 /// Returns the positions of a block's fields if the block matches the shape. For wildcards use
 /// `positions_at`.
 #[inline(always)]
-pub fn block_positions(shape: &ShapeOf<usize>, tag: u8, size: u64) -> Option<Open<'_>>
+pub fn block_positions(shape: &ShapeOf<usize>, tag: u8, size: u64) -> Option<BlockPositions<'_>>
     ensures { option_map open_needs result ≡ block_needs shape.now tag size }
 {
     match shape {
         ShapeOf::Sum(_, blocks) => constr_positions(blocks.as_slice(), tag, size),
         ShapeOf::Product(_, types) if tag == 0 && types.len() as u64 == size => {
-            Some(Open::Listed(types.as_slice()))
+            Some(BlockPositions::Listed(types.as_slice()))
         }
-        ShapeOf::ArrayOf(ty) if tag == 0 => Some(Open::Each(size, *ty)),
-        ShapeOf::Poly(tags) if tag == 0 && size == 2 => Some(Open::Tagged(tags.as_slice())),
-        ShapeOf::ArrayOfAnything(ty) if tag == 0 => Some(Open::Each(size, *ty)),
+        ShapeOf::ArrayOf(ty) if tag == 0 => Some(BlockPositions::Each(size, *ty)),
+        ShapeOf::Poly(tags) if tag == 0 && size == 2 => Some(BlockPositions::Tagged(
+            tags.as_slice(),
+        )),
+        ShapeOf::ArrayOfAnything(ty) if tag == 0 => Some(BlockPositions::Each(size, *ty)),
         _ => None,
     }
 }
@@ -150,11 +152,16 @@ pub fn block_positions(shape: &ShapeOf<usize>, tag: u8, size: u64) -> Option<Ope
 /// Returns the positions of a block's fields if the block matches the shape. At a wildcard, the
 /// fields are wildcards too.
 #[inline(always)]
-pub fn positions_at(shape: &ShapeOf<usize>, ty: usize, tag: u8, size: u64) -> Option<Open<'_>>
+pub fn positions_at(
+    shape: &ShapeOf<usize>,
+    ty: usize,
+    tag: u8,
+    size: u64,
+) -> Option<BlockPositions<'_>>
     ensures { option_map open_needs result ≡ shape_asks shape.now ty tag size }
 {
     match shape {
-        ShapeOf::Anything => Some(Open::Each(size, ty)),
+        ShapeOf::Anything => Some(BlockPositions::Each(size, ty)),
         _ => block_positions(shape, tag, size),
     }
 }
@@ -162,7 +169,12 @@ pub fn positions_at(shape: &ShapeOf<usize>, ty: usize, tag: u8, size: u64) -> Op
 /// Returns the positions of a block's fields if the block matches the shape. This is the fast path
 /// of `positions_at`: a chain of tests with common shapes first.
 #[inline(always)]
-pub fn fast_positions(shape: &ShapeOf<usize>, ty: usize, tag: u8, size: u64) -> Option<Open<'_>>
+pub fn fast_positions(
+    shape: &ShapeOf<usize>,
+    ty: usize,
+    tag: u8,
+    size: u64,
+) -> Option<BlockPositions<'_>>
     ensures { option_map open_needs result ≡ shape_asks shape.now ty tag size }
 {
     match shape {
@@ -174,13 +186,18 @@ pub fn fast_positions(shape: &ShapeOf<usize>, ty: usize, tag: u8, size: u64) -> 
 /// Returns the positions of a block's fields if the block matches the shape. The fast path calls
 /// this function for shapes other than sums.
 #[inline(always)]
-fn product_positions(shape: &ShapeOf<usize>, ty: usize, tag: u8, size: u64) -> Option<Open<'_>>
+fn product_positions(
+    shape: &ShapeOf<usize>,
+    ty: usize,
+    tag: u8,
+    size: u64,
+) -> Option<BlockPositions<'_>>
     ensures { option_map open_needs result ≡ shape_asks shape.now ty tag size }
 {
     match shape {
         ShapeOf::Product(_, types) => {
             if tag == 0 && types.len() as u64 == size {
-                Some(Open::Listed(types.as_slice()))
+                Some(BlockPositions::Listed(types.as_slice()))
             } else {
                 None
             }
@@ -192,7 +209,12 @@ fn product_positions(shape: &ShapeOf<usize>, ty: usize, tag: u8, size: u64) -> O
 /// Returns the positions of a block's fields if the block matches the shape. The fast path calls
 /// this function for shapes that rarely have blocks, and it is not inlined.
 #[inline(never)]
-fn other_positions(shape: &ShapeOf<usize>, ty: usize, tag: u8, size: u64) -> Option<Open<'_>>
+fn other_positions(
+    shape: &ShapeOf<usize>,
+    ty: usize,
+    tag: u8,
+    size: u64,
+) -> Option<BlockPositions<'_>>
     ensures { option_map open_needs result ≡ shape_asks shape.now ty tag size }
 {
     positions_at(shape, ty, tag, size)
@@ -212,7 +234,7 @@ pub fn is_wildcard(table: &TypeTable, ty: usize) -> bool
 /// Returns the positions of the fields of a constructor's block, if the constructor has `size`
 /// fields.
 #[inline(always)]
-fn constr_positions(blocks: &[Constr<usize>], tag: u8, size: u64) -> Option<Open<'_>>
+fn constr_positions(blocks: &[Constr<usize>], tag: u8, size: u64) -> Option<BlockPositions<'_>>
     ensures { option_map open_needs result ≡ constr_needs size (slice_get blocks.now tag) }
 {
     if tag as usize >= blocks.len() {
@@ -220,7 +242,7 @@ fn constr_positions(blocks: &[Constr<usize>], tag: u8, size: u64) -> Option<Open
     }
     let fields = blocks[tag as usize].fields.as_slice();
     if fields.len() as u64 == size {
-        Some(Open::Listed(fields))
+        Some(BlockPositions::Listed(fields))
     } else {
         None
     }

@@ -16,11 +16,11 @@ ghost use Rattle.check_stream.specs.theory.Noted.{IsAt, IsFlat, IsFlatNoted};
 ghost use Rattle.check_stream.specs.checker.Again.{IsSeen, EncodeAll, AreMarks, AreFields, IsKnown};
 ghost use Rattle.check_stream.specs.checker.Again.{AreNotes};
 
-use crate::checker::again::{Seen, block_at, inspect};
+use crate::checker::again::{SeenToken, block_at, inspect};
 use crate::checker::fits::{
     block_positions, fits_atom, fits_int, is_equal, is_wildcard, may_change, shape_of, type_at,
 };
-use crate::checker::positions::Open;
+use crate::checker::open_positions::BlockPositions;
 use base_data::model::Memory;
 use types_table::type_table::TypeTable;
 
@@ -47,7 +47,13 @@ fn fits_back(table: &TypeTable, types: &[u16], object: usize, ty: usize, offset:
 }
 
 /// Returns true if a field of an object is flat and has the type.
-fn is_flat_field(table: &TypeTable, types: &[u16], object: usize, ty: usize, seen: Seen) -> bool
+fn is_flat_field(
+    table: &TypeTable,
+    types: &[u16],
+    object: usize,
+    ty: usize,
+    seen: SeenToken,
+) -> bool
     ensures { OnTrue result ((token : Token) → IsSeen seen token
         → IsFlat token
         × IsAt (table_of table.now) types.now [] (value_of token (object + 1)) ty) }
@@ -56,11 +62,11 @@ fn is_flat_field(table: &TypeTable, types: &[u16], object: usize, ty: usize, see
         return false;
     };
     match seen {
-        Seen::Integer(z) => fits_int(shape, z),
-        Seen::Atom(tag) => fits_atom(shape, tag),
-        Seen::Shared(offset) => fits_back(table, types, object, ty, offset),
-        Seen::Block(_, _) => false,
-        Seen::Leaf => false,
+        SeenToken::Integer(z) => fits_int(shape, z),
+        SeenToken::Atom(tag) => fits_atom(shape, tag),
+        SeenToken::Shared(offset) => fits_back(table, types, object, ty, offset),
+        SeenToken::Block(_, _) => false,
+        SeenToken::Leaf => false,
     }
 }
 
@@ -141,7 +147,7 @@ pub fn is_flat(
         return false;
     }
     match block_positions(shape, tag, size) {
-        Some(Open::Listed(fields)) => {
+        Some(BlockPositions::Listed(fields)) => {
             fields.len() as u64 == size && are_fields(table, types, prefix, start, object, fields)
         }
         _ => false,

@@ -5,16 +5,16 @@ ghost use Rattle.types_table.specs.type_table.Made.{table_of};
 ghost use Rattle.check_stream.specs.checker.Fast.{held};
 ghost use Rattle.check_stream.specs.checker.State.{IsLeft};
 
+use crate::checker::check_state::CheckState;
 use crate::checker::fast::fast_listed;
-use crate::checker::positions::{Open, innermost};
-use crate::checker::state::State;
+use crate::checker::open_positions::{BlockPositions, innermost};
 use crate::checker::words::Words;
 use base_data::model::header::Head;
 use types_table::type_table::TypeTable;
 
 /// Stores the open positions of the innermost block and the remaining words in the state.
 #[inline(always)]
-fn hold<'a>(state: &mut State<'a>, now: Open<'a>, words: Words)
+fn hold<'a>(state: &mut CheckState<'a>, now: BlockPositions<'a>, words: Words)
     ensures { state.new ≡ held now.entry state.old.positions.waiting state.old.types words }
 {
     state.positions.now = now;
@@ -29,7 +29,7 @@ pub fn run_listed<'a, 'b>(
     limit: u64,
     head: &Head,
     start: usize,
-    state: &mut State<'a>,
+    state: &mut CheckState<'a>,
     marks: &[usize],
     notes: &[(usize, usize)],
     bytes: &[u8],
@@ -46,7 +46,7 @@ pub fn run_listed<'a, 'b>(
     let mut words = state.words;
     'listed: loop {
         now = innermost(now, &mut state.positions.waiting);
-        let Open::Listed(positions) = now else {
+        let BlockPositions::Listed(positions) = now else {
             hold(state, now, words);
             return left;
         };
@@ -74,7 +74,7 @@ pub fn take_listed<'a, 'b>(
     limit: u64,
     head: &Head,
     start: usize,
-    state: &mut State<'a>,
+    state: &mut CheckState<'a>,
     marks: &[usize],
     notes: &[(usize, usize)],
     bytes: &[u8],
@@ -87,7 +87,7 @@ pub fn take_listed<'a, 'b>(
     ensures fewer { length result.now ≤ length rest.now }
 {
     match state.positions.now {
-        Open::Listed(_) => {
+        BlockPositions::Listed(_) => {
             run_listed(table, limit, head, start, state, marks, notes, bytes, rest)
         }
         _ => rest,

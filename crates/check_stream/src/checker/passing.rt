@@ -4,9 +4,9 @@ ghost use Rattle.std.specs.Prelude.{IfOk, IfSome};
 ghost use Rattle.types_table.specs.type_table.Made.{table_of};
 ghost use Rattle.check_stream.specs.theory.OnePass.{IsTypedPrefix};
 
-use crate::checker::positions::Positions;
-use crate::checker::state::State;
-use crate::checker::whole::{Stop, head_of, run};
+use crate::checker::check_state::CheckState;
+use crate::checker::open_positions::OpenPositions;
+use crate::checker::whole::{PassStop, head_of, run};
 use crate::checker::words::Words;
 use base_data::model::Memory;
 use base_data::model::header::Head;
@@ -20,7 +20,7 @@ pub struct Passing<'a> {
     pub head: Head,
     pub start: usize,
     pub at: usize,
-    pub state: State<'a>,
+    pub state: CheckState<'a>,
     pub marks: Vec<usize>,
     /// Objects and second types that they have.
     pub notes: Vec<(usize, usize)>,
@@ -54,8 +54,8 @@ impl<'a> Passing<'a> {
         Passing {
             start: 20,
             at: 20,
-            state: State {
-                positions: Positions::root(alloc),
+            state: CheckState {
+                positions: OpenPositions::root(alloc),
                 types: Vec::new(alloc),
                 words: Words::stated(&head),
             },
@@ -95,7 +95,7 @@ impl<'a> Passing<'a> {
 
     /// Continues the check. `bytes` are all bytes of the value so far, including those that were
     /// checked already.
-    pub fn go(&mut self, table: &'a TypeTable, limit: u64, bytes: &[u8]) -> Result<Stop, Memory>
+    pub fn go(&mut self, table: &'a TypeTable, limit: u64, bytes: &[u8]) -> Result<PassStop, Memory>
         requires leads { IsUnderway (table_of table.now) limit bytes.now self.old }
         ensures { IfOk result (Stops (table_of table.now) limit bytes.now self.new) }
     {
@@ -114,9 +114,9 @@ impl<'a> Passing<'a> {
             &mut self.left,
             bytes,
         )? {
-            Stop::Truncated(at) => {
+            PassStop::Truncated(at) => {
                 self.at = at;
-                Ok(Stop::Truncated(at))
+                Ok(PassStop::Truncated(at))
             }
             stop => Ok(stop),
         }
@@ -149,7 +149,7 @@ pub fn pass(
         return Ok(None);
     }
     match passing.go(table, limit, bytes)? {
-        Stop::Typed(n) => Ok(Some(n)),
+        PassStop::Typed(n) => Ok(Some(n)),
         _ => Ok(None),
     }
 }

@@ -14,9 +14,9 @@ ghost use Rattle.types_table.specs.type_table.Made.{table_of};
 ghost use Rattle.check_stream.specs.checker.Positions.{need_of};
 ghost use Rattle.check_stream.specs.checker.State.{Took, TookChunk, IfTook, IsAnswer};
 
+use crate::checker::check_state::CheckState;
 use crate::checker::chunk::{chunk_len, custom_at};
-use crate::checker::positions::Asked;
-use crate::checker::state::State;
+use crate::checker::open_positions::Requirement;
 use crate::checker::words::signed_four;
 use base_data::model::Memory;
 use base_data::model::bytes::{big_endian, signed};
@@ -26,7 +26,7 @@ use types_table::type_table::TypeTable;
 
 /// The result of reading a token.
 #[derive(Clone, Copy)]
-pub enum Answer {
+pub enum TokenResult {
     /// The token was accepted. The number is its length in bytes.
     Took(usize),
     /// The token is a reference. Nothing has changed.
@@ -39,8 +39,8 @@ pub enum Answer {
 #[inline(always)]
 fn take_integer<'a>(
     table: &'a TypeTable,
-    state: &mut State<'a>,
-    asked: Asked<'a>,
+    state: &mut CheckState<'a>,
+    asked: Requirement<'a>,
     chunk: &[u8],
 ) -> Result<bool, Memory>
     requires some { 1 ≤ length chunk.now }
@@ -64,8 +64,8 @@ fn take_integer<'a>(
 /// Reads a block or an atom, given its header word.
 fn take_word<'a>(
     table: &'a TypeTable,
-    state: &mut State<'a>,
-    asked: Asked<'a>,
+    state: &mut CheckState<'a>,
+    asked: Requirement<'a>,
     word: u64,
 ) -> Result<bool, Memory>
     ensures { IfTook result
@@ -82,8 +82,8 @@ fn take_word<'a>(
 /// Reads an array of `count` doubles, which must not be empty.
 fn take_doubles<'a>(
     table: &'a TypeTable,
-    state: &mut State<'a>,
-    asked: Asked<'a>,
+    state: &mut CheckState<'a>,
+    asked: Requirement<'a>,
     count: u64,
 ) -> Result<bool, Memory>
     ensures { IfTook result
@@ -100,8 +100,8 @@ fn take_doubles<'a>(
 /// Reads a custom block from these bytes. It must be supported and have valid data.
 fn take_custom<'a>(
     table: &'a TypeTable,
-    state: &mut State<'a>,
-    asked: Asked<'a>,
+    state: &mut CheckState<'a>,
+    asked: Requirement<'a>,
     chunk: &[u8],
 ) -> Result<bool, Memory>
     requires { length chunk.now
@@ -125,8 +125,8 @@ fn take_custom<'a>(
 fn take_chunk<'a>(
     table: &'a TypeTable,
     stated: u64,
-    state: &mut State<'a>,
-    asked: Asked<'a>,
+    state: &mut CheckState<'a>,
+    asked: Requirement<'a>,
     kind: CodeKind,
     chunk: &[u8],
 ) -> Result<bool, Memory>
@@ -163,11 +163,11 @@ fn take_chunk<'a>(
 fn take_kind<'a>(
     table: &'a TypeTable,
     stated: u64,
-    state: &mut State<'a>,
-    asked: Asked<'a>,
+    state: &mut CheckState<'a>,
+    asked: Requirement<'a>,
     kind: CodeKind,
     rest: &[u8],
-) -> Result<Answer, Memory>
+) -> Result<TokenResult, Memory>
     requires some { 0 < length rest.now }
     requires kind { kind_of (slice_index rest.now 0) ≡ Ok kind }
     requires known { IsKind kind }
@@ -176,12 +176,12 @@ fn take_kind<'a>(
 {
     let after = &rest[1..];
     let Some(len) = chunk_len(kind, after) else {
-        return Ok(Answer::Unfit);
+        return Ok(TokenResult::Unfit);
     };
     if take_chunk(table, stated, state, asked, kind, &after[..len])? {
-        Ok(Answer::Took(1 + len))
+        Ok(TokenResult::Took(1 + len))
     } else {
-        Ok(Answer::Unfit)
+        Ok(TokenResult::Unfit)
     }
 }
 
@@ -191,18 +191,18 @@ fn take_kind<'a>(
 fn take_rare<'a>(
     table: &'a TypeTable,
     stated: u64,
-    state: &mut State<'a>,
-    asked: Asked<'a>,
+    state: &mut CheckState<'a>,
+    asked: Requirement<'a>,
     rest: &[u8],
-) -> Result<Answer, Memory>
+) -> Result<TokenResult, Memory>
     requires { 0 < length rest.now }
     ensures { IfOk result
         (IsAnswer (table_of table.now) stated state.old state.new (need_of asked.entry) rest.now) }
 {
     match code_kind(rest[0]) {
-        Ok(CodeKind::Shared(_)) => Ok(Answer::Back),
+        Ok(CodeKind::Shared(_)) => Ok(TokenResult::Back),
         Ok(kind) => take_kind(table, stated, state, asked, kind, rest),
-        Err(_) => Ok(Answer::Unfit),
+        Err(_) => Ok(TokenResult::Unfit),
     }
 }
 
@@ -212,15 +212,15 @@ fn take_rare<'a>(
 pub fn step<'a>(
     table: &'a TypeTable,
     stated: u64,
-    state: &mut State<'a>,
-    asked: Asked<'a>,
+    state: &mut CheckState<'a>,
+    asked: Requirement<'a>,
     rest: &[u8],
-) -> Result<Answer, Memory>
+) -> Result<TokenResult, Memory>
     ensures { IfOk result
         (IsAnswer (table_of table.now) stated state.old state.new (need_of asked.entry) rest.now) }
 {
     if rest.is_empty() {
-        return Ok(Answer::Unfit);
+        return Ok(TokenResult::Unfit);
     }
     let code = rest[0];
     // Common codes have their own branches.
@@ -240,7 +240,7 @@ pub fn step<'a>(
         0x00 => take_kind(table, stated, state, asked, CodeKind::Int(1), rest),
         0x01 => take_kind(table, stated, state, asked, CodeKind::Int(2), rest),
         0x02 => take_kind(table, stated, state, asked, CodeKind::Int(4), rest),
-        0x04..0x07 => Ok(Answer::Back),
+        0x04..0x07 => Ok(TokenResult::Back),
         _ => take_rare(table, stated, state, asked, rest),
     }
 }

@@ -7,11 +7,11 @@ ghost use Rattle.check_stream.specs.checker.Positions.{need_of, open_needs};
 ghost use Rattle.check_stream.specs.checker.State.{Leads, IsSpent, BeginsAs, StopsAt};
 
 use crate::checker::back::{mark, turn};
+use crate::checker::check_state::CheckState;
 use crate::checker::chunk::chunk_len;
 use crate::checker::fast::fast;
 use crate::checker::listed::take_listed;
-use crate::checker::positions::{Asked, Open, first_position};
-use crate::checker::state::State;
+use crate::checker::open_positions::{BlockPositions, Requirement, first_position};
 use base_data::model::Memory;
 use base_data::model::header::Head;
 use marshal_codec::codes::code_kind;
@@ -31,7 +31,7 @@ pub fn head_of(bytes: &[u8], limit: u64) -> Option<Head>
 }
 
 /// Returns true if the value has all the data, words and objects that the header states.
-fn is_spent(head: &Head, start: usize, at: usize, state: &State<'_>) -> bool
+fn is_spent(head: &Head, start: usize, at: usize, state: &CheckState<'_>) -> bool
     requires { start ≤ at }
     ensures { OnTrue result (IsSpent head.now start at state.now) }
 {
@@ -43,7 +43,7 @@ fn is_spent(head: &Head, start: usize, at: usize, state: &State<'_>) -> bool
 
 /// The reason why the pass stopped.
 #[derive(Clone, Copy)]
-pub enum Stop {
+pub enum PassStop {
     /// A value of the type ends here. The number is its length in bytes.
     Typed(usize),
     /// The token at this offset is truncated.
@@ -65,12 +65,12 @@ fn is_truncated(bytes: &[u8]) -> bool {
 }
 
 /// Returns a position with this requirement.
-fn again(asked: Asked<'_>) -> Open<'_>
+fn again(asked: Requirement<'_>) -> BlockPositions<'_>
     ensures { open_needs result ≡ need_of asked.entry ∷ [] }
 {
     match asked {
-        Asked::Type(ty) => Open::Each(1, ty),
-        Asked::Hash(tags) => Open::Tagged(tags),
+        Requirement::Type(ty) => BlockPositions::Each(1, ty),
+        Requirement::Hash(tags) => BlockPositions::Tagged(tags),
     }
 }
 
@@ -84,12 +84,12 @@ pub fn run<'a>(
     head: &Head,
     start: usize,
     first: usize,
-    state: &mut State<'a>,
+    state: &mut CheckState<'a>,
     marks: &mut Vec<usize>,
     notes: &mut Vec<(usize, usize)>,
     left: &mut u64,
     bytes: &[u8],
-) -> Result<Stop, Memory>
+) -> Result<PassStop, Memory>
     requires leads { Leads (table_of table.now) limit bytes.now head.now start first
         marks.old.items notes.old.items state.old }
     ensures { IfOk result
@@ -114,9 +114,9 @@ pub fn run<'a>(
         let Some((asked, others)) = first_position(now, &mut state.positions.waiting) else {
             let at = bytes.len() - rest.len();
             if is_spent(head, start, at, state) {
-                return Ok(Stop::Typed(at));
+                return Ok(PassStop::Typed(at));
             }
-            return Ok(Stop::Inconclusive(at));
+            return Ok(PassStop::Inconclusive(at));
         };
         if let Some((n, next)) = fast(
             table,
@@ -136,7 +136,7 @@ pub fn run<'a>(
         let at = bytes.len() - rest.len();
         if is_truncated(rest) {
             state.positions.open(again(asked))?;
-            return Ok(Stop::Truncated(at));
+            return Ok(PassStop::Truncated(at));
         }
         mark(marks, at, state.types.len())?;
         let n = turn(
@@ -151,7 +151,7 @@ pub fn run<'a>(
             at,
         )?;
         if n == 0 {
-            return Ok(Stop::Inconclusive(at));
+            return Ok(PassStop::Inconclusive(at));
         }
         rest = &rest[n..];
     }

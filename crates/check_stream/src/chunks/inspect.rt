@@ -13,8 +13,8 @@ ghost use Rattle.check_stream.specs.search.Find.{IsSought};
 ghost use Rattle.check_stream.specs.search.Way.{way_positions};
 ghost use Rattle.check_stream.specs.chunks.Inspection.{HasRoomAfter};
 
-use crate::checker::{Passing, Stop, Words};
-use crate::search::{End, Found, Seeking};
+use crate::checker::{PassStop, Passing, Words};
+use crate::search::{FoundMismatch, SearchEnd, Seeking};
 use crate::truncated::truncated_len;
 use base_data::model::Memory;
 use marshal_codec::headers::{HeaderStep, parse};
@@ -23,7 +23,7 @@ use types_table::type_table::TypeTable;
 
 /// The result of the check on all bytes of the value so far.
 #[derive(Clone, Copy)]
-pub enum Shown {
+pub enum CheckResult {
     /// This many bytes are a value that has the type.
     Typed(usize),
     /// This many bytes are a value whose first fault is the mismatch that `missed` returns.
@@ -134,7 +134,7 @@ impl<'a> Inspecting<'a> {
 
     /// Returns the mismatch that was found last, until the next search starts. It belongs to the
     /// value that was checked last only if the result was `Missed`.
-    pub fn missed(&self) -> Option<&Found>
+    pub fn missed(&self) -> Option<&FoundMismatch>
         ensures { MatchOption result (missed_in self.now ≡ None)
             (λ found. missed_in self.now ≡ Some found.now) }
     {
@@ -170,7 +170,7 @@ impl<'a> Inspecting<'a> {
         table: &'a TypeTable,
         limit: u64,
         bytes: &[u8],
-    ) -> Result<Shown, Memory>
+    ) -> Result<CheckResult, Memory>
         requires inspecting { IsInspecting (table_of table.now) limit bytes.now self.old }
         ensures { IfOk result (IsShown (table_of table.now) limit bytes.now self.new) }
     {
@@ -179,7 +179,7 @@ impl<'a> Inspecting<'a> {
         }
         if self.misses >= MISSES {
             let shown = self.search(alloc, table, limit, bytes, SMALL)?;
-            if matches!(shown, Shown::Missed(_)) {
+            if matches!(shown, CheckResult::Missed(_)) {
                 return Ok(shown);
             }
             self.misses = 0;
@@ -196,7 +196,7 @@ impl<'a> Inspecting<'a> {
         table: &'a TypeTable,
         limit: u64,
         bytes: &[u8],
-    ) -> Result<Shown, Memory>
+    ) -> Result<CheckResult, Memory>
         requires inspecting { IsInspecting (table_of table.now) limit bytes.now self.old }
         requires unsought { self.old.sought ≡ false }
         ensures { IfOk result (IsShown (table_of table.now) limit bytes.now self.new) }
@@ -204,30 +204,30 @@ impl<'a> Inspecting<'a> {
         if !self.begun {
             if !self.passing.begin(bytes, limit)? {
                 if is_header_truncated(bytes) {
-                    return Ok(Shown::More);
+                    return Ok(CheckResult::More);
                 }
-                return Ok(Shown::Inconclusive);
+                return Ok(CheckResult::Inconclusive);
             }
             self.begun = true;
         }
         match self.passing.go(table, limit, bytes)? {
-            Stop::Typed(n) => {
+            PassStop::Typed(n) => {
                 self.misses = 0;
-                Ok(Shown::Typed(n))
+                Ok(CheckResult::Typed(n))
             }
-            Stop::Truncated(_) => {
+            PassStop::Truncated(_) => {
                 let mut left = self.passing.left;
                 let is_prefix = is_prefix(&self.passing, &mut left, bytes);
                 self.passing.left = left;
                 if is_prefix {
-                    Ok(Shown::More)
+                    Ok(CheckResult::More)
                 } else {
-                    Ok(Shown::Inconclusive)
+                    Ok(CheckResult::Inconclusive)
                 }
             }
-            Stop::Inconclusive(at) => {
+            PassStop::Inconclusive(at) => {
                 if is_reference(bytes, at) {
-                    return Ok(Shown::Inconclusive);
+                    return Ok(CheckResult::Inconclusive);
                 }
                 self.search(alloc, table, limit, bytes, u64::MAX)
             }
@@ -243,11 +243,11 @@ impl<'a> Inspecting<'a> {
         limit: u64,
         bytes: &[u8],
         most: u64,
-    ) -> Result<Shown, Memory>
+    ) -> Result<CheckResult, Memory>
         ensures { IfOk result (IsShown (table_of table.now) limit bytes.now self.new) }
     {
         if !self.seeking.begin(bytes, limit)? || self.seeking.head.length > most {
-            return Ok(Shown::Inconclusive);
+            return Ok(CheckResult::Inconclusive);
         }
         self.seek(alloc, table, limit, bytes)
     }
@@ -259,34 +259,34 @@ impl<'a> Inspecting<'a> {
         table: &'a TypeTable,
         limit: u64,
         bytes: &[u8],
-    ) -> Result<Shown, Memory>
+    ) -> Result<CheckResult, Memory>
         requires sought { IsSought (table_of table.now) limit bytes.now self.old.seeking }
         ensures { IfOk result (IsShown (table_of table.now) limit bytes.now self.new) }
     {
         self.begun = false;
         self.sought = true;
         match self.seeking.go(alloc, table, limit, bytes)? {
-            End::Found(n) => {
+            SearchEnd::Found(n) => {
                 let Some(found) = &self.seeking.finding.found else {
-                    return Ok(Shown::Inconclusive);
+                    return Ok(CheckResult::Inconclusive);
                 };
                 if found.ty >= table.count() {
-                    return Ok(Shown::Inconclusive);
+                    return Ok(CheckResult::Inconclusive);
                 }
                 self.misses = self.misses.saturating_add(1);
-                Ok(Shown::Missed(n))
+                Ok(CheckResult::Missed(n))
             }
-            End::Truncated => {
+            SearchEnd::Truncated => {
                 let mut left = self.seeking.left;
                 let is_prefix = is_prefix_but(&self.seeking, &mut left, bytes);
                 self.seeking.left = left;
                 if !is_prefix {
-                    return Ok(Shown::Inconclusive);
+                    return Ok(CheckResult::Inconclusive);
                 }
                 self.passing = Passing::new(alloc);
-                Ok(Shown::More)
+                Ok(CheckResult::More)
             }
-            End::Inconclusive => Ok(Shown::Inconclusive),
+            SearchEnd::Inconclusive => Ok(CheckResult::Inconclusive),
         }
     }
 }

@@ -1,14 +1,14 @@
 //! The streaming check of the current value, whose bytes arrive in chunks.
 
-use crate::chunks::inspect::{Inspecting, Shown};
-use crate::search::Found;
+use crate::chunks::inspect::{CheckResult, Inspecting};
+use crate::search::FoundMismatch;
 use base_data::model::Memory;
 use std::alloc::Global;
 use types_table::type_table::TypeTable;
 
 /// The result of a chunk.
 #[derive(Clone, Copy)]
-pub enum Answer {
+pub enum ChunkResult {
     /// This many bytes of the chunk complete a value that has the type.
     Typed(usize),
     /// This many bytes of the chunk complete a value with exactly one mismatch. The mismatch is
@@ -32,7 +32,7 @@ impl<'a> StreamCheck<'a> {
     ghost use Rattle.std.specs.Prelude.{ℕ, ◌≡◌, [], None, Some, IfOk, MatchOption};
     ghost use Rattle.types_spec.specs.types.Table.{Table};
     ghost use Rattle.types_table.specs.type_table.Made.{table_of};
-    ghost use Rattle.check_stream.specs.chunks.StreamCheck.{IsStreamCheck, Glances, held};
+    ghost use Rattle.check_stream.specs.chunks.StreamCheck.{IsStreamCheck, IsChunkResult, held};
 
     /// Creates a check without buffered bytes. It allocates no memory.
     pub fn new(alloc: Global) -> StreamCheck<'a>
@@ -53,7 +53,7 @@ impl<'a> StreamCheck<'a> {
     }
 
     /// Returns the mismatch that was found last, if it is still available.
-    pub fn missed(&self) -> Option<&Found>
+    pub fn missed(&self) -> Option<&FoundMismatch>
         ensures { MatchOption result (held self.now ≡ None)
             (λ found. held self.now ≡ Some found.now) }
     {
@@ -78,28 +78,28 @@ impl<'a> StreamCheck<'a> {
         table: &'a TypeTable,
         limit: u64,
         chunk: &[u8],
-    ) -> Result<Answer, Memory>
+    ) -> Result<ChunkResult, Memory>
         requires stream_check { IsStreamCheck (table_of table.now) limit self.old }
         requires none { self.old.kept.items ≡ [] }
         ensures { IfOk result
-            (Glances (table_of table.now) limit self.old chunk.now self.new) }
+            (IsChunkResult (table_of table.now) limit self.old chunk.now self.new) }
     {
         match self.inspecting.inspect(alloc, table, limit, chunk)? {
-            Shown::Typed(n) if n > 0 => {
+            CheckResult::Typed(n) if n > 0 => {
                 self.end();
-                Ok(Answer::Typed(n))
+                Ok(ChunkResult::Typed(n))
             }
-            Shown::Missed(n) if n > 0 => {
+            CheckResult::Missed(n) if n > 0 => {
                 self.end();
-                Ok(Answer::Missed(n))
+                Ok(ChunkResult::Missed(n))
             }
-            Shown::More => {
+            CheckResult::More => {
                 self.kept.extend_from_slice(chunk)?;
-                Ok(Answer::More)
+                Ok(ChunkResult::More)
             }
             _ => {
                 self.inspecting.forget(alloc);
-                Ok(Answer::Inconclusive)
+                Ok(ChunkResult::Inconclusive)
             }
         }
     }
@@ -112,10 +112,10 @@ impl<'a> StreamCheck<'a> {
         table: &'a TypeTable,
         limit: u64,
         chunk: &[u8],
-    ) -> Result<Answer, Memory>
+    ) -> Result<ChunkResult, Memory>
         requires stream_check { IsStreamCheck (table_of table.now) limit self.old }
         ensures { IfOk result
-            (Glances (table_of table.now) limit self.old chunk.now self.new) }
+            (IsChunkResult (table_of table.now) limit self.old chunk.now self.new) }
     {
         let before = self.kept.len();
         self.kept.extend_from_slice(chunk)?;
@@ -123,19 +123,19 @@ impl<'a> StreamCheck<'a> {
             .inspecting
             .inspect(alloc, table, limit, self.kept.as_slice())?
         {
-            Shown::Typed(n) if n > before => {
+            CheckResult::Typed(n) if n > before => {
                 self.end();
-                Ok(Answer::Typed(n - before))
+                Ok(ChunkResult::Typed(n - before))
             }
-            Shown::Missed(n) if n > before => {
+            CheckResult::Missed(n) if n > before => {
                 self.end();
-                Ok(Answer::Missed(n - before))
+                Ok(ChunkResult::Missed(n - before))
             }
-            Shown::More => Ok(Answer::More),
+            CheckResult::More => Ok(ChunkResult::More),
             _ => {
                 self.kept.truncate(before);
                 self.inspecting.forget(alloc);
-                Ok(Answer::Inconclusive)
+                Ok(ChunkResult::Inconclusive)
             }
         }
     }
@@ -150,10 +150,10 @@ impl<'a> StreamCheck<'a> {
         table: &'a TypeTable,
         limit: u64,
         chunk: &[u8],
-    ) -> Result<Answer, Memory>
+    ) -> Result<ChunkResult, Memory>
         requires stream_check { IsStreamCheck (table_of table.now) limit self.old }
         ensures { IfOk result
-            (Glances (table_of table.now) limit self.old chunk.now self.new) }
+            (IsChunkResult (table_of table.now) limit self.old chunk.now self.new) }
     {
         if self.kept.is_empty() {
             self.first(alloc, table, limit, chunk)

@@ -7,7 +7,7 @@ ghost use Rattle.types_table.specs.type_table.Made.{table_of};
 ghost use Rattle.check_stream.specs.search.Judge.{IsSummary, IsApt, IsJudged, has_custom};
 ghost use Rattle.check_stream.specs.search.Judge.{judged_by};
 
-use crate::checker::Open;
+use crate::checker::BlockPositions;
 use crate::checker::fits::{fits_atom, fits_doubles, fits_int, positions_at, shape_of};
 use crate::search::summary::Summary;
 use base_data::model::code::CustomKind;
@@ -16,11 +16,11 @@ use types_table::type_table::TypeTable;
 
 /// The result of testing a token against an expected type.
 #[derive(Clone, Copy)]
-pub enum Judged<'a> {
+pub enum TokenJudgement<'a> {
     /// The token matches the type and has no fields.
     Fits,
     /// The token is a block that matches the type. Its fields have these expected types.
-    Opens(Open<'a>),
+    Opens(BlockPositions<'a>),
     /// The token is a reference with this offset.
     Back(u64),
     /// The token does not match the type.
@@ -96,29 +96,33 @@ fn fits_custom(shape: &ShapeOf<usize>, kind: CustomKind) -> bool
 }
 
 /// Returns `Fits` or `Misses`.
-fn by<'a>(fits: bool) -> Judged<'a>
+fn by<'a>(fits: bool) -> TokenJudgement<'a>
     ensures { result ≡ judged_by fits }
 {
-    if fits { Judged::Fits } else { Judged::Misses }
+    if fits {
+        TokenJudgement::Fits
+    } else {
+        TokenJudgement::Misses
+    }
 }
 
 /// Tests a token, given by its summary, against the type `ty` of the table.
 #[inline(always)]
-pub fn judge<'a>(table: &'a TypeTable, ty: usize, summary: Summary) -> Judged<'a>
+pub fn judge<'a>(table: &'a TypeTable, ty: usize, summary: Summary) -> TokenJudgement<'a>
     ensures apt { IsApt summary result }
     ensures judged { (token : Token) → IsSummary summary token
         → IsJudged (table_of table.now) ty token result }
 {
     let Some(shape) = shape_of(table, ty) else {
-        return Judged::Unknown;
+        return TokenJudgement::Unknown;
     };
     match summary {
         Summary::Integer(z) => by(fits_int(shape, z)),
         Summary::Atom(tag) => by(fits_atom(shape, tag)),
-        Summary::Shared(offset) => Judged::Back(offset),
+        Summary::Shared(offset) => TokenJudgement::Back(offset),
         Summary::Block(tag, size) => match positions_at(shape, ty, tag, size) {
-            Some(positions) => Judged::Opens(positions),
-            None => Judged::Misses,
+            Some(positions) => TokenJudgement::Opens(positions),
+            None => TokenJudgement::Misses,
         },
         Summary::Bytes(_) => by(fits_bytes(shape)),
         Summary::Double => by(fits_double(shape)),

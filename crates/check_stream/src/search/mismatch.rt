@@ -9,24 +9,26 @@ ghost use Rattle.marshal_spec.specs.format.Code.{kind_of};
 ghost use Rattle.marshal_spec.specs.format.Token.{Token};
 ghost use Rattle.check_stream.specs.mismatch_theory.PassedBut.{Misses, values_at};
 ghost use Rattle.check_stream.specs.declared.search.summary.Summary.TheVariants as sayings;
-ghost use Rattle.check_stream.specs.declared.search.way.Asked.TheVariants as asks;
+ghost use Rattle.check_stream.specs.declared.search.way.Expectation.TheVariants as asks;
 ghost use Rattle.check_stream.specs.search.Judge.{IsSummary, IsFair, summary_fields};
 ghost use Rattle.check_stream.specs.search.Way.{IsWay, IsAfterHash, IsSplit, OnHash, left_values};
 ghost use Rattle.check_stream.specs.search.Way.{way_positions};
 ghost use Rattle.check_stream.specs.search.Find.{Begins, HasRoom, Passes, Adds, Comes, IsSpent};
 ghost use Rattle.check_stream.specs.search.Find.{Ends};
-ghost use Rattle.check_stream.specs.search.Find.{unasked_in, IsFirst, IsSought, Seeks, Hastens};
-ghost use Rattle.check_stream.specs.search.Find.{HastensBy};
+ghost use Rattle.check_stream.specs.search.Find.{unasked_in, IsFirst, IsSought, Seeks, RunsFast};
+ghost use Rattle.check_stream.specs.search.Find.{RunsFastBy};
 
 use crate::checker::Words;
 use crate::checker::fits::{fits_int, is_equal, is_wildcard, shape_of, tag_of_hash, type_at};
 use crate::checker::whole::head_of;
 use crate::search::again::Again;
-use crate::search::judge::{Judged, judge};
+use crate::search::judge::{TokenJudgement, judge};
 use crate::search::push::push;
-use crate::search::second::Seconds;
+use crate::search::second::SecondReads;
 use crate::search::summary::{Summary, fields_of, first_token, measure_of, summary_kind};
-use crate::search::way::{Asked, Left, Link, Way, copy_to, first_type, split_listed};
+use crate::search::way::{
+    BlockExpectations, Expectation, Link, Way, copy_to, first_type, split_listed,
+};
 use base_data::model::Memory;
 use base_data::model::code::CodeKind;
 use base_data::model::header::Head;
@@ -40,7 +42,7 @@ const NO_TYPE: usize = 65535;
 
 /// A mismatch: the links of the path to it, the expected type, and the summary of its token.
 #[derive(Drop)]
-pub struct Found {
+pub struct FoundMismatch {
     pub links: Vec<Link>,
     pub ty: usize,
     pub summary: Summary,
@@ -55,9 +57,9 @@ pub struct Finding<'a> {
     pub way: Way<'a>,
     pub types: Vec<u16>,
     pub again: Again,
-    pub seconds: Seconds,
+    pub seconds: SecondReads,
     pub words: Words,
-    pub found: Option<Found>,
+    pub found: Option<FoundMismatch>,
     pub room: Vec<Link>,
 }
 
@@ -74,12 +76,12 @@ pub enum Fast {
 
 /// Returns the fields of a token below a mismatch. They have no expected types.
 #[inline(always)]
-fn unasked<'a>(summary: Summary) -> Left<'a>
+fn unasked<'a>(summary: Summary) -> BlockExpectations<'a>
     ensures fields { (token : Token) → IsSummary summary token → unasked_in result token }
     ensures none { HasRoom summary result }
     ensures many { left_values result ≡ summary_fields summary }
 {
-    Left::Unasked(fields_of(summary))
+    BlockExpectations::Unasked(fields_of(summary))
 }
 
 impl<'a> Finding<'a> {
@@ -91,7 +93,7 @@ impl<'a> Finding<'a> {
             way: Way::root(alloc),
             types: Vec::new(alloc),
             again: Again::new(alloc),
-            seconds: Seconds::new(alloc),
+            seconds: SecondReads::new(alloc),
             words: Words::stated(head),
             found: None,
             room: Vec::new(alloc),
@@ -119,7 +121,7 @@ impl<'a> Finding<'a> {
         &mut self,
         table: &TypeTable,
         ty: usize,
-        others: Left<'a>,
+        others: BlockExpectations<'a>,
         values: u32,
         summary: Summary,
     ) -> bool
@@ -167,7 +169,7 @@ impl<'a> Finding<'a> {
         &mut self,
         ty: usize,
         summary: Summary,
-        left: Left<'a>,
+        left: BlockExpectations<'a>,
         values: u64,
     ) -> Result<bool, Memory>
         requires room { HasRoom summary left }
@@ -206,7 +208,7 @@ impl<'a> Finding<'a> {
         alloc: Global,
         table: &'a TypeTable,
         ty: usize,
-        others: Left<'a>,
+        others: BlockExpectations<'a>,
         summary: Summary,
         len: usize,
     ) -> Result<Fast, Memory>
@@ -214,7 +216,7 @@ impl<'a> Finding<'a> {
         requires first { IsSplit self.old.way.now.left (asks.Type ty) others 1 }
         requires fair { IsFair summary }
         ensures { IfOk result
-            (λ fast. Hastens (table_of table.now) self.old summary len self.new fast) }
+            (λ fast. RunsFast (table_of table.now) self.old summary len self.new fast) }
     {
         if let Summary::Integer(_) = summary {
             if self.fill(table, ty, others, 1, summary) {
@@ -227,19 +229,24 @@ impl<'a> Finding<'a> {
             return Ok(Fast::Kept);
         }
         match judge(table, ty, summary) {
-            Judged::Fits => {
+            TokenJudgement::Fits => {
                 self.way.take_type(ty, others);
-                if self.add(ty, summary, Left::Unasked(0), 0)? {
+                if self.add(ty, summary, BlockExpectations::Unasked(0), 0)? {
                     return Ok(Fast::Took(len));
                 }
             }
-            Judged::Opens(positions) => {
+            TokenJudgement::Opens(positions) => {
                 self.way.take_type(ty, others);
-                if self.add(ty, summary, Left::Asked(positions), fields_of(summary))? {
+                if self.add(
+                    ty,
+                    summary,
+                    BlockExpectations::Asked(positions),
+                    fields_of(summary),
+                )? {
                     return Ok(Fast::Took(len));
                 }
             }
-            Judged::Misses => {
+            TokenJudgement::Misses => {
                 self.way.take_type(ty, others);
                 if self.miss(alloc, ty, summary)? {
                     return Ok(Fast::Took(len));
@@ -257,7 +264,7 @@ impl<'a> Finding<'a> {
         alloc: Global,
         table: &'a TypeTable,
         ty: usize,
-        others: Left<'a>,
+        others: BlockExpectations<'a>,
         kind: CodeKind,
         rest: &[u8],
     ) -> Result<Fast, Memory>
@@ -266,7 +273,7 @@ impl<'a> Finding<'a> {
         requires some { 0 < length rest.now }
         requires kind { kind_of (slice_index rest.now 0) ≡ Ok kind }
         ensures { IfOk result
-            (λ fast. HastensBy (table_of table.now) rest.now self.old self.new fast) }
+            (λ fast. RunsFastBy (table_of table.now) rest.now self.old self.new fast) }
     {
         let Some((summary, len)) = summary_kind(kind, rest) else {
             return Ok(Fast::Kept);
@@ -283,7 +290,7 @@ impl<'a> Finding<'a> {
         alloc: Global,
         table: &'a TypeTable,
         ty: usize,
-        others: Left<'a>,
+        others: BlockExpectations<'a>,
         code: u8,
         rest: &[u8],
     ) -> Result<Fast, Memory>
@@ -291,7 +298,7 @@ impl<'a> Finding<'a> {
         requires first { IsSplit self.old.way.now.left (asks.Type ty) others 1 }
         requires code { (0 < length rest.now) × (slice_index rest.now 0 ≡ code) }
         ensures { IfOk result
-            (λ fast. HastensBy (table_of table.now) rest.now self.old self.new fast) }
+            (λ fast. RunsFastBy (table_of table.now) rest.now self.old self.new fast) }
     {
         match code {
             0x00 => self.fast_kind(alloc, table, ty, others, CodeKind::Int(1), rest),
@@ -309,7 +316,7 @@ impl<'a> Finding<'a> {
         alloc: Global,
         table: &'a TypeTable,
         ty: usize,
-        others: Left<'a>,
+        others: BlockExpectations<'a>,
         code: u8,
         rest: &[u8],
     ) -> Result<Fast, Memory>
@@ -318,7 +325,7 @@ impl<'a> Finding<'a> {
         requires code { (0 < length rest.now) × (slice_index rest.now 0 ≡ code) }
         requires small { code < 128 }
         ensures { IfOk result
-            (λ fast. HastensBy (table_of table.now) rest.now self.old self.new fast) }
+            (λ fast. RunsFastBy (table_of table.now) rest.now self.old self.new fast) }
     {
         if code >= 0x40 {
             self.fast_kind(
@@ -351,7 +358,7 @@ impl<'a> Finding<'a> {
     fn run_fast(&mut self, alloc: Global, table: &'a TypeTable, rest: &[u8]) -> Result<Fast, Memory>
         requires { IsWay self.old.way }
         ensures { IfOk result
-            (λ fast. HastensBy (table_of table.now) rest.now self.old self.new fast) }
+            (λ fast. RunsFastBy (table_of table.now) rest.now self.old self.new fast) }
     {
         let Some((ty, others)) = split_listed(self.way.now.left) else {
             return Ok(Fast::Kept);
@@ -448,7 +455,7 @@ impl<'a> Finding<'a> {
         }
         let mut links = mem::replace(&mut self.room, Vec::new(alloc));
         copy_to(&mut links, self.way.links.as_slice())?;
-        self.found = Some(Found { links, ty, summary });
+        self.found = Some(FoundMismatch { links, ty, summary });
         self.add(NO_TYPE, summary, unasked(summary), fields_of(summary))
     }
 
@@ -495,13 +502,18 @@ impl<'a> Finding<'a> {
             return Ok(false);
         }
         match judge(table, ty, summary) {
-            Judged::Fits => self.add(ty, summary, Left::Unasked(0), 0),
-            Judged::Opens(positions) => {
-                self.add(ty, summary, Left::Asked(positions), fields_of(summary))
+            TokenJudgement::Fits => self.add(ty, summary, BlockExpectations::Unasked(0), 0),
+            TokenJudgement::Opens(positions) => {
+                self.add(
+                    ty,
+                    summary,
+                    BlockExpectations::Asked(positions),
+                    fields_of(summary),
+                )
             }
-            Judged::Back(offset) => self.back(table, stated, prefix, ty, offset),
-            Judged::Misses => self.miss(alloc, ty, summary),
-            Judged::Unknown => Ok(false),
+            TokenJudgement::Back(offset) => self.back(table, stated, prefix, ty, offset),
+            TokenJudgement::Misses => self.miss(alloc, ty, summary),
+            TokenJudgement::Unknown => Ok(false),
         }
     }
 
@@ -513,7 +525,7 @@ impl<'a> Finding<'a> {
         table: &'a TypeTable,
         stated: u64,
         prefix: &[u8],
-        asked: Asked<'a>,
+        asked: Expectation<'a>,
         summary: Summary,
     ) -> Result<bool, Memory>
         requires hash { OnHash asked (IsAfterHash self.old.way) }
@@ -523,7 +535,7 @@ impl<'a> Finding<'a> {
             (Comes (table_of table.now) stated prefix.now self.old asked.entry summary self.new)) }
     {
         match asked {
-            Asked::Type(ty) => match summary {
+            Expectation::Type(ty) => match summary {
                 // Blocks get specialized code.
                 Summary::Block(tag, size) => {
                     let block = Summary::Block(tag, size);
@@ -531,8 +543,8 @@ impl<'a> Finding<'a> {
                 }
                 _ => self.typed(alloc, table, stated, prefix, ty, summary),
             },
-            Asked::Hash(tags) => Ok(self.hash(tags, summary)),
-            Asked::Nothing => self.below(stated, summary),
+            Expectation::Hash(tags) => Ok(self.hash(tags, summary)),
+            Expectation::Nothing => self.below(stated, summary),
         }
     }
 
@@ -541,7 +553,7 @@ impl<'a> Finding<'a> {
     /// path.
     fn end(&self, head: &Head, start: usize, at: usize) -> bool
         requires { start ≤ at }
-        ensures { OnTrue result ((found : Found) × Ends head.now start at self.now found) }
+        ensures { OnTrue result ((found : FoundMismatch) × Ends head.now start at self.now found) }
     {
         if !self.is_spent(head, start, at) {
             return false;
@@ -582,7 +594,7 @@ pub struct Seeking<'a> {
 
 /// The result of a search step.
 #[derive(Clone, Copy)]
-pub enum End {
+pub enum SearchEnd {
     /// The value has this many bytes, and its only mismatch was found. It is the value's first
     /// fault: all other parts have their types, and no reference leads back to a block on the path
     /// to it.
@@ -640,7 +652,7 @@ impl<'a> Seeking<'a> {
         table: &'a TypeTable,
         limit: u64,
         bytes: &[u8],
-    ) -> Result<End, Memory>
+    ) -> Result<SearchEnd, Memory>
         requires sought { IsSought (table_of table.now) limit bytes.now self.old }
         ensures { IfOk result (Seeks (table_of table.now) limit bytes.now self.new) }
     {
@@ -653,9 +665,9 @@ impl<'a> Seeking<'a> {
         'tokens: loop {
             if !self.finding.way.ready() {
                 if self.finding.end(&self.head, self.start, self.at) {
-                    return Ok(End::Found(self.at));
+                    return Ok(SearchEnd::Found(self.at));
                 }
-                return Ok(End::Inconclusive);
+                return Ok(SearchEnd::Inconclusive);
             }
             let rest = &bytes[self.at..];
             match self.finding.run_fast(alloc, table, rest)? {
@@ -664,10 +676,10 @@ impl<'a> Seeking<'a> {
                     continue;
                 }
                 Fast::Kept => {}
-                Fast::Inconclusive => return Ok(End::Inconclusive),
+                Fast::Inconclusive => return Ok(SearchEnd::Inconclusive),
             }
             let Some((first, len)) = first_token(rest) else {
-                return Ok(End::Truncated);
+                return Ok(SearchEnd::Truncated);
             };
             if self.finding.pass(table, first) {
                 self.at += len;
@@ -681,7 +693,7 @@ impl<'a> Seeking<'a> {
                 .finding
                 .come(alloc, table, self.head.objects, prefix, asked, first)?;
             if !came {
-                return Ok(End::Inconclusive);
+                return Ok(SearchEnd::Inconclusive);
             }
             self.at += len;
         }

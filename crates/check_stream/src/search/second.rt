@@ -14,18 +14,18 @@ use types_table::type_table::TypeTable;
 /// The offsets of every 64th object, some objects with second types that they are known to have,
 /// and the number of tokens that may be read again.
 #[derive(Drop)]
-pub struct Seconds {
+pub struct SecondReads {
     pub marks: Vec<usize>,
     pub notes: Vec<(usize, usize)>,
     pub left: u64,
 }
 
-impl Seconds {
+impl SecondReads {
     /// Creates the state without objects.
-    pub fn new(alloc: Global) -> Seconds
+    pub fn new(alloc: Global) -> SecondReads
         ensures { IsFresh result }
     {
-        Seconds {
+        SecondReads {
             marks: Vec::new(alloc),
             notes: Vec::new(alloc),
             left: 0,

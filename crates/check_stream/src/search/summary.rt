@@ -15,7 +15,7 @@ ghost use Rattle.check_stream.specs.search.Judge.{custom_measure, summary_fields
 use crate::checker::chunk::{chunk_len, custom_at};
 use base_data::model::bytes::{big_endian, signed};
 use base_data::model::code::{CodeKind, CustomKind, Measure};
-use marshal_codec::codes::{Known, code_kind};
+use marshal_codec::codes::{KnownKind, code_kind};
 
 /// The summary of a token. For an object without fields it contains only what its type and its
 /// number of words depend on.
@@ -110,7 +110,7 @@ fn summary_custom(chunk: &[u8]) -> Option<Summary>
 
 /// Returns the summary of a token of this kind. `chunk` contains the bytes after its code.
 #[inline(always)]
-fn summary_of(kind: Known, chunk: &[u8]) -> Option<Summary>
+fn summary_of(kind: KnownKind, chunk: &[u8]) -> Option<Summary>
     requires { length chunk.now ≡ fixed_bytes kind.kind + variable_bytes kind.kind chunk.now }
     ensures { IfSome result
         (λ summary. IsSummaryAfter kind.kind chunk.now summary × IsFair summary) }
@@ -174,7 +174,7 @@ pub fn summary_kind(kind: CodeKind, bytes: &[u8]) -> Option<(Summary, usize)>
     let Some(len) = chunk_len(kind, after) else {
         return None;
     };
-    let known = Known { kind };
+    let known = KnownKind { kind };
     let Some(summary) = summary_of(known, &after[..len]) else {
         return None;
     };

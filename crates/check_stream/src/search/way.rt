@@ -6,15 +6,15 @@ ghost use Rattle.std.specs.Bool.{OnTrue};
 ghost use Rattle.check_stream.specs.theory.Asked.{values_in};
 ghost use Rattle.check_stream.specs.checker.Positions.{open_needs};
 ghost use Rattle.check_stream.specs.mismatch_theory.PassedBut.{field_after, values_at};
-ghost use Rattle.check_stream.specs.declared.search.way.Asked.TheVariants as asks;
-ghost use Rattle.check_stream.specs.declared.search.way.Left.TheVariants as lefts;
+ghost use Rattle.check_stream.specs.declared.search.way.Expectation.TheVariants as asks;
+ghost use Rattle.check_stream.specs.declared.search.way.BlockExpectations.TheVariants as lefts;
 ghost use Rattle.check_stream.specs.search.Way.{position_of, left_values, root_position};
 ghost use Rattle.check_stream.specs.search.Way.{way_positions, trail_in};
 ghost use Rattle.check_stream.specs.search.Way.{IsWay, IsSplit, PointsTo, IsAfterHash, OpensAt};
 ghost use Rattle.check_stream.specs.search.Way.{Keeps};
 ghost use Rattle.check_stream.specs.search.Way.{OnHash};
 
-use crate::checker::Open;
+use crate::checker::BlockPositions;
 use crate::search::push::push;
 use base_data::model::Memory;
 use std::alloc::Global;
@@ -22,7 +22,7 @@ use types_spec::types::shape::PolyTag;
 
 /// What a position expects: a type, the hash of a tag, or nothing (below a mismatch).
 #[derive(Clone, Copy)]
-pub enum Asked<'a> {
+pub enum Expectation<'a> {
     Type(usize),
     Hash(&'a [PolyTag<usize>]),
     Nothing,
@@ -30,8 +30,8 @@ pub enum Asked<'a> {
 
 /// What the open positions of a block expect.
 #[derive(Clone, Copy)]
-pub enum Left<'a> {
-    Asked(Open<'a>),
+pub enum BlockExpectations<'a> {
+    Asked(BlockPositions<'a>),
     /// This many positions expect nothing: the block is the mismatch or is below it.
     Unasked(u64),
 }
@@ -50,7 +50,7 @@ pub struct Link {
 pub struct Wait<'a> {
     pub depth: usize,
     pub next: u32,
-    pub left: Left<'a>,
+    pub left: BlockExpectations<'a>,
 }
 
 /// The open positions of all blocks. `now` contains those of the innermost block, `waiting` those
@@ -65,55 +65,65 @@ pub struct Way<'a> {
 
 /// Returns what the first remaining position expects, the other positions, and the number of values
 /// before them.
-fn split<'a>(left: Left<'a>) -> Option<(Asked<'a>, Left<'a>, u32)>
+fn split<'a>(left: BlockExpectations<'a>) -> Option<(Expectation<'a>, BlockExpectations<'a>, u32)>
     ensures { MatchOption result
         (left_values left.entry ≡ 0)
         (λ first. IsSplit left.entry first.0 first.1 first.2) }
 {
     match left {
-        Left::Asked(positions) => split_asked(positions),
-        Left::Unasked(count) => {
+        BlockExpectations::Asked(positions) => split_asked(positions),
+        BlockExpectations::Unasked(count) => {
             if count == 0 {
                 return None;
             }
-            Some((Asked::Nothing, Left::Unasked(count - 1), 1))
+            Some((
+                Expectation::Nothing,
+                BlockExpectations::Unasked(count - 1),
+                1,
+            ))
         }
     }
 }
 
 /// As `split`, for positions with expected types.
-fn split_asked<'a>(positions: Open<'a>) -> Option<(Asked<'a>, Left<'a>, u32)>
+fn split_asked<'a>(
+    positions: BlockPositions<'a>,
+) -> Option<(Expectation<'a>, BlockExpectations<'a>, u32)>
     ensures { MatchOption result
         (left_values (lefts.Asked positions.entry) ≡ 0)
         (λ first. IsSplit (lefts.Asked positions.entry) first.0 first.1 first.2) }
 {
     match positions {
-        Open::Listed(types) => {
+        BlockPositions::Listed(types) => {
             if types.is_empty() {
                 return None;
             }
-            let others = Left::Asked(Open::Listed(&types[1..]));
-            Some((Asked::Type(types[0]), others, 1))
+            let others = BlockExpectations::Asked(BlockPositions::Listed(&types[1..]));
+            Some((Expectation::Type(types[0]), others, 1))
         }
-        Open::Each(count, ty) => {
+        BlockPositions::Each(count, ty) => {
             if count == 0 {
                 return None;
             }
-            let others = Left::Asked(Open::Each(count - 1, ty));
-            Some((Asked::Type(ty), others, 1))
+            let others = BlockExpectations::Asked(BlockPositions::Each(count - 1, ty));
+            Some((Expectation::Type(ty), others, 1))
         }
-        Open::Tagged(tags) => Some((Asked::Hash(tags), Left::Asked(Open::Each(0, 0)), 2)),
+        BlockPositions::Tagged(tags) => Some((
+            Expectation::Hash(tags),
+            BlockExpectations::Asked(BlockPositions::Each(0, 0)),
+            2,
+        )),
     }
 }
 
 /// If the first remaining position expects a type, returns that type, the other positions, and the
 /// number of values before them.
 #[inline(always)]
-pub fn first_type<'a>(left: Left<'a>) -> Option<(usize, Left<'a>, u32)>
+pub fn first_type<'a>(left: BlockExpectations<'a>) -> Option<(usize, BlockExpectations<'a>, u32)>
     ensures { IfSome result (λ first. IsSplit left.entry (asks.Type first.0) first.1 first.2) }
 {
     match split(left) {
-        Some((Asked::Type(ty), others, values)) => Some((ty, others, values)),
+        Some((Expectation::Type(ty), others, values)) => Some((ty, others, values)),
         _ => None,
     }
 }
@@ -121,26 +131,29 @@ pub fn first_type<'a>(left: Left<'a>) -> Option<(usize, Left<'a>, u32)>
 /// If the types of the remaining positions are listed one by one, returns the first of these types
 /// and the other positions.
 #[inline(always)]
-pub fn split_listed<'a>(left: Left<'a>) -> Option<(usize, Left<'a>)>
+pub fn split_listed<'a>(left: BlockExpectations<'a>) -> Option<(usize, BlockExpectations<'a>)>
     ensures { IfSome result (λ first. IsSplit left.entry (asks.Type first.0) first.1 1) }
 {
-    let Left::Asked(Open::Listed(types)) = left else {
+    let BlockExpectations::Asked(BlockPositions::Listed(types)) = left else {
         return None;
     };
     if types.is_empty() {
         return None;
     }
-    Some((types[0], Left::Asked(Open::Listed(&types[1..]))))
+    Some((
+        types[0],
+        BlockExpectations::Asked(BlockPositions::Listed(&types[1..])),
+    ))
 }
 
 /// Returns true if values are pending in the remaining positions. Tests the frequent case of listed
 /// types first.
 #[tactic(auto, using(crate::proofs::theory::BlockLemmas::values_of_types))]
 #[inline(always)]
-fn is_open(left: Left<'_>) -> bool
+fn is_open(left: BlockExpectations<'_>) -> bool
     ensures { MatchBool result (0 < left_values left.entry) (left_values left.entry ≡ 0) }
 {
-    if let Left::Asked(Open::Listed(types)) = left {
+    if let BlockExpectations::Asked(BlockPositions::Listed(types)) = left {
         if types.is_empty() {
             return false;
         }
@@ -150,23 +163,23 @@ fn is_open(left: Left<'_>) -> bool
 }
 
 /// Returns the number of pending values in the remaining positions.
-pub fn values_left(left: Left<'_>) -> u64
+pub fn values_left(left: BlockExpectations<'_>) -> u64
     ensures { result ≡ left_values left.entry }
 {
     match left {
-        Left::Asked(positions) => values_asked(positions),
-        Left::Unasked(count) => count,
+        BlockExpectations::Asked(positions) => values_asked(positions),
+        BlockExpectations::Unasked(count) => count,
     }
 }
 
 /// As `values_left`, for positions with expected types.
-fn values_asked(positions: Open<'_>) -> u64
+fn values_asked(positions: BlockPositions<'_>) -> u64
     ensures { result ≡ values_in (open_needs positions.entry) }
 {
     match positions {
-        Open::Listed(types) => types.len() as u64,
-        Open::Each(count, _) => count,
-        Open::Tagged(_) => 2,
+        BlockPositions::Listed(types) => types.len() as u64,
+        BlockPositions::Each(count, _) => count,
+        BlockPositions::Tagged(_) => 2,
     }
 }
 
@@ -191,7 +204,7 @@ impl<'a> Way<'a> {
             now: Wait {
                 depth: 0,
                 next: 0,
-                left: Left::Asked(Open::Listed(&[0])),
+                left: BlockExpectations::Asked(BlockPositions::Listed(&[0])),
             },
             waiting: Vec::new(alloc),
             links: Vec::new(alloc),
@@ -220,7 +233,7 @@ impl<'a> Way<'a> {
         self.now = Wait {
             depth: 0,
             next: 0,
-            left: Left::Asked(Open::Listed(&[0])),
+            left: BlockExpectations::Asked(BlockPositions::Listed(&[0])),
         };
         self.waiting.clear();
         self.links.clear();
@@ -250,7 +263,7 @@ impl<'a> Way<'a> {
     /// Takes the first open position and returns what it expects. The links lead to that position
     /// afterwards.
     #[inline(always)]
-    pub fn take(&mut self) -> Asked<'a>
+    pub fn take(&mut self) -> Expectation<'a>
         requires is_way { IsWay self.old }
         requires some { 0 < left_values self.old.now.left }
         ensures is_way { IsWay self.new }
@@ -274,7 +287,7 @@ impl<'a> Way<'a> {
     /// Takes the first open position, which expects the type. The links lead to that position
     /// afterwards.
     #[inline(always)]
-    pub fn take_type(&mut self, ty: usize, others: Left<'a>)
+    pub fn take_type(&mut self, ty: usize, others: BlockExpectations<'a>)
         requires is_way { IsWay self.old }
         requires first { IsSplit self.old.now.left (asks.Type ty) others 1 }
         ensures is_way { IsWay self.new }
@@ -338,7 +351,12 @@ impl<'a> Way<'a> {
     /// which `values` values are pending, before all others. Returns false if the numbers do not
     /// fit in 32 bits.
     #[inline(always)]
-    pub fn open(&mut self, object: usize, left: Left<'a>, values: u64) -> Result<bool, Memory>
+    pub fn open(
+        &mut self,
+        object: usize,
+        left: BlockExpectations<'a>,
+        values: u64,
+    ) -> Result<bool, Memory>
         requires { left_values left ≡ values }
         ensures { IfOk result
             (λ opened. OnTrue opened
@@ -374,6 +392,6 @@ impl<'a> Way<'a> {
             ∷ way_positions self.old }
     {
         self.now.next -= 1;
-        self.now.left = Left::Asked(Open::Each(1, ty));
+        self.now.left = BlockExpectations::Asked(BlockPositions::Each(1, ty));
     }
 }

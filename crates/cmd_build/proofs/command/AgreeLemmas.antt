@@ -16,8 +16,8 @@ use Rattle.text_literal.specs.declared.parser.fault.LiteralFault.{LiteralFault}
 use Rattle.text_literal.specs.declared.parser.fault.LiteralFault.TheVariants as literals
 use Rattle.text_literal.specs.parser.LiteralAnswers.{shape_in, names_in, in_bytes, fault_of, IsAnswer, IsMisread}
 use Rattle.text_literal.specs.parser.Reading.{Refusal, mismatch_at, int_range_at, label_at}
-use Rattle.edit_values.specs.declared.spots.Spot.TheVariants as spots
-use Rattle.edit_values.specs.declared.spots.Position.{Position}
+use Rattle.edit_values.specs.declared.spots.Location.TheVariants as spots
+use Rattle.edit_values.specs.declared.spots.TypedLocation.{TypedLocation}
 use Rattle.edit_values.specs.EditedValues.{Answer, IsSetAt}
 use Rattle.edit_values.specs.Reasons.{Reason, no_field, not_block, no_literal, misread, ill_typed, literal_text, literal_or_none, literal_reason}
 use Rattle.edit_values.proofs.AgreeLemmas.{set_at_agree, AnswersAgree, literal_text_same}
@@ -29,7 +29,7 @@ abbrev pub before : Val
 before = vals.Atom 0
 
 -- At the root.
-abbrev pub at_root : {T : Type 0} → T → Position T
+abbrev pub at_root : {T : Type 0} → T → TypedLocation T
 at_root t = record { spot = spots.Root; value = before; ty = t }
 
 -- ---- a text is stored at the root of nothing

@@ -7,7 +7,7 @@ ghost use Rattle.cmd_build.specs.command.Lines.{known_on};
 ghost use Rattle.cmd_build.specs.command.Steps.{IsFaultText};
 
 use crate::command::given::given_fault;
-use base_data::lines::Positions;
+use base_data::lines::PositionStyle;
 use base_data::model::Memory;
 use base_data::model::list::List;
 use edit_values::literal_text;
@@ -28,7 +28,7 @@ fn placed_fault_text(
 ) -> Result<List<u8>, Memory>
     ensures { IfOk result (IsFaultText table.now (position_on lines number) fault) }
 {
-    let positions = Positions::of_line(lines, number);
+    let positions = PositionStyle::of_line(lines, number);
     match fault {
         TextFault::Lex(fault) => lexer_text(alloc, &positions, fault),
         TextFault::Literal(fault) => literal_text(alloc, table, &positions, fault),

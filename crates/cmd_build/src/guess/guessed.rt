@@ -3,8 +3,8 @@
 ghost use Rattle.std.specs.Prelude.{length, IfOk, IfSome, IsTrue};
 ghost use Rattle.base_data.specs.model.Graph.{IsValue};
 
-use crate::guess::begun::{Begun, begin};
-use crate::guess::open::Open;
+use crate::guess::guess_start::{GuessStart, begin};
+use crate::guess::guessed_block::GuessedBlock;
 use crate::guess::scan::{after, ends_block};
 use base_data::model::Memory;
 use base_data::model::value::Val;
@@ -53,9 +53,9 @@ fn write_field(heap: &mut Heap, block: u64, i: u64, v: Val) -> bool {
 /// of the inner block.
 #[inline(always)]
 fn go_on<'a, 't>(
-    opens: &mut Vec<Open<'a>>,
-    open: Open<'a>,
-    begun: Begun<'a, 't>,
+    opens: &mut Vec<GuessedBlock<'a>>,
+    open: GuessedBlock<'a>,
+    begun: GuessStart<'a, 't>,
 ) -> Result<&'t [u8], Memory> {
     if open.is_at_last() {
         let Some(inner) = begun.inner else {
@@ -77,8 +77,8 @@ fn read_part<'a, 't>(
     alloc: Global,
     heap: &mut Heap,
     table: &'a TypeTable,
-    opens: &mut Vec<Open<'a>>,
-    open: Open<'a>,
+    opens: &mut Vec<GuessedBlock<'a>>,
+    open: GuessedBlock<'a>,
     text: &'t [u8],
 ) -> Result<Option<&'t [u8]>, Memory> {
     let Some(part) = open.after_before(text) else {
@@ -105,7 +105,7 @@ fn read_parts<'a>(
     alloc: Global,
     heap: &mut Heap,
     table: &'a TypeTable,
-    block: Open<'a>,
+    block: GuessedBlock<'a>,
     text: &[u8],
 ) -> Result<bool, Memory> {
     let mut opens = Vec::new(alloc);
@@ -128,7 +128,7 @@ fn read_rest<'a>(
     alloc: Global,
     heap: &mut Heap,
     table: &'a TypeTable,
-    begun: Begun<'a, '_>,
+    begun: GuessStart<'a, '_>,
 ) -> Result<bool, Memory> {
     match begun.inner {
         Some(block) if ends_block(begun.rest) => {

@@ -1,7 +1,7 @@
 -- Proves `Account` for a run of `check --cert`, from the contents of its file.
 use Rattle.std.proofs.Common.{◌≡◌, ◌⊎◌, ◌<◌, ℕ, zero, suc, Bool, List, Ok, Err, inl, inr, refl, subst, arith}
 use Rattle.cli_spec.specs.declared.status.Status.{Status}
-use Rattle.cli_spec.specs.declared.reading.Reading.{Reading}
+use Rattle.cli_spec.specs.declared.read_options.ReadOptions.{ReadOptions}
 use Rattle.cli_spec.specs.CommandLine.{certify}
 use Rattle.cli_spec.specs.Outcome.{Found, Request, asked_type, own, Asks}
 use Rattle.cli_spec.specs.declared.exit.Exit.{Exit}
@@ -22,7 +22,7 @@ use Rattle.cmd_certify.specs.command.Certified.{on_certified_after}
 use Rattle.cmd_certify.specs.command.Reading.{certified_after}
 use Rattle.opt_skip_only.specs.skip_spec.Skipping.{Passed}
 
-module _ (arguments : List (List ℕ)) (file type : List ℕ) (lines : Bool) (reading : Reading)
+module _ (arguments : List (List ℕ)) (file type : List ℕ) (lines : Bool) (reading : ReadOptions)
     (asks : Asks arguments (own (certify file type lines reading))) (files : Change FilesState)
     (found : Found) (fetched : Fetched files file found) where
   abbrev asked : Asked

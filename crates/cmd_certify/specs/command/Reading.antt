@@ -15,7 +15,7 @@ use Rattle.run_types.specs.declared.requested.Prepared.{Prepared}
 use Rattle.run_types.specs.Language.{TypeOver}
 use Rattle.run_types.specs.Types.{type_over, IsReady}
 use Rattle.cmd_certify.specs.spec.Certification.{Certification}
-use Rattle.cli_spec.specs.declared.reading.Reading.{Reading}
+use Rattle.cli_spec.specs.declared.read_options.ReadOptions.{ReadOptions}
 use Rattle.cli_spec.specs.declared.exit.Exit.TheVariants.{Memory as out_of_memory}
 use Rattle.opt_skip_only.specs.skip_spec.Skipping.{Passed}
 use Rattle.cmd_certify.specs.command.Certified.{OutputsSection, on_certified}
@@ -25,7 +25,7 @@ abbrev pub certified : Prepared → ℕ → Certification TypeOver
 certified r limit = record { type = type_over r; limit = limit }
 
 -- The parameters, with the number of skipped bytes.
-abbrev pub certified_after : Prepared → Reading → Passed × Certification TypeOver
+abbrev pub certified_after : Prepared → ReadOptions → Passed × Certification TypeOver
 certified_after r reading =
     (record { bytes = reading.skip; copied = false }, certified r reading.limit)
 

@@ -94,7 +94,8 @@ module _ {D T E : Type 0} (language : Language D T E) (SectionOf : OutputsSectio
     Ends = EndsHere SectionOf;
   }
 
-  -- A value has one certificate entry, at each type that some texts denote.
+  -- If a type is parsed from some FILE and TYPE (`IsGiven`), then a value has at most one
+  -- certificate entry at this type.
   abbrev pub AreCertifiedOnce : Type 0
   AreCertifiedOnce =
       (type : T) → IsGiven language type → (number : ℕ) (tree : Tree)

@@ -18,7 +18,7 @@ use base_io::{Opener, Sink, Source};
 use cert_produce::LeastFaults;
 use cli_errors::exit::report_exit;
 use cli_spec::exit::Exit;
-use cli_spec::reading::Reading;
+use cli_spec::read_options::ReadOptions;
 use cli_spec::status::Status;
 use opt_skip_only::skip::{Over, SkipCommand};
 use opt_skip_only::skip_spec::laws::ByArguments;
@@ -32,7 +32,7 @@ fn certify_values<S: Source, K: Sink, E: Sink>(
     alloc: Global,
     requested: &Requested,
     least_faults: &LeastFaults,
-    reading: Reading,
+    reading: ReadOptions,
     input: &mut S,
     out: &mut K,
     err: &mut E,
@@ -56,7 +56,7 @@ fn certify_values<S: Source, K: Sink, E: Sink>(
 fn certify_by<S: Source, K: Sink, E: Sink>(
     alloc: Global,
     requested: &Requested,
-    reading: Reading,
+    reading: ReadOptions,
     input: &mut S,
     out: &mut K,
     err: &mut E,
@@ -84,7 +84,7 @@ fn certify_by<S: Source, K: Sink, E: Sink>(
 fn certify_over<S: Source, K: Sink, E: Sink>(
     alloc: Global,
     requested: Requested,
-    reading: Reading,
+    reading: ReadOptions,
     input: &mut S,
     out: &mut K,
     err: &mut E,
@@ -103,7 +103,7 @@ pub fn certify<S: Source, O: Opener, K: Sink, E: Sink>(
     file: &str,
     type_text: &str,
     lines: bool,
-    reading: Reading,
+    reading: ReadOptions,
     input: &mut S,
     files: &mut O,
     out: &mut K,

@@ -3,7 +3,7 @@ use Rattle.std.proofs.Common.{◌≡◌, ◌^◌, ◌<◌, ◌≤◌, ℕ, List,
 use Rattle.std.specs.Prelude.{find, if◌then◌else◌}
 use Rattle.std.specs.Str.{bytes_eq}
 use Rattle.clap.specs.Words.{Row}
-use Rattle.cli_spec.specs.declared.reading.Reading.{Reading}
+use Rattle.cli_spec.specs.declared.read_options.ReadOptions.{ReadOptions}
 use Rattle.cli_spec.specs.CommandLine.{Request, own, report, the_verdict, certify, generate, read_by, Form, forms, HasArguments, AreReadAs, Asks}
 
 -- The requested numbers are in range.
@@ -44,7 +44,7 @@ either_ranged false one other a b = b
 all_ranged : AllRanged forms
 all_ranged = (
   λ rows request h.
-      let reading : Reading = read_by h.2.2.2.0 h.2.2.2.2.0 h.2.0 in
+      let reading : ReadOptions = read_by h.2.2.2.0 h.2.2.2.2.0 h.2.0 in
       subst IsRanged h.2.2.2.2.2.2.2
       (either_ranged h.0 (own (certify h.2.2.2.2.2.0 h.2.2.2.2.2.2.0 h.2.2.0 reading))
       (report the_verdict h.2.2.2.2.2.0 h.2.2.2.2.2.2.0 h.2.2.0 reading) tt tt),

@@ -6,8 +6,10 @@ use Rattle.base_data.specs.declared.model.value.Val.{Val}
 use Rattle.base_data.specs.declared.model.value.Val.TheVariants as vals
 use Rattle.base_data.specs.declared.model.value.Obj.{Obj}
 use Rattle.base_data.specs.declared.model.value.Obj.TheVariants as objects
-use Rattle.cmd_gen.specs.declared.generator.item.Item.{Item}
-use Rattle.cmd_gen.specs.declared.generator.item.Item.TheVariants.{Nil, Num, Text, Pair, Cell}
+use Rattle.cmd_gen.specs.declared.generator.generated_item.GeneratedItem.{GeneratedItem}
+use Rattle.cmd_gen.specs.declared.generator.generated_item.GeneratedItem.TheVariants.{Nil, Num}
+use Rattle.cmd_gen.specs.declared.generator.generated_item.GeneratedItem.TheVariants.{Text, Pair}
+use Rattle.cmd_gen.specs.declared.generator.generated_item.GeneratedItem.TheVariants.{Cell}
 
 -- The text of the declaration of the type `item`.
 abbrev pub item_declarations : List ℕ
@@ -37,7 +39,7 @@ draw k state = drawn (state_after k state)
 
 -- Returns item `i` of the given kind, computed from the drawn numbers `b` and `c`. A pair or a cell
 -- refers to earlier items, so item 0 is neither a pair nor a cell.
-abbrev pub item_of : (kind i b c : ℕ) → Item
+abbrev pub item_of : (kind i b c : ℕ) → GeneratedItem
 item_of kind i b c =
     if kind == 0 then Nil
     else (if kind == 1 then Num b
@@ -47,7 +49,7 @@ item_of kind i b c =
     else Cell (b % i)))))
 
 -- Item `i` takes three draws. The first draw chooses its kind.
-abbrev pub item_at : ℕ → ℕ → Item
+abbrev pub item_at : ℕ → ℕ → GeneratedItem
 item_at i state = item_of (draw 1 state % 5) i (draw 2 state) (draw 3 state)
 
 -- ---- the objects of items
@@ -58,7 +60,7 @@ earlier values i = slice_index_or values i (vals.Int (pos 0))
 
 -- The objects of an item, numbered from `first`. `values` holds the values of the earlier items.
 -- The constructors with arguments are `Num`, `Text`, `Pair` and `Cell`, with tags from 0.
-abbrev pub objects_of : (first : ℕ) → List Val → Item → List Obj
+abbrev pub objects_of : (first : ℕ) → List Val → GeneratedItem → List Obj
 objects_of first values Nil = []
 objects_of first values (Num n) = objects.Block 0 (vals.Int (pos n) ∷ []) ∷ []
 objects_of first values (Text len byte) =
@@ -68,7 +70,7 @@ objects_of first values (Cell i) =
     objects.Block 0 (earlier values i ∷ []) ∷ objects.Block 3 (vals.Ref first ∷ []) ∷ []
 
 -- The value of an item. If it is an object, it is the last of the item's objects.
-abbrev pub value_of : (first : ℕ) → Item → Val
+abbrev pub value_of : (first : ℕ) → GeneratedItem → Val
 value_of first Nil = vals.Int (pos 0)
 value_of first (Num n) = vals.Ref first
 value_of first (Text len byte) = vals.Ref (first + 1)
@@ -82,7 +84,7 @@ pub record Made : Type 0 where
   pub state : ℕ
 
 -- Adds an item, its objects and its value.
-abbrev pub with_item : Made → Item → Made
+abbrev pub with_item : Made → GeneratedItem → Made
 with_item made item = record {
   all = made.all ++ objects_of (length made.all) made.values item;
   values = made.values ++ value_of (length made.all) item ∷ [];

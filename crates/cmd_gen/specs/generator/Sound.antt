@@ -1,10 +1,12 @@
 -- Valid items.
 use Rattle.std.specs.Prelude.{ℕ, ◌^◌, ◌<◌}
-use Rattle.cmd_gen.specs.declared.generator.item.Item.{Item}
-use Rattle.cmd_gen.specs.declared.generator.item.Item.TheVariants.{Nil, Num, Text, Pair, Cell}
+use Rattle.cmd_gen.specs.declared.generator.generated_item.GeneratedItem.{GeneratedItem}
+use Rattle.cmd_gen.specs.declared.generator.generated_item.GeneratedItem.TheVariants.{Nil, Num}
+use Rattle.cmd_gen.specs.declared.generator.generated_item.GeneratedItem.TheVariants.{Text, Pair}
+use Rattle.cmd_gen.specs.declared.generator.generated_item.GeneratedItem.TheVariants.{Cell}
 
 -- Item `i`: its numbers are in range, and it refers only to earlier items.
-abbrev pub IsItem : ℕ → Item → Type 0
+abbrev pub IsItem : ℕ → GeneratedItem → Type 0
 IsItem i Nil = Unit {0}
 IsItem i (Num n) = n < 2 ^ 23
 IsItem i (Text len byte) = (len < 40) × (byte < 2 ^ 8)

@@ -5,7 +5,7 @@ ghost use Rattle.base_data.specs.model.Graph.{IsValue};
 ghost use Rattle.cmd_gen.specs.generator.Generated.{generated, next_made};
 ghost use Rattle.cmd_gen.specs.generator.Items.{made_of, AreSound};
 
-use crate::generator::item::draw_item;
+use crate::generator::generated_item::draw_item;
 use crate::generator::objects::{add_item, add_list};
 use base_data::model::Memory;
 use base_data::model::value::Val;
@@ -21,7 +21,7 @@ pub struct Generated {
 
 /// The items so far: their heap, their values, and the state of the random generator.
 #[derive(Drop)]
-struct Items {
+struct GeneratedItems {
     heap: Heap,
     values: Vec<Val>,
     state: u64,
@@ -34,7 +34,7 @@ pub fn generate(alloc: Global, number: u64, count: u64) -> Result<Generated, Mem
     ensures made { IfOk result (λ made. (made.heap, made.root) ≡ generated number count) }
     ensures value { IfOk result (λ made. IsValue (length made.heap) made.root) }
 {
-    let mut items = Items {
+    let mut items = GeneratedItems {
         heap: Heap::new(alloc),
         values: Vec::with_capacity(alloc, count as usize)?,
         state: number,
@@ -49,7 +49,7 @@ pub fn generate(alloc: Global, number: u64, count: u64) -> Result<Generated, Mem
     })
 }
 
-impl Items {
+impl GeneratedItems {
     /// Adds an item.
     fn add(&mut self) -> Result<(), Memory>
         requires { AreSound self.old }

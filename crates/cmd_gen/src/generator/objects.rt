@@ -7,7 +7,7 @@ ghost use Rattle.marshal_heap.specs.heap.Heap.{Appends};
 ghost use Rattle.cmd_gen.specs.generator.Generated.{objects_of, value_of, listed};
 ghost use Rattle.cmd_gen.specs.generator.Sound.{IsItem};
 
-use crate::generator::item::Item;
+use crate::generator::generated_item::GeneratedItem;
 use base_data::model::Memory;
 use base_data::model::value::Val;
 use marshal_heap::heap::Heap;
@@ -35,7 +35,7 @@ fn add_two(heap: &mut Heap, tag: u8, v: Val, w: Val) -> Result<u64, Memory>
 
 /// Appends the objects of an item, and returns its value. `values` holds the values of the earlier
 /// items.
-pub fn add_item(heap: &mut Heap, values: &[Val], item: Item) -> Result<Val, Memory>
+pub fn add_item(heap: &mut Heap, values: &[Val], item: GeneratedItem) -> Result<Val, Memory>
     requires values { All (IsValue (length heap.old)) values.now }
     requires item { IsItem (length values.now) item }
     ensures objects { OnOk result
@@ -44,14 +44,14 @@ pub fn add_item(heap: &mut Heap, values: &[Val], item: Item) -> Result<Val, Memo
     ensures valid { IfOk result (IsValue (length heap.new)) }
 {
     match item {
-        Item::Nil => Ok(Val::Int(0)),
-        Item::Num(n) => Ok(Val::Ref(add_one(heap, 0, Val::Int(n as i64))?)),
-        Item::Text(len, byte) => add_text(heap, len as usize, byte),
-        Item::Pair(i, j) => {
+        GeneratedItem::Nil => Ok(Val::Int(0)),
+        GeneratedItem::Num(n) => Ok(Val::Ref(add_one(heap, 0, Val::Int(n as i64))?)),
+        GeneratedItem::Text(len, byte) => add_text(heap, len as usize, byte),
+        GeneratedItem::Pair(i, j) => {
             let (v, w) = (values[i as usize], values[j as usize]);
             Ok(Val::Ref(add_two(heap, 2, v, w)?))
         }
-        Item::Cell(i) => {
+        GeneratedItem::Cell(i) => {
             let of = add_one(heap, 0, values[i as usize])?;
             Ok(Val::Ref(add_one(heap, 3, Val::Ref(of))?))
         }
@@ -62,8 +62,9 @@ pub fn add_item(heap: &mut Heap, values: &[Val], item: Item) -> Result<Val, Memo
 fn add_text(heap: &mut Heap, len: usize, byte: u8) -> Result<Val, Memory>
     requires { len < 40 }
     ensures objects { OnOk result
-        (heap.new ≡ heap.old ++ objects_of (length heap.old) [] (Item.Text len byte)) }
-    ensures value { IfOk result (λ v. v ≡ value_of (length heap.old) (Item.Text len byte)) }
+        (heap.new ≡ heap.old ++ objects_of (length heap.old) [] (GeneratedItem.Text len byte)) }
+    ensures value { IfOk result
+        (λ v. v ≡ value_of (length heap.old) (GeneratedItem.Text len byte)) }
     ensures valid { IfOk result (IsValue (length heap.new)) }
 {
     let content = [byte; 40];

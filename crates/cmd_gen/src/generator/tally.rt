@@ -5,7 +5,7 @@ ghost use Rattle.base_io.specs.Faults.{count_after};
 ghost use Rattle.base_io.specs.Sink.{AppendsPrefix};
 ghost use Rattle.cmd_gen.specs.generator.Tally.{tally_state, HasNoRoom};
 
-use crate::generator::seen::Seen;
+use crate::generator::received_bytes::ReceivedBytes;
 use base_io::{Failed, Sink};
 use std::marker::Model;
 
@@ -19,7 +19,7 @@ pub struct Tally {
     count: u64,
     total: u64,
     faults: u64,
-    seen: Seen,
+    seen: ReceivedBytes,
 }
 
 impl Model for Tally {
@@ -42,7 +42,7 @@ impl Tally {
             count: 0,
             total: 0,
             faults: 0,
-            seen: Seen::nothing(),
+            seen: ReceivedBytes::nothing(),
         }
     }
 

@@ -11,12 +11,12 @@ use Rattle.run_spec.proofs.runs.WriteLemmas.{writes_nothing}
 use Rattle.run_spec.proofs.runs.ValueLemmas.{texts_of-one}
 use Rattle.run_loop.specs.work.Works.{Feeds}
 use Rattle.cmd_scan.specs.spec.Searching.{searching}
-use Rattle.cmd_scan.specs.declared.command.last.Taken.{Taken}
+use Rattle.cmd_scan.specs.declared.command.last.TakenBytes.{TakenBytes}
 use Rattle.cmd_scan.specs.command.Searched.{HasSearched, HasStretch, HasTaken, WritesNext}
 use Rattle.cmd_scan.proofs.command.SearchLemmas.{same_limit}
 
 module _ (limit_by : Request → Option ℕ) (limit : ℕ) (held : List ℕ) (reader : Reader) (at : ℕ)
-    (buffered : List ℕ) (t : Taken) where
+    (buffered : List ℕ) (t : TakenBytes) where
   abbrev Before : List ℕ → List Output → Type 0
   Before = HasSearched limit_by limit held reader at
 

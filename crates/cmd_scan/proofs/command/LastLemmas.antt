@@ -16,7 +16,7 @@ use Rattle.marshal_read.proofs.ReadingLemmas.{unless_memory}
 use Rattle.cmd_scan.specs.found.Parts.{AreRefused}
 use Rattle.cmd_scan.proofs.found.PrefixLemmas.{prefix_no_value, refused_no_prefix}
 use Rattle.cmd_scan.proofs.found.SomeLemmas.{value_last}
-use Rattle.cmd_scan.specs.declared.command.last.Taken.{Taken}
+use Rattle.cmd_scan.specs.declared.command.last.TakenBytes.{TakenBytes}
 use Rattle.cmd_scan.specs.command.Last.{IsDecided, IsRefusal, TakesByte, TakesBytes}
 
 module _ (limit : ℕ) where
@@ -129,7 +129,7 @@ module _ (limit : ℕ) where
 
   -- The result of the reader on the chunk.
   pub chunk_taken :
-      (held chunk : List ℕ) (new : Reader) (fed : Fed) (t : Taken) → 0 < length chunk
+      (held chunk : List ℕ) (new : Reader) (fed : Fed) (t : TakenBytes) → 0 < length chunk
       → IsPrefix limit held → Feeds limit held chunk new fed → t.bytes ≡ fed.taken
       → t.decided ≡ fed.done → TakesBytes limit held chunk new t
   chunk_taken held chunk new fed t some prefix f bytes decided = record {
@@ -159,7 +159,7 @@ module _ (limit : ℕ) where
 
   -- The result of reading the chunk again.
   pub chunk_found :
-      (held chunk : List ℕ) (new : Reader) (t : Taken) → (0 < t.bytes) × (t.bytes ≤ length chunk)
+      (held chunk : List ℕ) (new : Reader) (t : TakenBytes) → (0 < t.bytes) × (t.bytes ≤ length chunk)
       × IsDecided limit (held ++ take t.bytes chunk) → t.decided ≡ true
       → TakesBytes limit held chunk new t
   chunk_found held chunk new t (some, within, decided) is = record {

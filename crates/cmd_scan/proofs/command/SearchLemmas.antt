@@ -26,7 +26,7 @@ use Rattle.cmd_scan.proofs.sweep.PartsLemmas.{rest_is}
 use Rattle.cmd_scan.specs.spec.Searching.{bytes_in, IsFirstStretch, OutputsPositions, searching}
 use Rattle.cmd_scan.proofs.spec.LawfulLemmas.{goes_on, lawful_at}
 use Rattle.cmd_scan.proofs.spec.OutputLemmas.{bytes_in-snoc, output_of_stretch, all_fine}
-use Rattle.cmd_scan.specs.declared.command.last.Taken.{Taken}
+use Rattle.cmd_scan.specs.declared.command.last.TakenBytes.{TakenBytes}
 use Rattle.cmd_scan.specs.command.Last.{IsDecided, TakesBytes}
 use Rattle.cmd_scan.specs.command.Searched.{HasSearched, HasStretch, HasTaken, WritesNext}
 
@@ -106,7 +106,7 @@ module _ (limit_by : Request → Option ℕ) (limit : ℕ) where
       (held : List ℕ) (reader : Reader) (at : ℕ) (bytes : List ℕ) (output : List Output)
       → HasSearched limit_by limit held reader at bytes output
       → (buffered chunk : List ℕ) (m : ℕ) → m ≤ length buffered → chunk ≡ take m buffered
-      → (new : Reader) (t : Taken) → TakesBytes limit held chunk new t
+      → (new : Reader) (t : TakenBytes) → TakesBytes limit held chunk new t
       → (left : List ℕ) → left ≡ held ++ take t.bytes chunk
       → HasTaken limit_by limit left new at buffered bytes output t
   some_taken held reader at bytes output h buffered chunk m fits is new t takes left left_is =

@@ -20,7 +20,7 @@ use Rattle.types_spec.specs.types.VerdictText.{kind_text}
 use Rattle.cmd_scan.specs.found.Parts.{passed, sighted, bytes_of, AreRefused}
 use Rattle.cmd_scan.specs.found.Positions.{position_of, line_of}
 use Rattle.marshal_spec.proofs.format.JudgementLaws.{encoded_some}
-use Rattle.cmd_scan.specs.declared.sweep.next.Next.{Next}
+use Rattle.cmd_scan.specs.declared.sweep.next_part.NextPart.{NextPart}
 use Rattle.cmd_scan.specs.sweep.Swept.{position_read, PassesOne, Takes, AreWaiting, IsNext}
 use Rattle.cmd_scan.proofs.sweep.ClaimLemmas.{same_head}
 
@@ -120,7 +120,7 @@ module _ (limit at : ℕ) (bytes old new : List ℕ) where
   )
 
   pub refused_next :
-      {E : Type 0} (refusal : ReadRefusal) (result : Result Next E) → 0 < length bytes → new ≡ old
+      {E : Type 0} (refusal : ReadRefusal) (result : Result NextPart E) → 0 < length bytes → new ≡ old
       → RefusedIn limit bytes refusal → PassesOne refusal result
       → IsNext limit at bytes old new result
   refused_next refusal (Err e) some same refused passes = tt

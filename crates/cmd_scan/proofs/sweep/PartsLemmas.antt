@@ -11,8 +11,8 @@ use Rattle.cmd_scan.proofs.found.PrefixLemmas.{prefix_no_value}
 use Rattle.cmd_scan.proofs.found.OnceLemmas.{nothing_prefix}
 use Rattle.cmd_scan.proofs.found.PositionLemmas.{lines_of_parts}
 use Rattle.cmd_scan.proofs.found.SomeLemmas.{bytes_of-append, parts-append, undecided}
-use Rattle.cmd_scan.specs.declared.sweep.next.Next.{Next}
-use Rattle.cmd_scan.specs.declared.sweep.next.Next.TheVariants.{Decided, Waits}
+use Rattle.cmd_scan.specs.declared.sweep.next_part.NextPart.{NextPart}
+use Rattle.cmd_scan.specs.declared.sweep.next_part.NextPart.TheVariants.{Decided, Waits}
 use Rattle.cmd_scan.specs.sweep.Swept.{WritesParts, Takes, IsNext, IsLast}
 
 module _ (limit at : ℕ) (bytes old : List ℕ) (None : List ℕ → Type 0) where
@@ -100,7 +100,7 @@ none_passed limit at (b ∷ rest) old new some none same = (
 
 -- Hence the next part is a part if no more bytes follow.
 pub last_of :
-    (E : Type 0) (limit at : ℕ) (bytes old new : List ℕ) (next : Next) (n : ℕ) → 0 < length bytes
+    (E : Type 0) (limit at : ℕ) (bytes old new : List ℕ) (next : NextPart) (n : ℕ) → 0 < length bytes
     → IsNext limit at bytes old new {E = E} (Ok next) → IsLast next n
     → (0 < n) × (rest : List ℕ) × Takes limit at bytes old new (BeginNoValue limit) n rest
 last_of E limit at bytes old new (Decided m) n bytes_some (some, rest, t) is =

@@ -6,7 +6,7 @@ use Rattle.base_data.specs.declared.model.refusal.ReadRefusal.TheVariants as ref
 use Rattle.marshal_spec.specs.format.Prefix.{IsPrefix}
 use Rattle.marshal_read.specs.declared.reader.Reader.{Reader}
 use Rattle.marshal_read.specs.Reader.{IsReader, Leads}
-use Rattle.cmd_scan.specs.declared.command.last.Taken.{Taken}
+use Rattle.cmd_scan.specs.declared.command.last.TakenBytes.{TakenBytes}
 
 -- The last of the bytes decides what they begin with.
 pub record IsDecided (limit : ℕ) (bytes : List ℕ) : Type 0 where
@@ -36,7 +36,8 @@ FindsLast limit held chunk (Err e) = Unit {0}
 
 -- Some bytes are taken after the held ones. Either the last of them decides what all begin with, or
 -- they are still a prefix of a value and the reader has taken them.
-pub record TakesBytes (limit : ℕ) (held chunk : List ℕ) (new : Reader) (t : Taken) : Type 0 where
+pub record TakesBytes (limit : ℕ) (held chunk : List ℕ) (new : Reader)
+    (t : TakenBytes) : Type 0 where
   pub some : 0 < t.bytes
   pub within : t.bytes ≤ length chunk
   pub more : t.decided ≡ false → IsPrefix limit (held ++ take t.bytes chunk)
@@ -44,6 +45,6 @@ pub record TakesBytes (limit : ℕ) (held chunk : List ℕ) (new : Reader) (t : 
   pub last : t.decided ≡ true → IsDecided limit (held ++ take t.bytes chunk)
 
 -- The bytes are taken, or memory ran out.
-abbrev pub ReadsSome : {E : Type 0} → ℕ → List ℕ → List ℕ → Reader → Result Taken E → Type 0
+abbrev pub ReadsSome : {E : Type 0} → ℕ → List ℕ → List ℕ → Reader → Result TakenBytes E → Type 0
 ReadsSome limit held chunk new (Ok t) = TakesBytes limit held chunk new t
 ReadsSome limit held chunk new (Err e) = Unit {0}

@@ -13,7 +13,7 @@ use Rattle.cli_errors.specs.declared.exit.Error.TheVariants as aborts
 use Rattle.run_spec.specs.runs.Commands.{Item, OutputsFirst}
 use Rattle.run_loop.specs.work.Works.{AreOutput}
 use Rattle.cmd_scan.specs.spec.Searching.{bytes_in, searching}
-use Rattle.cmd_scan.specs.declared.command.last.Taken.{Taken}
+use Rattle.cmd_scan.specs.declared.command.last.TakenBytes.{TakenBytes}
 use Rattle.cmd_scan.specs.command.Last.{IsDecided}
 
 module _ (limit_by : Request → Option ℕ) (limit : ℕ) (held : List ℕ) where
@@ -36,7 +36,7 @@ module _ (limit_by : Request → Option ℕ) (limit : ℕ) (held : List ℕ) whe
 
 -- Some of the buffered bytes are taken. Afterwards a stretch is held, or a prefix of a value.
 abbrev pub HasTaken : (Request → Option ℕ) → ℕ → List ℕ → Reader → ℕ → List ℕ → List ℕ → List Output
-    → Taken → Type 0
+    → TakenBytes → Type 0
 HasTaken limit_by limit held reader at buffered bytes output t =
     (0 < t.bytes) × (t.bytes ≤ length buffered)
     × (t.decided ≡ false
@@ -45,7 +45,7 @@ HasTaken limit_by limit held reader at buffered bytes output t =
 
 -- The bytes are taken, or memory ran out.
 abbrev pub TakesSome : {E : Type 0} → (Request → Option ℕ) → ℕ → List ℕ → Reader → ℕ → List ℕ
-    → List ℕ → List Output → Result Taken E → Type 0
+    → List ℕ → List Output → Result TakenBytes E → Type 0
 TakesSome limit_by limit held reader at buffered bytes output (Ok t) =
     HasTaken limit_by limit held reader at buffered bytes output t
 TakesSome limit_by limit held reader at buffered bytes output (Err e) = Unit {0}

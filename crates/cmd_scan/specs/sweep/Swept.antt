@@ -11,9 +11,9 @@ use Rattle.marshal_read.specs.Reader.{Leads}
 use Rattle.types_spec.specs.types.VerdictText.{kind_text}
 use Rattle.cmd_scan.specs.found.Parts.{Part, bytes_of, BeginNoValue, AreRefused, AreParts}
 use Rattle.cmd_scan.specs.found.Positions.{Position, positions_of, lines_of}
-use Rattle.cmd_scan.specs.declared.sweep.next.Next.{Next}
-use Rattle.cmd_scan.specs.declared.sweep.next.Next.TheVariants as nexts
-use Rattle.cmd_scan.specs.declared.sweep.next.Next.TheVariants.{Decided, Waits}
+use Rattle.cmd_scan.specs.declared.sweep.next_part.NextPart.{NextPart}
+use Rattle.cmd_scan.specs.declared.sweep.next_part.NextPart.TheVariants as nexts
+use Rattle.cmd_scan.specs.declared.sweep.next_part.NextPart.TheVariants.{Decided, Waits}
 use Rattle.cmd_scan.specs.declared.sweep.parts.Swept.{Swept}
 
 -- The position of a value that was read from `size` bytes.
@@ -36,12 +36,12 @@ pub record WritesParts (limit : ℕ) (None : List ℕ → Type 0) (at : ℕ) (by
   pub text_is : new ≡ old ++ lines_of (positions_of at parts)
 
 -- One byte is skipped, or memory ran out.
-abbrev pub PassesOne : {E : Type 0} → ReadRefusal → Result Next E → Type 0
+abbrev pub PassesOne : {E : Type 0} → ReadRefusal → Result NextPart E → Type 0
 PassesOne refusal (Ok next) = (next ≡ nexts.Decided 1) × (refusal ≢ refusals.Memory)
 PassesOne refusal (Err e) = Unit {0}
 
 -- The length of the next part, if no more bytes follow.
-abbrev pub IsLast : Next → ℕ → Type 0
+abbrev pub IsLast : NextPart → ℕ → Type 0
 IsLast (Decided n) last = last ≡ n
 IsLast (Waits reader) last = last ≡ 1
 
@@ -56,7 +56,7 @@ module _ (limit at : ℕ) (bytes old new : List ℕ) where
   AreWaiting reader prefix = IsPrefix limit prefix × Leads limit prefix reader
 
   -- Either determined parts are consumed, or all bytes wait in the reader, or memory ran out.
-  abbrev pub IsNext : {E : Type 0} → Result Next E → Type 0
+  abbrev pub IsNext : {E : Type 0} → Result NextPart E → Type 0
   IsNext (Ok (Decided n)) = (0 < n) × (rest : List ℕ) × Takes (AreRefused limit) n rest
   IsNext (Ok (Waits reader)) = AreWaiting reader bytes × (new ≡ old)
   IsNext (Err e) = Unit {0}

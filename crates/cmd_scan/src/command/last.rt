@@ -68,7 +68,7 @@ fn find_last(alloc: Global, limit: u64, held: &[u8], chunk: &[u8]) -> Result<usi
 /// The number of bytes taken from a chunk, and whether the last of them decides what all bytes
 /// begin with.
 #[derive(Clone, Copy)]
-pub struct Taken {
+pub struct TakenBytes {
     pub bytes: usize,
     pub decided: bool,
 }
@@ -81,20 +81,20 @@ pub fn read_some(
     held: &[u8],
     reader: &mut Reader,
     chunk: &[u8],
-) -> Result<Taken, Memory>
+) -> Result<TakenBytes, Memory>
     requires some { 0 < length chunk.now }
     requires prefix { IsPrefix limit held.now }
     requires leads { Leads limit held.now reader.old }
     ensures { ReadsSome limit held.now chunk.now reader.new result }
 {
     match reader.feed(chunk) {
-        Ok(fed) => Ok(Taken {
+        Ok(fed) => Ok(TakenBytes {
             bytes: fed.taken,
             decided: fed.done,
         }),
         Err(_) => {
             let bytes = find_last(alloc, limit, held, chunk)?;
-            Ok(Taken {
+            Ok(TakenBytes {
                 bytes,
                 decided: true,
             })

@@ -6,7 +6,7 @@ ghost use Rattle.cli_spec.specs.Outcome.{Output};
 ghost use Rattle.base_io.specs.State.{change};
 ghost use Rattle.cmd_scan.specs.command.Searched.{HasSearched, HasStretch, TakesSome, WritesNext};
 
-use crate::command::last::{Taken, read_some};
+use crate::command::last::{TakenBytes, read_some};
 use crate::spec::laws::Searches;
 use crate::sweep::{sweep, sweep_all};
 use base_data::model::Memory;
@@ -75,7 +75,7 @@ impl<S: Searches> Searching<S> {
     }
 
     // Takes some of the buffered bytes. Afterwards a prefix of a value is held, or a stretch.
-    fn take_some(&mut self, alloc: Global, buffered: &[u8]) -> Result<Taken, Memory>
+    fn take_some(&mut self, alloc: Global, buffered: &[u8]) -> Result<TakenBytes, Memory>
         requires some { 0 < length buffered.now }
         requires has { (bytes : List ℕ) × (output : List Output)
             × HasSearched S.limit_by self.old.limit self.old.held.items self.old.reader self.old.at

@@ -3,7 +3,7 @@
 ghost use Rattle.std.specs.Prelude.{◌<◌, ◌+◌, ◌^◌, length};
 ghost use Rattle.cmd_scan.specs.sweep.Swept.{Sweeps, SweepsAll};
 
-use crate::sweep::next::{Next, last_part, next_part};
+use crate::sweep::next_part::{NextPart, last_part, next_part};
 use base_data::model::Memory;
 use base_data::model::bytes::skip;
 use marshal_read::Reader;
@@ -33,8 +33,8 @@ pub fn sweep(
     while decided < bytes.len() {
         let rest = skip(bytes, decided);
         match next_part(alloc, limit, rest, at + decided as u64, text)? {
-            Next::Decided(n) => decided += n,
-            Next::Waits(reader) => return Ok(Swept { decided, reader }),
+            NextPart::Decided(n) => decided += n,
+            NextPart::Waits(reader) => return Ok(Swept { decided, reader }),
         }
     }
     Ok(Swept {

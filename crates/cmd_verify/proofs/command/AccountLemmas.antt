@@ -1,7 +1,7 @@
 -- Proves `Account` for a run of `verify`, from the contents of its files.
 use Rattle.std.proofs.Common.{◌≡◌, ◌⊎◌, ◌<◌, ℕ, zero, suc, Bool, List, Ok, Err, inl, inr, refl, subst, arith}
 use Rattle.cli_spec.specs.declared.status.Status.{Status}
-use Rattle.cli_spec.specs.declared.reading.Reading.{Reading}
+use Rattle.cli_spec.specs.declared.read_options.ReadOptions.{ReadOptions}
 use Rattle.cli_spec.specs.Outcome.{Found, unfetched, Request, asked_type, own, verify, Asks}
 use Rattle.cli_spec.specs.declared.exit.Exit.{Exit}
 use Rattle.cli_spec.specs.declared.exit.Exit.TheVariants.{Memory as out_of_memory}
@@ -62,7 +62,7 @@ module _ (arguments : List (List ℕ)) (found : Fetches) where
 
 -- FILE or TYPE cannot be read.
 module _ (arguments : List (List ℕ)) (file type certificate : List ℕ) (lines : Bool)
-    (reading : Reading) (asks : Asks arguments (own (verify file type certificate lines reading))) (files : Change FilesState)
+    (reading : ReadOptions) (asks : Asks arguments (own (verify file type certificate lines reading))) (files : Change FilesState)
     (found : Found) (fetched : Fetched files file found) where
   abbrev asked : Asked
   asked = record {
@@ -103,7 +103,7 @@ module _ (arguments : List (List ℕ)) (file type certificate : List ℕ) (lines
       (gives_exit exit gives) r
 
 -- FILE and TYPE are read, and CERT is next.
-module _ (arguments : List (List ℕ)) (r : Prepared) (certificate : List ℕ) (reading : Reading)
+module _ (arguments : List (List ℕ)) (r : Prepared) (certificate : List ℕ) (reading : ReadOptions)
     (a b c : FilesState) (asks : AsksToVerify arguments r certificate reading (change a b))
     (found : Found) (fetched : Fetched (change b c) certificate found) where
   abbrev both_found : Fetches

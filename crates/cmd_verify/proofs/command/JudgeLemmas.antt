@@ -27,8 +27,8 @@ use Rattle.run_types.specs.Language.{TypeOver}
 use Rattle.run_types.specs.Types.{type_over, IsReady}
 use Rattle.run_types.proofs.GivenLemmas.{ready_each, ready_some_not}
 use Rattle.run_types.proofs.VerdictLemmas.{is_first, made}
-use Rattle.cmd_verify.specs.declared.command.judge.Judged.{Judged}
-use Rattle.cmd_verify.specs.declared.command.judge.Judged.TheVariants.{Line, Uncertified}
+use Rattle.cmd_verify.specs.declared.command.judge.VerifiedValue.{VerifiedValue}
+use Rattle.cmd_verify.specs.declared.command.judge.VerifiedValue.TheVariants.{Line, Uncertified}
 use Rattle.cmd_verify.specs.command.Shown.{why_text, Answers}
 use Rattle.cmd_verify.specs.command.Judged.{Judges, JudgesAt}
 
@@ -135,7 +135,7 @@ module _ (r : Prepared) (ready : IsReady r) (graph : List Obj) (root : Val) (sec
 
 module _ (t : TypeOver) (all : List Section) (number : ℕ) (graph : List Obj) (root : Val) where
   pub judged_at :
-      (section : Section) → slice_get all number ≡ Some section → (judged : Judged)
+      (section : Section) → slice_get all number ≡ Some section → (judged : VerifiedValue)
       → Judges t section graph root judged → JudgesAt t all number graph root judged
   judged_at section at (Line text ok) (output, shown, is) = (output, (section, at, shown), is)
   judged_at section at (Uncertified reason) (why, shown, is) =
@@ -143,7 +143,7 @@ module _ (t : TypeOver) (all : List Section) (number : ℕ) (graph : List Obj) (
 
   pub judged_ok :
       {E : Type 0} (section : Section) → slice_get all number ≡ Some section
-      → (result : Result Judged E) → IfOk result (Judges t section graph root)
+      → (result : Result VerifiedValue E) → IfOk result (Judges t section graph root)
       → IfOk result (JudgesAt t all number graph root)
   judged_ok section at (Ok judged) h = judged_at section at judged h
   judged_ok section at (Err e) h = h

@@ -1,6 +1,6 @@
 -- The arguments of `verify`, after the type was read.
 use Rattle.std.specs.Prelude.{ℕ, Bool, List, Ok}
-use Rattle.cli_spec.specs.declared.reading.Reading.{Reading}
+use Rattle.cli_spec.specs.declared.read_options.ReadOptions.{ReadOptions}
 use Rattle.cli_spec.specs.Outcome.{Found, asked_type, own, verify, Asks}
 use Rattle.base_io.specs.State.{FilesState, Change}
 use Rattle.run_spec.specs.runs.Given.{Fetched}
@@ -9,7 +9,7 @@ use Rattle.run_types.specs.Types.{GivesType}
 
 -- FILE and TYPE gave this type, and CERT is read next.
 pub record AsksToVerify (arguments : List (List ℕ)) (r : Prepared) (certificate : List ℕ)
-    (reading : Reading) (files : Change FilesState) : Type 0 where
+    (reading : ReadOptions) (files : Change FilesState) : Type 0 where
   pub file : List ℕ
   pub type : List ℕ
   pub lines : Bool

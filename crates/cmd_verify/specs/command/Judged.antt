@@ -13,12 +13,12 @@ use Rattle.cli_errors.specs.declared.exit.Error.TheVariants as aborts
 use Rattle.run_types.specs.Checked.{OrMemory}
 use Rattle.run_types.specs.Language.{TypeOver}
 use Rattle.cmd_verify.specs.spec.Verification.{Shown, shows, rejects}
-use Rattle.cmd_verify.specs.declared.command.judge.Judged.{Judged}
-use Rattle.cmd_verify.specs.declared.command.judge.Judged.TheVariants.{Line, Uncertified}
+use Rattle.cmd_verify.specs.declared.command.judge.VerifiedValue.{VerifiedValue}
+use Rattle.cmd_verify.specs.declared.command.judge.VerifiedValue.TheVariants.{Line, Uncertified}
 use Rattle.cmd_verify.specs.command.Shown.{IsShownAt}
 
 -- By one certificate entry.
-abbrev pub Judges : TypeOver → Section → List Obj → Val → Judged → Type 0
+abbrev pub Judges : TypeOver → Section → List Obj → Val → VerifiedValue → Type 0
 Judges t section graph v (Line text ok) =
     (output : List ℕ) × IsShownAt t section graph v (shows output ok) × (text ≡ line output)
 Judges t section graph v (Uncertified reason) =
@@ -38,7 +38,7 @@ IsUncertifiedBy t sections number graph v reason =
     ⊎ ((why : List ℕ) × IsShownBy t sections number graph v (rejects why)
     × (reason ≡ codes "certificate " ++ why))
 
-abbrev pub JudgesAt : TypeOver → List Section → ℕ → List Obj → Val → Judged → Type 0
+abbrev pub JudgesAt : TypeOver → List Section → ℕ → List Obj → Val → VerifiedValue → Type 0
 JudgesAt t sections number graph v (Line text ok) =
     (output : List ℕ) × IsShownBy t sections number graph v (shows output ok) × (text ≡ line output)
 JudgesAt t sections number graph v (Uncertified reason) =

@@ -15,7 +15,7 @@ use Rattle.run_types.specs.Language.{TypeOver, declared_types}
 use Rattle.run_types.specs.Types.{type_over, IsReady}
 use Rattle.cmd_verify.specs.spec.Verification.{Verification, ComesUncertified, verifying}
 use Rattle.cmd_verify.specs.command.Shown.{reads_sections, declared_sections}
-use Rattle.cli_spec.specs.declared.reading.Reading.{Reading}
+use Rattle.cli_spec.specs.declared.read_options.ReadOptions.{ReadOptions}
 use Rattle.opt_skip_only.specs.skip_spec.Asked.{passed_by}
 use Rattle.opt_skip_only.specs.skip_spec.Skipping.{Passed, skipping}
 
@@ -33,7 +33,7 @@ certified r sections limit =
 
 -- The parameters, with the number of skipped bytes.
 abbrev pub certified_after :
-    Prepared → List Section → Reading → Passed × Verification TypeOver Section
+    Prepared → List Section → ReadOptions → Passed × Verification TypeOver Section
 certified_after r sections reading =
     (record { bytes = reading.skip; copied = false }, certified r sections reading.limit)
 

@@ -15,7 +15,7 @@ use crate::command::values::Certified;
 use base_io::{Opener, Sink, Source};
 use cert_format::Section;
 use cli_errors::exit::report_exit;
-use cli_spec::reading::Reading;
+use cli_spec::read_options::ReadOptions;
 use cli_spec::status::Status;
 use opt_skip_only::skip::{Over, SkipCommand};
 use opt_skip_only::skip_spec::laws::ByArguments;
@@ -28,7 +28,7 @@ fn verify_values<S: Source, K: Sink, E: Sink>(
     alloc: Global,
     requested: &Requested,
     sections: &[Section],
-    reading: Reading,
+    reading: ReadOptions,
     input: &mut S,
     out: &mut K,
     err: &mut E,
@@ -52,7 +52,7 @@ fn verify_by<S: Source, O: Opener, K: Sink, E: Sink>(
     alloc: Global,
     requested: &Requested,
     certificate: &str,
-    reading: Reading,
+    reading: ReadOptions,
     input: &mut S,
     files: &mut O,
     out: &mut K,
@@ -85,7 +85,7 @@ fn verify_over<S: Source, O: Opener, K: Sink, E: Sink>(
     alloc: Global,
     requested: Requested,
     certificate: &str,
-    reading: Reading,
+    reading: ReadOptions,
     input: &mut S,
     files: &mut O,
     out: &mut K,
@@ -118,7 +118,7 @@ pub fn verify<S: Source, O: Opener, K: Sink, E: Sink>(
     type_text: &str,
     certificate: &str,
     lines: bool,
-    reading: Reading,
+    reading: ReadOptions,
     input: &mut S,
     files: &mut O,
     out: &mut K,

@@ -25,7 +25,7 @@ use types_theory::table::{tables_decide, type_or_fault};
 /// The result for a value: its output with a line feed, and whether the value is ok. Or the reason
 /// why the certificate does not certify it.
 #[derive(Drop)]
-pub enum Judged {
+pub enum VerifiedValue {
     Line(List<u8>, bool),
     Uncertified(List<u8>),
 }
@@ -38,14 +38,14 @@ pub fn judge(
     requested: &Requested,
     sections: &[Section],
     number: u64,
-) -> Result<Judged, Memory>
+) -> Result<VerifiedValue, Memory>
     ensures { IfOk result
         (JudgesAt (type_over requested.now) sections.now number value.now.heap.now value.now.root) }
 {
     if number >= sections.len() as u64 {
         let mut reason = Vec::new(alloc);
         write(&mut reason, b"no section")?;
-        return Ok(Judged::Uncertified(List::of(reason)));
+        return Ok(VerifiedValue::Uncertified(List::of(reason)));
     }
     judge_by(alloc, value, requested, &sections[number as usize])
 }
@@ -56,7 +56,7 @@ fn judge_by(
     value: &Rooted<'_>,
     requested: &Requested,
     section: &Section,
-) -> Result<Judged, Memory>
+) -> Result<VerifiedValue, Memory>
     ensures { IfOk result (Judges (type_over requested.now) section.now value.now.heap.now
         value.now.root) }
 {
@@ -71,7 +71,7 @@ fn known(
     requested: &Requested,
     section: &Section,
     verified: &Verified,
-) -> Result<Judged, Memory>
+) -> Result<VerifiedValue, Memory>
     requires { IsVerified (table_of requested.now.table) value.now.heap.now value.now.root
         section.now verified.now }
     ensures { IfOk result (Judges (type_over requested.now) section.now value.now.heap.now
@@ -84,14 +84,14 @@ fn known(
         Verified::Yes => {
             let mut text = Vec::new(alloc);
             write(&mut text, b"yes\n")?;
-            Ok(Judged::Line(List::of(text), true))
+            Ok(VerifiedValue::Line(List::of(text), true))
         }
         Verified::No(fault) => known_fault(alloc, value, requested, section, fault),
         Verified::Rejected(why) => {
             let mut text = Vec::new(alloc);
             write(&mut text, b"certificate ")?;
             write_why(&mut text, alloc, *why)?;
-            Ok(Judged::Uncertified(List::of(text)))
+            Ok(VerifiedValue::Uncertified(List::of(text)))
         }
     }
 }
@@ -103,7 +103,7 @@ fn known_fault(
     requested: &Requested,
     section: &Section,
     fault: &Fault,
-) -> Result<Judged, Memory>
+) -> Result<VerifiedValue, Memory>
     requires { IsVerified (table_of requested.now.table) value.now.heap.now value.now.root
         section.now (No fault.now) }
     ensures { IfOk result (Judges (type_over requested.now) section.now value.now.heap.now
@@ -119,5 +119,5 @@ fn known_fault(
     write(&mut text, b"no ")?;
     write(&mut text, why.as_slice())?;
     write(&mut text, b"\n")?;
-    Ok(Judged::Line(List::of(text), false))
+    Ok(VerifiedValue::Line(List::of(text), false))
 }

@@ -8,7 +8,7 @@ ghost use Rattle.run_types.specs.Types.{type_over};
 ghost use Rattle.cmd_verify.specs.command.Judged.{WritesShown};
 ghost use Rattle.cmd_verify.specs.command.Reading.{HasRead, IsValueRead, WritesNext, certified};
 
-use crate::command::judge::{Judged, judge};
+use crate::command::judge::{VerifiedValue, judge};
 use base_io::{Sink, write_all};
 use cert_format::Section;
 use cli_errors::exit::Error;
@@ -35,11 +35,11 @@ fn write_shown<K: Sink>(
         value.now.root (change (K.state out.old) (K.state out.new)) result }
 {
     match judge(alloc, value, requested, sections, number)? {
-        Judged::Line(text, ok) => {
+        VerifiedValue::Line(text, ok) => {
             write_all(out, text.as_slice())?;
             Ok(ok)
         }
-        Judged::Uncertified(reason) => Err(Error::Exit(Exit::Uncertified(number, reason))),
+        VerifiedValue::Uncertified(reason) => Err(Error::Exit(Exit::Uncertified(number, reason))),
     }
 }
 

@@ -23,7 +23,7 @@ impl Model for Block {
 }
 
 impl Block {
-    ghost use Rattle.marshal_heap.specs.arena.Lends.{lends_words};
+    ghost use Rattle.marshal_heap.specs.arena.BorrowedWords.{borrows_words};
 
     /// Returns a block without memory.
     pub(crate) fn none() -> Block
@@ -108,7 +108,7 @@ impl Block {
     /// Returns a mutable slice of the `n` words from word `from` on.
     pub(crate) fn part_mut(&mut self, from: usize, n: usize) -> &mut [u64]
         requires { from + n ≤ length self.old.words }
-        ensures* writes_back { sem 𝓛 (lends_words self.entry from result) }
+        ensures* writes_back { sem 𝓛 (borrows_words self.entry from result) }
         ensures value { result.now ≡ slice_range self.old.words from (from + n) }
     {
         unsafe { slice::from_raw_parts_mut(self.at.add(from), n) }

@@ -18,7 +18,7 @@ pub struct Rooted<'a> {
 
 /// An object of a heap, by its number.
 #[derive(Clone, Copy)]
-pub struct Placed<'a> {
+pub struct NumberedObject<'a> {
     pub heap: &'a Heap,
     pub object: u64,
     pub ghost there: { object < length heap.now },

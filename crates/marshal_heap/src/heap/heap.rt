@@ -27,7 +27,7 @@ use crate::heap::strings::{append_string, append_zeros, with_byte};
 use crate::heap::words::{
     CUSTOM, DOUBLE, DOUBLES, STRING, header_word, integer_of_word, kind_of_words, word_of_integer,
 };
-use crate::offsets::positions::Positions;
+use crate::offsets::offset_list::OffsetList;
 use base_data::model::Memory;
 use base_data::model::code::Custom;
 use base_data::model::value::Val;
@@ -43,7 +43,7 @@ use std::marker::Model;
 #[derive(Drop)]
 pub struct Heap {
     region: Region,
-    positions: Positions,
+    positions: OffsetList,
 }
 
 impl Model for Heap {
@@ -66,7 +66,7 @@ impl Heap {
     {
         Heap {
             region: Region::new(alloc),
-            positions: Positions::new(alloc),
+            positions: OffsetList::new(alloc),
         }
     }
 

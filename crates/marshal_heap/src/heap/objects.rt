@@ -8,14 +8,14 @@ ghost use Rattle.marshal_heap.specs.heap.Words.{custom_words};
 
 use crate::arena::region::Region;
 use crate::heap::words::word_of_signed;
-use crate::offsets::positions::Positions;
+use crate::offsets::offset_list::OffsetList;
 use base_data::model::Memory;
 use base_data::model::code::Custom;
 
 /// Makes room for an object of `words` words, and records the end of the arena as the offset of its
 /// header. Returns the object's number.
 #[inline(always)]
-pub fn begin(region: &mut Region, positions: &mut Positions, words: u64) -> Result<u64, Memory>
+pub fn begin(region: &mut Region, positions: &mut OffsetList, words: u64) -> Result<u64, Memory>
     requires { All (λ p. p < length region.old.words) positions.old }
     ensures positions { MatchResult result
         (λ number. (number ≡ length positions.old)
@@ -34,7 +34,7 @@ pub fn begin(region: &mut Region, positions: &mut Positions, words: u64) -> Resu
 
 /// Does what `begin` does if no allocation is needed. Otherwise returns false and changes nothing.
 #[inline(always)]
-pub fn begin_in_room(region: &Region, positions: &mut Positions, words: u64) -> bool
+pub fn begin_in_room(region: &Region, positions: &mut OffsetList, words: u64) -> bool
     requires { All (λ p. p < length region.now.words) positions.old }
     ensures positions { MatchBool result
         (positions.new ≡ positions.old ++ length region.now.words ∷ [])

@@ -161,14 +161,14 @@ mutual
 
 -- ---- header and data
 
-pub concat-spellings : (all : List Token) → concat (map encoding all) ≡ data_encoding all
-concat-spellings [] = refl
-concat-spellings (t ∷ all) = ap (λ rest. encoding t ++ rest) (concat-spellings all)
+pub concat-encodings : (all : List Token) → concat (map encoding all) ≡ data_encoding all
+concat-encodings [] = refl
+concat-encodings (t ∷ all) = ap (λ rest. encoding t ++ rest) (concat-encodings all)
 
 with_header : (limit : ℕ) (tree : Tree) (big : Bool) (header : List ℕ) → IsTree tree → ReferBack tree 0 → all_words64 (map measure_of (tokens tree)) ≤ limit → length (data_encoding (tokens tree)) < 2 ^ 48 → EncodesHead big (length (data_encoding (tokens tree))) (object_count (map measure_of (tokens tree))) (all_words64 (map measure_of (tokens tree))) header → StatesWords32 (head_of header).big (head_of header).w32 (all_words32 (map measure_of (tokens tree))) → EncodedUnder limit (header ++ data_encoding (tokens tree)) tree
 with_header limit tree big header is_tree back words few head w32 =
     let all = tokens tree in
-    let data_is = concat-spellings all in record {
+    let data_is = concat-encodings all in record {
       header = header;
       chunks = map encoding all;
       bytes_are = ap (λ d. header ++ d) (sym data_is);

@@ -3,7 +3,7 @@
 use Rattle.std.proofs.Common.{ℕ, ◌^◌, ◌<◌, ◌≤◌, ◌≡◌, not, ◌||◌, ltb, eqb, List, length, None, ◌⊎◌, inl, inr, refl, sym, arith, ltb-false, le-ltb, eqb-true, ne_eqb, pos_of_ne-zero, le_of_eq}
 use Rattle.std.proofs.lemmas.Bool.{cases_Bool, eqb-false, not-false, or_cases}
 use Rattle.base_data.specs.declared.model.refusal.ReadRefusal.TheVariants.{BadMagic, TooLarge, Overlong}
-use Rattle.base_data.specs.declared.model.refusal.Stated.TheVariants.{Words, Length}
+use Rattle.base_data.specs.declared.model.refusal.StatedNumber.TheVariants.{Words, Length}
 use Rattle.marshal_spec.specs.format.Header.{magic, small_magic, big_magic, compressed_magic, header_length, head_of}
 use Rattle.marshal_spec.specs.format.Step.{magic_refusal, length_limit}
 use Rattle.marshal_spec.specs.format.Prefix.{HeaderPasses}

@@ -163,7 +163,8 @@ tokens_pass header before ms (t ∷ ts) (chunk ∷ chunks) e s o r table p ends 
 
 -- ---- from steps to a value
 
--- The tokens that chunks encode, after other chunks with these measures.
+-- The tokens that `chunks` encode. The chunks `before` precede them, and `ms` has the measures of
+-- the tokens before.
 pub record EncodedTokens (header : List ℕ) (before : List (List ℕ)) (ms : List (Option Measure)) (chunks : List (List ℕ)) : Type 0 where
   pub all : List Token
   pub encodes : AllZip Encodes all chunks

@@ -12,7 +12,7 @@ use Rattle.base_data.specs.declared.model.code.Measure.{Measure}
 use Rattle.marshal_spec.specs.format.Code.{kind_of, custom_of}
 use Rattle.marshal_spec.specs.format.Raw.{fixed_bytes, field_bytes, kind_bytes, custom_bytes, sizing_bytes, variable_bytes, measure_after, length_after, raw_length}
 use Rattle.base_data.specs.declared.model.refusal.ReadRefusal.TheVariants.{TooLarge, Overlong}
-use Rattle.base_data.specs.declared.model.refusal.Stated.TheVariants.{Words, Length}
+use Rattle.base_data.specs.declared.model.refusal.StatedNumber.TheVariants.{Words, Length}
 use Rattle.base_data.specs.declared.model.header.Head.{Head}
 use Rattle.base_data.specs.model.Bytes.{number, signed}
 use Rattle.marshal_spec.specs.format.Header.{magic, big_magic, header_length, head_of, small_head, big_head}

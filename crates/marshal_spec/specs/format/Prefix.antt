@@ -1,4 +1,4 @@
--- Incomplete bytes, which may still become a value, and refused bytes. Bytes are incomplete if no
+-- Incomplete bytes and refused bytes. Bytes are incomplete if no
 -- step that they decide fails and more bytes must follow. These definitions are this project's own,
 -- over the format of `intern.c`.
 use Rattle.std.specs.Prelude.{ℕ, ◌<◌, ◌≡◌, ◌⊎◌, List, [], ◌∷◌, ◌++◌, length, take, map, Option}

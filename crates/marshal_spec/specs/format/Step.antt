@@ -15,7 +15,7 @@ use Rattle.base_data.specs.declared.model.refusal.ReadRefusal.TheVariants.{ZeroA
 use Rattle.base_data.specs.declared.model.refusal.ReadRefusal.TheVariants.{SizeMismatch}
 use Rattle.base_data.specs.declared.model.refusal.ReadRefusal.TheVariants.{CountMismatch}
 use Rattle.base_data.specs.declared.model.refusal.ReadRefusal.TheVariants.{LengthMismatch}
-use Rattle.base_data.specs.declared.model.refusal.Stated.TheVariants.{Words, Length}
+use Rattle.base_data.specs.declared.model.refusal.StatedNumber.TheVariants.{Words, Length}
 use Rattle.base_data.specs.declared.model.refusal.WordSum.TheVariants.{W32, W64}
 use Rattle.base_data.specs.declared.model.header.Head.{Head}
 use Rattle.base_data.specs.declared.model.code.CodeKind.{CodeKind}

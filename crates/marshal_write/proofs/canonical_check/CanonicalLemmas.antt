@@ -22,7 +22,7 @@ use Rattle.marshal_spec.proofs.format.EncodeLemmas.{IsRaw-encoded, Encodes-same}
 use Rattle.marshal_spec.proofs.format.EncodeValues.{some_bytes}
 use Rattle.marshal_spec.proofs.format.TokenStepLemmas.{header_length-from}
 use Rattle.marshal_spec.proofs.canonical.EncodingLemmas.{encoding_encodes_lem}
-use Rattle.marshal_spec.proofs.canonical.CanonLemmas.{concat-spellings}
+use Rattle.marshal_spec.proofs.canonical.CanonLemmas.{concat-encodings}
 use Rattle.marshal_codec.specs.headers.Encoding.{HasSmallNumbers}
 use Rattle.marshal_write.specs.canonical_check.Canonicity.{CanBeEncoded, StandsFirst, BeginsCanonical, AreEncoded, AreCanonical, AreBare, IsOwnHeader, IsCanonicalBytes}
 
@@ -220,7 +220,7 @@ as_canonical bytes header data' stated ts are long own encoded count limit tree 
     let twenty : header_length s.header ≡ 20 = ap (λ m. cond (m == big_magic) 32 20) same_magic in
     let same : header ≡ s.header = same_prefix header s.header data' (concat s.chunks) (omega (arith, long, twenty, whole)) both in
     let rest : data' ≡ concat s.chunks = append_cancel_left header data' (concat s.chunks) (both ∙ ap (λ h. h ++ concat s.chunks) (sym same)) in
-    let tokens_are : ts ≡ all = same_tokens ts all (map encoding ts) s.chunks (encoded_each ts encoded.encodable) s.encodes.encodes (concat-spellings ts ∙ encoded.encoded ∙ rest) in
+    let tokens_are : ts ≡ all = same_tokens ts all (map encoding ts) s.chunks (encoded_each ts encoded.encodable) s.encodes.encodes (concat-encodings ts ∙ encoded.encoded ∙ rest) in
     let data_is : data_encoding all ≡ data' = ap data_encoding (sym tokens_are) ∙ encoded.encoded in
     let heads : head_of s.header ≡ head_of header = ap head_of (sym same) in
     let states : States (head_of header) all = subst (λ h. States h all) heads s.encodes.states in

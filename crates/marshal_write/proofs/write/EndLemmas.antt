@@ -9,7 +9,7 @@ use Rattle.marshal_spec.specs.canonical.Numbering.{Shows}
 use Rattle.marshal_write.specs.write.Marks.{marks_of}
 use Rattle.marshal_write.specs.write.Numbers.{AreNumbered}
 use Rattle.marshal_write.specs.write.Walking.{AreMarked, IsWalk}
-use Rattle.marshal_write.specs.declared.write.walk.Walk.{Walk}
+use Rattle.marshal_write.specs.declared.write.write_walk.WriteWalk.{WriteWalk}
 
 pub no_list : {X : Type 0} (x : X) (xs : List X) → x ∷ xs ≡ [] → ⊥
 no_list x xs is = cc
@@ -38,7 +38,7 @@ marked_all g ks c marks past m = record {
   named = λ i k is. let at = (m.named i k is).1 in (slice_get_within ks i k at, at);
 }
 
-pub all_numbered : (g : List Obj) (walk : Walk) (tree : Tree) → IsWalk g walk → IsTreeOf g walk.root tree → walk.given ≡ length (tokens tree)
+pub all_numbered : (g : List Obj) (walk : WriteWalk) (tree : Tree) → IsWalk g walk → IsTreeOf g walk.root tree → walk.given ≡ length (tokens tree)
     → AreNumbered g walk.root tree (marks_of walk.marks)
 all_numbered g walk tree w is end =
     let at = w.at tree is in

@@ -19,15 +19,15 @@ use Rattle.marshal_write.specs.write.Step.{object_token}
 use Rattle.marshal_write.specs.write.Walking.{IsFrame, IsOuter, Takes, fields_left, left_in}
 use Rattle.marshal_write.proofs.write.EndLemmas.{no_list}
 use Rattle.marshal_write.proofs.write.WalkLemmas.{drop_next}
-use Rattle.marshal_write.specs.declared.write.walk.Frame.{Frame}
+use Rattle.marshal_write.specs.declared.write.write_walk.RemainingFields.{RemainingFields}
 
-pub left_in-push : (g : List Obj) (frames : List Frame) (frame : Frame) → left_in g (frames ++ frame ∷ []) ≡ fields_left g frame ++ left_in g frames
+pub left_in-push : (g : List Obj) (frames : List RemainingFields) (frame : RemainingFields) → left_in g (frames ++ frame ∷ []) ≡ fields_left g frame ++ left_in g frames
 left_in-push g [] frame = sym (append-nil (fields_left g frame))
 left_in-push g (f ∷ frames) frame =
     ap (λ vs. vs ++ fields_left g f) (left_in-push g frames frame) ∙ append_assoc (fields_left g frame) (left_in g frames) (fields_left g f)
 
 -- The word of the next field is taken.
-pub record IsTaken (g : List Obj) (frame new : Frame) (word : ℕ) : Type 0 where
+pub record IsTaken (g : List Obj) (frame new : RemainingFields) (word : ℕ) : Type 0 where
   pub value : Val
   pub is : fields_left g frame ≡ value ∷ fields_left g new
   pub valid : IsValue (length g) value
@@ -37,7 +37,7 @@ pub record IsTaken (g : List Obj) (frame new : Frame) (word : ℕ) : Type 0 wher
 first_same : {X : Type 0} (x y : X) (xs ys : List X) → x ∷ xs ≡ y ∷ ys → (x ≡ y) × (xs ≡ ys)
 first_same x y xs ys is = (cc, cc)
 
-pub taken : (g : List Obj) (frame new : Frame) (word : ℕ) → IsFrame g frame → new.block ≡ frame.block → frame.rest.now ≡ word ∷ new.rest.now → IsTaken g frame new word
+pub taken : (g : List Obj) (frame new : RemainingFields) (word : ℕ) → IsFrame g frame → new.block ≡ frame.block → frame.rest.now ≡ word ∷ new.rest.now → IsTaken g frame new word
 taken g frame new word is same split = from (fields_left g frame) refl where
   from : (left : List Val) → fields_left g frame ≡ left → IsTaken g frame new word
   from [] e = absurd (no_list word new.rest.now (sym split ∙ is.words ∙ ap (map (word_of g)) e))
@@ -61,7 +61,7 @@ taken g frame new word is same split = from (fields_left g frame) refl where
         };
       }
 
-pub take_some : (g : List Obj) (frame new : Frame) (word : ℕ) → IsFrame g frame → new.block ≡ frame.block → frame.rest.now ≡ word ∷ new.rest.now → Takes g (fields_left g frame) (fields_left g new) (Some word)
+pub take_some : (g : List Obj) (frame new : RemainingFields) (word : ℕ) → IsFrame g frame → new.block ≡ frame.block → frame.rest.now ≡ word ∷ new.rest.now → Takes g (fields_left g frame) (fields_left g new) (Some word)
 take_some g frame new word is same split = let t = taken g frame new word is same split in (t.value, t.is, t.valid, t.word_is)
 
 -- The claim with more values after them.
@@ -69,7 +69,7 @@ pub takes_more : (g : List Obj) (old new more : List Val) (word : ℕ) → Takes
 takes_more g old new more word takes = (takes.0, ap (λ vs. vs ++ more) takes.1, takes.2, takes.3)
 
 -- An outer block has a next field.
-pub outer_takes : (g : List Obj) (frames : List Frame) (frame : Frame) (new : List Val) (result : Option ℕ) → IsOuter g frame → Takes g (fields_left g frame) new result
+pub outer_takes : (g : List Obj) (frames : List RemainingFields) (frame : RemainingFields) (new : List Val) (result : Option ℕ) → IsOuter g frame → Takes g (fields_left g frame) new result
     → Takes g (left_in g (frames ++ frame ∷ [])) (new ++ left_in g frames) result
 outer_takes g frames frame new None outer takes = absurd (omega (arith, outer.1, ap length (outer.0.words ∙ ap (map (word_of g)) takes.0)))
 outer_takes g frames frame new (Some word) outer takes =
@@ -88,7 +88,7 @@ no_word [] e = refl
 no_word (w ∷ ws) e = absurd (omega (arith, eqb-true (length (w ∷ ws)) 0 e))
 
 -- The last frame and the frames before it.
-pub frames_split : (g : List Obj) (frames : List Frame) (frame : Frame) → All (IsOuter g) (frames ++ frame ∷ []) → All (IsOuter g) frames × IsOuter g frame
+pub frames_split : (g : List Obj) (frames : List RemainingFields) (frame : RemainingFields) → All (IsOuter g) (frames ++ frame ∷ []) → All (IsOuter g) frames × IsOuter g frame
 frames_split g [] frame all = (All-nil (IsOuter g), All-head (IsOuter g) frame [] all)
 frames_split g (f ∷ frames) frame all =
     let rest = frames_split g frames frame (All-tail (IsOuter g) f (frames ++ frame ∷ []) all) in
@@ -174,11 +174,11 @@ held_block g k tag size heap inside kind =
     let s : IsSmall (objects.Block tag (fields_of (object_at g k))) = subst IsSmall kind.0 (heap.small k (objects.I32 (pos 0)) inside) in
     record { low = h.0; some = omega (arith, kind.1, h.1); small = omega (arith, kind.1, s) }
 
-pub record IsBegun (g : List Obj) (k : ℕ) (frame : Frame) : Type 0 where
+pub record IsBegun (g : List Obj) (k : ℕ) (frame : RemainingFields) : Type 0 where
   pub left : fields_left g frame ≡ fields_of (object_at g k)
   pub is_frame : IsFrame g frame
 
-pub block_begun : (g : List Obj) (k : ℕ) (frame : Frame) → IsHeap g → k < length g → frame.block ≡ k → frame.rest.now ≡ map (word_of g) (fields_of (object_at g k)) → IsBegun g k frame
+pub block_begun : (g : List Obj) (k : ℕ) (frame : RemainingFields) → IsHeap g → k < length g → frame.block ≡ k → frame.rest.now ≡ map (word_of g) (fields_of (object_at g k)) → IsBegun g k frame
 block_begun g k frame heap inside same words =
     let fs = fields_of (object_at g k) in
     let many : length frame.rest.now ≡ length fs = ap length words ∙ length-map fs (word_of g) in

@@ -17,10 +17,10 @@ use Rattle.marshal_heap.specs.heap.Heap.{object_at, position, IsHeap}
 use Rattle.marshal_write.specs.write.Step.{object_token, token_in}
 use Rattle.marshal_write.specs.write.Marks.{marks_of}
 use Rattle.marshal_write.specs.write.Walking.{AreLeft, IsAt, IsWalk, IsFrame, IsOuter, IsMet, left_of, root_left, pending}
-use Rattle.marshal_write.specs.declared.write.walk.Step.{Step}
-use Rattle.marshal_write.specs.declared.write.walk.Step.TheVariants as steps
+use Rattle.marshal_write.specs.declared.write.write_walk.WriteStep.{WriteStep}
+use Rattle.marshal_write.specs.declared.write.write_walk.WriteStep.TheVariants as steps
 use Rattle.marshal_write.specs.declared.write.marks.Marks.{Marks}
-use Rattle.marshal_write.specs.declared.write.walk.Walk.{Walk}
+use Rattle.marshal_write.specs.declared.write.write_walk.WriteWalk.{WriteWalk}
 use Rattle.marshal_write.proofs.write.BoundLemmas.{few_words, few_objects, objects-le-words}
 use Rattle.marshal_write.proofs.write.LeftLemmas.{Meets, object_next}
 use Rattle.marshal_write.proofs.write.SizeLemmas.{tree_words, few_bytes}
@@ -48,7 +48,7 @@ some_token tree ks c none v values left = absurd left.agree
 some_token tree ks c (more (node t s) f) v values left = omega arith
 
 -- If no value remains, then nothing changes.
-pub still_walk : (g : List Obj) (walk nv : Walk) → IsWalk g walk → IsFrame g nv.last → All (IsOuter g) nv.frames.items → vec_len nv.frames ≤ vec_len walk.frames
+pub still_walk : (g : List Obj) (walk nv : WriteWalk) → IsWalk g walk → IsFrame g nv.last → All (IsOuter g) nv.frames.items → vec_len nv.frames ≤ vec_len walk.frames
     → vec_capacity nv.frames ≡ vec_capacity walk.frames → nv ≡ record walk { last = nv.last; frames = nv.frames } → left_of g nv ≡ left_of g walk → IsWalk g nv
 still_walk g walk nv w last frames depth capacity frame left =
     subst (IsWalk g) (sym frame) (record {
@@ -74,26 +74,26 @@ still_walk g walk nv w last frames depth capacity frame left =
           };
     })
 
-module _ (g : List Obj) (walk nv : Walk) (v : Val) (w : IsWalk g walk) (value : pending g walk ≡ v ∷ left_of g nv)
+module _ (g : List Obj) (walk nv : WriteWalk) (v : Val) (w : IsWalk g walk) (value : pending g walk ≡ v ∷ left_of g nv)
     (last : IsFrame g nv.last) (frames : All (IsOuter g) nv.frames.items) (depth : vec_len nv.frames ≤ vec_len walk.frames) (capacity : vec_capacity nv.frames ≡ vec_capacity walk.frames)
     (frame : nv ≡ record walk { last = nv.last; frames = nv.frames }) where
   same_root : nv.root ≡ walk.root
-  same_root = ap (λ (x : Walk). x.root) frame
+  same_root = ap (λ (x : WriteWalk). x.root) frame
 
   same_given : nv.given ≡ walk.given
-  same_given = ap (λ (x : Walk). x.given) frame
+  same_given = ap (λ (x : WriteWalk). x.given) frame
 
   same_count : nv.count ≡ walk.count
-  same_count = ap (λ (x : Walk). x.count) frame
+  same_count = ap (λ (x : WriteWalk). x.count) frame
 
   same_next : nv.next ≡ walk.next
-  same_next = ap (λ (x : Walk). x.next) frame
+  same_next = ap (λ (x : WriteWalk). x.next) frame
 
   same_again : nv.again ≡ walk.again
-  same_again = ap (λ (x : Walk). x.again) frame
+  same_again = ap (λ (x : WriteWalk). x.again) frame
 
   same_marks : nv.marks ≡ walk.marks
-  same_marks = ap (λ (x : Walk). x.marks) frame
+  same_marks = ap (λ (x : WriteWalk). x.marks) frame
 
   pub given_small : nv.given + 1 < 2 ^ 64
   given_small =
@@ -104,7 +104,7 @@ module _ (g : List Obj) (walk nv : Walk) (v : Val) (w : IsWalk g walk) (value : 
       let left : length (drop walk.given (tokens t.tree)) ≡ length (forest_tokens at.forest) = ap length at.tokens_left in
       omega (arith, same_given, length-drop walk.given (tokens t.tree), b.words, b.bytes, b.tokens)
 
-  abbrev stepped : Walk
+  abbrev stepped : WriteWalk
   stepped = record nv { given = nv.given + 1 }
 
   keeps : Keeps walk stepped
@@ -188,12 +188,12 @@ module _ (g : List Obj) (walk nv : Walk) (v : Val) (w : IsWalk g walk) (value : 
 
   -- ---- after `meet`
 
-  pub record Follows (new : Walk) (step : Step) : Type 0 where
+  pub record Follows (new : WriteWalk) (step : WriteStep) : Type 0 where
     pub advances : (tree : Tree) → IsTreeOf g walk.root tree → Advances g tree walk new (token_in g step)
     pub more_given : new.given ≡ walk.given + 1
     pub is_walk : IsWalk g new
 
-  met_first : (k : ℕ) (new : Walk) (step : Step) → v ≡ vals.Ref k → k < length g → slice_index (marks_of nv.marks) k ≡ 0 → IsMet g k stepped new step → Follows new step
+  met_first : (k : ℕ) (new : WriteWalk) (step : WriteStep) → v ≡ vals.Ref k → k < length g → slice_index (marks_of nv.marks) k ≡ 0 → IsMet g k stepped new step → Follows new step
   met_first k new step is inside mark met =
       let enters : Enters g k (left_of g nv) walk new = record {
         root = met.root ∙ same_root;
@@ -234,7 +234,7 @@ module _ (g : List Obj) (walk nv : Walk) (v : Val) (w : IsWalk g walk) (value : 
         is_walk = after (λ tree is_of. (goes tree is_of).at);
       }
 
-  pub reference_follows : (k : ℕ) (new : Walk) (step : Step) → v ≡ vals.Ref k → k < length g → (slice_index (marks_of nv.marks) k ≡ 0 → IsMet g k stepped new step)
+  pub reference_follows : (k : ℕ) (new : WriteWalk) (step : WriteStep) → v ≡ vals.Ref k → k < length g → (slice_index (marks_of nv.marks) k ≡ 0 → IsMet g k stepped new step)
       → (slice_index (marks_of nv.marks) k ≢ 0 → (new ≡ stepped) × (step ≡ steps.Shared (nv.count - (slice_index (marks_of nv.marks) k - 1)))) → Follows new step
   reference_follows k new step is inside first again = by_mark (slice_index (marks_of nv.marks) k) refl where
     by_mark : (m : ℕ) → slice_index (marks_of nv.marks) k ≡ m → Follows new step

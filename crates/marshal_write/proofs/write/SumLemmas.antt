@@ -20,9 +20,9 @@ use Rattle.marshal_codec.specs.headers.Encoding.{FitsSmall}
 use Rattle.marshal_write.specs.write.Step.{IsNext, token_in}
 use Rattle.marshal_write.specs.write.Sums.{token_totals, object_totals, totals_of, plus, FitTotals}
 use Rattle.marshal_write.specs.write.Walking.{IsWalk}
-use Rattle.marshal_write.specs.declared.write.measure.Totals.{Totals}
-use Rattle.marshal_write.specs.declared.write.walk.Step.{Step}
-use Rattle.marshal_write.specs.declared.write.walk.Walk.{Walk}
+use Rattle.marshal_write.specs.declared.write.measure.WriteTotals.{WriteTotals}
+use Rattle.marshal_write.specs.declared.write.write_walk.WriteStep.{WriteStep}
+use Rattle.marshal_write.specs.declared.write.write_walk.WriteWalk.{WriteWalk}
 use Rattle.marshal_write.proofs.write.NextLemmas.{IsBounded, bounded}
 use Rattle.marshal_write.proofs.write.SizeLemmas.{length-data, few_words32}
 
@@ -79,7 +79,7 @@ all_fit tree b = record {
   w64 = omega (arith, b.words);
 }
 
-prefix_fits : (a b : Totals) → FitTotals (plus a b) → FitTotals a
+prefix_fits : (a b : WriteTotals) → FitTotals (plus a b) → FitTotals a
 prefix_fits a b h = record { length = omega (arith, h.length); objects = omega (arith, h.objects); w32 = omega (arith, h.w32); w64 = omega (arith, h.w64) }
 
 pub some_fit : (n : ℕ) (tree : Tree) → IsBounded tree → FitTotals (totals_of (take n (tokens tree)))
@@ -94,10 +94,10 @@ all_taken n ts is = ap (λ m. take m ts) is ∙ take-length ts
 -- ---- an iteration of a loop over a walk
 
 -- The walk returned this step, and is at the next token.
-abbrev pub Gave : List Obj → Walk → Walk → Step → Type 0
+abbrev pub Gave : List Obj → WriteWalk → WriteWalk → WriteStep → Type 0
 Gave g walk new step = (tree : Tree) → IsTreeOf g walk.root tree → IsNext g (tokens tree) walk.given (Some step) new.given
 
-pub given_falls : (g : List Obj) (walk new : Walk) (step : Step) → IsWalk g walk → IsWalk g new → new.root ≡ walk.root → Gave g walk new step → 2 ^ 64 - new.given < 2 ^ 64 - walk.given
+pub given_falls : (g : List Obj) (walk new : WriteWalk) (step : WriteStep) → IsWalk g walk → IsWalk g new → new.root ≡ walk.root → Gave g walk new step → 2 ^ 64 - new.given < 2 ^ 64 - walk.given
 given_falls g walk new step w n root gave =
     let t = has_one_tree g walk.root w.heap.is_graph w.value in
     let b = bounded g walk.root t.tree w.heap w.value t.is in
@@ -105,10 +105,10 @@ given_falls g walk new step w n root gave =
     omega (arith, (gave t.tree t.is).1, at.within, b.words, b.bytes, b.tokens)
 
 -- The totals of the tokens returned so far.
-abbrev pub AreTotals : List Obj → Walk → Totals → Type 0
+abbrev pub AreTotals : List Obj → WriteWalk → WriteTotals → Type 0
 AreTotals g walk totals = (tree : Tree) → IsTreeOf g walk.root tree → totals ≡ totals_of (take walk.given (tokens tree))
 
-pub totals_next : (g : List Obj) (walk new : Walk) (step : Step) (totals : Totals) → Gave g walk new step → AreTotals g walk totals
+pub totals_next : (g : List Obj) (walk new : WriteWalk) (step : WriteStep) (totals : WriteTotals) → Gave g walk new step → AreTotals g walk totals
     → (tree : Tree) → IsTreeOf g walk.root tree → plus totals (token_totals (token_in g step)) ≡ totals_of (take new.given (tokens tree))
 totals_next g walk new step totals gave are tree is_of =
     let r = gave tree is_of in
@@ -116,7 +116,7 @@ totals_next g walk new step totals gave are tree is_of =
     ∙ sym (totals-take walk.given (tokens tree) (token_in g step) r.0)
     ∙ ap (λ n. totals_of (take n (tokens tree))) (sym r.1)
 
-pub totals_fit : (g : List Obj) (walk new : Walk) (step : Step) (totals : Totals) → IsWalk g walk → Gave g walk new step → AreTotals g walk totals → FitTotals (plus totals (token_totals (token_in g step)))
+pub totals_fit : (g : List Obj) (walk new : WriteWalk) (step : WriteStep) (totals : WriteTotals) → IsWalk g walk → Gave g walk new step → AreTotals g walk totals → FitTotals (plus totals (token_totals (token_in g step)))
 totals_fit g walk new step totals w gave are =
     let t = has_one_tree g walk.root w.heap.is_graph w.value in
     subst FitTotals (sym (totals_next g walk new step totals gave are t.tree t.is)) (some_fit new.given t.tree (bounded g walk.root t.tree w.heap w.value t.is))

@@ -22,10 +22,10 @@ use Rattle.marshal_heap.proofs.heap.PositionLemmas.{position-zero}
 use Rattle.marshal_write.specs.write.Step.{object_token}
 use Rattle.marshal_write.specs.write.Marks.{in_order, marks_of}
 use Rattle.marshal_write.specs.write.Walking.{AreMarked, AreInOrder, AreLeft, IsAt, IsWalk, IsFrame, fields_left, left_of, pending}
-use Rattle.marshal_write.specs.declared.write.walk.Frame.{Frame}
+use Rattle.marshal_write.specs.declared.write.write_walk.RemainingFields.{RemainingFields}
 use Rattle.marshal_write.proofs.write.MarkLemmas.{met_in_order}
 use Rattle.marshal_write.specs.declared.write.marks.Marks.{Marks}
-use Rattle.marshal_write.specs.declared.write.walk.Walk.{Walk}
+use Rattle.marshal_write.specs.declared.write.write_walk.WriteWalk.{WriteWalk}
 use Rattle.marshal_write.proofs.write.LeftLemmas.{Goes, nothing_left, integer_next, atom_next, object_next, reference_next}
 
 -- ---- marks
@@ -73,11 +73,11 @@ marks_behind g ks c k marks marked = behind (slice_index marks k) refl where
 -- ---- the first token
 
 -- A frame without words.
-pub record IsEmpty (g : List Obj) (frame : Frame) : Type 0 where
+pub record IsEmpty (g : List Obj) (frame : RemainingFields) : Type 0 where
   pub nothing : fields_left g frame ≡ []
   pub is_frame : IsFrame g frame
 
-pub no_words : (g : List Obj) (frame : Frame) → frame.rest.now ≡ [] → IsEmpty g frame
+pub no_words : (g : List Obj) (frame : RemainingFields) → frame.rest.now ≡ [] → IsEmpty g frame
 no_words g frame empty =
     let fs = fields_of (object_at g frame.block) in
     let nothing : fields_left g frame ≡ [] = drop_all (length fs - length frame.rest.now) fs (omega (arith, ap length empty)) in record {
@@ -87,11 +87,11 @@ no_words g frame empty =
 
 -- The numbers of the objects of each tree, in the order of its tokens. If the walk is repeated and
 -- the marks are ordered, these numbers are in order.
-abbrev pub Numbers : List Obj → Walk → Type 0
+abbrev pub Numbers : List Obj → WriteWalk → Type 0
 Numbers g walk = (tree : Tree) → IsTreeOf g walk.root tree
     → (ks : List ℕ) × IsNumbering g walk.root tree ks × (walk.again ≡ true → walk.marks.ordered ≡ true → AreInOrder ks)
 
-pub start_walk : (g : List Obj) (walk : Walk) → IsHeap g → IsValue (length g) walk.root → walk.given ≡ 0 → walk.count ≡ 0 → walk.next ≡ 0 → walk.last.rest.now ≡ [] → walk.frames.items ≡ [] → vec_len walk.frames ≡ 0
+pub start_walk : (g : List Obj) (walk : WriteWalk) → IsHeap g → IsValue (length g) walk.root → walk.given ≡ 0 → walk.count ≡ 0 → walk.next ≡ 0 → walk.last.rest.now ≡ [] → walk.frames.items ≡ [] → vec_len walk.frames ≡ 0
     → marks_of walk.marks ≡ replicate (length g) 0 → walk.marks.met ≡ 0 → length g ≤ vec_capacity walk.frames → Numbers g walk → IsWalk g walk
 start_walk g walk heap value given count next last frames depth marks met room numbers = record {
   heap = heap;
@@ -122,11 +122,11 @@ start_walk g walk heap value given count next last frames depth marks met room n
         order = n.2;
       };
 } where
-  only_root : (g : List Obj) (walk : Walk) → walk.given ≡ 0 → walk.last.rest.now ≡ [] → walk.frames.items ≡ [] → pending g walk ≡ walk.root ∷ []
+  only_root : (g : List Obj) (walk : WriteWalk) → walk.given ≡ 0 → walk.last.rest.now ≡ [] → walk.frames.items ≡ [] → pending g walk ≡ walk.root ∷ []
   only_root g walk given last frames = rw (given, (no_words g walk.last last).nothing, frames) refl
 
 -- The invariant at the start of the first walk, when nothing is known about the order.
-pub first_walk : (g : List Obj) (walk : Walk) → IsHeap g → IsValue (length g) walk.root → walk.given ≡ 0 → walk.count ≡ 0 → walk.next ≡ 0 → walk.last.rest.now ≡ [] → walk.frames.items ≡ [] → vec_len walk.frames ≡ 0
+pub first_walk : (g : List Obj) (walk : WriteWalk) → IsHeap g → IsValue (length g) walk.root → walk.given ≡ 0 → walk.count ≡ 0 → walk.next ≡ 0 → walk.last.rest.now ≡ [] → walk.frames.items ≡ [] → vec_len walk.frames ≡ 0
     → marks_of walk.marks ≡ replicate (length g) 0 → walk.marks.met ≡ 0 → length g ≤ vec_capacity walk.frames → walk.again ≡ false → IsWalk g walk
 first_walk g walk heap value given count next last frames depth marks met room first =
     start_walk g walk heap value given count next last frames depth marks met room (λ tree is_of.
@@ -155,21 +155,21 @@ not_same : (a b : ℕ) → a ≢ b → (a == b) ≡ false
 not_same a b other = elim (cases_Bool (eqb a b)) [ inl e ↦ absurd (other (eqb-true a b e)) | inr e ↦ e ]
 
 -- A walk after one more token.
-pub record Advances (g : List Obj) (tree : Tree) (walk new : Walk) (token : Token) : Type 0 where
+pub record Advances (g : List Obj) (tree : Tree) (walk new : WriteWalk) (token : Token) : Type 0 where
   pub at_given : slice_get (tokens tree) walk.given ≡ Some token
   pub more_given : walk.given < length (tokens tree)
   pub at : IsAt g tree new
 
-nothing_at_root : (g : List Obj) (walk : Walk) (n : ℕ) → walk.given ≡ n + 1 → pending g walk ≡ left_of g walk
+nothing_at_root : (g : List Obj) (walk : WriteWalk) (n : ℕ) → walk.given ≡ n + 1 → pending g walk ≡ left_of g walk
 nothing_at_root g walk n given =
     let test : (walk.given == 0) ≡ false = not_same walk.given 0 (λ same. omega (arith, given)) in
     ap (λ b. cond b (walk.root ∷ []) [] ++ left_of g walk) test
 
 -- The remaining values after the first token.
-pub later : (g : List Obj) (walk : Walk) → walk.given ≢ 0 → pending g walk ≡ left_of g walk
+pub later : (g : List Obj) (walk : WriteWalk) → walk.given ≢ 0 → pending g walk ≡ left_of g walk
 later g walk other = ap (λ b. cond b (walk.root ∷ []) [] ++ left_of g walk) (not_same walk.given 0 other)
 
-advance : (g : List Obj) (tree : Tree) (walk new : Walk) (token : Token) (at : IsAt g tree walk) → new.root ≡ walk.root → new.given ≡ walk.given + 1
+advance : (g : List Obj) (tree : Tree) (walk new : WriteWalk) (token : Token) (at : IsAt g tree walk) → new.root ≡ walk.root → new.given ≡ walk.given + 1
     → Goes tree at.ks walk.count at.forest token new.count (left_of g new) → AreMarked g at.ks new.count (marks_of new.marks) → new.again ≡ walk.again
     → (new.marks.ordered ≡ true → walk.marks.ordered ≡ true) → Advances g tree walk new token
 advance g tree walk new token at root given goes marked again was =
@@ -189,34 +189,34 @@ advance g tree walk new token at root given goes marked again was =
     }
 
 -- The parts that a step leaves unchanged.
-pub record Keeps (walk new : Walk) : Type 0 where
+pub record Keeps (walk new : WriteWalk) : Type 0 where
   pub root : new.root ≡ walk.root
   pub given : new.given ≡ walk.given + 1
   pub count : new.count ≡ walk.count
   pub again : new.again ≡ walk.again
   pub marks : new.marks ≡ walk.marks
 
-still_ordered : (walk new : Walk) → Keeps walk new → new.marks.ordered ≡ true → walk.marks.ordered ≡ true
+still_ordered : (walk new : WriteWalk) → Keeps walk new → new.marks.ordered ≡ true → walk.marks.ordered ≡ true
 still_ordered walk new keeps ordered = sym (ap (λ (m : Marks). m.ordered) keeps.marks) ∙ ordered
 
-still_marked : (g : List Obj) (ks : List ℕ) (walk new : Walk) → Keeps walk new → AreMarked g ks walk.count (marks_of walk.marks) → AreMarked g ks new.count (marks_of new.marks)
+still_marked : (g : List Obj) (ks : List ℕ) (walk new : WriteWalk) → Keeps walk new → AreMarked g ks walk.count (marks_of walk.marks) → AreMarked g ks new.count (marks_of new.marks)
 still_marked g ks walk new keeps marked = rw (keeps.count, keeps.marks) marked
 
-pub advance_integer : (g : List Obj) (tree : Tree) (walk new : Walk) (z : ℤ) → IsAt g tree walk → Keeps walk new → pending g walk ≡ vals.Int z ∷ left_of g new → Advances g tree walk new (integer z)
+pub advance_integer : (g : List Obj) (tree : Tree) (walk new : WriteWalk) (z : ℤ) → IsAt g tree walk → Keeps walk new → pending g walk ≡ vals.Int z ∷ left_of g new → Advances g tree walk new (integer z)
 advance_integer g tree walk new z at keeps is =
     let left : AreLeft tree at.ks walk.count at.forest (vals.Int z ∷ left_of g new) = subst (AreLeft tree at.ks walk.count at.forest) is at.left in
     advance g tree walk new (integer z) at keeps.root keeps.given
     (rw keeps.count (integer_next tree at.ks walk.count at.forest z (left_of g new) left))
     (still_marked g at.ks walk new keeps at.marked) keeps.again (still_ordered walk new keeps)
 
-pub advance_atom : (g : List Obj) (tree : Tree) (walk new : Walk) (tag : ℕ) → IsAt g tree walk → Keeps walk new → pending g walk ≡ vals.Atom tag ∷ left_of g new → Advances g tree walk new (atom tag)
+pub advance_atom : (g : List Obj) (tree : Tree) (walk new : WriteWalk) (tag : ℕ) → IsAt g tree walk → Keeps walk new → pending g walk ≡ vals.Atom tag ∷ left_of g new → Advances g tree walk new (atom tag)
 advance_atom g tree walk new tag at keeps is =
     let left : AreLeft tree at.ks walk.count at.forest (vals.Atom tag ∷ left_of g new) = subst (AreLeft tree at.ks walk.count at.forest) is at.left in
     advance g tree walk new (atom tag) at keeps.root keeps.given
     (rw keeps.count (atom_next tree at.ks walk.count at.forest tag (left_of g new) left))
     (still_marked g at.ks walk new keeps at.marked) keeps.again (still_ordered walk new keeps)
 
-pub advance_reference : (g : List Obj) (tree : Tree) (walk new : Walk) (k i : ℕ) → IsAt g tree walk → Keeps walk new → slice_index (marks_of walk.marks) k ≡ suc i
+pub advance_reference : (g : List Obj) (tree : Tree) (walk new : WriteWalk) (k i : ℕ) → IsAt g tree walk → Keeps walk new → slice_index (marks_of walk.marks) k ≡ suc i
     → pending g walk ≡ vals.Ref k ∷ left_of g new → Advances g tree walk new (shared (walk.count - i))
 advance_reference g tree walk new k i at keeps mark is =
     let left : AreLeft tree at.ks walk.count at.forest (vals.Ref k ∷ left_of g new) = subst (AreLeft tree at.ks walk.count at.forest) is at.left in
@@ -225,7 +225,7 @@ advance_reference g tree walk new k i at keeps mark is =
     (still_marked g at.ks walk new keeps at.marked) keeps.again (still_ordered walk new keeps)
 
 -- The changes by a step to an object.
-pub record Enters (g : List Obj) (k : ℕ) (values : List Val) (walk new : Walk) : Type 0 where
+pub record Enters (g : List Obj) (k : ℕ) (values : List Val) (walk new : WriteWalk) : Type 0 where
   pub root : new.root ≡ walk.root
   pub given : new.given ≡ walk.given + 1
   pub count : new.count ≡ walk.count + 1
@@ -234,7 +234,7 @@ pub record Enters (g : List Obj) (k : ℕ) (values : List Val) (walk new : Walk)
   pub marks : marks_of new.marks ≡ slice_set (marks_of walk.marks) k (walk.count + 1)
   pub left : left_of g new ≡ fields_of (object_at g k) ++ values
 
-pub advance_object : (g : List Obj) (tree : Tree) (walk new : Walk) (k : ℕ) (values : List Val) → IsAt g tree walk → Enters g k values walk new → k < length g → slice_index (marks_of walk.marks) k ≡ 0
+pub advance_object : (g : List Obj) (tree : Tree) (walk new : WriteWalk) (k : ℕ) (values : List Val) → IsAt g tree walk → Enters g k values walk new → k < length g → slice_index (marks_of walk.marks) k ≡ 0
     → pending g walk ≡ vals.Ref k ∷ values → Advances g tree walk new (object_token (object_at g k))
 advance_object g tree walk new k values at enters inside mark is =
     let left : AreLeft tree at.ks walk.count at.forest (vals.Ref k ∷ values) = subst (AreLeft tree at.ks walk.count at.forest) is at.left in
@@ -245,7 +245,7 @@ advance_object g tree walk new k values at enters inside mark is =
 
 -- ---- the end
 
-pub all_given : (g : List Obj) (tree : Tree) (walk : Walk) → IsAt g tree walk → pending g walk ≡ [] → walk.given ≡ length (tokens tree)
+pub all_given : (g : List Obj) (tree : Tree) (walk : WriteWalk) → IsAt g tree walk → pending g walk ≡ [] → walk.given ≡ length (tokens tree)
 all_given g tree walk at is =
     let none_left = nothing_left tree at.ks walk.count at.forest (subst (AreLeft tree at.ks walk.count at.forest) is at.left) in
     let gone : length (drop walk.given (tokens tree)) ≡ 0 = ap length (at.tokens_left ∙ none_left) in
@@ -258,14 +258,14 @@ no_tokens none is = refl
 no_tokens (more (node t s) f) is = absurd (cc)
 
 -- At the end all objects are visited.
-all_met : (g : List Obj) (tree : Tree) (walk : Walk) (at : IsAt g tree walk) → walk.given ≡ length (tokens tree) → length at.ks ≤ walk.count
+all_met : (g : List Obj) (tree : Tree) (walk : WriteWalk) (at : IsAt g tree walk) → walk.given ≡ length (tokens tree) → length at.ks ≤ walk.count
 all_met g tree walk at end =
     let past : drop walk.given (tokens tree) ≡ [] = drop_all walk.given (tokens tree) (omega arith) in
     let no_trees : at.forest ≡ none = no_tokens at.forest (sym at.tokens_left ∙ past) in
     let no_objects : drop walk.count (objects_of tree 0) ≡ [] = at.left.objects ∙ ap (λ f. all_objects f walk.count) no_trees in
     omega (arith, length-drop walk.count (objects_of tree 0), ap length no_objects, AllZip-long (Shows g at.ks) at.ks (objects_of tree 0) at.numbering.objects)
 
-pub end_in_order : (g : List Obj) (tree : Tree) (walk : Walk) (at : IsAt g tree walk) → walk.given ≡ length (tokens tree) → walk.marks.ordered ≡ true → AreInOrder at.ks
+pub end_in_order : (g : List Obj) (tree : Tree) (walk : WriteWalk) (at : IsAt g tree walk) → walk.given ≡ length (tokens tree) → walk.marks.ordered ≡ true → AreInOrder at.ks
 end_in_order g tree walk at end ordered i k is =
     let inside : i < length at.ks = slice_get_within at.ks i k is in
     let mark : slice_index (marks_of walk.marks) k ≡ suc i = at.marked.found i k (omega (arith, all_met g tree walk at end)) is in

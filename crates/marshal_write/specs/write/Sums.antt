@@ -10,10 +10,10 @@ use Rattle.marshal_spec.specs.format.Words.{all_words64}
 use Rattle.marshal_spec.specs.format.Token.{Token, measure_of}
 use Rattle.marshal_spec.specs.format.Tree.{made_by}
 use Rattle.marshal_spec.specs.format.Canonical.{encoding, data_encoding, is_big}
-use Rattle.marshal_write.specs.declared.write.measure.Totals.{Totals}
+use Rattle.marshal_write.specs.declared.write.measure.WriteTotals.{WriteTotals}
 
 -- The totals of one token.
-abbrev pub token_totals : Token → Totals
+abbrev pub token_totals : Token → WriteTotals
 token_totals t = record {
   length = length (encoding t);
   objects = made_by t;
@@ -22,7 +22,7 @@ token_totals t = record {
 }
 
 -- The totals of a list of tokens.
-abbrev pub totals_of : List Token → Totals
+abbrev pub totals_of : List Token → WriteTotals
 totals_of ts = record {
   length = length (data_encoding ts);
   objects = objects (map measure_of ts);
@@ -30,7 +30,7 @@ totals_of ts = record {
   w64 = all_words64 (map measure_of ts);
 }
 
-abbrev pub plus : Totals → Totals → Totals
+abbrev pub plus : WriteTotals → WriteTotals → WriteTotals
 plus a b = record {
   length = a.length + b.length;
   objects = a.objects + b.objects;
@@ -39,18 +39,18 @@ plus a b = record {
 }
 
 -- Each number fits in 64 bits.
-pub record FitTotals (all : Totals) : Type 0 where
+pub record FitTotals (all : WriteTotals) : Type 0 where
   pub length : all.length < 2 ^ 64
   pub objects : all.objects < 2 ^ 64
   pub w32 : all.w32 < 2 ^ 64
   pub w64 : all.w64 < 2 ^ 64
 
 -- The totals of a token that creates one object and has `n` bytes.
-abbrev pub object_totals : ℕ → Measure → Totals
+abbrev pub object_totals : ℕ → Measure → WriteTotals
 object_totals n measure =
     record { length = n; objects = 1; w32 = words32 measure; w64 = words64 measure }
 
-abbrev pub head_of_totals : Totals → Head
+abbrev pub head_of_totals : WriteTotals → Head
 head_of_totals all = record {
   big = is_big all.length all.w32 all.w64;
   length = all.length;

@@ -14,33 +14,33 @@ use Rattle.marshal_spec.specs.canonical.Numbering.{numbered, IsNumbering}
 use Rattle.marshal_heap.specs.heap.Heap.{object_at, fields_of, IsHeap, position, word_of}
 use Rattle.marshal_write.specs.write.Marks.{marks_of}
 use Rattle.marshal_write.specs.write.Step.{token_in, object_token}
-use Rattle.marshal_write.specs.declared.write.walk.Step.{Step}
-use Rattle.marshal_write.specs.declared.write.walk.Frame.{Frame}
-use Rattle.marshal_write.specs.declared.write.walk.Walk.{Walk}
+use Rattle.marshal_write.specs.declared.write.write_walk.WriteStep.{WriteStep}
+use Rattle.marshal_write.specs.declared.write.write_walk.RemainingFields.{RemainingFields}
+use Rattle.marshal_write.specs.declared.write.write_walk.WriteWalk.{WriteWalk}
 
 -- ---- the remaining values
 
 -- The remaining field values of a block.
-abbrev pub fields_left : List Obj → Frame → List Val
+abbrev pub fields_left : List Obj → RemainingFields → List Val
 fields_left g frame =
     drop (length (fields_of (object_at g frame.block)) - length frame.rest.now)
     (fields_of (object_at g frame.block))
 
 -- The remaining words of the frame are the words of these values.
-pub record IsFrame (g : List Obj) (frame : Frame) : Type 0 where
+pub record IsFrame (g : List Obj) (frame : RemainingFields) : Type 0 where
   pub words : frame.rest.now ≡ map (word_of g) (fields_left g frame)
   pub valid : All (IsValue (length g)) (fields_left g frame)
 
 -- An outer block has at least one remaining field.
-abbrev pub IsOuter : List Obj → Frame → Type 0
+abbrev pub IsOuter : List Obj → RemainingFields → Type 0
 IsOuter g frame = IsFrame g frame × (0 < length frame.rest.now)
 
 -- The remaining values of all blocks. Those of the last block come first.
-abbrev pub left_in : List Obj → List Frame → List Val
+abbrev pub left_in : List Obj → List RemainingFields → List Val
 left_in g [] = []
 left_in g (frame ∷ frames) = left_in g frames ++ fields_left g frame
 
-abbrev pub left_of : List Obj → Walk → List Val
+abbrev pub left_of : List Obj → WriteWalk → List Val
 left_of g walk = fields_left g walk.last ++ left_in g walk.frames.items
 
 -- The result is the word of the first remaining value, or `None` if there is none.
@@ -49,15 +49,15 @@ Takes g old new None = (old ≡ []) × (new ≡ [])
 Takes g old new (Some word) =
     (v : Val) × (old ≡ v ∷ new) × IsValue (length g) v × (word ≡ word_of g v)
 
-abbrev pub root_left : Walk → List Val
+abbrev pub root_left : WriteWalk → List Val
 root_left walk = if walk.given == 0 then walk.root ∷ [] else []
 
-abbrev pub pending : List Obj → Walk → List Val
+abbrev pub pending : List Obj → WriteWalk → List Val
 pending g walk = root_left walk ++ left_of g walk
 
 -- ---- first visits
 
-pub record IsMet (g : List Obj) (k : ℕ) (old new : Walk) (step : Step) : Type 0 where
+pub record IsMet (g : List Obj) (k : ℕ) (old new : WriteWalk) (step : WriteStep) : Type 0 where
   pub root : new.root ≡ old.root
   pub given : new.given ≡ old.given
   pub count : new.count ≡ old.count + 1
@@ -95,7 +95,7 @@ pub record AreLeft (tree : Tree) (ks : List ℕ) (c : ℕ) (forest : Forest) (va
   pub objects : drop c (objects_of tree 0) ≡ all_objects forest c
   pub agree : AllZip (Agree (numbered ks)) values (roots forest c)
 
-pub record IsAt (g : List Obj) (tree : Tree) (walk : Walk) : Type 0 where
+pub record IsAt (g : List Obj) (tree : Tree) (walk : WriteWalk) : Type 0 where
   pub ks : List ℕ
   pub numbering : IsNumbering g walk.root tree ks
   pub forest : Forest
@@ -107,7 +107,7 @@ pub record IsAt (g : List Obj) (tree : Tree) (walk : Walk) : Type 0 where
 
 -- The invariant of a walk: it is at a position among the tokens of each tree of its root. The root
 -- has exactly one tree.
-pub record IsWalk (g : List Obj) (walk : Walk) : Type 0 where
+pub record IsWalk (g : List Obj) (walk : WriteWalk) : Type 0 where
   pub heap : IsHeap g
   pub value : IsValue (length g) walk.root
   pub last : IsFrame g walk.last

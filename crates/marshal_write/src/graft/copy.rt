@@ -6,7 +6,7 @@ ghost use Rattle.marshal_write.specs.graft.Copies.{HasCopy};
 
 use crate::graft::blank::append_blanks;
 use crate::graft::fill::{fill_all, renamed_by};
-use crate::graft::order::Order;
+use crate::graft::write_order::WriteOrder;
 use base_data::model::Memory;
 use base_data::model::value::Val;
 use marshal_heap::heap::Heap;
@@ -21,7 +21,7 @@ pub fn append_copy(alloc: Global, heap: &mut Heap, from: &Heap, part: Val) -> Re
     ensures value { IfOk result (IsValue (length heap.new)) }
 {
     let base = heap.count();
-    let order = Order::of(alloc, from, part)?;
+    let order = WriteOrder::of(alloc, from, part)?;
     append_blanks(alloc, heap, from, &order.objects)?;
     fill_all(heap, from, &order.numbers, base, &order.objects);
     let _count = heap.count();

@@ -12,7 +12,7 @@ ghost use Rattle.marshal_write.specs.write.Step.{token_in, IsHeld};
 ghost use Rattle.marshal_write.specs.write.Reports.{Reports};
 ghost use Rattle.marshal_write.specs.write.Walking.{IsWalk};
 
-use crate::write::walk::{Step, Walk};
+use crate::write::write_walk::{WriteStep, WriteWalk};
 use base_data::model::code::Custom;
 use marshal_codec::headers::Head;
 use marshal_heap::heap::{Heap, Kind};
@@ -31,7 +31,7 @@ pub enum Compat {
 }
 
 /// Returns the first token of a walk that is too large.
-pub fn first_large<'a>(heap: &'a Heap, walk: &mut Walk<'a>) -> Option<Compat>
+pub fn first_large<'a>(heap: &'a Heap, walk: &mut WriteWalk<'a>) -> Option<Compat>
     requires walk { IsWalk heap.now walk.old }
     requires first { walk.old.given ≡ 0 }
     requires again { walk.old.again ≡ true }
@@ -64,17 +64,17 @@ pub fn head_compat(head: Head) -> Option<Compat>
     }
 }
 
-fn step_compat(heap: &Heap, step: Step) -> Option<Compat>
+fn step_compat(heap: &Heap, step: WriteStep) -> Option<Compat>
     requires { IsHeld heap.now step }
     ensures { MatchOption result (is_large (token_in heap.now step) ≡ false)
         (λ compat. (is_large (token_in heap.now step) ≡ true)
         × Reports (token (token_in heap.now step)) compat) }
 {
     match step {
-        Step::Integer(-0x4000_0000..0x4000_0000) => None,
-        Step::Integer(z) => Some(Compat::Int(z)),
-        Step::Block(_, size) if size > 0x3f_ffff => Some(Compat::Block(size)),
-        Step::Leaf(k, _) => leaf_compat(heap, k),
+        WriteStep::Integer(-0x4000_0000..0x4000_0000) => None,
+        WriteStep::Integer(z) => Some(Compat::Int(z)),
+        WriteStep::Block(_, size) if size > 0x3f_ffff => Some(Compat::Block(size)),
+        WriteStep::Leaf(k, _) => leaf_compat(heap, k),
         _ => None,
     }
 }

@@ -10,7 +10,7 @@ ghost use Rattle.marshal_write.specs.write.Step.{token_in, IsHeld};
 ghost use Rattle.marshal_write.specs.write.Text.{Adds};
 
 use crate::write::text::{LIMIT, add, add_byte, add_first};
-use crate::write::walk::{Step, kind_at};
+use crate::write::write_walk::{WriteStep, kind_at};
 use base_io::{Failed, Sink};
 use marshal_codec::codes::{
     encode_block, encode_double_array_len, encode_int, encode_shared, encode_string_len,
@@ -21,7 +21,7 @@ use marshal_heap::heap::{Heap, Kind};
 #[inline(always)]
 pub fn add_step<K: Sink>(
     heap: &Heap,
-    step: Step,
+    step: WriteStep,
     out: &mut K,
     buffer: &mut Vec<u8>,
 ) -> Result<(), Failed>
@@ -33,11 +33,11 @@ pub fn add_step<K: Sink>(
     ensures room { LIMIT ≤ vec_capacity buffer.new }
 {
     match step {
-        Step::Integer(z) => add_prefix(encode_int(z), out, buffer),
-        Step::Atom(tag) => add_prefix(encode_block(tag, 0), out, buffer),
-        Step::Shared(offset) => add_prefix(encode_shared(offset), out, buffer),
-        Step::Block(tag, size) => add_prefix(encode_block(tag, size), out, buffer),
-        Step::Leaf(k, word) => add_leaf(heap, k, word, out, buffer),
+        WriteStep::Integer(z) => add_prefix(encode_int(z), out, buffer),
+        WriteStep::Atom(tag) => add_prefix(encode_block(tag, 0), out, buffer),
+        WriteStep::Shared(offset) => add_prefix(encode_shared(offset), out, buffer),
+        WriteStep::Block(tag, size) => add_prefix(encode_block(tag, size), out, buffer),
+        WriteStep::Leaf(k, word) => add_leaf(heap, k, word, out, buffer),
     }
 }
 

@@ -7,7 +7,7 @@ ghost use Rattle.marshal_spec.specs.format.Isomorphism.{IsTreeOf};
 ghost use Rattle.marshal_spec.specs.format.Tree.{Tree, tokens};
 
 use crate::write::measure::measure;
-use crate::write::walk::Walk;
+use crate::write::write_walk::WriteWalk;
 use base_data::model::Memory;
 use base_data::model::value::Val;
 use marshal_codec::headers::Head;
@@ -21,6 +21,6 @@ pub fn head_of(alloc: Global, heap: &Heap, root: Val) -> Result<Head, Memory>
     ensures { (tree : Tree) → IsTreeOf heap.now root tree
         → IfOk result (λ head. head ≡ canonical_head (tokens tree)) }
 {
-    let mut walk = Walk::new(alloc, heap, root)?;
+    let mut walk = WriteWalk::new(alloc, heap, root)?;
     measure(heap, &mut walk)
 }

@@ -13,7 +13,7 @@ ghost use Rattle.marshal_write.specs.write.Sums.{token_totals, object_totals, pl
 ghost use Rattle.marshal_write.specs.write.Sums.{measure_of_custom, FitTotals};
 ghost use Rattle.marshal_write.specs.write.Walking.{IsWalk};
 
-use crate::write::walk::{Step, Walk, kind_at};
+use crate::write::write_walk::{WriteStep, WriteWalk, kind_at};
 use base_data::model::Memory;
 use base_data::model::code::Custom;
 use marshal_codec::codes::{
@@ -25,20 +25,20 @@ use marshal_heap::heap::{Heap, Kind};
 /// Totals for tokens: the number of bytes, the number of objects, and the sizes of these objects in
 /// 32-bit words and in 64-bit words.
 #[derive(Clone, Copy)]
-pub struct Totals {
+pub struct WriteTotals {
     length: u64,
     objects: u64,
     w32: u64,
     w64: u64,
 }
 
-impl Totals {
+impl WriteTotals {
     // Returns the totals of a token that creates no object.
     #[inline(always)]
-    fn of_bytes(length: usize) -> Totals
+    fn of_bytes(length: usize) -> WriteTotals
         ensures { result ≡ record { length = length; objects = 0; w32 = 0; w64 = 0 } }
     {
-        Totals {
+        WriteTotals {
             length: length as u64,
             objects: 0,
             w32: 0,
@@ -48,12 +48,12 @@ impl Totals {
 
     // Returns the totals of a token that creates an object.
     #[inline(always)]
-    fn of_object(length: u64, measure: Measure) -> Totals
+    fn of_object(length: u64, measure: Measure) -> WriteTotals
         requires { IsCountable measure }
         ensures { result ≡ object_totals length measure }
     {
         let (w32, w64) = words_of(measure);
-        Totals {
+        WriteTotals {
             length,
             objects: 1,
             w32,
@@ -62,7 +62,7 @@ impl Totals {
     }
 
     #[inline(always)]
-    fn add(&mut self, other: Totals)
+    fn add(&mut self, other: WriteTotals)
         requires { FitTotals (plus self.old other) }
         ensures { self.new ≡ plus self.old other }
     {
@@ -87,7 +87,7 @@ impl Totals {
 }
 
 /// Returns the header of the value at whose start the walk is.
-pub fn measure<'a>(heap: &'a Heap, walk: &mut Walk<'a>) -> Result<Head, Memory>
+pub fn measure<'a>(heap: &'a Heap, walk: &mut WriteWalk<'a>) -> Result<Head, Memory>
     requires walk { IsWalk heap.now walk.old }
     requires first { walk.old.given ≡ 0 }
     ensures walk { OnOk result (IsWalk heap.now walk.new) }
@@ -97,7 +97,7 @@ pub fn measure<'a>(heap: &'a Heap, walk: &mut Walk<'a>) -> Result<Head, Memory>
     ensures end { (tree : Tree) → IsTreeOf heap.now walk.old.root tree
         → OnOk result (walk.new.given ≡ length (tokens tree)) }
 {
-    let mut totals = Totals::of_bytes(0);
+    let mut totals = WriteTotals::of_bytes(0);
     'tokens: while let Some(step) = walk.next(heap)? {
         totals.add(step_totals(heap, step));
     }
@@ -106,39 +106,42 @@ pub fn measure<'a>(heap: &'a Heap, walk: &mut Walk<'a>) -> Result<Head, Memory>
 
 // Returns the totals of one token.
 #[inline(always)]
-fn step_totals(heap: &Heap, step: Step) -> Totals
+fn step_totals(heap: &Heap, step: WriteStep) -> WriteTotals
     requires heap { IsHeap heap.now }
     requires held { IsHeld heap.now step }
     ensures { result ≡ token_totals (token_in heap.now step) }
 {
     match step {
-        Step::Integer(z) => Totals::of_bytes(encode_int(z).1),
-        Step::Atom(tag) => Totals::of_bytes(encode_block(tag, 0).1),
-        Step::Shared(offset) => Totals::of_bytes(encode_shared(offset).1),
-        Step::Block(tag, size) => {
-            Totals::of_object(encode_block(tag, size).1 as u64, Measure::Block(size))
+        WriteStep::Integer(z) => WriteTotals::of_bytes(encode_int(z).1),
+        WriteStep::Atom(tag) => WriteTotals::of_bytes(encode_block(tag, 0).1),
+        WriteStep::Shared(offset) => WriteTotals::of_bytes(encode_shared(offset).1),
+        WriteStep::Block(tag, size) => {
+            WriteTotals::of_object(encode_block(tag, size).1 as u64, Measure::Block(size))
         }
-        Step::Leaf(k, word) => leaf_totals(heap, k, word),
+        WriteStep::Leaf(k, word) => leaf_totals(heap, k, word),
     }
 }
 
 #[inline(always)]
-fn leaf_totals(heap: &Heap, k: u64, word: u64) -> Totals
+fn leaf_totals(heap: &Heap, k: u64, word: u64) -> WriteTotals
     requires heap { IsHeap heap.now }
     requires inside { k < length heap.now }
     requires word { word ≡ word_of heap.now (vals.Ref k) }
     ensures { result ≡ token_totals (leaf (object_at heap.now k)) }
 {
     match kind_at(heap, k, word) {
-        Kind::Block(..) => Totals::of_bytes(0),
-        Kind::Bytes(n) => Totals::of_object(encode_string_len(n).1 as u64 + n, Measure::Bytes(n)),
-        Kind::Double => Totals::of_object(9, Measure::Double),
+        Kind::Block(..) => WriteTotals::of_bytes(0),
+        Kind::Bytes(n) => WriteTotals::of_object(
+            encode_string_len(n).1 as u64 + n,
+            Measure::Bytes(n),
+        ),
+        Kind::Double => WriteTotals::of_object(9, Measure::Double),
         Kind::Doubles(n) => {
             let prefix = encode_double_array_len(n).1 as u64;
-            Totals::of_object(prefix + 8 * n, Measure::Doubles(n))
+            WriteTotals::of_object(prefix + 8 * n, Measure::Doubles(n))
         }
         Kind::Custom(c) => {
-            Totals::of_object(
+            WriteTotals::of_object(
                 marshal_codec::customs::encode(c).1 as u64,
                 custom_measure(c),
             )

@@ -8,7 +8,7 @@ ghost use Rattle.marshal_write.specs.write.Marks.{marks_of};
 ghost use Rattle.marshal_write.specs.write.Numbers.{AreNumbered};
 
 use crate::write::marks::Marks;
-use crate::write::walk::Walk;
+use crate::write::write_walk::WriteWalk;
 use base_data::model::Memory;
 use base_data::model::value::Val;
 use marshal_heap::heap::Heap;
@@ -38,7 +38,7 @@ pub fn number_objects(alloc: Global, heap: &Heap, root: Val) -> Result<Numbers, 
         → IfOk result (λ n. AreNumbered heap.now root tree (marks_of n.marks)) }
 {
     let _graph = heap.count();
-    let mut walk = Walk::new(alloc, heap, root)?;
+    let mut walk = WriteWalk::new(alloc, heap, root)?;
     'tokens: while let Some(_step) = walk.next(heap)? {}
     Ok(Numbers {
         marks: walk.into_marks(),

@@ -13,7 +13,7 @@ ghost use Rattle.marshal_write.specs.write.Walking.{IsWalk};
 use crate::write::encode::add_step;
 use crate::write::measure::measure;
 use crate::write::text::{LIMIT, add, flush, new_buffer};
-use crate::write::walk::Walk;
+use crate::write::write_walk::WriteWalk;
 use base_data::model::value::Val;
 use base_io::{Failed, Sink, WriteError};
 use marshal_codec::headers::{Head, encode};
@@ -30,7 +30,7 @@ pub fn write<K: Sink>(alloc: Global, heap: &Heap, root: Val, out: &mut K) -> Res
     ensures untouched { IsErrOf result WriteError.Memory → out.new ≡ out.old }
 {
     let _graph = heap.count();
-    let mut walk = Walk::new(alloc, heap, root)?;
+    let mut walk = WriteWalk::new(alloc, heap, root)?;
     let mut buffer = new_buffer(alloc)?;
     let head = measure(heap, &mut walk)?;
     walk.restart(heap);
@@ -42,7 +42,7 @@ pub fn write<K: Sink>(alloc: Global, heap: &Heap, root: Val, out: &mut K) -> Res
 pub fn write_value<'a, K: Sink>(
     heap: &'a Heap,
     head: Head,
-    walk: &mut Walk<'a>,
+    walk: &mut WriteWalk<'a>,
     out: &mut K,
     buffer: &mut Vec<u8>,
 ) -> Result<(), Failed>
@@ -66,7 +66,7 @@ pub fn write_value<'a, K: Sink>(
 // Appends the tokens of a walk to the output.
 fn add_tokens<'a, K: Sink>(
     heap: &'a Heap,
-    walk: &mut Walk<'a>,
+    walk: &mut WriteWalk<'a>,
     out: &mut K,
     buffer: &mut Vec<u8>,
 ) -> Result<(), Failed>

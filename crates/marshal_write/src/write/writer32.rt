@@ -12,7 +12,7 @@ ghost use Rattle.marshal_write.specs.declared.write.writer32.Write32Error.TheVar
 use crate::write::compat::{Compat, first_large, head_compat};
 use crate::write::measure::measure;
 use crate::write::text::new_buffer;
-use crate::write::walk::Walk;
+use crate::write::write_walk::WriteWalk;
 use crate::write::writer::write_value;
 use base_data::model::Memory;
 use base_data::model::value::Val;
@@ -62,7 +62,7 @@ pub fn write32<K: Sink>(
     ensures untouched { IfErr result (λ error. IsEarly error → out.new ≡ out.old) }
 {
     let _graph = heap.count();
-    let mut walk = Walk::new(alloc, heap, root)?;
+    let mut walk = WriteWalk::new(alloc, heap, root)?;
     let mut buffer = new_buffer(alloc)?;
     let head = measure(heap, &mut walk)?;
     walk.restart(heap);

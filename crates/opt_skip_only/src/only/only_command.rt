@@ -19,9 +19,9 @@ use std::marker::PhantomData;
 
 /// A sink that discards its input.
 #[derive(Drop)]
-struct Nowhere {}
+struct DiscardSink {}
 
-impl Sink for Nowhere {
+impl Sink for DiscardSink {
     ghost state = { λ _. nowhere };
 
     fn write(&mut self, chunk: &[u8]) -> Result<usize, Failed> {
@@ -61,7 +61,7 @@ fn end_before<W: Counts>(alloc: Global, work: &mut W) -> Result<bool, Error>
     ensures { EndsBefore W.commands (W.act work.old) (W.has work.old) result }
 {
     let count = work.count();
-    let mut sink = Nowhere {};
+    let mut sink = DiscardSink {};
     match work.end(alloc, &mut sink) {
         Ok(_) => Err(Error::Exit(split_value(alloc, count, 0))),
         Err(Error::Exit(exit)) => Err(Error::Exit(exit)),
@@ -127,7 +127,7 @@ impl<P: PicksOne, W: Counts> Work for OnlyCommand<P, W> {
             return feed_last::<P, W, K>(alloc, &mut self.work, number, buffered, out);
         }
         self.work.never_finishes();
-        let mut write_or_memory_error = Nowhere {};
+        let mut write_or_memory_error = DiscardSink {};
         match self.work.feed(alloc, buffered, &mut write_or_memory_error) {
             Ok(taken) => Ok(taken),
             Err(Error::Exit(exit)) => Err(Error::Exit(exit)),

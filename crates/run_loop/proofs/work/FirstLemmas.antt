@@ -1,4 +1,5 @@
--- The first items of bytes. They remain if more bytes follow, and one more item comes after them.
+-- Lemmas about the first items of an input. If more bytes follow, then the first items are the
+-- same. If one more item follows, then it is appended to the first items.
 use Rattle.std.proofs.Common.{◌≡◌, ℕ, List, [], ◌∷◌, ◌++◌, refl, sym, ap, subst, append-nil, append_assoc}
 use Rattle.cli_spec.specs.Outcome.{Output}
 use Rattle.run_spec.specs.runs.Commands.{Item, Commands, Split, AllPrint, OutputsFirst}
@@ -15,7 +16,7 @@ module _ {A : Type 0} (c : Commands A) (a : A) where
     split_stays stay (before ++ item ∷ []) more items rest later splits,
   )
 
-  -- The outputs for the first items remain.
+  -- If more bytes follow, then the first items keep their outputs.
   pub first_stays :
       ItemsStay c a → (bytes : List ℕ) (items : List Item) (output : List Output) (rest later : List ℕ)
       → OutputsFirst c a bytes items output rest
@@ -54,7 +55,7 @@ module _ {A : Type 0} (c : Commands A) (a : A) where
         (subst (λ b. c.Outputs a b item next) (sym (append_assoc before (first ∷ []) items)) outputs),
   )
 
-  -- The outputs for the first items and one more item.
+  -- If one more item follows the first items, then its output is appended to their outputs.
   pub first_next :
       (bytes : List ℕ) (items : List Item) (output : List Output) (rest : List ℕ)
       (item : Item) (more : List ℕ) (next : Output)
@@ -66,7 +67,7 @@ module _ {A : Type 0} (c : Commands A) (a : A) where
     all_print = print_next [] items output item next first.all_print outputs;
   }
 
-  -- If there is no item, then there is no output.
+  -- If there are no bytes and no outputs, then there are no items, and no bytes are left.
   pub none_first :
       (items : List Item) (rest : List ℕ) → OutputsFirst c a [] items [] rest
       → (items ≡ []) × (rest ≡ [])

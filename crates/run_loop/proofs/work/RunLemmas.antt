@@ -234,11 +234,11 @@ module _ {A : Type 0} (c : Commands A) (a : A) where
             asked = inl refl;
           }
 
-          halted_at :
+          aborted_at :
               (holds : HaveNoExit c a (s.bytes ++ done) all) (exit : Exit)
               → c.Exits a holds.items (holds.rest ++ buffered) exit
               → Answers c a (taken (s.bytes ++ take n buffer) unasked) (replies all (exits exit))
-          halted_at holds exit at = inl (
+          aborted_at holds exit at = inl (
             reads,
             record {
               items = holds.items;
@@ -250,24 +250,24 @@ module _ {A : Type 0} (c : Commands A) (a : A) where
             },
           )
 
-          halted :
+          aborted :
               (error : Error) → AbortsIn c a (s.bytes ++ done) buffered all (change r q) error
               → Runs c a (change i k) (change o q) (Err error)
-          halted (aborts.Exit exit) (holds, inl at, none) = record {
+          aborted (aborts.Exit exit) (holds, inl at, none) = record {
             taken = taken (s.bytes ++ take n buffer) unasked;
             gathers = more_taken;
             output = all;
             first = inl (reads, paced holds);
-            ends = (inl (halted_at holds exit at), write_none all o r q write none);
+            ends = (inl (aborted_at holds exit at), write_none all o r q write none);
           }
-          halted (aborts.Exit exit) (holds, inr memory, none) = record {
+          aborted (aborts.Exit exit) (holds, inr memory, none) = record {
             taken = taken (s.bytes ++ take n buffer) unasked;
             gathers = more_taken;
             output = all;
             first = inl (reads, paced holds);
             ends = (inr memory, write_none all o r q write none);
           }
-          halted aborts.WriteFault (holds, next, are_output, part) = record {
+          aborted aborts.WriteFault (holds, next, are_output, part) = record {
             taken = taken (s.bytes ++ take n buffer) unasked;
             gathers = more_taken;
             output = all;
@@ -350,5 +350,5 @@ module _ {A : Type 0} (c : Commands A) (a : A) where
                   subst (λ text. Writes (change o h.between) text)
                   (sym (texts_of-append s.output h.more))
                   (writes_then o p h.between (texts_of s.output) (texts_of h.more) s.write h.write) in
-                  halted stay h.done h.buffered h.split (s.output ++ h.more) h.between before error h.aborts
+                  aborted stay h.done h.buffered h.split (s.output ++ h.more) h.between before error h.aborts
               by (inr f) = finished_so error f

@@ -17,11 +17,11 @@ const GATHERED: usize = 1 << 20;
 
 /// A sink in memory.
 #[derive(Drop)]
-struct Text {
+struct MemorySink {
     bytes: Vec<u8>,
 }
 
-impl Sink for Text {
+impl Sink for MemorySink {
     ghost use Rattle.run_loop.specs.work.Gathered.{text_state};
 
     ghost state = { λ t. text_state t.bytes.items };
@@ -39,7 +39,7 @@ fn gather_one<W: Work>(
     alloc: Global,
     work: &mut W,
     buffered: &[u8],
-    text: &mut Text,
+    text: &mut MemorySink,
 ) -> Result<usize, Error>
     requires some { 0 < length buffered.now }
     requires reads { W.commands.Reads (W.act work.old) }
@@ -70,7 +70,7 @@ fn gather<W: Work>(
     alloc: Global,
     work: &mut W,
     buffered: &[u8],
-    text: &mut Text,
+    text: &mut MemorySink,
 ) -> Result<usize, Error>
     requires some { 0 < length buffered.now }
     requires reads { W.commands.Reads (W.act work.old) }
@@ -105,7 +105,7 @@ pub fn feed_some<W: Work, K: Sink>(
     ensures feeds { FeedsSome W.commands (W.act work.old) (W.has work.old) (W.has work.new)
         buffered.now (change (K.state out.old) (K.state out.new)) result }
 {
-    let mut text = Text {
+    let mut text = MemorySink {
         bytes: Vec::new(alloc),
     };
     let gathered = gather(alloc, work, buffered, &mut text);

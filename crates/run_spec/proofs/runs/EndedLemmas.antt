@@ -1,5 +1,6 @@
--- If a run ended with status 0 or 1, then some outcome of what may have been provided has its
--- output and its status.
+-- If a run ended with status 0 or 1, then there are contents of input and files that the
+-- environment may have provided (`MayBe`). An outcome of these contents has the output and the
+-- status of the run.
 use Rattle.std.proofs.Common.{◌≡◌, ◌⊎◌, ℕ, List, ◌++◌, Some, inl, inr, refl, sym, ap, ◌∙◌, append-nil}
 use Rattle.std.proofs.lemmas.List.{append_cancel_left}
 use Rattle.cli_spec.specs.declared.status.Status.{Status}
@@ -14,7 +15,7 @@ use Rattle.run_spec.specs.runs.Given.{TakesFrom, IsFoundOf}
 use Rattle.run_spec.specs.runs.Environment.{WritesLine}
 use Rattle.run_spec.proofs.runs.SettledLemmas.{exit_status}
 
--- The run reached its end.
+-- The status is 0 or 1: nothing ended the run early.
 abbrev pub IsEnd : Status → Type 0
 IsEnd status = (status ≡ statuses.AllOk) ⊎ (status ≡ statuses.No)
 

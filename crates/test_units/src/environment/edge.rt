@@ -112,7 +112,7 @@ fn fetched(outcome: Result<(), OpenError>) -> Result<Result<(), OpenError>, Memo
 
 /// A file name, the outcome of opening it, the results of the following reads, and the bytes that
 /// they return.
-type Fetch = (
+type FileAccess = (
     &'static str,
     Result<(), OpenError>,
     &'static [Result<usize, Failed>],
@@ -120,7 +120,7 @@ type Fetch = (
 );
 
 // A folder can be opened, but not read.
-static ON_DISK: [Fetch; 4] = [
+static ON_DISK: [FileAccess; 4] = [
     ("a.bytes", Ok(()), &[Ok(2)], b"ab"),
     ("b.bytes", Err(OpenError::Failed), &[Ok(0)], b""),
     (".", Ok(()), &[Err(Failed)], b""),
@@ -128,7 +128,7 @@ static ON_DISK: [Fetch; 4] = [
 ];
 
 // Returns true if all files are opened and read with these results.
-fn fetches<O: Opener>(files: &mut O, all: &[Fetch]) -> Result<bool, Memory> {
+fn fetches<O: Opener>(files: &mut O, all: &[FileAccess]) -> Result<bool, Memory> {
     for (name, opened, answers, bytes) in all {
         if fetched(files.fetch(name))? != *opened || !gives_file(files, answers, bytes) {
             return Ok(false);
@@ -155,7 +155,7 @@ fn files_on_the_disk_are_fetched_and_taken(rt: HostRuntime) -> Result<(), Fail> 
 }
 
 // By hand: opening the second file fails, and so does the third read.
-static IN_MEMORY: [Fetch; 4] = [
+static IN_MEMORY: [FileAccess; 4] = [
     ("a.bytes", Ok(()), &[Ok(2), Ok(1), Err(Failed)], b"abc"),
     ("b.bytes", Err(OpenError::Failed), &[Ok(0)], b""),
     ("c.bytes", Err(OpenError::Missing), &[Ok(0)], b""),

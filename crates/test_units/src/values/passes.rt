@@ -7,7 +7,7 @@ ghost use Rattle.check_stream.specs.chunks.StreamCheck.{IsStreamCheck};
 use crate::values::given::{LIST, table_in};
 use base_data::model::Memory;
 use check_stream::checker::pass;
-use check_stream::chunks::{Answer, StreamCheck};
+use check_stream::chunks::{ChunkResult, StreamCheck};
 use std::alloc::Global;
 use std::test::Fail;
 use types_table::type_table::TypeTable;
@@ -139,14 +139,14 @@ fn inspected_on<'a>(
 ) -> Result<Option<(usize, usize, bool)>, Memory>
     requires stream_check { IsStreamCheck (table_of table.now) 1000 stream_check.old }
 {
-    let Answer::More = stream_check.feed(alloc, table, 1000, first)? else {
+    let ChunkResult::More = stream_check.feed(alloc, table, 1000, first)? else {
         return Ok(None);
     };
     let kept = stream_check.kept().len();
     match stream_check.feed(alloc, table, 1000, second)? {
-        Answer::Typed(n) => Ok(Some((kept, n, true))),
-        Answer::Missed(n) => Ok(Some((kept, n, false))),
-        Answer::More | Answer::Inconclusive => Ok(None),
+        ChunkResult::Typed(n) => Ok(Some((kept, n, true))),
+        ChunkResult::Missed(n) => Ok(Some((kept, n, false))),
+        ChunkResult::More | ChunkResult::Inconclusive => Ok(None),
     }
 }
 
@@ -171,7 +171,7 @@ fn inspected_after_mismatches(
 ) -> Result<Option<(usize, usize, bool)>, Memory> {
     let mut stream_check = StreamCheck::new(alloc);
     'mismatches: for _ in 0..9 {
-        let Answer::Missed(_) = stream_check.feed(alloc, table, 1000, DOUBLE)? else {
+        let ChunkResult::Missed(_) = stream_check.feed(alloc, table, 1000, DOUBLE)? else {
             return Ok(None);
         };
     }

@@ -12,7 +12,7 @@ use Rattle.text_print.specs.leaves.Leaves.{float_text}
 use Rattle.text_decimal.specs.decimal.Reading.{Stops, IsRead, decimal_at}
 use Rattle.text_decimal.proofs.decimal.ReadBackLemmas.{double_is_read_back}
 use Rattle.text_decimal.proofs.decimal.ScanLemmas.{decimal_long, other_no_decimal}
-use Rattle.text_decimal.specs.declared.texts.prefix.Prefix.TheVariants as prefixes
+use Rattle.text_decimal.specs.declared.texts.decimal_prefix.DecimalPrefix.TheVariants as prefixes
 use Rattle.text_decimal.specs.texts.Texts.{replaced, decimal_text}
 use Rattle.text_decimal.specs.texts.Plain.{prefix_of, prefix_at, plain_text}
 use Rattle.text_decimal.specs.texts.Laws.{AreApart}

@@ -2,7 +2,7 @@
 use Rattle.std.proofs.Common.{◌≡◌, ◌∙◌, ℕ, zero, suc, ◌+◌, ◌<◌, ◌≤◌, Bool, true, List, [], ◌∷◌, ◌++◌, length, drop, refl, sym, ap, arith, append-nil, append_assoc, drop-drop}
 use Rattle.std.proofs.lemmas.List.{drop_all}
 use Rattle.text_decimal.specs.declared.texts.decimals.Decimal.{Decimal}
-use Rattle.text_decimal.specs.declared.texts.prefix.Prefix.TheVariants as prefixes
+use Rattle.text_decimal.specs.declared.texts.decimal_prefix.DecimalPrefix.TheVariants as prefixes
 use Rattle.text_decimal.specs.texts.Plain.{prefix_at, decimals_by, decimals_from, decimals_in, AreWithin}
 use Rattle.text_decimal.proofs.texts.PlainLemmas.{nothing_there}
 

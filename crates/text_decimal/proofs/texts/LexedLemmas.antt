@@ -5,8 +5,8 @@ use Rattle.std.proofs.lemmas.List.{drop-drop, length-drop}
 use Rattle.std.specs.Prelude.{option_map, OnOk}
 use Rattle.types_lex.specs.declared.lexeme.Lexeme.{Lexeme}
 use Rattle.types_lex.specs.declared.lexeme.LexFault.{LexFault}
-use Rattle.types_lex.specs.declared.found.Step.{Step}
-use Rattle.types_lex.specs.declared.found.Step.TheVariants as steps
+use Rattle.types_lex.specs.declared.found_lexeme.LexStep.{LexStep}
+use Rattle.types_lex.specs.declared.found_lexeme.LexStep.TheVariants as steps
 use Rattle.types_lex.specs.LexText.{Lexes, Faults}
 use Rattle.types_lex.specs.Lexemes.{Reached}
 use Rattle.types_lex.specs.Scan.{step_at, moved}
@@ -33,12 +33,12 @@ lexed_word text prefix l None fault = fault
 lexed_word text prefix l (Some more) is = subst (Lexes text) (append_assoc prefix (l ∷ []) more) is
 
 module _ (text : List ℕ) (n at : ℕ) (prefix : List Lexeme) (r : Reached text at prefix) (room : length text ≤ at + suc n) (rest : ℕ → Option (List Lexeme)) (others : (len : ℕ) (found : List Lexeme) → Reached text (at + len) (prefix ++ found) → length text ≤ at + len + n → IsLexed text (prefix ++ found) (rest len)) where
-  behind : (step : Step) → IsPartAt (drop at text) step → IsLexed text (prefix ++ step_lexemes at step) (rest (step_len step))
+  behind : (step : LexStep) → IsPartAt (drop at text) step → IsLexed text (prefix ++ step_lexemes at step) (rest (step_len step))
   behind step p =
       let further = reached_further text at step r.inside p in
       others (step_len step) (step_lexemes at step) (reached_more text at prefix step r p) (omega (arith, room, further.0))
 
-  lexed_step : (step : Result Step LexFault) → IsStepAt (drop at text) step → IsLexed text prefix (lexed_by at rest step)
+  lexed_step : (step : Result LexStep LexFault) → IsStepAt (drop at text) step → IsLexed text prefix (lexed_by at rest step)
   lexed_step (Err fault) is = (moved at fault, reached_fault text at prefix fault r is)
   lexed_step (Ok (steps.Gap len)) is = subst (λ ls. IsLexed text ls (rest len)) (append-nil prefix) (behind (steps.Gap len) is)
   lexed_step (Ok (steps.Word word)) is = lexed_word text prefix _ (rest word.len) (behind (steps.Word word) is)

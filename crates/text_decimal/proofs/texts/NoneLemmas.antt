@@ -15,7 +15,7 @@ use Rattle.types_lex.proofs.StepLaws.{part_step, step-part}
 use Rattle.text_roundtrip.proofs.lexed.TakenLemmas.{no_digit}
 use Rattle.text_decimal.specs.decimal.Reading.{Stops, decimal_at}
 use Rattle.text_decimal.proofs.decimal.ScanLemmas.{integer_no_decimal, other_no_decimal}
-use Rattle.text_decimal.specs.declared.texts.prefix.Prefix.TheVariants as prefixes
+use Rattle.text_decimal.specs.declared.texts.decimal_prefix.DecimalPrefix.TheVariants as prefixes
 use Rattle.text_decimal.specs.texts.Plain.{is_point, prefix_of, prefix_at}
 use Rattle.text_decimal.proofs.texts.EncodedLemmas.{first_of, ends_open, IsKept}
 

@@ -3,12 +3,12 @@ use Rattle.std.proofs.Common.{◌≡◌, ◌∙◌, ℕ, zero, suc, ◌+◌, ◌
 use Rattle.std.specs.Float.Numeral.{scan_numeral}
 use Rattle.types_lex.specs.Scan.{step_at}
 use Rattle.text_print.specs.leaves.Leaves.{float_text}
-use Rattle.text_decimal.specs.declared.texts.prefix.Prefix.{Prefix}
-use Rattle.text_decimal.specs.declared.texts.prefix.Prefix.TheVariants as prefixes
+use Rattle.text_decimal.specs.declared.texts.decimal_prefix.DecimalPrefix.{DecimalPrefix}
+use Rattle.text_decimal.specs.declared.texts.decimal_prefix.DecimalPrefix.TheVariants as prefixes
 use Rattle.text_decimal.specs.texts.Plain.{prefix_at, decimals_by, decimals_from, plain_with, plain_text}
 
 -- The first token in plain form, before the rest.
-abbrev pub plain_by : List ℕ → (ℕ → Bool → List ℕ) → Prefix → List ℕ
+abbrev pub plain_by : List ℕ → (ℕ → Bool → List ℕ) → DecimalPrefix → List ℕ
 plain_by text behind (prefixes.Double bits len) = float_text bits ++ behind len true
 plain_by text behind (prefixes.Kept len may) = take len text ++ behind len may
 plain_by text behind prefixes.Fault = text
@@ -40,7 +40,7 @@ IsPlainAt n text =
     (from at : ℕ) (may : Bool) → from ≤ at
     → plain_with text from (decimals_from n at may (drop at text)) ≡ slice_range text from at ++ plain_from n may (drop at text)
 
-by_prefix : (n : ℕ) (text : List ℕ) → IsPlainAt n text → (from at : ℕ) → from ≤ at → (f : Prefix)
+by_prefix : (n : ℕ) (text : List ℕ) → IsPlainAt n text → (from at : ℕ) → from ≤ at → (f : DecimalPrefix)
     → plain_with text from (decimals_by at (λ len next. decimals_from n (at + len) next (drop len (drop at text))) f) ≡ slice_range text from at ++ plain_by (drop at text) (λ len next. plain_from n next (drop len (drop at text))) f
 by_prefix n text others from at le (prefixes.Double bits len) =
     let plain : plain_with text (at + len) (decimals_from n (at + len) true (drop (at + len) text)) ≡ plain_from n true (drop (at + len) text) = rw (slice_none text (at + len)) at (others (at + len) (at + len) true (omega arith)) in

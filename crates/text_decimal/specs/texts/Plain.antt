@@ -6,14 +6,14 @@ use Rattle.types_lex.specs.declared.lexeme.LexemeKind.{LexemeKind}
 use Rattle.types_lex.specs.declared.lexeme.LexemeKind.TheVariants as kinds
 use Rattle.types_lex.specs.declared.lexeme.Symbol.TheVariants as symbols
 use Rattle.types_lex.specs.declared.lexeme.LexFault.{LexFault}
-use Rattle.types_lex.specs.declared.found.Step.{Step}
-use Rattle.types_lex.specs.declared.found.Step.TheVariants.{Gap, Word}
+use Rattle.types_lex.specs.declared.found_lexeme.LexStep.{LexStep}
+use Rattle.types_lex.specs.declared.found_lexeme.LexStep.TheVariants.{Gap, Word}
 use Rattle.types_lex.specs.Scan.{step_at}
 use Rattle.text_print.specs.leaves.Leaves.{float_text}
 use Rattle.text_decimal.specs.decimal.Reading.{decimal_at}
 use Rattle.text_decimal.specs.declared.texts.decimals.Decimal.{Decimal}
-use Rattle.text_decimal.specs.declared.texts.prefix.Prefix.{Prefix}
-use Rattle.text_decimal.specs.declared.texts.prefix.Prefix.TheVariants as prefixes
+use Rattle.text_decimal.specs.declared.texts.decimal_prefix.DecimalPrefix.{DecimalPrefix}
+use Rattle.text_decimal.specs.declared.texts.decimal_prefix.DecimalPrefix.TheVariants as prefixes
 
 -- ---- the decimals of a text
 
@@ -23,7 +23,7 @@ is_point kind = false
 
 -- The first token, given the decimal at the beginning of the text and the first token of a text
 -- without decimals. No decimal begins directly after a point.
-abbrev pub prefix_of : Option (ℕ × ℕ) → Result Step LexFault → Prefix
+abbrev pub prefix_of : Option (ℕ × ℕ) → Result LexStep LexFault → DecimalPrefix
 prefix_of (Some decimal) step = prefixes.Double decimal.0 decimal.1
 prefix_of None (Ok (Gap len)) = prefixes.Kept len true
 prefix_of None (Ok (Word word)) =
@@ -31,11 +31,11 @@ prefix_of None (Ok (Word word)) =
 prefix_of None (Err fault) = prefixes.Fault
 
 -- The first token. It may be a decimal if `may` is true.
-abbrev pub prefix_at : Bool → List ℕ → Prefix
+abbrev pub prefix_at : Bool → List ℕ → DecimalPrefix
 prefix_at may text = prefix_of (if may then decimal_at text else None) (step_at text)
 
 -- The decimals from an offset on, given those after the first token.
-abbrev pub decimals_by : ℕ → (ℕ → Bool → List Decimal) → Prefix → List Decimal
+abbrev pub decimals_by : ℕ → (ℕ → Bool → List Decimal) → DecimalPrefix → List Decimal
 decimals_by position behind (prefixes.Double bits len) =
     record { first = position; len = len; bits = bits } ∷ behind len true
 decimals_by position behind (prefixes.Kept len may) = behind len may
@@ -89,7 +89,7 @@ given_position decimals byte = given_from 0 0 decimals byte
 -- ---- the result of a call
 
 -- The first token is not empty, and lies within the text.
-abbrev pub IsPrefixWithin : ℕ → Prefix → Type 0
+abbrev pub IsPrefixWithin : ℕ → DecimalPrefix → Type 0
 IsPrefixWithin n (prefixes.Double bits len) = (0 < len) × (len ≤ n)
 IsPrefixWithin n (prefixes.Kept len may) = (0 < len) × (len ≤ n)
 IsPrefixWithin n prefixes.Fault = Unit {0}

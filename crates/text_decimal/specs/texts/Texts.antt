@@ -7,8 +7,8 @@ use Rattle.types_lex.specs.declared.lexeme.Lexeme.{Lexeme}
 use Rattle.types_lex.specs.declared.lexeme.LexemeKind.{LexemeKind}
 use Rattle.types_lex.specs.declared.lexeme.LexemeKind.TheVariants as kinds
 use Rattle.types_lex.specs.declared.lexeme.LexFault.{LexFault}
-use Rattle.types_lex.specs.declared.found.Step.{Step}
-use Rattle.types_lex.specs.declared.found.Step.TheVariants.{Gap, Word}
+use Rattle.types_lex.specs.declared.found_lexeme.LexStep.{LexStep}
+use Rattle.types_lex.specs.declared.found_lexeme.LexStep.TheVariants.{Gap, Word}
 use Rattle.types_lex.specs.Scan.{step_at}
 use Rattle.text_print.specs.leaves.Leaves.{float_text}
 use Rattle.text_decimal.specs.decimal.Shortest.{double_text}
@@ -51,7 +51,8 @@ replaced text at (lexeme ∷ lexemes) =
     ++ (write_for text lexeme.kind lexeme.span.first end ++ replaced text end lexemes)
 
 -- The lexemes from an offset on, given those after the first token.
-abbrev pub lexed_by : ℕ → (ℕ → Option (List Lexeme)) → Result Step LexFault → Option (List Lexeme)
+abbrev pub lexed_by : ℕ → (ℕ → Option (List Lexeme)) → Result LexStep LexFault
+    → Option (List Lexeme)
 lexed_by position behind (Ok (Gap len)) = behind len
 lexed_by position behind (Ok (Word word)) =
     option_map

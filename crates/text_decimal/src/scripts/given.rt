@@ -14,7 +14,7 @@ use base_data::model::path::Path;
 use std::alloc::Global;
 use text_path::{Action, Edit, ScriptFault, ScriptLine};
 use types_lex::Lexemes;
-use types_lex::lexeme::{LexFault, Lexeme, Span};
+use types_lex::lexeme::{LexFault, Lexeme, LexemeSpan};
 
 /// Returns the offset in a line for an offset in its plain text, given the decimals of the line.
 fn line_position(decimals: &[Decimal], position: usize) -> usize
@@ -71,7 +71,7 @@ fn given_literal(
         let len = lexeme.span.len;
         given.push(Lexeme {
             kind,
-            span: Span { first, len },
+            span: LexemeSpan { first, len },
         })?;
     }
     Ok(given)

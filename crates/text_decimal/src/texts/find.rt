@@ -3,9 +3,9 @@
 ghost use Rattle.std.specs.Prelude.{◌≡◌, ◌++◌, ◌^◌, OnOk, IfOk, length};
 ghost use Rattle.text_decimal.specs.texts.Plain.{decimals_in, plain_text, AreWithin};
 
+use crate::texts::decimal_prefix::{DecimalPrefix, read_prefix};
 use crate::texts::decimals::Decimal;
 use crate::texts::plain::write_plain;
-use crate::texts::prefix::{Prefix, read_prefix};
 use base_data::model::Memory;
 use std::alloc::Global;
 
@@ -20,7 +20,7 @@ pub fn find_decimals(alloc: Global, text: &[u8]) -> Result<Vec<Decimal>, Memory>
     let mut may = true;
     while at < text.len() {
         match read_prefix(alloc, may, &text[at..])? {
-            Prefix::Double(bits, len) => {
+            DecimalPrefix::Double(bits, len) => {
                 decimals.push(Decimal {
                     first: at,
                     len,
@@ -29,11 +29,11 @@ pub fn find_decimals(alloc: Global, text: &[u8]) -> Result<Vec<Decimal>, Memory>
                 at += len;
                 may = true;
             }
-            Prefix::Kept(len, next) => {
+            DecimalPrefix::Kept(len, next) => {
                 at += len;
                 may = next;
             }
-            Prefix::Fault => return Ok(decimals),
+            DecimalPrefix::Fault => return Ok(decimals),
         }
     }
     Ok(decimals)

@@ -8,14 +8,14 @@ use Rattle.types_lex.specs.declared.lexeme.LexemeKind.TheVariants as kinds
 use Rattle.types_lex.specs.declared.lexeme.Symbol.{Symbol}
 use Rattle.types_lex.specs.declared.lexeme.Symbol.TheVariants as symbols
 use Rattle.types_parse.specs.grammar.Grammar.{Name, Kinds, mark}
-use Rattle.text_literal.specs.declared.grammar.node.Form.{Form}
-use Rattle.text_literal.specs.declared.grammar.node.Form.TheVariants as forms
-use Rattle.text_literal.specs.declared.grammar.node.Node.{Node}
-use Rattle.text_literal.specs.declared.grammar.open.Bracket.{Bracket}
-use Rattle.text_literal.specs.declared.grammar.open.Bracket.TheVariants as brackets
-use Rattle.text_literal.specs.declared.grammar.open.Open.{Open}
-use Rattle.text_literal.specs.declared.grammar.open.Stage.{Stage}
-use Rattle.text_literal.specs.declared.grammar.open.Stage.TheVariants as stages
+use Rattle.text_literal.specs.declared.grammar.literal_node.NodeForm.{NodeForm}
+use Rattle.text_literal.specs.declared.grammar.literal_node.NodeForm.TheVariants as forms
+use Rattle.text_literal.specs.declared.grammar.literal_node.LiteralNode.{LiteralNode}
+use Rattle.text_literal.specs.declared.grammar.pending_node.OpenKind.{OpenKind}
+use Rattle.text_literal.specs.declared.grammar.pending_node.OpenKind.TheVariants as brackets
+use Rattle.text_literal.specs.declared.grammar.pending_node.PendingNode.{PendingNode}
+use Rattle.text_literal.specs.declared.grammar.pending_node.Stage.{Stage}
+use Rattle.text_literal.specs.declared.grammar.pending_node.Stage.TheVariants as stages
 use Rattle.text_literal.specs.grammar.Literal.{Head, ref_head, Literal, labelled, again, truth, constant, Parts, no_parts, more_parts, Rows, no_rows, more_rows, label_kinds, true_name, false_name, ref_name, head_kinds, owner_kinds, row_start, literal_kinds, parts_kinds, rows_kinds}
 use Rattle.types_parse.specs.grammar.Lexemes.{number_of}
 use Rattle.text_literal.specs.grammar.Machine.{Frame, in_arguments, in_parens, in_array, in_fields, Phase, due, hash_read, number_read, plain_due, bracket_read, head_read, field_due, name_read, whole, State, at, read, begin_plain, close_unit, close_empty, begin, close_arguments, close_tuple, close_parens, close_array, close_fields, close, step, frame_kinds, frames_prefix, prefix}
@@ -24,32 +24,32 @@ use Rattle.text_literal.specs.grammar.Code.{Code, code, next_number, with_part, 
 
 -- ---- the data of the code for a state of the table
 
-abbrev owner_form : Option Head → Form
+abbrev owner_form : Option Head → NodeForm
 owner_form None = forms.Fields
 owner_form (Some h) = forms.Named
 
 -- The node as it is while its parts are read, and the nodes of those parts.
-abbrev frame_nodes : ℕ → Frame → List Node
+abbrev frame_nodes : ℕ → Frame → List LiteralNode
 frame_nodes k (in_arguments l h ps) = node forms.Named l k 0 ∷ parts_nodes symbols.Comma (k + length (label_kinds l ++ (head_kinds h ++ mark symbols.OpenParen))) ps
 frame_nodes k (in_parens l ps) = node forms.Unit l k 0 ∷ parts_nodes symbols.Comma (k + length (label_kinds l ++ mark symbols.OpenParen)) ps
 frame_nodes k (in_array l ps) = node forms.Array l k 0 ∷ parts_nodes symbols.Semicolon (k + length (label_kinds l ++ mark symbols.OpenArray)) ps
 frame_nodes k (in_fields l o rs x) = node (owner_form o) l k 0 ∷ rows_nodes (k + length (label_kinds l ++ (owner_kinds o ++ mark symbols.OpenBrace))) rs
 
-abbrev frames_nodes : List Frame → List Node
+abbrev frames_nodes : List Frame → List LiteralNode
 frames_nodes [] = []
 frames_nodes (f ∷ fs) = frames_nodes fs ++ frame_nodes (length (frames_prefix fs)) f
 
-abbrev frame_open : ℕ → ℕ → Frame → Open
+abbrev frame_open : ℕ → ℕ → Frame → PendingNode
 frame_open i k (in_arguments l h ps) = opened brackets.Arguments i (node forms.Named l k (count ps))
 frame_open i k (in_parens l ps) = opened brackets.Parens i (node forms.Unit l k (count ps))
 frame_open i k (in_array l ps) = opened brackets.Array i (node forms.Array l k (count ps))
 frame_open i k (in_fields l o rs x) = opened brackets.Fields i (node forms.Fields l k (rows_count rs))
 
-abbrev opens_of : List Frame → List Open
+abbrev opens_of : List Frame → List PendingNode
 opens_of [] = []
 opens_of (f ∷ fs) = frame_open (length (frames_nodes fs)) (length (frames_prefix fs)) f ∷ opens_of fs
 
-abbrev phase_nodes : ℕ → Phase → List Node
+abbrev phase_nodes : ℕ → Phase → List LiteralNode
 phase_nodes k (bracket_read l) = node forms.Named l k 0 ∷ []
 phase_nodes k (head_read l h) = node forms.Named l k 0 ∷ []
 phase_nodes k (field_due l o rs) = node (owner_form o) l k 0 ∷ rows_nodes (k + length (label_kinds l ++ (owner_kinds o ++ mark symbols.OpenBrace))) rs
@@ -87,7 +87,7 @@ word_follows fs l x false true d = refl
 word_follows fs l x false false true = refl
 word_follows fs l x false false false = refl
 
-opens_with : (N : List Node) (n : Node) (os : List Open) → Some (code (N ++ n ∷ []) os stages.Due) ≡ Some (code (N ++ n ∷ [] ++ []) os stages.Due)
+opens_with : (N : List LiteralNode) (n : LiteralNode) (os : List PendingNode) → Some (code (N ++ n ∷ []) os stages.Due) ≡ Some (code (N ++ n ∷ [] ++ []) os stages.Due)
 opens_with N n os = ap (λ ns. Some (code ns os stages.Due)) (sym (append-nil (N ++ n ∷ [])))
 
 plain_follows : (fs : List Frame) (l : Option ℕ) (kind : LexemeKind) →
@@ -126,32 +126,32 @@ begin_follows fs kind = plain_follows fs None kind
 
 -- ---- the end of a literal
 
-set_there : (A : List Node) (n m : Node) (B : List Node) → slice_set (A ++ n ∷ B) (length A) m ≡ A ++ m ∷ B
+set_there : (A : List LiteralNode) (n m : LiteralNode) (B : List LiteralNode) → slice_set (A ++ n ∷ B) (length A) m ≡ A ++ m ∷ B
 set_there [] n m B = refl
 set_there (a ∷ A) n m B = ap (λ ns. a ∷ ns) (set_there A n m B)
 
-behind : (N : List Node) (n : Node) (T V : List Node) → (N ++ (n ∷ T)) ++ V ≡ N ++ (n ∷ (T ++ V))
+behind : (N : List LiteralNode) (n : LiteralNode) (T V : List LiteralNode) → (N ++ (n ∷ T)) ++ V ≡ N ++ (n ∷ (T ++ V))
 behind N n T V = append_assoc N (n ∷ T) V
 
 next_is : (n : ℕ) → n < 2 ^ 64 - 1 → next_number n ≡ suc n
 next_is n h = grind arith
 
-module _ (N : List Node) (n : Node) (T : List Node) {V W : List Node} (same : V ≡ W) (os : List Open) where
-  goes_next : (bracket : Bracket) (i : ℕ) {m m' : Node} → m ≡ m' →
+module _ (N : List LiteralNode) (n : LiteralNode) (T : List LiteralNode) {V W : List LiteralNode} (same : V ≡ W) (os : List PendingNode) where
+  goes_next : (bracket : OpenKind) (i : ℕ) {m m' : LiteralNode} → m ≡ m' →
       Some (code ((N ++ (n ∷ T)) ++ V) (opened bracket i m ∷ os) stages.Due) ≡ Some (code ((N ++ (n ∷ (T ++ W))) ++ []) (opened bracket i m' ∷ os) stages.Due)
   goes_next bracket i {m} {m'} e =
       ap (λ V. Some (code ((N ++ (n ∷ T)) ++ V) (opened bracket i m ∷ os) stages.Due)) same
       ∙ ap (λ ns. Some (code ns (opened bracket i m ∷ os) stages.Due)) (behind N n T W ∙ sym (append-nil (N ++ (n ∷ (T ++ W)))))
       ∙ ap (λ k. Some (code ((N ++ (n ∷ (T ++ W))) ++ []) (opened bracket i k ∷ os) stages.Due)) e
 
-  goes_field : (i : ℕ) {m m' : Node} → m ≡ m' →
+  goes_field : (i : ℕ) {m m' : LiteralNode} → m ≡ m' →
       Some (code ((N ++ (n ∷ T)) ++ V) os (stages.FieldDue i m)) ≡ Some (code (N ++ (n ∷ (T ++ W))) os (stages.FieldDue i m'))
   goes_field i {m} {m'} e =
       ap (λ V. Some (code ((N ++ (n ∷ T)) ++ V) os (stages.FieldDue i m))) same
       ∙ ap (λ ns. Some (code ns os (stages.FieldDue i m))) (behind N n T W)
       ∙ ap (λ k. Some (code (N ++ (n ∷ (T ++ W))) os (stages.FieldDue i k))) e
 
-  goes_shut : {m m' : Node} → m ≡ m' →
+  goes_shut : {m m' : LiteralNode} → m ≡ m' →
       Some (code (slice_set ((N ++ (n ∷ T)) ++ V) (length N) m) os stages.Whole) ≡ Some (code (N ++ (m' ∷ (T ++ W))) os stages.Whole)
   goes_shut {m} {m'} e =
       ap (λ V. Some (code (slice_set ((N ++ (n ∷ T)) ++ V) (length N) m) os stages.Whole)) same
@@ -194,7 +194,7 @@ few F L A R n h b = omega (arith, length-append F (L ++ (A ++ R)), length-append
 few_fields : (F L A R S : Kinds) (n : ℕ) → n ≤ length R → length (F ++ (L ++ (A ++ R ++ S))) < 2 ^ 64 - 1 → n < 2 ^ 64 - 1
 few_fields F L A R S n h b = omega (arith, length-append F (L ++ (A ++ R ++ S)), length-append L (A ++ R ++ S), length-append (A ++ R) S, length-append A R)
 
-one_part_more : (form : Form) (l : Option ℕ) (k n : ℕ) → n < 2 ^ 64 - 1 → with_part (node form l k n) ≡ node form l k (suc n)
+one_part_more : (form : NodeForm) (l : Option ℕ) (k n : ℕ) → n < 2 ^ 64 - 1 → with_part (node form l k n) ≡ node form l k (suc n)
 one_part_more form l k n h = ap (node form l k) (next_is n h)
 
 module _ (fs : List Frame) (l : Option ℕ) where

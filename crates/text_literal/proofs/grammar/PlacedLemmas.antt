@@ -9,12 +9,12 @@ use Rattle.types_lex.specs.LexText.{Lexes}
 use Rattle.types_lex.proofs.PartLaws.{reached_end, few_lexemes}
 use Rattle.types_parse.specs.grammar.Grammar.{Kinds}
 use Rattle.types_parse.specs.grammar.Machine.{run}
-use Rattle.text_literal.specs.declared.grammar.node.Node.{Node}
-use Rattle.text_literal.specs.declared.grammar.open.Open.{Open}
-use Rattle.text_literal.specs.declared.grammar.open.Stage.{Stage}
-use Rattle.text_literal.specs.declared.grammar.open.Stage.TheVariants as stages
-use Rattle.text_literal.specs.declared.grammar.placed.PlacedFault.{PlacedFault}
-use Rattle.text_literal.specs.declared.grammar.placed.PlacedFault.TheVariants as faults
+use Rattle.text_literal.specs.declared.grammar.literal_node.LiteralNode.{LiteralNode}
+use Rattle.text_literal.specs.declared.grammar.pending_node.PendingNode.{PendingNode}
+use Rattle.text_literal.specs.declared.grammar.pending_node.Stage.{Stage}
+use Rattle.text_literal.specs.declared.grammar.pending_node.Stage.TheVariants as stages
+use Rattle.text_literal.specs.declared.grammar.placed_nodes.PlacedFault.{PlacedFault}
+use Rattle.text_literal.specs.declared.grammar.placed_nodes.PlacedFault.TheVariants as faults
 use Rattle.text_literal.specs.grammar.Machine.{start, step}
 use Rattle.types_parse.specs.grammar.Lexemes.{kinds_of}
 use Rattle.text_literal.specs.grammar.Code.{step_code, end_code, Steps}
@@ -22,7 +22,7 @@ use Rattle.text_literal.specs.grammar.Placed.{lexemes_at, StopsAt, IsLexed, Stop
 use Rattle.text_literal.proofs.grammar.ReadLemmas.{Reached, begins, goes_at, stops_at, is_tree_where, ends_early_where}
 
 -- The lexemes before this byte have these offsets and lead to the state of the code.
-pub record Prefix (text : List ℕ) (at : ℕ) (positions : List ℕ) (ns : List Node) (os : List Open) (stage : Stage) : Type 0 where
+pub record Prefix (text : List ℕ) (at : ℕ) (positions : List ℕ) (ns : List LiteralNode) (os : List PendingNode) (stage : Stage) : Type 0 where
   pub reached : lex.Reached text at (lexemes_at text positions)
   pub read : Reached (lexemes_at text positions) (length positions) ns os stage
   pub few : length positions ≤ at
@@ -40,7 +40,7 @@ prefix_of [] ys (suc n) e = absurd (omega (arith, e))
 prefix_of (x ∷ xs) ys (suc n) e = ap (λ all. x ∷ all) (prefix_of xs ys n (omega (arith, e)))
 
 -- The lexemes that follow do not change the state reached before them.
-further : (xs ys : List Lexeme) (n : ℕ) (ns : List Node) (os : List Open) (stage : Stage) → length xs ≡ n → Reached xs n ns os stage → Reached (xs ++ ys) n ns os stage
+further : (xs ys : List Lexeme) (n : ℕ) (ns : List LiteralNode) (os : List PendingNode) (stage : Stage) → length xs ≡ n → Reached xs n ns os stage → Reached (xs ++ ys) n ns os stage
 further xs ys n ns os stage e r =
     let all : kinds_of (xs ++ ys) ≡ kinds_of xs ++ kinds_of ys = map-append (λ (l : Lexeme). l.kind) xs ys in
     (r.0, ap (λ ks. run step start (take n ks)) all ∙ ap (run step start) (prefix_of (kinds_of xs) (kinds_of ys) n (length-map xs (λ (l : Lexeme). l.kind) ∙ e)) ∙ r.1, r.2)
@@ -77,7 +77,7 @@ placed_lexed text faults.Memory is = tt
 
 -- ---- at the first byte
 
-pub prefix_begins : (text : List ℕ) (positions : List ℕ) (ns : List Node) (os : List Open) → positions ≡ [] → ns ≡ [] → os ≡ [] → Prefix text 0 positions ns os stages.Due
+pub prefix_begins : (text : List ℕ) (positions : List ℕ) (ns : List LiteralNode) (os : List PendingNode) → positions ≡ [] → ns ≡ [] → os ≡ [] → Prefix text 0 positions ns os stages.Due
 prefix_begins text positions ns os none h i =
     subst (λ (ps : List ℕ). Prefix text 0 ps ns os stages.Due) (sym none)
     (record {
@@ -86,7 +86,7 @@ prefix_begins text positions ns os none h i =
       few = omega arith;
     })
 
-module _ (text : List ℕ) (at : ℕ) (positions : List ℕ) (ns : List Node) (os : List Open) (stage : Stage) (prefix : Prefix text at positions ns os stage) where
+module _ (text : List ℕ) (at : ℕ) (positions : List ℕ) (ns : List LiteralNode) (os : List PendingNode) (stage : Stage) (prefix : Prefix text at positions ns os stage) where
   count_is : length (lexemes_at text positions) ≡ length positions
   count_is = length-map positions (lexeme_from text)
 
@@ -95,7 +95,7 @@ module _ (text : List ℕ) (at : ℕ) (positions : List ℕ) (ns : List Node) (o
   prefix_ends r = record { reached = r; read = prefix.read; few = omega (arith, prefix.few, prefix.reached.inside) }
 
   module _ (short : length text < 2 ^ 32) (l : Lexeme) (next : IsNext text at l) (on : lex.Reached text (l.span.first + l.span.len) (lexemes_at text positions ++ l ∷ [])) where
-    pub prefix_goes : (ms : List Node) (ps : List Open) (o : Option Stage) (then : Stage) (more : List ℕ)
+    pub prefix_goes : (ms : List LiteralNode) (ps : List PendingNode) (o : Option Stage) (then : Stage) (more : List ℕ)
         → Steps (Ok o) ms ps (step_code ns os stage (length positions) l.kind) → o ≡ Some then → more ≡ positions ++ l.span.first ∷ []
         → Prefix text (l.span.first + l.span.len) more ms ps then
     prefix_goes ms ps o then more steps e is =
@@ -112,7 +112,7 @@ module _ (text : List ℕ) (at : ℕ) (positions : List ℕ) (ns : List Node) (o
           few = omega (arith, long, prefix.few, next.behind, next.onward);
         }
 
-    stops_in : (ms : List Node) (ps : List Open) (o : Option Stage) (byte : ℕ) (more : List Lexeme)
+    stops_in : (ms : List LiteralNode) (ps : List PendingNode) (o : Option Stage) (byte : ℕ) (more : List Lexeme)
         → Steps (Ok o) ms ps (step_code ns os stage (length positions) l.kind) → o ≡ None → byte ≡ l.span.first → Lexes text ((lexemes_at text positions ++ l ∷ []) ++ more)
         → StopsAt text byte
     stops_in ms ps o byte more steps e is lexes =
@@ -131,7 +131,7 @@ module _ (text : List ℕ) (at : ℕ) (positions : List ℕ) (ns : List Node) (o
           is = is ∙ ap (λ (found : Option Lexeme). unwrap_or (option_map (λ (x : Lexeme). x.span.first) found) (length text)) (sym (found_is xs more l) ∙ ap (slice_get all) count_is);
         }
 
-    pub prefix_stops : (ms : List Node) (ps : List Open) (o : Option Stage) (f : PlacedFault)
+    pub prefix_stops : (ms : List LiteralNode) (ps : List PendingNode) (o : Option Stage) (f : PlacedFault)
         → Steps (Ok o) ms ps (step_code ns os stage (length positions) l.kind) → o ≡ None → Stopped text (lexemes_at text positions ++ l ∷ []) l.span.first f
         → IsPlacedFault text f
     prefix_stops ms ps o (faults.Lex f) steps e is = is
@@ -143,7 +143,7 @@ module _ (text : List ℕ) (at : ℕ) (positions : List ℕ) (ns : List Node) (o
     lexes_all : Lexes text (lexemes_at text positions)
     lexes_all = reached_end text at (lexemes_at text positions) prefix.reached end
 
-    pub prefix_tree : (ms : List Node) → Some ms ≡ end_code ns os stage → IsPlaced text positions ms
+    pub prefix_tree : (ms : List LiteralNode) → Some ms ≡ end_code ns os stage → IsPlaced text positions ms
     prefix_tree ms h = (lexes_all, is_tree_where (lexemes_at text positions) (length positions) ns os stage prefix.read (sym count_is) true ms ms (sym h) refl refl)
 
     pub prefix_faulty : None ≡ end_code ns os stage → 0 < length positions → StopsAt text (length text)

@@ -3,11 +3,11 @@ use Rattle.std.proofs.Common.{ℕ, ◌+◌, ◌≤◌, ◌<◌, List, [], ◌∷
 use Rattle.types_lex.specs.declared.lexeme.Symbol.{Symbol}
 use Rattle.types_lex.specs.declared.lexeme.Symbol.TheVariants as symbols
 use Rattle.types_parse.specs.grammar.Grammar.{Kinds, mark}
-use Rattle.text_literal.specs.declared.grammar.node.Node.{Node}
+use Rattle.text_literal.specs.declared.grammar.literal_node.LiteralNode.{LiteralNode}
 use Rattle.text_literal.specs.grammar.Literal.{Head, upper_head, tag_head, cons_head, empty_head, ref_head, Literal, labelled, again, Plain, integer, character, string, double, truth, unit, constant, applied, fields, tuple, empty_array, array, Parts, no_parts, more_parts, Rows, no_rows, more_rows, label_kinds, head_kinds, owner_kinds, row_start, literal_kinds, plain_kinds, parts_kinds, rows_kinds}
 use Rattle.text_literal.specs.grammar.Nodes.{FirstsBelow, literal_nodes, plain_nodes, parts_nodes, rows_nodes}
 
-both : (m : ℕ) (xs ys : List Node) → FirstsBelow m xs → FirstsBelow m ys → FirstsBelow m (xs ++ ys)
+both : (m : ℕ) (xs ys : List LiteralNode) → FirstsBelow m xs → FirstsBelow m ys → FirstsBelow m (xs ++ ys)
 both m [] ys h k = k
 both m (x ∷ xs) ys h k = (h.0, both m xs ys h.1 k)
 

@@ -7,12 +7,12 @@ use Rattle.types_parse.specs.grammar.Refusals.{IsSyntax}
 use Rattle.types_parse.specs.grammar.Machine.{run}
 use Rattle.types_parse.proofs.grammar.TableLemmas.{taken, take_whole, run_more, is_syntax_at, syntax_end, text_is_read, one_text}
 use Rattle.types_parse.proofs.grammar.LawLemmas.{text_or_syntax, no_syntax}
-use Rattle.text_literal.specs.declared.grammar.node.Node.{Node}
-use Rattle.text_literal.specs.declared.grammar.node.TreeFault.{TreeFault}
-use Rattle.text_literal.specs.declared.grammar.node.TreeFault.TheVariants as faults
-use Rattle.text_literal.specs.declared.grammar.open.Open.{Open}
-use Rattle.text_literal.specs.declared.grammar.open.Stage.{Stage}
-use Rattle.text_literal.specs.declared.grammar.open.Stage.TheVariants as stages
+use Rattle.text_literal.specs.declared.grammar.literal_node.LiteralNode.{LiteralNode}
+use Rattle.text_literal.specs.declared.grammar.literal_node.TreeFault.{TreeFault}
+use Rattle.text_literal.specs.declared.grammar.literal_node.TreeFault.TheVariants as faults
+use Rattle.text_literal.specs.declared.grammar.pending_node.PendingNode.{PendingNode}
+use Rattle.text_literal.specs.declared.grammar.pending_node.Stage.{Stage}
+use Rattle.text_literal.specs.declared.grammar.pending_node.Stage.TheVariants as stages
 use Rattle.text_literal.specs.grammar.Literal.{Literal, literal_kinds}
 use Rattle.text_literal.specs.grammar.Machine.{due, hash_read, number_read, plain_due, bracket_read, head_read, field_due, name_read, whole, State, at, start, step, accepted, prefix}
 use Rattle.types_parse.specs.grammar.Lexemes.{kinds_of}
@@ -41,13 +41,13 @@ none_map f None h = refl
 none_map f (Some x) h = absurd (cc)
 
 -- The lexemes before this index lead to a state with these nodes, brackets and stage.
-abbrev pub Reached : List Lexeme → ℕ → List Node → List Open → Stage → Type 0
+abbrev pub Reached : List Lexeme → ℕ → List LiteralNode → List PendingNode → Stage → Type 0
 Reached lexemes position ns os stage = (s : State) × (run step start (take position (kinds_of lexemes)) ≡ Some s) × (code_of s ≡ code ns os stage)
 
-pub begins : (lexemes : List Lexeme) (ns : List Node) (os : List Open) → ns ≡ [] → os ≡ [] → Reached lexemes 0 ns os stages.Due
+pub begins : (lexemes : List Lexeme) (ns : List LiteralNode) (os : List PendingNode) → ns ≡ [] → os ≡ [] → Reached lexemes 0 ns os stages.Due
 begins lexemes ns os h i = (start, refl, ap (λ x. code x [] stages.Due) (sym h) ∙ ap (λ x. code ns x stages.Due) (sym i))
 
-abbrev end_of : Code → Option (List Node)
+abbrev end_of : Code → Option (List LiteralNode)
 end_of (code ns os stage) = end_code ns os stage
 
 end_follows : (s : State) → end_of (code_of s) ≡ option_map (literal_nodes 0) (accepted s)
@@ -62,7 +62,7 @@ end_follows (at [] (name_read l o rs x)) = refl
 end_follows (at [] (whole v)) = refl
 end_follows (at (f ∷ fs) phase) = refl
 
-module _ (lexemes : List Lexeme) (position : ℕ) (ns : List Node) (os : List Open) (stage : Stage) (reached : Reached lexemes position ns os stage) where
+module _ (lexemes : List Lexeme) (position : ℕ) (ns : List LiteralNode) (os : List PendingNode) (stage : Stage) (reached : Reached lexemes position ns os stage) where
   module _ (l : Lexeme) (within : position < length lexemes) (size : length lexemes < 2 ^ 64) (is : l ≡ get_or lexemes position l) where
     position_is : length (prefix reached.0) ≡ position
     position_is = ap length (run_prefix (take position (kinds_of lexemes)) start reached.0 reached.1)
@@ -73,7 +73,7 @@ module _ (lexemes : List Lexeme) (position : ℕ) (ns : List Node) (os : List Op
         ap (λ c. coded c position l.kind) (sym reached.2) ∙ ap (λ n. coded (code_of reached.0) n l.kind) (sym position_is)
         ∙ step_follows reached.0 l.kind (omega (arith, position_is))
 
-    reads_on : (ms : List Node) (ps : List Open) (next : Stage) → step_code ns os stage position l.kind ≡ Some (code ms ps next) → Reached lexemes (suc position) ms ps next
+    reads_on : (ms : List LiteralNode) (ps : List PendingNode) (next : Stage) → step_code ns os stage position l.kind ≡ Some (code ms ps next) → Reached lexemes (suc position) ms ps next
     reads_on ms ps next h =
         let n = from_map code_of (step reached.0 l.kind) (code ms ps next) (sym follows ∙ h) in (
           n.0,
@@ -87,11 +87,11 @@ module _ (lexemes : List Lexeme) (position : ℕ) (ns : List Node) (os : List Op
         is_syntax_at literal_table (kinds_of lexemes) position l.kind reached.0 (omega (arith, kinds_length lexemes))
         (kinds_next lexemes position l within is) reached.1 (none_map code_of (step reached.0 l.kind) (sym follows ∙ h))
 
-    pub goes_at : (ms : List Node) (ps : List Open) (o : Option Stage) (next : Stage) → Steps (Ok o) ms ps (step_code ns os stage position l.kind) → o ≡ Some next → Reached lexemes (suc position) ms ps next
+    pub goes_at : (ms : List LiteralNode) (ps : List PendingNode) (o : Option Stage) (next : Stage) → Steps (Ok o) ms ps (step_code ns os stage position l.kind) → o ≡ Some next → Reached lexemes (suc position) ms ps next
     goes_at ms ps None next h e = absurd (cc)
     goes_at ms ps (Some other) next h e = reads_on ms ps next (let same : other ≡ next = cc in h ∙ ap (λ (k : Stage). Some (code ms ps k)) same)
 
-    pub stops_at : (ms : List Node) (ps : List Open) (o : Option Stage) → Steps (Ok o) ms ps (step_code ns os stage position l.kind) → o ≡ None → IsSyntax literal_kinds (kinds_of lexemes) position
+    pub stops_at : (ms : List LiteralNode) (ps : List PendingNode) (o : Option Stage) → Steps (Ok o) ms ps (step_code ns os stage position l.kind) → o ≡ None → IsSyntax literal_kinds (kinds_of lexemes) position
     stops_at ms ps None h e = stops h
     stops_at ms ps (Some other) h e = absurd (cc)
 
@@ -105,7 +105,7 @@ module _ (lexemes : List Lexeme) (position : ℕ) (ns : List Node) (os : List Op
     ending : end_code ns os stage ≡ option_map (literal_nodes 0) (accepted reached.0)
     ending = ap end_of (sym reached.2) ∙ end_follows reached.0
 
-    is_tree : (ms : List Node) → end_code ns os stage ≡ Some ms → IsTreeOf lexemes ms
+    is_tree : (ms : List LiteralNode) → end_code ns os stage ≡ Some ms → IsTreeOf lexemes ms
     is_tree ms h =
         let v = from_map (literal_nodes 0) (accepted reached.0) ms (sym ending ∙ h) in
         (v.0, text_is_read literal_table v.0 reached.0 (kinds_of lexemes) run_whole v.1, sym v.2)
@@ -115,16 +115,16 @@ module _ (lexemes : List Lexeme) (position : ℕ) (ns : List Node) (os : List Op
         subst (IsSyntax literal_kinds (kinds_of lexemes)) (kinds_length lexemes)
         (syntax_end literal_table (kinds_of lexemes) reached.0 run_whole (none_map (literal_nodes 0) (accepted reached.0) (sym ending ∙ h)))
 
-    pub is_tree_where : (ends : Bool) (ms result : List Node) → end_code ns os stage ≡ (if ends then Some ms else None) → ends ≡ true → result ≡ ms → IsTreeOf lexemes result
+    pub is_tree_where : (ends : Bool) (ms result : List LiteralNode) → end_code ns os stage ≡ (if ends then Some ms else None) → ends ≡ true → result ≡ ms → IsTreeOf lexemes result
     is_tree_where ends ms result h e same = is_tree result (h ∙ ap (λ b. if b then Some ms else None) e ∙ ap Some (sym same))
 
-    pub ends_early_where : (ends : Bool) (ms : List Node) → end_code ns os stage ≡ (if ends then Some ms else None) → ends ≡ false → IsSyntax literal_kinds (kinds_of lexemes) (length lexemes)
+    pub ends_early_where : (ends : Bool) (ms : List LiteralNode) → end_code ns os stage ≡ (if ends then Some ms else None) → ends ≡ false → IsSyntax literal_kinds (kinds_of lexemes) (length lexemes)
     ends_early_where ends ms h e = ends_early (h ∙ ap (λ b. if b then Some ms else None) e)
 
 -- ---- at most one result
 
 module _ (lexemes : List Lexeme) where
-  pub gives_tree : (result : Result (List Node) TreeFault) → IfOk result (IsTreeOf lexemes) → IfErr result (IsTreeFault lexemes) →
+  pub gives_tree : (result : Result (List LiteralNode) TreeFault) → IfOk result (IsTreeOf lexemes) → IfErr result (IsTreeFault lexemes) →
       (v : Literal) → literal_kinds v ≡ kinds_of lexemes → GivesTree (literal_nodes 0 v) result
   gives_tree (Ok all) p f v e = p.2 ∙ ap (literal_nodes 0) (one_text literal_table p.0 v (p.1 ∙ sym e))
   gives_tree (Err (faults.Syntax k)) p f v e = no_syntax literal_table v k (subst (λ all. IsSyntax literal_kinds all k) (sym e) f)
@@ -136,7 +136,7 @@ module _ (lexemes : List Lexeme) where
       (λ (n, s, alone). alone j a ∙ sym (alone k b))
       (text_or_syntax literal_table (kinds_of lexemes))
 
-  pub gives_syntax : (result : Result (List Node) TreeFault) → IfOk result (IsTreeOf lexemes) → IfErr result (IsTreeFault lexemes) →
+  pub gives_syntax : (result : Result (List LiteralNode) TreeFault) → IfOk result (IsTreeOf lexemes) → IfErr result (IsTreeFault lexemes) →
       (k : ℕ) → IsSyntax literal_kinds (kinds_of lexemes) k → GivesSyntax k result
   gives_syntax (Ok all) p f k s = no_syntax literal_table p.0 k (subst (λ all. IsSyntax literal_kinds all k) (sym p.1) s)
   gives_syntax (Err (faults.Syntax j)) p f k s = one_position j k f s

@@ -1,10 +1,10 @@
 -- Nodes in eight bytes: appending a node does not change the others, and a node can be replaced.
 use Rattle.std.proofs.Common.{ℕ, zero, suc, ◌≡◌, ◌<◌, ◌∙◌, List, [], ◌∷◌, ◌++◌, length, Option, Some, None, refl, ap, arith, length-append}
 use Rattle.std.specs.Prelude.{slice_get, slice_set, unwrap_or}
-use Rattle.text_literal.specs.declared.grammar.node.Form.{Form}
-use Rattle.text_literal.specs.declared.grammar.node.Form.TheVariants as forms
-use Rattle.text_literal.specs.declared.grammar.node.Node.{Node}
-use Rattle.text_literal.specs.declared.grammar.nodes.SmallNode.{SmallNode}
+use Rattle.text_literal.specs.declared.grammar.literal_node.NodeForm.{NodeForm}
+use Rattle.text_literal.specs.declared.grammar.literal_node.NodeForm.TheVariants as forms
+use Rattle.text_literal.specs.declared.grammar.literal_node.LiteralNode.{LiteralNode}
+use Rattle.text_literal.specs.declared.grammar.literal_nodes.SmallNode.{SmallNode}
 use Rattle.text_literal.specs.grammar.Small.{plain_node, node_by, node_in, nodes_in, IsHeldBy, AreHeld, Holds, Keeps}
 use Rattle.base_data.proofs.model.Lists.{slice_get-last}
 
@@ -13,12 +13,12 @@ found_before [] ys i h = absurd (omega (arith, h))
 found_before (x ∷ xs) ys zero h = refl
 found_before (x ∷ xs) ys (suc i) h = found_before xs ys i (omega (arith, h))
 
-module _ (others more : List Node) where
-  same_by : (first parts : ℕ) (form : Option Form) → IsHeldBy (length others) first form → node_by (others ++ more) first parts form ≡ node_by others first parts form
+module _ (others more : List LiteralNode) where
+  same_by : (first parts : ℕ) (form : Option NodeForm) → IsHeldBy (length others) first form → node_by (others ++ more) first parts form ≡ node_by others first parts form
   same_by first parts (Some form) held = refl
   same_by first parts None held = ap (λ found. unwrap_or found (plain_node forms.Unit 0 0)) (found_before others more first held)
 
-  held_by : (first : ℕ) (form : Option Form) → IsHeldBy (length others) first form → IsHeldBy (length (others ++ more)) first form
+  held_by : (first : ℕ) (form : Option NodeForm) → IsHeldBy (length others) first form → IsHeldBy (length (others ++ more)) first form
   held_by first (Some form) held = tt
   held_by first None held = omega (arith, held, length-append others more)
 
@@ -26,25 +26,25 @@ module _ (others more : List Node) where
   keeps_more [] held = (refl, tt)
   keeps_more (s ∷ all) held =
       let rest = keeps_more all held.1 in
-      (ap (λ (n : Node). n ∷ nodes_in (others ++ more) all) (same_by s.first s.parts s.form held.0) ∙ ap (λ (ns : List Node). node_in others s ∷ ns) rest.0, (held_by s.first s.form held.0, rest.1))
+      (ap (λ (n : LiteralNode). n ∷ nodes_in (others ++ more) all) (same_by s.first s.parts s.form held.0) ∙ ap (λ (ns : List LiteralNode). node_in others s ∷ ns) rest.0, (held_by s.first s.form held.0, rest.1))
 
 -- The last of the other nodes.
-pub last_found : (others new : List Node) (n : Node) (number : ℕ) → number ≡ length others → new ≡ others ++ n ∷ [] → unwrap_or (slice_get new number) (plain_node forms.Unit 0 0) ≡ n
+pub last_found : (others new : List LiteralNode) (n : LiteralNode) (number : ℕ) → number ≡ length others → new ≡ others ++ n ∷ [] → unwrap_or (slice_get new number) (plain_node forms.Unit 0 0) ≡ n
 last_found others new n number last is =
-    ap (λ (found : Option Node). unwrap_or found (plain_node forms.Unit 0 0))
-    (ap (λ i. slice_get new i) last ∙ ap (λ (ns : List Node). slice_get ns (length others)) is ∙ slice_get-last others n)
+    ap (λ (found : Option LiteralNode). unwrap_or found (plain_node forms.Unit 0 0))
+    (ap (λ i. slice_get new i) last ∙ ap (λ (ns : List LiteralNode). slice_get ns (length others)) is ∙ slice_get-last others n)
 
-nodes_written : (others : List Node) (all : List SmallNode) (k : ℕ) (s : SmallNode) → nodes_in others (slice_set all k s) ≡ slice_set (nodes_in others all) k (node_in others s)
+nodes_written : (others : List LiteralNode) (all : List SmallNode) (k : ℕ) (s : SmallNode) → nodes_in others (slice_set all k s) ≡ slice_set (nodes_in others all) k (node_in others s)
 nodes_written others [] zero s = refl
 nodes_written others [] (suc k) s = refl
 nodes_written others (x ∷ all) zero s = refl
-nodes_written others (x ∷ all) (suc k) s = ap (λ (ns : List Node). node_in others x ∷ ns) (nodes_written others all k s)
+nodes_written others (x ∷ all) (suc k) s = ap (λ (ns : List LiteralNode). node_in others x ∷ ns) (nodes_written others all k s)
 
 -- Replacing one node by another.
 pub write :
-    (old new : List Node) (all : List SmallNode) (n : Node) (s : SmallNode) (k : ℕ) → Keeps old new → AreHeld (length old) all → Holds new n s
+    (old new : List LiteralNode) (all : List SmallNode) (n : LiteralNode) (s : SmallNode) (k : ℕ) → Keeps old new → AreHeld (length old) all → Holds new n s
     → nodes_in new (slice_set all k s) ≡ slice_set (nodes_in old all) k n
 write old new all n s k keeps held holds =
     nodes_written new all k s
-    ∙ ap (λ (ns : List Node). slice_set ns k (node_in new s)) (keeps all held).0
-    ∙ ap (λ (x : Node). slice_set (nodes_in old all) k x) holds.0
+    ∙ ap (λ (ns : List LiteralNode). slice_set ns k (node_in new s)) (keeps all held).0
+    ∙ ap (λ (x : LiteralNode). slice_set (nodes_in old all) k x) holds.0

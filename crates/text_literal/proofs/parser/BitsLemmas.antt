@@ -9,7 +9,7 @@ use Rattle.types_lex.specs.declared.lexeme.LexemeKind.TheVariants as kinds
 use Rattle.types_lex.specs.declared.lexeme.Symbol.{Symbol}
 use Rattle.types_lex.specs.declared.lexeme.Symbol.TheVariants as symbols
 use Rattle.types_parse.specs.grammar.Grammar.{Kinds, Name, mark}
-use Rattle.text_literal.specs.declared.grammar.node.Node.{Node}
+use Rattle.text_literal.specs.declared.grammar.literal_node.LiteralNode.{LiteralNode}
 use Rattle.text_literal.specs.grammar.Literal.{Head, Literal, labelled, again, integer, character, string, double, truth, unit, constant, applied, fields, tuple, empty_array, array, Parts, no_parts, more_parts, Rows, no_rows, more_rows, label_kinds, owner_kinds, literal_kinds}
 use Rattle.types_parse.specs.grammar.Lexemes.{kinds_of}
 use Rattle.text_literal.specs.grammar.Nodes.{literal_nodes}
@@ -27,7 +27,7 @@ pub and_none : (bits : Option (List ℕ)) → and_bits bits None ≡ None
 and_none None = refl
 and_none (Some all) = refl
 
-pub none_of_nodes : (all : Kinds) (nodes : List Node) → bits_of_nodes all None nodes ≡ None
+pub none_of_nodes : (all : Kinds) (nodes : List LiteralNode) → bits_of_nodes all None nodes ≡ None
 none_of_nodes all [] = refl
 none_of_nodes all (n ∷ nodes) = none_of_nodes all nodes
 
@@ -37,7 +37,7 @@ none_of_listed (p ∷ parts) = none_of_listed parts
 
 -- ---- several nodes in order
 
-found_first : (nodes : List Node) (i : ℕ) (n : Node) → slice_get nodes i ≡ Some n → drop i nodes ≡ n ∷ drop (suc i) nodes
+found_first : (nodes : List LiteralNode) (i : ℕ) (n : LiteralNode) → slice_get nodes i ≡ Some n → drop i nodes ≡ n ∷ drop (suc i) nodes
 found_first [] zero n e = absurd cc
 found_first [] (suc i) n e = absurd cc
 found_first (m ∷ nodes) zero n e = let same : m ≡ n = cc in ap (λ own. own ∷ nodes) same
@@ -45,19 +45,19 @@ found_first (m ∷ nodes) (suc i) n e = found_first nodes i n e
 
 -- The next node, and the remaining nodes.
 pub next_bits :
-    (all : Kinds) (nodes : List Node) (from many k : ℕ) (n : Node) (before : Option (List ℕ)) → k < many → slice_get nodes (from + k) ≡ Some n
+    (all : Kinds) (nodes : List LiteralNode) (from many k : ℕ) (n : LiteralNode) (before : Option (List ℕ)) → k < many → slice_get nodes (from + k) ≡ Some n
     → bits_of_nodes all before (take (many - k) (drop (from + k) nodes))
     ≡ bits_of_nodes all (and_bits before (bits_of_node all n)) (take (many - (k + 1)) (drop (from + (k + 1)) nodes))
 next_bits all nodes from many k n before inside found =
     let one : many - k ≡ suc (many - (k + 1)) = omega (arith, inside) in
     let on : suc (from + k) ≡ from + (k + 1) = omega arith in
     ap (λ m. bits_of_nodes all before (take m (drop (from + k) nodes))) one
-    ∙ ap (λ (rest : List Node). bits_of_nodes all before (take (suc (many - (k + 1))) rest)) (found_first nodes (from + k) n found)
+    ∙ ap (λ (rest : List LiteralNode). bits_of_nodes all before (take (suc (many - (k + 1))) rest)) (found_first nodes (from + k) n found)
     ∙ ap (λ i. bits_of_nodes all (and_bits before (bits_of_node all n)) (take (many - (k + 1)) (drop i nodes))) on
 
 -- The next node is not a double.
 pub none_here :
-    (all : Kinds) (nodes : List Node) (from many k : ℕ) (n : Node) (before : List ℕ) (bits : Option (List ℕ)) → k < many → slice_get nodes (from + k) ≡ Some n
+    (all : Kinds) (nodes : List LiteralNode) (from many k : ℕ) (n : LiteralNode) (before : List ℕ) (bits : Option (List ℕ)) → k < many → slice_get nodes (from + k) ≡ Some n
     → bits_of_node all n ≡ None → bits_of_nodes all (Some before) (take (many - k) (drop (from + k) nodes)) ≡ bits → None ≡ bits
 none_here all nodes from many k n before bits inside found e so_far =
     sym (next_bits all nodes from many k n (Some before) inside found
@@ -67,7 +67,7 @@ none_here all nodes from many k n before bits inside found e so_far =
 
 -- The next node is a double.
 pub one_here :
-    (all : Kinds) (nodes : List Node) (from many k d : ℕ) (n : Node) (before after : List ℕ) (bits : Option (List ℕ)) → k < many → slice_get nodes (from + k) ≡ Some n
+    (all : Kinds) (nodes : List LiteralNode) (from many k d : ℕ) (n : LiteralNode) (before after : List ℕ) (bits : Option (List ℕ)) → k < many → slice_get nodes (from + k) ≡ Some n
     → bits_of_node all n ≡ Some d → after ≡ before ++ d ∷ [] → bits_of_nodes all (Some before) (take (many - k) (drop (from + k) nodes)) ≡ bits
     → bits_of_nodes all (Some after) (take (many - (k + 1)) (drop (from + (k + 1)) nodes)) ≡ bits
 one_here all nodes from many k d n before after bits inside found e is so_far =
@@ -77,7 +77,7 @@ one_here all nodes from many k d n before after bits inside found e is so_far =
     ∙ so_far
 
 pub none_left :
-    (all : Kinds) (nodes : List Node) (from many k : ℕ) (own : List ℕ) (bits : Option (List ℕ)) → many ≤ k
+    (all : Kinds) (nodes : List LiteralNode) (from many k : ℕ) (own : List ℕ) (bits : Option (List ℕ)) → many ≤ k
     → bits_of_nodes all (Some own) (take (many - k) (drop (from + k) nodes)) ≡ bits → Some own ≡ bits
 none_left all nodes from many k own bits done so_far =
     let none : many - k ≡ 0 = omega (arith, done) in
@@ -108,7 +108,7 @@ double_or_not all k (labelled None (tuple ps u v)) = inr (refl, refl)
 double_or_not all k (labelled None empty_array) = inr (refl, refl)
 double_or_not all k (labelled None (array ps v)) = inr (refl, refl)
 
-module _ (all : Kinds) (k : ℕ) (parts : List (ℕ × Literal)) (rest : List Node) (before : Option (List ℕ)) where
+module _ (all : Kinds) (k : ℕ) (parts : List (ℕ × Literal)) (rest : List LiteralNode) (before : Option (List ℕ)) where
   -- The result for the nodes from the first part on, and the result for the parts.
   abbrev of_nodes : Literal → Option (List ℕ)
   of_nodes v = bits_of_nodes all before (take (suc (length parts)) (literal_nodes k v ++ nodes_of_parts parts ++ rest))
@@ -126,7 +126,7 @@ module _ (all : Kinds) (k : ℕ) (parts : List (ℕ × Literal)) (rest : List No
 
   at_other : (v : Literal) → HasNoBits all k v → of_nodes v ≡ of_parts v
   at_other v none =
-      ap (λ (own : List Node). bits_of_nodes all before (take (suc (length parts)) (own ++ nodes_of_parts parts ++ rest))) (own_and_parts k v)
+      ap (λ (own : List LiteralNode). bits_of_nodes all before (take (suc (length parts)) (own ++ nodes_of_parts parts ++ rest))) (own_and_parts k v)
       ∙ ap (λ bit. bits_of_nodes all (and_bits before bit) (take (length parts) (nodes_of_parts (inner_parts k v) ++ nodes_of_parts parts ++ rest))) none.1
       ∙ ap (λ bits. bits_of_nodes all bits (take (length parts) (nodes_of_parts (inner_parts k v) ++ nodes_of_parts parts ++ rest))) (and_none before)
       ∙ none_of_nodes all (take (length parts) (nodes_of_parts (inner_parts k v) ++ nodes_of_parts parts ++ rest))
@@ -145,7 +145,7 @@ module _ (all : Kinds) (k : ℕ) (parts : List (ℕ × Literal)) (rest : List No
       (double_or_not all k v)
 
 pub bits_same :
-    (all : Kinds) (parts : List (ℕ × Literal)) (rest : List Node) (before : Option (List ℕ)) → AreEncoded all parts
+    (all : Kinds) (parts : List (ℕ × Literal)) (rest : List LiteralNode) (before : Option (List ℕ)) → AreEncoded all parts
     → bits_of_nodes all before (take (length parts) (nodes_of_parts parts ++ rest)) ≡ bits_of_listed before parts
 bits_same all [] rest before encoded = refl
 bits_same all (p ∷ parts) rest before encoded =
@@ -154,17 +154,17 @@ bits_same all (p ∷ parts) rest before encoded =
 -- ---- the parts of a literal
 
 pub parts_bits :
-    (nodes : List Node) (lexemes : List Lexeme) (at k : ℕ) (v : Literal) (n : Node) (many : ℕ) → Stands nodes lexemes at k v
+    (nodes : List LiteralNode) (lexemes : List Lexeme) (at k : ℕ) (v : Literal) (n : LiteralNode) (many : ℕ) → Stands nodes lexemes at k v
     → slice_get nodes at ≡ Some n → many ≡ min n.parts (length nodes - (at + 1))
     → bits_of_nodes (kinds_of lexemes) (Some []) (take many (drop (at + 1) nodes)) ≡ bits_of_listed (Some []) (inner_parts k v)
 parts_bits nodes lexemes at k v n many h found e =
     let there = at_back nodes at (own_node k v ∷ []) (nodes_of_parts (inner_parts k v)) (at_same nodes at _ _ (own_and_parts k v) h.nodes_at) in
     let own : get_or nodes at n ≡ n = get_or_from_slice_get nodes at n n found in
     ap (λ m. bits_of_nodes (kinds_of lexemes) (Some []) (take m (drop (at + 1) nodes))) (e ∙ ap (λ m. min n.parts m) (sym (length-drop (at + 1) nodes)))
-    ∙ ap (λ (ns : List Node). bits_of_nodes (kinds_of lexemes) (Some []) ns) (take_min n.parts (drop (at + 1) nodes))
-    ∙ ap (λ (own : Node). bits_of_nodes (kinds_of lexemes) (Some []) (take own.parts (drop (at + 1) nodes))) (sym own)
+    ∙ ap (λ (ns : List LiteralNode). bits_of_nodes (kinds_of lexemes) (Some []) ns) (take_min n.parts (drop (at + 1) nodes))
+    ∙ ap (λ (own : LiteralNode). bits_of_nodes (kinds_of lexemes) (Some []) (take own.parts (drop (at + 1) nodes))) (sym own)
     ∙ ap (λ many. bits_of_nodes (kinds_of lexemes) (Some []) (take many (drop (at + 1) nodes))) (own_parts nodes at k v n h.nodes_at)
-    ∙ ap (λ (ns : List Node). bits_of_nodes (kinds_of lexemes) (Some []) (take (length (inner_parts k v)) ns)) there.is
+    ∙ ap (λ (ns : List LiteralNode). bits_of_nodes (kinds_of lexemes) (Some []) (take (length (inner_parts k v)) ns)) there.is
     ∙ bits_same (kinds_of lexemes) (inner_parts k v) there.rest (Some []) (literal_encoded (kinds_of lexemes) k v h.kinds_at)
 
 one_more : (xs : List (ℕ × Literal)) (k : ℕ) (v : Literal) (bits : Option (List ℕ)) → bits_of_listed (Some []) xs ≡ bits → bits_of_listed (Some []) (xs ++ (k, v) ∷ []) ≡ and_bits bits (bits_of v)

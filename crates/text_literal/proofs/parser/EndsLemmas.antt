@@ -3,7 +3,7 @@ use Rattle.std.proofs.Common.{arith, refl, sym, ap, ◌∙◌, get_or, cond, ⊎
 use Rattle.std.specs.Prelude.{ℕ, suc, ◌+◌, ◌<◌, ◌≤◌, ◌≡◌, List, [], ◌∷◌, length, slice_set}
 use Rattle.std.proofs.lemmas.Bool.{lt-ltb, cases_eq}
 use Rattle.std.proofs.lemmas.List.{length-append}
-use Rattle.text_literal.specs.declared.grammar.node.Node.{Node}
+use Rattle.text_literal.specs.declared.grammar.literal_node.LiteralNode.{LiteralNode}
 use Rattle.text_literal.specs.grammar.Literal.{Literal}
 use Rattle.text_literal.specs.grammar.Nodes.{literal_nodes}
 use Rattle.text_literal.specs.parser.NodesOf.{part_nodes, nodes_of_parts}
@@ -20,14 +20,14 @@ sibling_next ends position n m e h =
 
 -- ---- one sibling for each part
 
-node_at : (nodes : List Node) (j k : ℕ) (v : Literal) → IsAt nodes j (literal_nodes k v) → IsAt nodes j (own_node k v ∷ nodes_of_parts (inner_parts k v))
+node_at : (nodes : List LiteralNode) (j k : ℕ) (v : Literal) → IsAt nodes j (literal_nodes k v) → IsAt nodes j (own_node k v ∷ nodes_of_parts (inner_parts k v))
 node_at nodes j k v h = at_same nodes j _ _ (own_and_parts k v) h
 
-pub position_in : (nodes : List Node) (j k : ℕ) (v : Literal) → IsAt nodes j (literal_nodes k v) → j < length nodes
+pub position_in : (nodes : List LiteralNode) (j k : ℕ) (v : Literal) → IsAt nodes j (literal_nodes k v) → j < length nodes
 position_in nodes j k v h = first_in nodes j _ _ (node_at nodes j k v h)
 
 pub behind_parts :
-    (nodes : List Node) (ends : List ℕ) (i : ℕ) → length ends ≡ length nodes → AreEndsFrom i nodes ends
+    (nodes : List LiteralNode) (ends : List ℕ) (i : ℕ) → length ends ≡ length nodes → AreEndsFrom i nodes ends
     → (parts : List (ℕ × Literal)) (j : ℕ) → i ≤ j → IsAt nodes j (nodes_of_parts parts) → sibling ends j (length parts) ≡ j + length (nodes_of_parts parts)
 behind_parts nodes ends i len known [] j h at = omega arith
 behind_parts nodes ends i len known (p ∷ parts) j h at =
@@ -41,14 +41,14 @@ behind_parts nodes ends i len known (p ∷ parts) j h at =
 
 -- ---- one more node at the beginning
 
-pub own_parts : (nodes : List Node) (i k : ℕ) (v : Literal) (d : Node) → IsAt nodes i (literal_nodes k v) → (get_or nodes i d).parts ≡ length (inner_parts k v)
-own_parts nodes i k v d h = ap (λ (node : Node). node.parts) (first_is nodes i _ _ d (node_at nodes i k v h)) ∙ parts_counted k v
+pub own_parts : (nodes : List LiteralNode) (i k : ℕ) (v : Literal) (d : LiteralNode) → IsAt nodes i (literal_nodes k v) → (get_or nodes i d).parts ≡ length (inner_parts k v)
+own_parts nodes i k v d h = ap (λ (node : LiteralNode). node.parts) (first_is nodes i _ _ d (node_at nodes i k v h)) ∙ parts_counted k v
 
 pub own_length : (k : ℕ) (v : Literal) → length (literal_nodes k v) ≡ suc (length (nodes_of_parts (inner_parts k v)))
-own_length k v = ap (λ (ns : List Node). length ns) (own_and_parts k v)
+own_length k v = ap (λ (ns : List LiteralNode). length ns) (own_and_parts k v)
 
 own_end :
-    (nodes : List Node) (ends : List ℕ) (i k : ℕ) (v : Literal) (d : Node) → length ends ≡ length nodes → AreEndsFrom (suc i) nodes ends
+    (nodes : List LiteralNode) (ends : List ℕ) (i k : ℕ) (v : Literal) (d : LiteralNode) → length ends ≡ length nodes → AreEndsFrom (suc i) nodes ends
     → IsAt nodes i (literal_nodes k v) → sibling ends (i + 1) (get_or nodes i d).parts ≡ i + length (literal_nodes k v)
 own_end nodes ends i k v d len known h =
     let there = at_back nodes i (own_node k v ∷ []) (nodes_of_parts (inner_parts k v)) (node_at nodes i k v h) in
@@ -57,7 +57,7 @@ own_end nodes ends i k v d len known h =
     ∙ omega (arith, own_length k v)
 
 pub ends_more :
-    (nodes : List Node) (ends from : List ℕ) (i end : ℕ) (d : Node) → length ends ≡ length nodes → i < length nodes → from ≡ ends
+    (nodes : List LiteralNode) (ends from : List ℕ) (i end : ℕ) (d : LiteralNode) → length ends ≡ length nodes → i < length nodes → from ≡ ends
     → end ≡ sibling from (i + 1) (get_or nodes i d).parts → AreEndsFrom (suc i) nodes ends → AreEndsFrom i nodes (slice_set ends i end)
 ends_more nodes ends from i end d len inside same is known j k v h at =
     ⊎_elim
@@ -72,8 +72,8 @@ ends_more nodes ends from i end d len inside same is known j k v h at =
     (cases_eq j i)
 
 -- There are no entries from the end on.
-pub ends_none : (nodes : List Node) (ends : List ℕ) (i : ℕ) → length nodes ≤ i → AreEndsFrom i nodes ends
+pub ends_none : (nodes : List LiteralNode) (ends : List ℕ) (i : ℕ) → length nodes ≤ i → AreEndsFrom i nodes ends
 ends_none nodes ends i all j k v h at = absurd (omega (arith, all, h, position_in nodes j k v at))
 
-pub ends_all : (nodes : List Node) (ends : List ℕ) → AreEndsFrom 0 nodes ends → AreEnds nodes ends
+pub ends_all : (nodes : List LiteralNode) (ends : List ℕ) → AreEndsFrom 0 nodes ends → AreEnds nodes ends
 ends_all nodes ends known j k v at = known j k v (omega arith) at

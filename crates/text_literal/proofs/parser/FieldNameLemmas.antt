@@ -9,7 +9,7 @@ use Rattle.types_lex.specs.declared.lexeme.LexemeKind.TheVariants as kinds
 use Rattle.types_lex.specs.declared.lexeme.Symbol.TheVariants as symbols
 use Rattle.types_lex.specs.Lexemes.{lower_name}
 use Rattle.types_parse.specs.grammar.Grammar.{Kinds, Name, mark}
-use Rattle.text_literal.specs.declared.grammar.node.Node.{Node}
+use Rattle.text_literal.specs.declared.grammar.literal_node.LiteralNode.{LiteralNode}
 use Rattle.text_literal.specs.grammar.Literal.{Head, Literal, labelled, fields, Rows, no_rows, more_rows, label_kinds, owner_kinds, row_start, literal_kinds, plain_kinds, rows_kinds}
 use Rattle.types_parse.specs.grammar.Lexemes.{kinds_of}
 use Rattle.text_literal.specs.parser.Starts.{names_of_rows}
@@ -24,14 +24,14 @@ use Rattle.text_literal.proofs.parser.EndsLemmas.{sibling_next, position_in, own
 -- ---- one step
 
 names_found :
-    (nodes : List Node) (ends : List ℕ) (all : Kinds) (position n : ℕ) (node : Node) → position < length nodes → slice_get nodes position ≡ Some node
+    (nodes : List LiteralNode) (ends : List ℕ) (all : Kinds) (position n : ℕ) (node : LiteralNode) → position < length nodes → slice_get nodes position ≡ Some node
     → names_from nodes ends all position (suc n) ≡ name_before all node.first ∷ names_from nodes ends all (sibling ends position 1) n
 names_found nodes ends all position n node h e =
     ap (λ b. cond b (name_of_node all (slice_get nodes position) ∷ names_from nodes ends all (sibling ends position 1) n) []) (lt-ltb position (length nodes) h)
     ∙ ap (λ found. name_of_node all found ∷ names_from nodes ends all (sibling ends position 1) n) e
 
 pub names_next :
-    (nodes : List Node) (ends : List ℕ) (all : Kinds) (position n m : ℕ) (d : Node) → n ≡ suc m → position < length nodes
+    (nodes : List LiteralNode) (ends : List ℕ) (all : Kinds) (position n m : ℕ) (d : LiteralNode) → n ≡ suc m → position < length nodes
     → names_from nodes ends all position n ≡ name_before all (get_or nodes position d).first ∷ names_from nodes ends all (sibling ends position 1) m
 names_next nodes ends all position n m d e h =
     ap (λ i. names_from nodes ends all position i) e
@@ -39,7 +39,7 @@ names_next nodes ends all position n m d e h =
 
 -- One more name.
 pub names_step :
-    (nodes : List Node) (ends : List ℕ) (all : Kinds) (position n m next : ℕ) (d : Node) (before after names : List Name) (x : Name)
+    (nodes : List LiteralNode) (ends : List ℕ) (all : Kinds) (position n m next : ℕ) (d : LiteralNode) (before after names : List Name) (x : Name)
     → n ≡ suc m → position < length nodes → after ≡ before ++ x ∷ [] → x ≡ name_before all (get_or nodes position d).first → next ≡ sibling ends position 1
     → before ++ names_from nodes ends all position n ≡ names → after ++ names_from nodes ends all next m ≡ names
 names_step nodes ends all position n m next d before after names x e inside more is there so_far =
@@ -55,7 +55,7 @@ names_step nodes ends all position n m next d before after names x e inside more
 abbrev names_of : Kinds → List (ℕ × Literal) → List Name
 names_of all parts = map (λ (part : ℕ × Literal). name_before all part.0) parts
 
-module _ (nodes : List Node) (ends : List ℕ) (all : Kinds) (len : length ends ≡ length nodes) (known : AreEnds nodes ends) where
+module _ (nodes : List LiteralNode) (ends : List ℕ) (all : Kinds) (len : length ends ≡ length nodes) (known : AreEnds nodes ends) where
   names_of_parts : (parts : List (ℕ × Literal)) (position : ℕ) → IsAt nodes position (nodes_of_parts parts) → names_from nodes ends all position (length parts) ≡ names_of all parts
   names_of_parts [] position at = refl
   names_of_parts (p ∷ parts) position at =
@@ -105,7 +105,7 @@ names_of_fields all k l o rs x v h =
     (name_is all own (start ++ rows_kinds rs) x prefix)
 
 pub field_names_are :
-    (nodes : List Node) (ends : List ℕ) (lexemes : List Lexeme) (at k : ℕ) (l : Option ℕ) (o : Option Head) (rs : Rows) (x : Name) (v : Literal) (d : Node)
+    (nodes : List LiteralNode) (ends : List ℕ) (lexemes : List Lexeme) (at k : ℕ) (l : Option ℕ) (o : Option Head) (rs : Rows) (x : Name) (v : Literal) (d : LiteralNode)
     → length ends ≡ length nodes → AreEnds nodes ends → Stands nodes lexemes at k (labelled l (fields o rs x v))
     → names_from nodes ends (kinds_of lexemes) (at + 1) (get_or nodes at d).parts ≡ names_of_rows rs ++ x ∷ []
 field_names_are nodes ends lexemes at k l o rs x v d len known h =

@@ -5,16 +5,16 @@ use Rattle.std.proofs.lemmas.Option.{get_or_from_slice_get}
 use Rattle.base_data.specs.declared.model.value.Obj.{Obj}
 use Rattle.base_data.specs.model.Graph.{IsValue}
 use Rattle.marshal_heap.specs.heap.Heap.{set_field}
-use Rattle.text_literal.specs.declared.grammar.node.Form.TheVariants as forms
-use Rattle.text_literal.specs.declared.grammar.node.Node.{Node}
+use Rattle.text_literal.specs.declared.grammar.literal_node.NodeForm.TheVariants as forms
+use Rattle.text_literal.specs.declared.grammar.literal_node.LiteralNode.{LiteralNode}
 use Rattle.text_literal.specs.grammar.Literal.{Literal, labelled, again, Plain, integer, character, string, double, truth, unit, constant, applied, fields, tuple, empty_array, array, label_kinds, literal_kinds}
 use Rattle.types_parse.specs.grammar.Lexemes.{kinds_of}
 use Rattle.text_literal.specs.grammar.Nodes.{literal_nodes}
 use Rattle.text_literal.specs.declared.parser.fault.LiteralFault.{LiteralFault}
 use Rattle.text_literal.specs.declared.parser.fault.LiteralFault.TheVariants as faults
-use Rattle.text_literal.specs.declared.parser.stack.Opened.{Opened}
-use Rattle.text_literal.specs.declared.parser.text.Text.{Text}
-use Rattle.text_literal.specs.declared.parser.part.Begun.{Begun}
+use Rattle.text_literal.specs.declared.parser.block_stack.Opened.{Opened}
+use Rattle.text_literal.specs.declared.parser.literal_text.LiteralText.{LiteralText}
+use Rattle.text_literal.specs.declared.parser.part.PartStart.{PartStart}
 use Rattle.text_literal.specs.parser.NodesOf.{form_of}
 use Rattle.text_literal.specs.parser.Pending.{finished}
 use Rattle.text_literal.specs.parser.Reading.{Reading, Refusal, literal_read}
@@ -28,10 +28,10 @@ use Rattle.text_literal.proofs.parser.PartLemmas.{IsNext, next_part, part_stands
 
 -- ---- the node of a literal
 
-pub own_at : (nodes : List Node) (j k : ℕ) (v : Literal) (d : Node) → IsAt nodes j (literal_nodes k v) → get_or nodes j d ≡ own_node k v
+pub own_at : (nodes : List LiteralNode) (j k : ℕ) (v : Literal) (d : LiteralNode) → IsAt nodes j (literal_nodes k v) → get_or nodes j d ≡ own_node k v
 own_at nodes j k v d h = first_is nodes j _ _ d (at_same nodes j _ _ (own_and_parts k v) h)
 
-pub own_found : (nodes : List Node) (j k : ℕ) (v : Literal) (n : Node) → IsAt nodes j (literal_nodes k v) → slice_get nodes j ≡ Some n → n ≡ own_node k v
+pub own_found : (nodes : List LiteralNode) (j k : ℕ) (v : Literal) (n : LiteralNode) → IsAt nodes j (literal_nodes k v) → slice_get nodes j ≡ Some n → n ≡ own_node k v
 own_found nodes j k v n h e = sym (get_or_from_slice_get nodes j n n e) ∙ own_at nodes j k v n h
 
 no_again : (p : Plain) → form_of p ≡ forms.Again → ⊥
@@ -59,29 +59,29 @@ plain_only P k f (labelled l p) other = f l p
 
 -- ---- when the reader can go on
 
-pub has_part : (text : Text) (block : Opened) (stack : List Opened) (j : ℕ) (graph : List Obj) (labels : List ℕ) → CanGoOn text (block ∷ stack) j graph labels → HasPart text j
+pub has_part : (text : LiteralText) (block : Opened) (stack : List Opened) (j : ℕ) (graph : List Obj) (labels : List ℕ) → CanGoOn text (block ∷ stack) j graph labels → HasPart text j
 has_part text block stack j graph labels (old, outcome, u) =
     let n = next_part text old outcome block stack j graph labels u in (n.part.0, n.part.1, part_stands text old outcome block stack j graph labels n)
 
-pub part_inside : (text : Text) (j : ℕ) → HasPart text j → j < length text.nodes.now
+pub part_inside : (text : LiteralText) (j : ℕ) → HasPart text j → j < length text.nodes.now
 part_inside text j (k, v, stands) = position_in text.nodes.now j k v stands.nodes_at
 
-pub end_is : (text : Text) (j k : ℕ) (v : Literal) → IsText text → Stands text.nodes.now text.lexemes.now j k v → slice_index text.ends.now j ≡ j + length (literal_nodes k v)
+pub end_is : (text : LiteralText) (j k : ℕ) (v : Literal) → IsText text → Stands text.nodes.now text.lexemes.now j k v → slice_index text.ends.now j ≡ j + length (literal_nodes k v)
 end_is text j k v good stands = good.ends j k v stands.nodes_at
 
-pub end_behind : (text : Text) (j : ℕ) → IsText text → HasPart text j → j < slice_index text.ends.now j
+pub end_behind : (text : LiteralText) (j : ℕ) → IsText text → HasPart text j → j < slice_index text.ends.now j
 end_behind text j good (k, v, stands) = omega (arith, end_is text j k v good stands, own_length k v)
 
 -- A plain literal has a lexeme after its label.
 pub first_within :
-    (text : Text) (j : ℕ) (d : Node) → HasPart text j → slice_get text.nodes.now j ≡ Some d → (d.form ≡ forms.Again → ⊥)
+    (text : LiteralText) (j : ℕ) (d : LiteralNode) → HasPart text j → slice_get text.nodes.now j ≡ Some d → (d.form ≡ forms.Again → ⊥)
     → d.first + length (label_kinds d.label) < length text.lexemes.now
 first_within text j d (k, v, stands) found other =
     let own = own_found text.nodes.now j k v d stands.nodes_at found in
     plain_only (λ u. IsAt (kinds_of text.lexemes.now) k (literal_kinds u) → d ≡ own_node k u
     → d.first + length (label_kinds d.label) < length text.lexemes.now) k
-    (λ l p there is. omega (arith, lead_in text.lexemes.now k l p there, ap (λ (n : Node). n.first + length (label_kinds n.label)) is)) v
-    (λ e. other (ap (λ (n : Node). n.form) own ∙ e)) stands.kinds_at own
+    (λ l p there is. omega (arith, lead_in text.lexemes.now k l p there, ap (λ (n : LiteralNode). n.first + length (label_kinds n.label)) is)) v
+    (λ e. other (ap (λ (n : LiteralNode). n.form) own ∙ e)) stands.kinds_at own
 
 -- ---- no more parts
 
@@ -90,20 +90,20 @@ popped_none old new None p other = p.0
 popped_none old new (Some b) p other = absurd (other b refl)
 
 nothing_open :
-    (text : Text) (old : List Obj) (outcome : Result (List Obj) (Refusal ℕ)) (graph : List Obj) (labels : List ℕ) (all : List PartList) → AreOpen old graph (kinds_of text.lexemes.now) [] all
+    (text : LiteralText) (old : List Obj) (outcome : Result (List Obj) (Refusal ℕ)) (graph : List Obj) (labels : List ℕ) (all : List PartList) → AreOpen old graph (kinds_of text.lexemes.now) [] all
     → finished (shape_in text.table.now) (names_in text.table.now) (opens_with [] all) graph labels ≡ outcome → outcome ≡ Ok graph
 nothing_open text old outcome graph labels [] o same = sym same
 nothing_open text old outcome graph labels (p ∷ all) o same = absurd o
 
 pub all_finished :
-    (text : Text) (old : List Obj) (outcome : Result (List Obj) (Refusal ℕ)) (stack : List Opened) (j : ℕ) (graph : List Obj) (labels : List ℕ) → stack ≡ []
+    (text : LiteralText) (old : List Obj) (outcome : Result (List Obj) (Refusal ℕ)) (stack : List Opened) (j : ℕ) (graph : List Obj) (labels : List ℕ) → stack ≡ []
     → IsUnderway text old outcome stack j graph labels → outcome ≡ Ok graph
 all_finished text old outcome stack j graph labels empty u =
     let v = subst (λ (blocks : List Opened). IsUnderway text old outcome blocks j graph labels) empty u in nothing_open text old outcome graph labels v.parts v.open_blocks v.same
 
 -- ---- one more part
 
-module _ (text : Text) (block : Opened) (stack : List Opened) (j : ℕ) (graph : List Obj) (labels : List ℕ) (t : ℕ) (type_is : t ≡ types_in block.at block.types block.part) where
+module _ (text : LiteralText) (block : Opened) (stack : List Opened) (j : ℕ) (graph : List Obj) (labels : List ℕ) (t : ℕ) (type_is : t ≡ types_in block.at block.types block.part) where
   -- A property of the part that begins here.
   abbrev Here : (ℕ → Literal → Type 0) → Type 0
   Here P = (k : ℕ) (v : Literal) → Stands text.nodes.now text.lexemes.now j k v → All (λ o. o < length graph) labels → P k v
@@ -137,7 +137,7 @@ module _ (text : Text) (block : Opened) (stack : List Opened) (j : ℕ) (graph :
       let n = next_part text old outcome block stack j graph labels u in
       refused_as old outcome n (faults.Label position) (here n.part.0 n.part.1 (part_stands text old outcome block stack j graph labels n) n.labels_in)
 
-  module _ (new : List Obj) (more : List ℕ) (begun : Begun) (here : Here (λ k v. IsGiven text.table.now k v t graph new labels more begun)) where
+  module _ (new : List Obj) (more : List ℕ) (begun : PartStart) (here : Here (λ k v. IsGiven text.table.now k v t graph new labels more begun)) where
     pub part_valid : CanGoOn text (block ∷ stack) j graph labels → IsValue (length new) begun.value
     part_valid (old, outcome, u) =
         let n = next_part text old outcome block stack j graph labels u in

@@ -5,9 +5,9 @@ use Rattle.std.proofs.lemmas.List.{append_assoc, append-nil, length-append}
 use Rattle.types_lex.specs.declared.lexeme.Symbol.{Symbol}
 use Rattle.types_lex.specs.declared.lexeme.Symbol.TheVariants as symbols
 use Rattle.types_parse.specs.grammar.Grammar.{Kinds, mark}
-use Rattle.text_literal.specs.declared.grammar.node.Form.{Form}
-use Rattle.text_literal.specs.declared.grammar.node.Form.TheVariants as forms
-use Rattle.text_literal.specs.declared.grammar.node.Node.{Node}
+use Rattle.text_literal.specs.declared.grammar.literal_node.NodeForm.{NodeForm}
+use Rattle.text_literal.specs.declared.grammar.literal_node.NodeForm.TheVariants as forms
+use Rattle.text_literal.specs.declared.grammar.literal_node.LiteralNode.{LiteralNode}
 use Rattle.text_literal.specs.grammar.Literal.{Literal, Plain, integer, character, string, double, truth, unit, constant, applied, fields, tuple, empty_array, array, Parts, no_parts, more_parts, Rows, no_rows, more_rows, label_kinds, head_kinds, owner_kinds, row_start, literal_kinds, parts_kinds, rows_kinds}
 use Rattle.text_literal.specs.grammar.Nodes.{node, count, rows_count, literal_nodes, plain_nodes, parts_nodes, rows_nodes}
 use Rattle.text_literal.specs.parser.Pending.{listed_parts, listed_rows, parts_of}
@@ -75,7 +75,7 @@ rows_last j k rs m n v same last =
 one_more : (xs : List (ℕ × Literal)) (n : ℕ) (x : ℕ × Literal) → length xs ≡ n → suc n ≡ length (xs ++ x ∷ [])
 one_more xs n x e = omega (arith, length-append xs (x ∷ []), e)
 
-row_of : (form : Form) (l : Option ℕ) (k n m : ℕ) (xs ys : List Node) → n ≡ m → ys ≡ xs → node form l k n ∷ xs ≡ node form l k m ∷ ys
+row_of : (form : NodeForm) (l : Option ℕ) (k n m : ℕ) (xs ys : List LiteralNode) → n ≡ m → ys ≡ xs → node form l k n ∷ xs ≡ node form l k m ∷ ys
 row_of form l k n m xs ys e f = ap (λ i. node form l k i ∷ xs) e ∙ ap (λ all. node form l k m ∷ all) (sym f)
 
 pub parts_of_plain : (k : ℕ) (l : Option ℕ) (p : Plain)

@@ -10,7 +10,7 @@ use Rattle.marshal_heap.specs.heap.Heap.{object_at, fields_of, with_field, set_f
 use Rattle.marshal_heap.proofs.heap.FieldLemmas.{length-set_field}
 use Rattle.types_parse.specs.grammar.Grammar.{Kinds}
 use Rattle.text_literal.specs.grammar.Literal.{Literal}
-use Rattle.text_literal.specs.declared.parser.stack.Opened.{Opened}
+use Rattle.text_literal.specs.declared.parser.block_stack.Opened.{Opened}
 use Rattle.text_literal.specs.parser.Underway.{PartList, IsAdvanced, IsOpen, AreOpen}
 
 -- ---- the number of fields of an object does not change

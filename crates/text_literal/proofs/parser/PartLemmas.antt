@@ -12,8 +12,8 @@ use Rattle.marshal_heap.proofs.heap.FieldLemmas.{length-set_field, set_field-app
 use Rattle.text_literal.specs.grammar.Literal.{Literal, labelled, Plain}
 use Rattle.types_parse.specs.grammar.Lexemes.{kinds_of}
 use Rattle.text_literal.specs.grammar.Nodes.{literal_nodes}
-use Rattle.text_literal.specs.declared.parser.stack.Opened.{Opened}
-use Rattle.text_literal.specs.declared.parser.text.Text.{Text}
+use Rattle.text_literal.specs.declared.parser.block_stack.Opened.{Opened}
+use Rattle.text_literal.specs.declared.parser.literal_text.LiteralText.{LiteralText}
 use Rattle.text_literal.specs.parser.Reading.{Reading, Refusal, is_next, with_label, literal_read}
 use Rattle.text_literal.specs.parser.Starts as starts
 use Rattle.text_literal.specs.parser.Starts.{start_at}
@@ -29,7 +29,7 @@ use Rattle.text_literal.proofs.parser.OpenLemmas.{longer, kept_below, all_kept, 
 
 -- ---- the next part
 
-pub record IsNext (text : Text) (old : List Obj) (outcome : Result (List Obj) (Refusal ℕ)) (block : Opened) (stack : List Opened) (j : ℕ) (graph : List Obj) (labels : List ℕ) : Type 0 where
+pub record IsNext (text : LiteralText) (old : List Obj) (outcome : Result (List Obj) (Refusal ℕ)) (block : Opened) (stack : List Opened) (j : ℕ) (graph : List Obj) (labels : List ℕ) : Type 0 where
   pub part : ℕ × Literal
   pub parts : PartList
   pub rest : List PartList
@@ -42,7 +42,7 @@ pub record IsNext (text : Text) (old : List Obj) (outcome : Result (List Obj) (R
   pub labels_in : All (λ o. o < length graph) labels
   pub kept : take (length old) graph ≡ old
 
-module _ (text : Text) (old : List Obj) (outcome : Result (List Obj) (Refusal ℕ)) (block : Opened) (stack : List Opened) (j : ℕ) (graph : List Obj) (labels : List ℕ) where
+module _ (text : LiteralText) (old : List Obj) (outcome : Result (List Obj) (Refusal ℕ)) (block : Opened) (stack : List Opened) (j : ℕ) (graph : List Obj) (labels : List ℕ) where
   split :
       (all : List PartList) → AreOpen old graph (kinds_of text.lexemes.now) (block ∷ stack) all
       → nodes_to_come (opens_with (block ∷ stack) all) ≡ drop j text.nodes.now
@@ -95,7 +95,7 @@ opened_with o parts = open_at o.block o.field o.part (types_in o.at o.types) par
 
 -- A block with these parts to be read, on a stack. If there are no parts, the stack does not have
 -- the block.
-record IsSettled (text : Text) (old graph : List Obj) (block : Opened) (parts : PartList) (stack : List Opened) (rest : List PartList) (result : List Opened) : Type 0 where
+record IsSettled (text : LiteralText) (old graph : List Obj) (block : Opened) (parts : PartList) (stack : List Opened) (rest : List PartList) (result : List Opened) : Type 0 where
   all : List PartList
   open_blocks : AreOpen old graph (kinds_of text.lexemes.now) result all
   come : nodes_to_come (opens_with result all) ≡ nodes_of_parts parts ++ nodes_to_come (opens_with stack rest)
@@ -105,7 +105,7 @@ record IsSettled (text : Text) (old graph : List Obj) (block : Opened) (parts : 
       ≡ finished (shape_in text.table.now) (names_in text.table.now) (opened_with block parts ∷ opens_with stack rest) g labels
 
 settle :
-    (text : Text) (old graph : List Obj) (block : Opened) (parts : PartList) (stack : List Opened) (rest : List PartList) → block.left ≡ length parts
+    (text : LiteralText) (old graph : List Obj) (block : Opened) (parts : PartList) (stack : List Opened) (rest : List PartList) → block.left ≡ length parts
     → (0 < length parts → IsOpen old graph (kinds_of text.lexemes.now) block parts) → AreOpen old graph (kinds_of text.lexemes.now) stack rest
     → IsSettled text old graph block parts stack rest (if_open block stack)
 settle text old graph block [] stack rest left here others =
@@ -131,7 +131,7 @@ advanced_with old new parts a = cc
 
 -- The part is a block.
 stepped_inner :
-    (text : Text) (b i n : ℕ) (types : ℕ → ℕ) (k : ℕ) (v : Literal) (ps : PartList) (opens : List (Open ℕ)) (graph : List Obj) (labels : List ℕ)
+    (text : LiteralText) (b i n : ℕ) (types : ℕ → ℕ) (k : ℕ) (v : Literal) (ps : PartList) (opens : List (Open ℕ)) (graph : List Obj) (labels : List ℕ)
     (l : Option ℕ) (p : Plain) (tag : ℕ) (prefix : List Val) (inside : ℕ → ℕ) → v ≡ labelled l p → b < length graph
     → is_next labels l ≡ true → start_at (types n) (shape_in text.table.now (types n)) (names_in text.table.now (types n)) p ≡ starts.block tag prefix inside
     → finished (shape_in text.table.now) (names_in text.table.now) (open_at b i n types ((k, v) ∷ ps) ∷ opens) graph labels
@@ -152,7 +152,7 @@ same_at F b d i e n m v w ls ms p q r s t = cc
 
 -- ---- the state after a part
 
-module _ (text : Text) (old : List Obj) (outcome : Result (List Obj) (Refusal ℕ)) (block : Opened) (stack : List Opened) (j : ℕ) (graph : List Obj) (labels : List ℕ)
+module _ (text : LiteralText) (old : List Obj) (outcome : Result (List Obj) (Refusal ℕ)) (block : Opened) (stack : List Opened) (j : ℕ) (graph : List Obj) (labels : List ℕ)
     (n : IsNext text old outcome block stack j graph labels) (advanced : Opened) (a : IsAdvanced block advanced) (new : List Obj) (more : List ℕ) (value : Val)
     (labels_in : All (λ o. o < length new) more) where
   abbrev Underway : List Opened → ℕ → List Obj → Type 0

@@ -6,10 +6,10 @@ use Rattle.std.proofs.lemmas.List.Elements.{All-get_or}
 use Rattle.std.proofs.lemmas.Option.{slice_get_within, get_or_from_slice_get}
 use Rattle.base_data.specs.declared.model.value.Val.TheVariants as vals
 use Rattle.base_data.specs.declared.model.value.Obj.{Obj}
-use Rattle.text_literal.specs.declared.grammar.node.Node.{Node}
+use Rattle.text_literal.specs.declared.grammar.literal_node.LiteralNode.{LiteralNode}
 use Rattle.text_literal.specs.grammar.Literal.{labelled, again, Plain, label_kinds}
 use Rattle.text_literal.specs.declared.parser.fault.LiteralFault.TheVariants as faults
-use Rattle.text_literal.specs.declared.parser.text.Text.{Text}
+use Rattle.text_literal.specs.declared.parser.literal_text.LiteralText.{LiteralText}
 use Rattle.text_literal.specs.parser.Starts.{Start, start_at}
 use Rattle.text_literal.specs.parser.Reading.{Reading, Refusal, label_at, is_next, again_read, begun, literal_read, inside}
 use Rattle.text_literal.specs.parser.LiteralAnswers.{byte_of, shape_in, names_in}
@@ -18,7 +18,7 @@ use Rattle.text_literal.specs.parser.Underway.{IsGiven, MayRefuse}
 
 -- ---- the use of a label
 
-module _ (text : Text) (k n t : ℕ) (graph : List Obj) (labels : List ℕ) (labels_in : All (λ o. o < length graph) labels) where
+module _ (text : LiteralText) (k n t : ℕ) (graph : List Obj) (labels : List ℕ) (labels_in : All (λ o. o < length graph) labels) where
   pub again_given :
       (o : ℕ) → slice_get labels n ≡ Some o
       → IsGiven text.table.now k (again n) t graph graph labels labels (record { value = vals.Ref o; inner = None })
@@ -34,7 +34,7 @@ module _ (text : Text) (k n t : ℕ) (graph : List Obj) (labels : List ℕ) (lab
 
 -- ---- a plain literal
 
-module _ (text : Text) (node : Node) (k t : ℕ) (l : Option ℕ) (p : Plain) (graph : List Obj) (labels : List ℕ) (is : node ≡ own_node k (labelled l p)) where
+module _ (text : LiteralText) (node : LiteralNode) (k t : ℕ) (l : Option ℕ) (p : Plain) (graph : List Obj) (labels : List ℕ) (is : node ≡ own_node k (labelled l p)) where
   abbrev start : Start ℕ
   start = start_at t (shape_in text.table.now t) (names_in text.table.now t) p
 
@@ -48,7 +48,7 @@ module _ (text : Text) (node : Node) (k t : ℕ) (l : Option ℕ) (p : Plain) (g
   begun_by s = begun k position (length graph) labels l t (inside (shape_in text.table.now) (names_in text.table.now) position p (suc (length graph))) s
 
   same_label : node.label ≡ l
-  same_label = ap (λ (n : Node). n.label) is
+  same_label = ap (λ (n : LiteralNode). n.label) is
 
   -- If the label does not have the next number, then the part is refused.
   pub number_refused :
@@ -56,5 +56,5 @@ module _ (text : Text) (node : Node) (k t : ℕ) (l : Option ℕ) (p : Plain) (g
   number_refused byte other at = record {
     refusal = label_at k;
     is = ap (λ b. if b then begun_by start else Err (label_at k)) (sym (ap (is_next labels) same_label) ∙ other);
-    position = ap faults.Label (at ∙ ap (λ (n : Node). byte_of text.lexemes.now text.end n.first) is);
+    position = ap faults.Label (at ∙ ap (λ (n : LiteralNode). byte_of text.lexemes.now text.end n.first) is);
   }

@@ -10,7 +10,7 @@ use Rattle.types_parse.specs.grammar.Lexemes.{kinds_of}
 use Rattle.text_literal.specs.grammar.Nodes.{IsTreeOf}
 use Rattle.text_literal.specs.declared.parser.fault.LiteralFault.{LiteralFault}
 use Rattle.text_literal.specs.declared.parser.fault.LiteralFault.TheVariants as faults
-use Rattle.text_literal.specs.declared.parser.text.Text.{Text}
+use Rattle.text_literal.specs.declared.parser.literal_text.LiteralText.{LiteralText}
 use Rattle.text_literal.specs.parser.Reading.{Refusal, mismatch_at, int_range_at, label_at, literal_read}
 use Rattle.text_literal.specs.parser.LiteralAnswers.{fault_of, in_bytes, shape_in, names_in, IsMisread, IsAnswer, IsAnswered, Gives}
 use Rattle.text_literal.specs.parser.Underway.{IsRefusedAs, ReadsTree, Reads}
@@ -29,7 +29,7 @@ no_syntax_refused lexemes end position (int_range_at k) e = absurd (cc)
 no_syntax_refused lexemes end position (label_at k) e = absurd (cc)
 
 pub tree_answers :
-    (text : Text) (at : ℕ) (old new : List Obj) (result : Result Val LiteralFault) → IsTreeOf text.lexemes.now text.nodes.now → ReadsTree text at old new result
+    (text : LiteralText) (at : ℕ) (old new : List Obj) (result : Result Val LiteralFault) → IsTreeOf text.lexemes.now text.nodes.now → ReadsTree text at old new result
     → Reads text.table.now at text.lexemes.now text.end old new result
 tree_answers text at old new (Ok value) tree reads =
     let w = reads.0 tree.0 tree.1 tree.2 in (

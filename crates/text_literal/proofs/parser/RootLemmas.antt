@@ -12,15 +12,15 @@ use Rattle.base_data.specs.model.Graph.{IsValue}
 use Rattle.marshal_heap.specs.heap.Heap.{object_at, fields_of}
 use Rattle.types_lex.specs.declared.lexeme.Lexeme.{Lexeme}
 use Rattle.types_parse.specs.grammar.Grammar.{Kinds}
-use Rattle.text_literal.specs.declared.grammar.node.Node.{Node}
+use Rattle.text_literal.specs.declared.grammar.literal_node.LiteralNode.{LiteralNode}
 use Rattle.text_literal.specs.grammar.Literal.{Literal, literal_kinds}
 use Rattle.types_parse.specs.grammar.Lexemes.{kinds_of}
 use Rattle.text_literal.specs.grammar.Nodes.{literal_nodes, IsTreeOf}
 use Rattle.text_literal.specs.declared.parser.fault.LiteralFault.{LiteralFault}
 use Rattle.text_literal.specs.declared.parser.fault.LiteralFault.TheVariants as faults
-use Rattle.text_literal.specs.declared.parser.stack.Opened.{Opened}
-use Rattle.text_literal.specs.declared.parser.text.Text.{Text}
-use Rattle.text_literal.specs.declared.parser.part.Begun.{Begun}
+use Rattle.text_literal.specs.declared.parser.block_stack.Opened.{Opened}
+use Rattle.text_literal.specs.declared.parser.literal_text.LiteralText.{LiteralText}
+use Rattle.text_literal.specs.declared.parser.part.PartStart.{PartStart}
 use Rattle.text_literal.specs.parser.Reading.{Reading, Refusal, reading, with_label, block_read, literal_read}
 use Rattle.text_literal.specs.parser.LiteralAnswers.{shape_in, names_in}
 use Rattle.text_literal.specs.parser.Openings.{types_in}
@@ -34,7 +34,7 @@ use Rattle.text_literal.proofs.parser.PartLemmas.{opened_with}
 
 -- ---- the location of the tree
 
-pub tree_stands : (text : Text) (v : Literal) → literal_kinds v ≡ kinds_of text.lexemes.now → text.nodes.now ≡ literal_nodes 0 v → Stands text.nodes.now text.lexemes.now 0 0 v
+pub tree_stands : (text : LiteralText) (v : Literal) → literal_kinds v ≡ kinds_of text.lexemes.now → text.nodes.now ≡ literal_nodes 0 v → Stands text.nodes.now text.lexemes.now 0 0 v
 tree_stands text v encoded nodes = record {
   nodes_at = record { rest = []; is = nodes ∙ sym (append-nil (literal_nodes 0 v)) };
   kinds_at = record { rest = []; is = sym encoded ∙ sym (append-nil (literal_kinds v)) };
@@ -90,7 +90,7 @@ refused_back : (old : List Obj) (r : Result Reading (Refusal ℕ)) (refusal : Re
 refused_back old (Err other) refusal e = let same : other ≡ refusal = cc in ap Err same
 refused_back old (Ok r) refusal e = absurd (cc)
 
-module _ (text : Text) (k : ℕ) (v : Literal) (t : ℕ) (old new : List Obj) (labels more : List ℕ) (value : Val) (opened : Opened)
+module _ (text : LiteralText) (k : ℕ) (v : Literal) (t : ℕ) (old new : List Obj) (labels more : List ℕ) (value : Val) (opened : Opened)
     (w : IsInner text.table.now k v t old new labels more value opened) where
   abbrev own : List (ℕ × Literal)
   own = inner_parts k v
@@ -145,7 +145,7 @@ module _ (text : Text) (k : ℕ) (v : Literal) (t : ℕ) (old new : List Obj) (l
   root_underway stands nodes labels_in = record {
     parts = own ∷ [];
     open_blocks = (root_open (kinds_of text.lexemes.now) (literal_encoded (kinds_of text.lexemes.now) k v stands.kinds_at), tt);
-    come = append-nil (nodes_of_parts own) ∙ sym (ap (λ (ns : List Node). drop 1 ns) (sym nodes ∙ own_and_parts k v));
+    come = append-nil (nodes_of_parts own) ∙ sym (ap (λ (ns : List LiteralNode). drop 1 ns) (sym nodes ∙ own_and_parts k v));
     same = rooted;
     labels_in = labels_in;
     kept = ap (λ (g : List Obj). take (length old) g) w.behind ∙ take-append_seam old (objects.Block w.tag (w.prefix ++ replicate (length own) (vals.Int (pos 0))) ∷ []);
@@ -165,7 +165,7 @@ root_refused lexemes end old r (faults.Label position) m = record { refusal = m.
 
 -- ---- the tree of a text
 
-module _ (text : Text) (at : ℕ) (old new : List Obj) (labels more : List ℕ) (none : labels ≡ []) (begun : Begun) (block : Opened) (inner : begun.inner ≡ Some block)
+module _ (text : LiteralText) (at : ℕ) (old new : List Obj) (labels more : List ℕ) (none : labels ≡ []) (begun : PartStart) (block : Opened) (inner : begun.inner ≡ Some block)
     (here : (k : ℕ) (v : Literal) → Stands text.nodes.now text.lexemes.now 0 k v → All (λ o. o < length old) labels → IsGiven text.table.now k v at old new labels more begun) where
   abbrev tree_reading : Literal → Result Reading (Refusal ℕ)
   tree_reading v = literal_read (shape_in text.table.now) (names_in text.table.now) 0 v (length old) [] at

@@ -11,7 +11,7 @@ use Rattle.types_spec.specs.types.Names.{no_names}
 use Rattle.types_spec.specs.types.Table.{node_or_none}
 use Rattle.types_table.specs.declared.type_table.tabled.Tabled.{Tabled}
 use Rattle.text_literal.specs.parser.LiteralAnswers.{shape_in, names_in}
-use Rattle.text_literal.specs.declared.grammar.node.Form.TheVariants as forms
+use Rattle.text_literal.specs.declared.grammar.literal_node.NodeForm.TheVariants as forms
 use Rattle.text_literal.specs.grammar.Literal.{Head, upper_head, tag_head, cons_head, empty_head, ref_head, Literal, Plain, constant, applied, fields, tuple, empty_array, array, Parts, Rows}
 use Rattle.text_literal.specs.grammar.Nodes.{count, rows_count}
 use Rattle.text_literal.specs.parser.Pending.{parts_of, listed_parts, listed_rows}

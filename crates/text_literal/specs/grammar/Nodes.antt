@@ -9,11 +9,11 @@ use Rattle.types_lex.specs.declared.lexeme.Symbol.TheVariants as symbols
 use Rattle.types_parse.specs.grammar.Grammar.{mark}
 use Rattle.types_parse.specs.grammar.Lexemes.{kinds_of}
 use Rattle.types_parse.specs.grammar.Refusals.{IsSyntax}
-use Rattle.text_literal.specs.declared.grammar.node.Form.{Form}
-use Rattle.text_literal.specs.declared.grammar.node.Form.TheVariants as forms
-use Rattle.text_literal.specs.declared.grammar.node.Node.{Node}
-use Rattle.text_literal.specs.declared.grammar.node.TreeFault.{TreeFault}
-use Rattle.text_literal.specs.declared.grammar.node.TreeFault.TheVariants as faults
+use Rattle.text_literal.specs.declared.grammar.literal_node.NodeForm.{NodeForm}
+use Rattle.text_literal.specs.declared.grammar.literal_node.NodeForm.TheVariants as forms
+use Rattle.text_literal.specs.declared.grammar.literal_node.LiteralNode.{LiteralNode}
+use Rattle.text_literal.specs.declared.grammar.literal_node.TreeFault.{TreeFault}
+use Rattle.text_literal.specs.declared.grammar.literal_node.TreeFault.TheVariants as faults
 use Rattle.text_literal.specs.grammar.Literal.{Literal, labelled, again, Plain, integer, character}
 use Rattle.text_literal.specs.grammar.Literal.{string, double, truth, unit, constant, applied}
 use Rattle.text_literal.specs.grammar.Literal.{fields}
@@ -23,7 +23,7 @@ use Rattle.text_literal.specs.grammar.Literal.{Rows, no_rows, more_rows, label_k
 use Rattle.text_literal.specs.grammar.Literal.{owner_kinds, row_start, literal_kinds, parts_kinds}
 use Rattle.text_literal.specs.grammar.Literal.{rows_kinds}
 
-abbrev pub node : Form → Option ℕ → ℕ → ℕ → Node
+abbrev pub node : NodeForm → Option ℕ → ℕ → ℕ → LiteralNode
 node form label first parts = record { form = form; label = label; first = first; parts = parts }
 
 abbrev pub count : Parts → ℕ
@@ -36,11 +36,11 @@ rows_count (more_rows rs x v) = suc (rows_count rs)
 
 abbrev mutual
   -- The nodes of a literal whose first lexeme has this index.
-  pub literal_nodes : ℕ → Literal → List Node
+  pub literal_nodes : ℕ → Literal → List LiteralNode
   literal_nodes k (labelled l p) = plain_nodes k l p
   literal_nodes k (again n) = node forms.Again (Some n) k 0 ∷ []
 
-  pub plain_nodes : ℕ → Option ℕ → Plain → List Node
+  pub plain_nodes : ℕ → Option ℕ → Plain → List LiteralNode
   plain_nodes k l (integer i) = node forms.Integer l k 0 ∷ []
   plain_nodes k l (character c) = node forms.Character l k 0 ∷ []
   plain_nodes k l (string s) = node forms.Text l k 0 ∷ []
@@ -92,12 +92,12 @@ abbrev mutual
       (k + length (label_kinds l ++ (mark symbols.OpenArray ++ parts_kinds symbols.Semicolon ps)))
       v)
 
-  pub parts_nodes : Symbol → ℕ → Parts → List Node
+  pub parts_nodes : Symbol → ℕ → Parts → List LiteralNode
   parts_nodes separator k no_parts = []
   parts_nodes separator k (more_parts ps v) =
       parts_nodes separator k ps ++ literal_nodes (k + length (parts_kinds separator ps)) v
 
-  pub rows_nodes : ℕ → Rows → List Node
+  pub rows_nodes : ℕ → Rows → List LiteralNode
   rows_nodes k no_rows = []
   rows_nodes k (more_rows rs x v) =
       rows_nodes k rs ++ literal_nodes (k + length (rows_kinds rs ++ row_start x)) v
@@ -105,7 +105,7 @@ abbrev mutual
 -- ---- the result of parsing lexemes
 
 -- The lexemes are a literal, and these are its nodes.
-abbrev pub IsTreeOf : List Lexeme → List Node → Type 0
+abbrev pub IsTreeOf : List Lexeme → List LiteralNode → Type 0
 IsTreeOf lexemes nodes =
     (v : Literal) × (literal_kinds v ≡ kinds_of lexemes) × (nodes ≡ literal_nodes 0 v)
 
@@ -114,17 +114,17 @@ IsTreeFault lexemes (faults.Syntax k) = IsSyntax literal_kinds (kinds_of lexemes
 IsTreeFault lexemes faults.Memory = ⊤
 
 -- A call returns these nodes, unless memory runs out.
-abbrev pub GivesTree : List Node → Result (List Node) TreeFault → Type 0
+abbrev pub GivesTree : List LiteralNode → Result (List LiteralNode) TreeFault → Type 0
 GivesTree nodes (Ok all) = all ≡ nodes
 GivesTree nodes (Err (faults.Syntax k)) = ⊥
 GivesTree nodes (Err faults.Memory) = ⊤
 
 -- A call returns this position, unless memory runs out.
-abbrev pub GivesSyntax : ℕ → Result (List Node) TreeFault → Type 0
+abbrev pub GivesSyntax : ℕ → Result (List LiteralNode) TreeFault → Type 0
 GivesSyntax k (Ok all) = ⊥
 GivesSyntax k (Err (faults.Syntax j)) = j ≡ k
 GivesSyntax k (Err faults.Memory) = ⊤
 
 -- The index of each node's first lexeme is below this number.
-abbrev pub FirstsBelow : ℕ → List Node → Type 0
-FirstsBelow m nodes = AllByRecursion (λ (n : Node). n.first < m) nodes
+abbrev pub FirstsBelow : ℕ → List LiteralNode → Type 0
+FirstsBelow m nodes = AllByRecursion (λ (n : LiteralNode). n.first < m) nodes

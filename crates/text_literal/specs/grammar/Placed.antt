@@ -5,10 +5,10 @@ use Rattle.types_lex.specs.declared.lexeme.Lexeme.{Lexeme}
 use Rattle.types_lex.specs.Lexemes.{lexeme_from}
 use Rattle.types_lex.specs.LexText.{Lexes, Faults}
 use Rattle.types_parse.specs.grammar.Refusals.{IsSyntax}
-use Rattle.text_literal.specs.declared.grammar.node.Node.{Node}
-use Rattle.text_literal.specs.declared.grammar.placed.Placed.{Placed}
-use Rattle.text_literal.specs.declared.grammar.placed.PlacedFault.{PlacedFault}
-use Rattle.text_literal.specs.declared.grammar.placed.PlacedFault.TheVariants as faults
+use Rattle.text_literal.specs.declared.grammar.literal_node.LiteralNode.{LiteralNode}
+use Rattle.text_literal.specs.declared.grammar.placed_nodes.PlacedNodes.{PlacedNodes}
+use Rattle.text_literal.specs.declared.grammar.placed_nodes.PlacedFault.{PlacedFault}
+use Rattle.text_literal.specs.declared.grammar.placed_nodes.PlacedFault.TheVariants as faults
 use Rattle.text_literal.specs.grammar.Literal.{literal_kinds}
 use Rattle.types_parse.specs.grammar.Lexemes.{kinds_of}
 use Rattle.text_literal.specs.grammar.Nodes.{IsTreeOf}
@@ -49,16 +49,16 @@ IsPlacedFault text faults.Memory = ⊤
 
 -- The offsets are those of the text's lexemes, and the nodes are those of the literal with these
 -- lexemes.
-abbrev pub IsPlaced : List ℕ → List ℕ → List Node → Type 0
+abbrev pub IsPlaced : List ℕ → List ℕ → List LiteralNode → Type 0
 IsPlaced text positions nodes =
     Lexes text (lexemes_at text positions) × IsTreeOf (lexemes_at text positions) nodes
 
-abbrev pub ReadsAt : List ℕ → List ℕ → Result (Option (List Node)) PlacedFault → Type 0
+abbrev pub ReadsAt : List ℕ → List ℕ → Result (Option (List LiteralNode)) PlacedFault → Type 0
 ReadsAt text positions (Ok None) = Lexes text []
 ReadsAt text positions (Ok (Some nodes)) = IsPlaced text positions nodes
 ReadsAt text positions (Err fault) = IsPlacedFault text fault
 
-abbrev pub ReadsPlaced : List ℕ → Result (Option Placed) PlacedFault → Type 0
+abbrev pub ReadsPlaced : List ℕ → Result (Option PlacedNodes) PlacedFault → Type 0
 ReadsPlaced text (Ok None) = Lexes text []
 ReadsPlaced text (Ok (Some placed)) = IsPlaced text placed.positions.items placed.tree
 ReadsPlaced text (Err fault) = IsPlacedFault text fault

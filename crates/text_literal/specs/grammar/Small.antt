@@ -2,28 +2,28 @@
 use Rattle.std.specs.Prelude.{ℕ, ◌≡◌, ◌<◌, Option, Some, None, List, length, map, unwrap_or}
 use Rattle.std.specs.Prelude.{slice_get, ⊤}
 use Rattle.std.specs.List.{AllByRecursion}
-use Rattle.text_literal.specs.declared.grammar.node.Form.{Form}
-use Rattle.text_literal.specs.declared.grammar.node.Form.TheVariants as forms
-use Rattle.text_literal.specs.declared.grammar.node.Node.{Node}
-use Rattle.text_literal.specs.declared.grammar.nodes.SmallNode.{SmallNode}
+use Rattle.text_literal.specs.declared.grammar.literal_node.NodeForm.{NodeForm}
+use Rattle.text_literal.specs.declared.grammar.literal_node.NodeForm.TheVariants as forms
+use Rattle.text_literal.specs.declared.grammar.literal_node.LiteralNode.{LiteralNode}
+use Rattle.text_literal.specs.declared.grammar.literal_nodes.SmallNode.{SmallNode}
 
-abbrev pub plain_node : Form → ℕ → ℕ → Node
+abbrev pub plain_node : NodeForm → ℕ → ℕ → LiteralNode
 plain_node form first parts =
     record { form = form; label = None; first = first; parts = parts }
 
 -- A node given by its form, or the node with this index among the others.
-abbrev pub node_by : List Node → ℕ → ℕ → Option Form → Node
+abbrev pub node_by : List LiteralNode → ℕ → ℕ → Option NodeForm → LiteralNode
 node_by others first parts (Some form) = plain_node form first parts
 node_by others first parts None = unwrap_or (slice_get others first) (plain_node forms.Unit 0 0)
 
-abbrev pub node_in : List Node → SmallNode → Node
+abbrev pub node_in : List LiteralNode → SmallNode → LiteralNode
 node_in others small = node_by others small.first small.parts small.form
 
-abbrev pub nodes_in : List Node → List SmallNode → List Node
+abbrev pub nodes_in : List LiteralNode → List SmallNode → List LiteralNode
 nodes_in others all = map (node_in others) all
 
 -- If the entry has no form, its index is below the number of others.
-abbrev pub IsHeldBy : ℕ → ℕ → Option Form → Type 0
+abbrev pub IsHeldBy : ℕ → ℕ → Option NodeForm → Type 0
 IsHeldBy many first (Some form) = ⊤
 IsHeldBy many first None = first < many
 
@@ -36,16 +36,16 @@ AreHeld many all = AllByRecursion (IsHeld many) all
 -- ---- the result of functions
 
 -- The entry is the node, independently of the others.
-abbrev pub IsSmall : Node → SmallNode → Type 0
+abbrev pub IsSmall : LiteralNode → SmallNode → Type 0
 IsSmall node small =
-    (form : Form) × (small.form ≡ Some form) × (plain_node form small.first small.parts ≡ node)
+    (form : NodeForm) × (small.form ≡ Some form) × (plain_node form small.first small.parts ≡ node)
 
 -- With these others, the entry is the node.
-abbrev pub Holds : List Node → Node → SmallNode → Type 0
+abbrev pub Holds : List LiteralNode → LiteralNode → SmallNode → Type 0
 Holds others node small = (node_in others small ≡ node) × IsHeld (length others) small
 
 -- Every list of valid entries means the same nodes with the new others as with the old ones.
-abbrev pub Keeps : List Node → List Node → Type 0
+abbrev pub Keeps : List LiteralNode → List LiteralNode → Type 0
 Keeps old new =
     (all : List SmallNode) → AreHeld (length old) all
     → (nodes_in new all ≡ nodes_in old all) × AreHeld (length new) all

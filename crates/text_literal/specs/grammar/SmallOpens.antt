@@ -1,36 +1,37 @@
 -- Brackets in sixteen bytes, and the others beside them. In both lists the innermost bracket comes
 -- first.
 use Rattle.std.specs.Prelude.{◌≡◌, Option, Some, None, List, [], ◌∷◌}
-use Rattle.text_literal.specs.declared.grammar.node.Form.{Form}
-use Rattle.text_literal.specs.declared.grammar.node.Form.TheVariants as forms
-use Rattle.text_literal.specs.declared.grammar.open.Bracket.TheVariants as brackets
-use Rattle.text_literal.specs.declared.grammar.open.Open.{Open}
-use Rattle.text_literal.specs.declared.grammar.open.SmallOpen.{SmallOpen}
+use Rattle.text_literal.specs.declared.grammar.literal_node.NodeForm.{NodeForm}
+use Rattle.text_literal.specs.declared.grammar.literal_node.NodeForm.TheVariants as forms
+use Rattle.text_literal.specs.declared.grammar.pending_node.OpenKind.TheVariants as brackets
+use Rattle.text_literal.specs.declared.grammar.pending_node.PendingNode.{PendingNode}
+use Rattle.text_literal.specs.declared.grammar.pending_node.SmallOpen.{SmallOpen}
 use Rattle.text_literal.specs.grammar.Small.{plain_node}
 
-abbrev pub plain_open : SmallOpen → Form → Open
+abbrev pub plain_open : SmallOpen → NodeForm → PendingNode
 plain_open s form =
     record { bracket = s.bracket; index = s.index; node = plain_node form s.first s.parts }
 
-abbrev pub blank_open : Open
+abbrev pub blank_open : PendingNode
 blank_open =
     record { bracket = brackets.Parens; index = 0; node = plain_node forms.Unit 0 0 }
 
 -- A bracket given by its form, or the innermost of the others.
-abbrev pub open_by : SmallOpen → Option Form → List Open → Open
+abbrev pub open_by : SmallOpen → Option NodeForm → List PendingNode → PendingNode
 open_by s (Some form) others = plain_open s form
 open_by s None [] = blank_open
 open_by s None (o ∷ others) = o
 
-abbrev pub others_behind : Option Form → List Open → List Open
+abbrev pub others_behind : Option NodeForm → List PendingNode → List PendingNode
 others_behind (Some form) others = others
 others_behind None [] = []
 others_behind None (o ∷ others) = others
 
-abbrev pub opens_in : List SmallOpen → List Open → List Open
+abbrev pub opens_in : List SmallOpen → List PendingNode → List PendingNode
 opens_in [] others = []
 opens_in (s ∷ all) others = open_by s s.form others ∷ opens_in all (others_behind s.form others)
 
 -- The entry is the bracket, independently of the others.
-abbrev pub IsSmallOpen : Open → SmallOpen → Type 0
-IsSmallOpen outer small = (form : Form) × (small.form ≡ Some form) × (plain_open small form ≡ outer)
+abbrev pub IsSmallOpen : PendingNode → SmallOpen → Type 0
+IsSmallOpen outer small =
+    (form : NodeForm) × (small.form ≡ Some form) × (plain_open small form ≡ outer)

@@ -14,8 +14,8 @@ use Rattle.text_literal.specs.grammar.Literal.{labelled, again, Plain, integer, 
 use Rattle.text_literal.specs.grammar.Literal.{applied}
 use Rattle.text_literal.specs.grammar.Literal.{fields, tuple, empty_array, no_parts, more_parts}
 use Rattle.text_literal.specs.grammar.Literal.{no_rows, more_rows, literal_kinds}
-use Rattle.text_literal.specs.declared.grammar.node.Form.TheVariants as forms
-use Rattle.text_literal.specs.declared.grammar.node.Node.{Node}
+use Rattle.text_literal.specs.declared.grammar.literal_node.NodeForm.TheVariants as forms
+use Rattle.text_literal.specs.declared.grammar.literal_node.LiteralNode.{LiteralNode}
 use Rattle.text_literal.specs.grammar.Nodes.{node, literal_nodes}
 use Rattle.text_literal.specs.grammar.Machine.{start, step, accepted}
 
@@ -85,7 +85,7 @@ carrying_lexemes =
     kinds.Tag (codes "B") ∷ symbol symbols.OpenParen ∷ number 3 ∷ symbol symbols.CloseParen ∷ []
 
 -- The nodes, if the literal begins at lexeme 0.
-abbrev pub nodes : Literal → List Node
+abbrev pub nodes : Literal → List LiteralNode
 nodes v = literal_nodes 0 v
 
 pub record Rows : Type 0 where

@@ -4,9 +4,9 @@ use Rattle.std.specs.List.{fold}
 use Rattle.types_lex.specs.declared.lexeme.LexemeKind.{LexemeKind}
 use Rattle.types_lex.specs.declared.lexeme.LexemeKind.TheVariants as kinds
 use Rattle.types_parse.specs.grammar.Grammar.{Kinds}
-use Rattle.text_literal.specs.declared.grammar.node.Form.{Form}
-use Rattle.text_literal.specs.declared.grammar.node.Form.TheVariants as forms
-use Rattle.text_literal.specs.declared.grammar.node.Node.{Node}
+use Rattle.text_literal.specs.declared.grammar.literal_node.NodeForm.{NodeForm}
+use Rattle.text_literal.specs.declared.grammar.literal_node.NodeForm.TheVariants as forms
+use Rattle.text_literal.specs.declared.grammar.literal_node.LiteralNode.{LiteralNode}
 use Rattle.text_literal.specs.grammar.Literal.{Literal}
 use Rattle.text_literal.specs.parser.Starts.{bits_of, and_bits}
 
@@ -15,15 +15,15 @@ double_in (Some (kinds.Double bits)) = Some bits
 double_in kind = None
 
 -- The bits of a node, from its label, its form and the double at its first lexeme.
-abbrev pub unlabelled_bits : Option ℕ → Form → Option ℕ → Option ℕ
+abbrev pub unlabelled_bits : Option ℕ → NodeForm → Option ℕ → Option ℕ
 unlabelled_bits None forms.Double bits = bits
 unlabelled_bits label form bits = None
 
-abbrev pub bits_of_node : Kinds → Node → Option ℕ
+abbrev pub bits_of_node : Kinds → LiteralNode → Option ℕ
 bits_of_node all n = unlabelled_bits n.label n.form (double_in (slice_get all n.first))
 
 -- The bits of all nodes, if each is a double without a label.
-abbrev pub bits_of_nodes : Kinds → Option (List ℕ) → List Node → Option (List ℕ)
+abbrev pub bits_of_nodes : Kinds → Option (List ℕ) → List LiteralNode → Option (List ℕ)
 bits_of_nodes all before nodes = fold (λ bits n. and_bits bits (bits_of_node all n)) before nodes
 
 abbrev pub bits_of_listed : Option (List ℕ) → List (ℕ × Literal) → Option (List ℕ)

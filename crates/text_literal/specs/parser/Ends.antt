@@ -1,19 +1,19 @@
 -- For each literal in a list of nodes, the index of the node after it.
 use Rattle.std.specs.Prelude.{ℕ, zero, suc, ◌+◌, ◌≡◌, ◌≤◌, nat_lt, if◌then◌else◌, List, length}
 use Rattle.std.specs.Prelude.{slice_index}
-use Rattle.text_literal.specs.declared.grammar.node.Node.{Node}
+use Rattle.text_literal.specs.declared.grammar.literal_node.LiteralNode.{LiteralNode}
 use Rattle.text_literal.specs.grammar.Literal.{Literal}
 use Rattle.text_literal.specs.grammar.Nodes.{literal_nodes}
 use Rattle.text_literal.specs.parser.Standing.{IsAt}
 
 -- If the nodes of a literal begin at node j, then entry j is the index of the node after the last
 -- of them. This holds for all nodes from i on.
-abbrev pub AreEndsFrom : ℕ → List Node → List ℕ → Type 0
+abbrev pub AreEndsFrom : ℕ → List LiteralNode → List ℕ → Type 0
 AreEndsFrom i nodes ends =
     (j k : ℕ) (v : Literal) → i ≤ j → IsAt nodes j (literal_nodes k v)
     → slice_index ends j ≡ j + length (literal_nodes k v)
 
-abbrev pub AreEnds : List Node → List ℕ → Type 0
+abbrev pub AreEnds : List LiteralNode → List ℕ → Type 0
 AreEnds nodes ends =
     (j k : ℕ) (v : Literal) → IsAt nodes j (literal_nodes k v)
     → slice_index ends j ≡ j + length (literal_nodes k v)

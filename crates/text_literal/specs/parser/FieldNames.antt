@@ -3,19 +3,19 @@ use Rattle.std.specs.Prelude.{ℕ, zero, suc, ◌-◌, nat_lt, if◌then◌else�
 use Rattle.std.specs.Prelude.{[], ◌∷◌, length, slice_get}
 use Rattle.types_lex.specs.Lexemes.{lower_name}
 use Rattle.types_parse.specs.grammar.Grammar.{Name, Kinds}
-use Rattle.text_literal.specs.declared.grammar.node.Node.{Node}
+use Rattle.text_literal.specs.declared.grammar.literal_node.LiteralNode.{LiteralNode}
 use Rattle.text_literal.specs.parser.Ends.{sibling}
 
 -- The name of the field whose value begins at lexeme k.
 abbrev pub name_before : Kinds → ℕ → Name
 name_before all k = lower_name (slice_get all (k - 2))
 
-abbrev pub name_of_node : Kinds → Option Node → Name
+abbrev pub name_of_node : Kinds → Option LiteralNode → Name
 name_of_node all None = []
 name_of_node all (Some n) = name_before all n.first
 
 -- The names of a given number of siblings.
-abbrev pub names_from : List Node → List ℕ → Kinds → ℕ → ℕ → List Name
+abbrev pub names_from : List LiteralNode → List ℕ → Kinds → ℕ → ℕ → List Name
 names_from nodes ends all position zero = []
 names_from nodes ends all position (suc n) =
     if nat_lt position (length nodes)

@@ -1,4 +1,4 @@
--- The meaning of a `Leaf` of the code.
+-- The result that the definitions give for each `Leaf` of the code.
 use Rattle.std.specs.Prelude.{ℕ, pos, ◌==◌}
 use Rattle.base_data.specs.model.Graph.{IsValue}
 use Rattle.base_data.specs.declared.model.value.Val.TheVariants as vals
@@ -23,17 +23,19 @@ leaf_in (leaves.Bytes bytes) = whole (objects.Bytes bytes.now)
 leaf_in (leaves.Double bits) = whole (objects.Double bits)
 leaf_in (leaves.Custom c) = whole (custom_object c)
 
--- A leaf is sound if its integer has at most 63 bits and its atom exists.
+-- A small leaf is sound if its value is an integer of at most 63 bits, or an atom whose tag is at
+-- most 243. All other leaves are sound.
 abbrev pub IsSound : Leaf → Type 0
 IsSound (leaves.Small v) = IsValue 0 v
 IsSound leaf = Unit {0}
 
--- An integer from 0, if the shape has exactly this number of integers.
+-- The integer `n`, if the shape allows exactly the integers from 0 to `many - 1`. Otherwise it is a
+-- mismatch.
 abbrev pub below_of : ShapeOf ℕ → ℕ → ℕ → Start ℕ
 below_of (shapes.Below limit) many n = if_fits (limit == many) (small (vals.Int (pos n)))
 below_of shape many n = mismatch
 
--- The first lexeme of a head.
+-- The lexeme with which a head (a constructor, a tag, `::`, `[]` or `ref`) begins.
 abbrev pub lead_of : Head → LexemeKind
 lead_of (upper_head x) = kinds.Upper x
 lead_of (tag_head x) = kinds.Tag x

@@ -1,15 +1,15 @@
 -- The nodes of a literal, expressed by the nodes of its parts.
 use Rattle.std.specs.Prelude.{ℕ, List, flat_map}
-use Rattle.text_literal.specs.declared.grammar.node.Form.{Form}
-use Rattle.text_literal.specs.declared.grammar.node.Form.TheVariants as forms
-use Rattle.text_literal.specs.declared.grammar.node.Node.{Node}
+use Rattle.text_literal.specs.declared.grammar.literal_node.NodeForm.{NodeForm}
+use Rattle.text_literal.specs.declared.grammar.literal_node.NodeForm.TheVariants as forms
+use Rattle.text_literal.specs.declared.grammar.literal_node.LiteralNode.{LiteralNode}
 use Rattle.text_literal.specs.grammar.Literal.{Literal, Plain, integer, character, string, double}
 use Rattle.text_literal.specs.grammar.Literal.{truth, unit, constant, applied, fields, tuple}
 use Rattle.text_literal.specs.grammar.Literal.{empty_array, array}
 use Rattle.text_literal.specs.grammar.Nodes.{literal_nodes}
 use Rattle.text_literal.specs.parser.Pending.{Open}
 
-abbrev pub form_of : Plain → Form
+abbrev pub form_of : Plain → NodeForm
 form_of (integer i) = forms.Integer
 form_of (character c) = forms.Character
 form_of (string s) = forms.Text
@@ -23,12 +23,12 @@ form_of (tuple ps u v) = forms.Tuple
 form_of empty_array = forms.Array
 form_of (array ps v) = forms.Array
 
-abbrev pub part_nodes : ℕ × Literal → List Node
+abbrev pub part_nodes : ℕ × Literal → List LiteralNode
 part_nodes part = literal_nodes part.0 part.1
 
-abbrev pub nodes_of_parts : List (ℕ × Literal) → List Node
+abbrev pub nodes_of_parts : List (ℕ × Literal) → List LiteralNode
 nodes_of_parts parts = flat_map part_nodes parts
 
 -- The nodes still to be read while these blocks are open.
-abbrev pub nodes_to_come : {T : Type 0} → List (Open T) → List Node
+abbrev pub nodes_to_come : {T : Type 0} → List (Open T) → List LiteralNode
 nodes_to_come opens = flat_map (λ o. nodes_of_parts o.parts) opens

@@ -7,12 +7,12 @@ use Rattle.types_spec.specs.declared.types.shape.ShapeOf.{ShapeOf}
 use Rattle.types_spec.specs.declared.types.shape.ShapeOf.TheVariants as shapes
 use Rattle.text_literal.specs.declared.parser.opening.Opening.{Opening}
 use Rattle.text_literal.specs.declared.parser.opening.Opening.TheVariants as openings
-use Rattle.text_literal.specs.declared.parser.opening.Types.{Types}
-use Rattle.text_literal.specs.declared.parser.opening.Types.TheVariants as parts
+use Rattle.text_literal.specs.declared.parser.opening.PartTypes.{PartTypes}
+use Rattle.text_literal.specs.declared.parser.opening.PartTypes.TheVariants as parts
 use Rattle.text_literal.specs.parser.Starts.{Start, mismatch, block, type_in}
 
 -- The type of a part by its index. If the part has no type, the type is t.
-abbrev pub types_in : ℕ → Types → ℕ → ℕ
+abbrev pub types_in : ℕ → PartTypes → ℕ → ℕ
 types_in t (parts.Listed types) i = type_in types.now t i
 types_in t (parts.Each u) i = u
 

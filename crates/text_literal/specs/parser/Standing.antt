@@ -6,8 +6,8 @@ use Rattle.types_lex.specs.declared.lexeme.LexemeKind.{LexemeKind}
 use Rattle.types_lex.specs.declared.lexeme.LexemeKind.TheVariants as kinds
 use Rattle.types_lex.specs.declared.lexeme.Symbol.TheVariants as symbols
 use Rattle.types_parse.specs.grammar.Grammar.{Kinds}
-use Rattle.text_literal.specs.declared.grammar.node.Form.TheVariants as forms
-use Rattle.text_literal.specs.declared.grammar.node.Node.{Node}
+use Rattle.text_literal.specs.declared.grammar.literal_node.NodeForm.TheVariants as forms
+use Rattle.text_literal.specs.declared.grammar.literal_node.LiteralNode.{LiteralNode}
 use Rattle.text_literal.specs.grammar.Literal.{Head, Literal, labelled, again, Plain, integer}
 use Rattle.text_literal.specs.grammar.Literal.{character, string, double, truth, unit, constant}
 use Rattle.text_literal.specs.grammar.Literal.{applied, fields, tuple, empty_array, array}
@@ -24,13 +24,14 @@ pub record IsAt {T : Type 0} (all : List T) (i : ℕ) (own : List T) : Type 0 wh
   pub is : drop i all ≡ own ++ rest
 
 -- The nodes of the literal begin at node j, and its lexemes begin at lexeme k.
-pub record Stands (nodes : List Node) (lexemes : List Lexeme) (j k : ℕ) (v : Literal) : Type 0 where
+pub record Stands (nodes : List LiteralNode) (lexemes : List Lexeme) (j k : ℕ)
+    (v : Literal) : Type 0 where
   pub nodes_at : IsAt nodes j (literal_nodes k v)
   pub kinds_at : IsAt (kinds_of lexemes) k (literal_kinds v)
 
 -- ---- a literal as its own node and its parts
 
-abbrev pub own_node : ℕ → Literal → Node
+abbrev pub own_node : ℕ → Literal → LiteralNode
 own_node k (labelled l p) = node (form_of p) l k (length (parts_of (k + length (label_kinds l)) p))
 own_node k (again n) = node forms.Again (Some n) k 0
 

@@ -16,11 +16,11 @@ use Rattle.types_parse.specs.grammar.Lexemes.{kinds_of}
 use Rattle.text_literal.specs.grammar.Nodes.{literal_nodes}
 use Rattle.text_literal.specs.declared.parser.fault.LiteralFault.{LiteralFault}
 use Rattle.text_literal.specs.declared.parser.fault.LiteralFault.TheVariants as faults
-use Rattle.text_literal.specs.declared.parser.stack.Opened.{Opened}
-use Rattle.text_literal.specs.declared.parser.text.Text.{Text}
-use Rattle.text_literal.specs.declared.parser.part.Begun.{Begun}
-use Rattle.text_literal.specs.declared.parser.part.Made.{Made}
-use Rattle.text_literal.specs.declared.parser.part.Made.TheVariants as made
+use Rattle.text_literal.specs.declared.parser.block_stack.Opened.{Opened}
+use Rattle.text_literal.specs.declared.parser.literal_text.LiteralText.{LiteralText}
+use Rattle.text_literal.specs.declared.parser.part.PartStart.{PartStart}
+use Rattle.text_literal.specs.declared.parser.part.MadeLiteral.{MadeLiteral}
+use Rattle.text_literal.specs.declared.parser.part.MadeLiteral.TheVariants as made
 use Rattle.text_literal.specs.parser.Starts as starts
 use Rattle.text_literal.specs.parser.Starts.{Start, mismatch, out_of_range, small, whole, start_at}
 use Rattle.text_literal.specs.parser.Reading.{Reading, Refusal, reading, is_next, with_label}
@@ -51,7 +51,7 @@ abbrev pub if_open : Opened → List Opened → List Opened
 if_open block stack = if nat_lt 0 block.left then block ∷ stack else stack
 
 -- The invariant of the input for reading parts.
-pub record IsText (text : Text) : Type 0 where
+pub record IsText (text : LiteralText) : Type 0 where
   pub many : length text.ends.now ≡ length text.nodes.now
   pub ends : AreEnds text.nodes.now text.ends.now
   pub few : length text.lexemes.now < 2 ^ 63
@@ -101,7 +101,7 @@ pub record IsInner (table : Tabled) (k : ℕ) (v : Literal) (t : ℕ) (graph new
   pub few : opened.field + opened.left < 2 ^ 54
 
 -- A literal of the text begins at node j.
-abbrev pub HasPart : Text → ℕ → Type 0
+abbrev pub HasPart : LiteralText → ℕ → Type 0
 HasPart text j = (k : ℕ) × (v : Literal) × Stands text.nodes.now text.lexemes.now j k v
 
 abbrev pub IsBegun : Tabled → ℕ → Literal → ℕ → List Obj → List Obj → List ℕ → List ℕ → Val
@@ -113,13 +113,13 @@ IsBegun table k v t graph new labels more value (Some opened) =
     IsInner table k v t graph new labels more value opened
 
 pub record IsGiven (table : Tabled) (k : ℕ) (v : Literal) (t : ℕ) (graph new : List Obj)
-    (labels more : List ℕ) (begun : Begun) : Type 0 where
+    (labels more : List ℕ) (begun : PartStart) : Type 0 where
   pub begun_is : IsBegun table k v t graph new labels more begun.value begun.inner
   pub valid : IsValue (length new) begun.value
   pub labels_in : All (λ o. o < length new) more
 
-abbrev pub Begins : Text → ℕ → Literal → ℕ → List Obj → List Obj → List ℕ → List ℕ
-    → Result Begun LiteralFault → Type 0
+abbrev pub Begins : LiteralText → ℕ → Literal → ℕ → List Obj → List Obj → List ℕ → List ℕ
+    → Result PartStart LiteralFault → Type 0
 Begins text k v t graph new labels more (Ok begun) =
     IsGiven text.table.now k v t graph new labels more begun
 Begins text k v t graph new labels more (Err fault) =
@@ -143,7 +143,7 @@ pub record IsMadeBlock (parts : ℕ) (start : Start ℕ) (graph new : List Obj) 
   pub some : 0 < parts
   pub few : opened.field + parts < 2 ^ 54
 
-abbrev pub IsMade : ℕ → Start ℕ → List Obj → List Obj → Made → Type 0
+abbrev pub IsMade : ℕ → Start ℕ → List Obj → List Obj → MadeLiteral → Type 0
 IsMade parts start graph new made.Mismatch = start ≡ mismatch
 IsMade parts start graph new made.OutOfRange = start ≡ out_of_range
 IsMade parts start graph new (made.Small v) = (start ≡ small v) × (new ≡ graph) × IsValue 0 v
@@ -184,7 +184,8 @@ AreOpen old graph all (o ∷ os) (parts ∷ rest) =
 AreOpen old graph all os rest = ⊥
 
 -- Finishing the open blocks with the nodes from j on gives the outcome.
-pub record IsUnderway (text : Text) (old : List Obj) (outcome : Result (List Obj) (Refusal ℕ))
+pub record IsUnderway (text : LiteralText) (old : List Obj)
+    (outcome : Result (List Obj) (Refusal ℕ))
     (stack : List Opened) (j : ℕ) (graph : List Obj) (labels : List ℕ) : Type 0 where
   pub parts : List PartList
   pub open_blocks : AreOpen old graph (kinds_of text.lexemes.now) stack parts
@@ -195,13 +196,13 @@ pub record IsUnderway (text : Text) (old : List Obj) (outcome : Result (List Obj
   pub labels_in : All (λ o. o < length graph) labels
   pub kept : take (length old) graph ≡ old
 
-abbrev pub CanGoOn : Text → List Opened → ℕ → List Obj → List ℕ → Type 0
+abbrev pub CanGoOn : LiteralText → List Opened → ℕ → List Obj → List ℕ → Type 0
 CanGoOn text stack j graph labels =
     (old : List Obj) × (outcome : Result (List Obj) (Refusal ℕ))
     × IsUnderway text old outcome stack j graph labels
 
 -- The outcome is the graph afterwards, or the refusal is returned.
-abbrev pub Finishes : Text → List Obj → Result (List Obj) (Refusal ℕ) → List Obj
+abbrev pub Finishes : LiteralText → List Obj → Result (List Obj) (Refusal ℕ) → List Obj
     → Result ⊤ LiteralFault → Type 0
 Finishes text old outcome new (Ok done) = outcome ≡ Ok new
 Finishes text old outcome new (Err fault) =
@@ -211,7 +212,7 @@ Finishes text old outcome new (Err fault) =
 
 -- The result is the value of the tree of these nodes at a type, or its refusal. The old objects are
 -- unchanged.
-abbrev pub ReadsTree : Text → ℕ → List Obj → List Obj → Result Val LiteralFault → Type 0
+abbrev pub ReadsTree : LiteralText → ℕ → List Obj → List Obj → Result Val LiteralFault → Type 0
 ReadsTree text at old new (Ok value) =
     ((v : Literal) → literal_kinds v ≡ kinds_of text.lexemes.now
     → text.nodes.now ≡ literal_nodes 0 v

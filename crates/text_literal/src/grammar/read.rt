@@ -7,19 +7,19 @@ ghost use Rattle.types_parse.specs.grammar.Lexemes.{kinds_of};
 ghost use Rattle.text_literal.specs.grammar.Nodes.{literal_nodes, IsTreeOf, IsTreeFault, GivesTree};
 ghost use Rattle.text_literal.specs.grammar.Nodes.{GivesSyntax};
 
-use crate::grammar::node::TreeFault;
-use crate::grammar::nodes::Nodes;
-use crate::grammar::open::{Opens, Stage};
+use crate::grammar::literal_node::TreeFault;
+use crate::grammar::literal_nodes::LiteralNodes;
+use crate::grammar::pending_node::{Opens, Stage};
 use crate::grammar::step::{end, step};
 use std::alloc::Global;
 use types_lex::lexeme::Lexeme;
 
 /// Parses a literal from its lexemes.
-fn read(alloc: Global, lexemes: &[Lexeme]) -> Result<Nodes, TreeFault>
+fn read(alloc: Global, lexemes: &[Lexeme]) -> Result<LiteralNodes, TreeFault>
     ensures tree { IfOk result (IsTreeOf lexemes.now) }
     ensures fault { IfErr result (IsTreeFault lexemes.now) }
 {
-    let mut nodes = Nodes::new(alloc);
+    let mut nodes = LiteralNodes::new(alloc);
     let mut opens = Opens::new(alloc);
     let mut stage = Stage::Due;
     for (position, lexeme) in lexemes.iter().enumerate() {
@@ -37,7 +37,7 @@ fn read(alloc: Global, lexemes: &[Lexeme]) -> Result<Nodes, TreeFault>
 
 /// Parses a literal from its lexemes and returns its nodes. A syntax error carries the index of the
 /// first lexeme at which no literal continues.
-pub fn read_literal_tree(alloc: Global, lexemes: &[Lexeme]) -> Result<Nodes, TreeFault>
+pub fn read_literal_tree(alloc: Global, lexemes: &[Lexeme]) -> Result<LiteralNodes, TreeFault>
     // The nodes are those of the literal with these lexemes, or the error is theirs.
     ensures tree { IfOk result (IsTreeOf lexemes.now) }
     ensures fault { IfErr result (IsTreeFault lexemes.now) }

@@ -3,8 +3,8 @@
 
 ghost use Rattle.std.specs.Prelude.{◌≡◌, ◌++◌, ◌∷◌, [], List, length, Option, Some, None};
 ghost use Rattle.std.specs.Prelude.{if◌then◌else◌, IfOk};
-ghost use Rattle.text_literal.specs.declared.grammar.node.Node.{Node};
-ghost use Rattle.text_literal.specs.declared.grammar.node.Form.TheVariants as forms;
+ghost use Rattle.text_literal.specs.declared.grammar.literal_node.LiteralNode.{LiteralNode};
+ghost use Rattle.text_literal.specs.declared.grammar.literal_node.NodeForm.TheVariants as forms;
 ghost use Rattle.types_parse.specs.grammar.Lexemes.{number_of};
 ghost use Rattle.text_literal.specs.grammar.Code.{bare_node, next_number, with_part, with_form};
 ghost use Rattle.text_literal.specs.grammar.Code.{word_form, form_of, head_stage, entered};
@@ -18,9 +18,9 @@ ghost use Rattle.text_literal.specs.grammar.Code.{after_bracket_code, after_head
 ghost use Rattle.text_literal.specs.grammar.Code.{take_name_code, take_equals_code, step_code};
 ghost use Rattle.text_literal.specs.grammar.Code.{end_code, Steps, code};
 
-use crate::grammar::node::{Form, Node};
-use crate::grammar::nodes::Nodes;
-use crate::grammar::open::{Bracket, Open, Opens, Stage};
+use crate::grammar::literal_node::{LiteralNode, NodeForm};
+use crate::grammar::literal_nodes::LiteralNodes;
+use crate::grammar::pending_node::{OpenKind, Opens, PendingNode, Stage};
 use base_data::model::Memory;
 use types_lex::lexeme::{Integer, LexemeKind, Suffix, Symbol};
 
@@ -49,15 +49,15 @@ fn number_of(kind: &LexemeKind) -> Option<u64>
 }
 
 /// Returns the form that begins with this word, or `None` if no literal does.
-fn word_form(word: &[u8]) -> Option<Form>
+fn word_form(word: &[u8]) -> Option<NodeForm>
     ensures { result ≡ word_form word.now }
 {
     if word == b"true".as_slice() {
-        Some(Form::Truth)
+        Some(NodeForm::Truth)
     } else if word == b"false".as_slice() {
-        Some(Form::Truth)
+        Some(NodeForm::Truth)
     } else if word == b"ref".as_slice() {
-        Some(Form::Named)
+        Some(NodeForm::Named)
     } else {
         None
     }
@@ -65,29 +65,29 @@ fn word_form(word: &[u8]) -> Option<Form>
 
 /// Returns the form that begins with this lexeme, or `None` if no literal does.
 #[inline(always)]
-fn form_of(kind: &LexemeKind) -> Option<Form>
+fn form_of(kind: &LexemeKind) -> Option<NodeForm>
     ensures { result ≡ form_of kind.now }
 {
     match kind {
-        LexemeKind::Integer(_) => Some(Form::Integer),
-        LexemeKind::Character(_) => Some(Form::Character),
-        LexemeKind::Text(_) => Some(Form::Text),
-        LexemeKind::Double(_) => Some(Form::Double),
+        LexemeKind::Integer(_) => Some(NodeForm::Integer),
+        LexemeKind::Character(_) => Some(NodeForm::Character),
+        LexemeKind::Text(_) => Some(NodeForm::Text),
+        LexemeKind::Double(_) => Some(NodeForm::Double),
         LexemeKind::Lower(word) => word_form(word.as_slice()),
-        LexemeKind::Upper(_) => Some(Form::Named),
-        LexemeKind::Tag(_) => Some(Form::Named),
-        LexemeKind::Symbol(Symbol::DoubleColon) => Some(Form::Named),
-        LexemeKind::Symbol(Symbol::OpenBracket) => Some(Form::Named),
-        LexemeKind::Symbol(Symbol::OpenParen) => Some(Form::Unit),
-        LexemeKind::Symbol(Symbol::OpenArray) => Some(Form::Array),
-        LexemeKind::Symbol(Symbol::OpenBrace) => Some(Form::Fields),
+        LexemeKind::Upper(_) => Some(NodeForm::Named),
+        LexemeKind::Tag(_) => Some(NodeForm::Named),
+        LexemeKind::Symbol(Symbol::DoubleColon) => Some(NodeForm::Named),
+        LexemeKind::Symbol(Symbol::OpenBracket) => Some(NodeForm::Named),
+        LexemeKind::Symbol(Symbol::OpenParen) => Some(NodeForm::Unit),
+        LexemeKind::Symbol(Symbol::OpenArray) => Some(NodeForm::Array),
+        LexemeKind::Symbol(Symbol::OpenBrace) => Some(NodeForm::Fields),
         _ => None,
     }
 }
 
 /// Appends a node and returns its index.
 #[inline(always)]
-fn add(nodes: &mut Nodes, node: Node) -> Result<usize, Memory>
+fn add(nodes: &mut LiteralNodes, node: LiteralNode) -> Result<usize, Memory>
     ensures number { IfOk result (λ n. n ≡ length nodes.old) }
     ensures added { IfOk result (λ _. nodes.new ≡ nodes.old ++ node ∷ []) }
 {
@@ -106,10 +106,10 @@ fn next_number(n: usize) -> usize
 
 /// Returns the node with one more part.
 #[inline(always)]
-fn with_part(node: Node) -> Node
+fn with_part(node: LiteralNode) -> LiteralNode
     ensures { result ≡ with_part node }
 {
-    Node {
+    LiteralNode {
         form: node.form,
         label: node.label,
         first: node.first,
@@ -119,10 +119,10 @@ fn with_part(node: Node) -> Node
 
 /// Returns the node with another form.
 #[inline(always)]
-fn with_form(form: Form, node: Node) -> Node
+fn with_form(form: NodeForm, node: LiteralNode) -> LiteralNode
     ensures { result ≡ with_form form node }
 {
-    Node {
+    LiteralNode {
         form,
         label: node.label,
         first: node.first,
@@ -132,7 +132,7 @@ fn with_form(form: Form, node: Node) -> Node
 
 /// Returns the stage after the first lexeme of a name.
 #[inline(always)]
-fn head_stage(kind: &LexemeKind, index: usize, node: Node) -> Stage
+fn head_stage(kind: &LexemeKind, index: usize, node: LiteralNode) -> Stage
     ensures { result ≡ head_stage kind.now index node }
 {
     match kind {
@@ -147,32 +147,32 @@ fn enter(
     opens: &mut Opens,
     kind: &LexemeKind,
     index: usize,
-    node: Node,
-    form: Form,
+    node: LiteralNode,
+    form: NodeForm,
 ) -> Result<Stage, Memory>
     ensures { IfOk result
-        (λ stage. (ns : List Node)
+        (λ stage. (ns : List LiteralNode)
         → code ns opens.new stage ≡ entered ns opens.old kind.now index node form) }
 {
     match form {
-        Form::Named => Ok(head_stage(kind, index, node)),
-        Form::Unit => {
-            opens.push(Open {
-                bracket: Bracket::Parens,
+        NodeForm::Named => Ok(head_stage(kind, index, node)),
+        NodeForm::Unit => {
+            opens.push(PendingNode {
+                bracket: OpenKind::Parens,
                 index,
                 node,
             })?;
             Ok(Stage::Due)
         }
-        Form::Array => {
-            opens.push(Open {
-                bracket: Bracket::Array,
+        NodeForm::Array => {
+            opens.push(PendingNode {
+                bracket: OpenKind::Array,
                 index,
                 node,
             })?;
             Ok(Stage::Due)
         }
-        Form::Fields => Ok(Stage::FieldDue(index, node)),
+        NodeForm::Fields => Ok(Stage::FieldDue(index, node)),
         _ => Ok(Stage::Whole),
     }
 }
@@ -180,7 +180,7 @@ fn enter(
 /// Parses the first lexeme of a literal after its label, if it has one.
 #[inline(always)]
 fn begin_plain(
-    nodes: &mut Nodes,
+    nodes: &mut LiteralNodes,
     opens: &mut Opens,
     first: usize,
     label: Option<u64>,
@@ -192,7 +192,7 @@ fn begin_plain(
     let Some(form) = form_of(kind) else {
         return Ok(None);
     };
-    let node = Node {
+    let node = LiteralNode {
         form,
         label,
         first,
@@ -204,27 +204,27 @@ fn begin_plain(
 }
 
 #[inline(always)]
-fn is_unit(bracket: Bracket, parts: usize) -> bool
+fn is_unit(bracket: OpenKind, parts: usize) -> bool
     ensures { result ≡ is_unit bracket parts }
 {
     match bracket {
-        Bracket::Parens => parts == 0,
+        OpenKind::Parens => parts == 0,
         _ => false,
     }
 }
 
 #[inline(always)]
-fn is_empty_array(bracket: Bracket, parts: usize) -> bool
+fn is_empty_array(bracket: OpenKind, parts: usize) -> bool
     ensures { result ≡ is_empty_array bracket parts }
 {
     match bracket {
-        Bracket::Array => parts == 0,
+        OpenKind::Array => parts == 0,
         _ => false,
     }
 }
 
 /// Closes parentheses without parts.
-fn close_unit(nodes: &mut Nodes, opens: &mut Opens) -> Result<Option<Stage>, Memory>
+fn close_unit(nodes: &mut LiteralNodes, opens: &mut Opens) -> Result<Option<Stage>, Memory>
     ensures { Steps result nodes.new opens.new (close_unit_code nodes.old opens.old) }
 {
     match opens.pop() {
@@ -240,7 +240,7 @@ fn close_unit(nodes: &mut Nodes, opens: &mut Opens) -> Result<Option<Stage>, Mem
 }
 
 /// Closes an array without parts.
-fn close_empty(nodes: &mut Nodes, opens: &mut Opens) -> Result<Option<Stage>, Memory>
+fn close_empty(nodes: &mut LiteralNodes, opens: &mut Opens) -> Result<Option<Stage>, Memory>
     ensures { Steps result nodes.new opens.new (close_empty_code nodes.old opens.old) }
 {
     match opens.pop() {
@@ -258,7 +258,7 @@ fn close_empty(nodes: &mut Nodes, opens: &mut Opens) -> Result<Option<Stage>, Me
 /// Parses lexeme `position` as the first one of a literal.
 #[inline(always)]
 fn begin(
-    nodes: &mut Nodes,
+    nodes: &mut LiteralNodes,
     opens: &mut Opens,
     position: usize,
     kind: &LexemeKind,
@@ -276,10 +276,14 @@ fn begin(
 
 /// Returns the stage in which one more part must follow.
 #[inline(always)]
-fn next(nodes: &mut Nodes, opens: &mut Opens, outer: Open) -> Result<Option<Stage>, Memory>
+fn next(
+    nodes: &mut LiteralNodes,
+    opens: &mut Opens,
+    outer: PendingNode,
+) -> Result<Option<Stage>, Memory>
     ensures { Steps result nodes.new opens.new (next_code nodes.old opens.old outer) }
 {
-    opens.push(Open {
+    opens.push(PendingNode {
         bracket: outer.bracket,
         index: outer.index,
         node: with_part(outer.node),
@@ -289,7 +293,11 @@ fn next(nodes: &mut Nodes, opens: &mut Opens, outer: Open) -> Result<Option<Stag
 
 /// Closes a bracket after its last part.
 #[inline(always)]
-fn shut(nodes: &mut Nodes, opens: &mut Opens, outer: Open) -> Result<Option<Stage>, Memory>
+fn shut(
+    nodes: &mut LiteralNodes,
+    opens: &mut Opens,
+    outer: PendingNode,
+) -> Result<Option<Stage>, Memory>
     ensures { Steps result nodes.new opens.new (shut_code nodes.old opens.old outer) }
 {
     nodes.set(outer.index, with_part(outer.node))?;
@@ -298,22 +306,29 @@ fn shut(nodes: &mut Nodes, opens: &mut Opens, outer: Open) -> Result<Option<Stag
 
 /// Closes a tuple after its last part. Returns `None` if the tuple has only one part.
 #[inline(always)]
-fn shut_tuple(nodes: &mut Nodes, opens: &mut Opens, outer: Open) -> Result<Option<Stage>, Memory>
+fn shut_tuple(
+    nodes: &mut LiteralNodes,
+    opens: &mut Opens,
+    outer: PendingNode,
+) -> Result<Option<Stage>, Memory>
     ensures { Steps result nodes.new opens.new
         (shut_tuple_code nodes.old opens.old outer) }
 {
     if outer.node.parts == 0 {
         return Ok(None);
     }
-    nodes.set(outer.index, with_form(Form::Tuple, with_part(outer.node)))?;
+    nodes.set(
+        outer.index,
+        with_form(NodeForm::Tuple, with_part(outer.node)),
+    )?;
     Ok(Some(Stage::Whole))
 }
 
 #[inline(always)]
 fn close_arguments(
-    nodes: &mut Nodes,
+    nodes: &mut LiteralNodes,
     opens: &mut Opens,
-    outer: Open,
+    outer: PendingNode,
     kind: &LexemeKind,
 ) -> Result<Option<Stage>, Memory>
     ensures { Steps result nodes.new opens.new
@@ -328,9 +343,9 @@ fn close_arguments(
 
 #[inline(always)]
 fn close_parens(
-    nodes: &mut Nodes,
+    nodes: &mut LiteralNodes,
     opens: &mut Opens,
-    outer: Open,
+    outer: PendingNode,
     kind: &LexemeKind,
 ) -> Result<Option<Stage>, Memory>
     ensures { Steps result nodes.new opens.new
@@ -345,9 +360,9 @@ fn close_parens(
 
 #[inline(always)]
 fn close_array(
-    nodes: &mut Nodes,
+    nodes: &mut LiteralNodes,
     opens: &mut Opens,
-    outer: Open,
+    outer: PendingNode,
     kind: &LexemeKind,
 ) -> Result<Option<Stage>, Memory>
     ensures { Steps result nodes.new opens.new
@@ -362,9 +377,9 @@ fn close_array(
 
 #[inline(always)]
 fn close_fields(
-    nodes: &mut Nodes,
+    nodes: &mut LiteralNodes,
     opens: &mut Opens,
-    outer: Open,
+    outer: PendingNode,
     kind: &LexemeKind,
 ) -> Result<Option<Stage>, Memory>
     ensures { Steps result nodes.new opens.new
@@ -382,24 +397,28 @@ fn close_fields(
 
 /// Parses the lexeme after a complete literal.
 #[inline(always)]
-fn close(nodes: &mut Nodes, opens: &mut Opens, kind: &LexemeKind) -> Result<Option<Stage>, Memory>
+fn close(
+    nodes: &mut LiteralNodes,
+    opens: &mut Opens,
+    kind: &LexemeKind,
+) -> Result<Option<Stage>, Memory>
     ensures { Steps result nodes.new opens.new
         (close_code nodes.old opens.old kind.now) }
 {
     match opens.pop() {
         None => Ok(None),
         Some(outer) => match outer.bracket {
-            Bracket::Arguments => close_arguments(nodes, opens, outer, kind),
-            Bracket::Parens => close_parens(nodes, opens, outer, kind),
-            Bracket::Array => close_array(nodes, opens, outer, kind),
-            Bracket::Fields => close_fields(nodes, opens, outer, kind),
+            OpenKind::Arguments => close_arguments(nodes, opens, outer, kind),
+            OpenKind::Parens => close_parens(nodes, opens, outer, kind),
+            OpenKind::Array => close_array(nodes, opens, outer, kind),
+            OpenKind::Fields => close_fields(nodes, opens, outer, kind),
         },
     }
 }
 
 /// Parses the lexeme after `#` and a number.
 fn after_number(
-    nodes: &mut Nodes,
+    nodes: &mut LiteralNodes,
     opens: &mut Opens,
     first: usize,
     number: u64,
@@ -418,11 +437,11 @@ fn after_number(
 }
 
 /// Returns the node of a reference to a label.
-fn again(first: usize, number: u64) -> Node
+fn again(first: usize, number: u64) -> LiteralNode
     ensures { result ≡ bare_node forms.Again (Some number) first }
 {
-    Node {
-        form: Form::Again,
+    LiteralNode {
+        form: NodeForm::Again,
         label: Some(number),
         first,
         parts: 0,
@@ -432,10 +451,10 @@ fn again(first: usize, number: u64) -> Node
 /// Parses the lexeme after a name.
 #[inline(always)]
 fn after_head(
-    nodes: &mut Nodes,
+    nodes: &mut LiteralNodes,
     opens: &mut Opens,
     index: usize,
-    node: Node,
+    node: LiteralNode,
     kind: &LexemeKind,
 ) -> Result<Option<Stage>, Memory>
     ensures { Steps result nodes.new opens.new
@@ -443,8 +462,8 @@ fn after_head(
 {
     match kind {
         LexemeKind::Symbol(Symbol::OpenParen) => {
-            opens.push(Open {
-                bracket: Bracket::Arguments,
+            opens.push(PendingNode {
+                bracket: OpenKind::Arguments,
                 index,
                 node,
             })?;
@@ -452,7 +471,7 @@ fn after_head(
         }
         LexemeKind::Symbol(Symbol::OpenBrace) => Ok(Some(Stage::FieldDue(
             index,
-            with_form(Form::Fields, node),
+            with_form(NodeForm::Fields, node),
         ))),
         _ => close(nodes, opens, kind),
     }
@@ -461,10 +480,10 @@ fn after_head(
 /// Parses the lexeme after a field's name.
 #[inline(always)]
 fn take_equals(
-    nodes: &mut Nodes,
+    nodes: &mut LiteralNodes,
     opens: &mut Opens,
     index: usize,
-    node: Node,
+    node: LiteralNode,
     kind: &LexemeKind,
 ) -> Result<Option<Stage>, Memory>
     ensures { Steps result nodes.new opens.new
@@ -472,8 +491,8 @@ fn take_equals(
 {
     match kind {
         LexemeKind::Symbol(Symbol::Equals) => {
-            opens.push(Open {
-                bracket: Bracket::Fields,
+            opens.push(PendingNode {
+                bracket: OpenKind::Fields,
                 index,
                 node,
             })?;
@@ -485,7 +504,7 @@ fn take_equals(
 
 /// Parses the lexeme after `#`.
 fn take_number(
-    nodes: &mut Nodes,
+    nodes: &mut LiteralNodes,
     opens: &mut Opens,
     first: usize,
     kind: &LexemeKind,
@@ -502,10 +521,10 @@ fn take_number(
 /// Parses the lexeme after `[`.
 #[inline(always)]
 fn after_bracket(
-    nodes: &mut Nodes,
+    nodes: &mut LiteralNodes,
     opens: &mut Opens,
     index: usize,
-    node: Node,
+    node: LiteralNode,
     kind: &LexemeKind,
 ) -> Result<Option<Stage>, Memory>
     ensures { Steps result nodes.new opens.new
@@ -520,10 +539,10 @@ fn after_bracket(
 /// Parses the lexeme at the position of a field's name.
 #[inline(always)]
 fn take_name(
-    nodes: &mut Nodes,
+    nodes: &mut LiteralNodes,
     opens: &mut Opens,
     index: usize,
-    node: Node,
+    node: LiteralNode,
     kind: &LexemeKind,
 ) -> Result<Option<Stage>, Memory>
     ensures { Steps result nodes.new opens.new
@@ -538,7 +557,7 @@ fn take_name(
 /// Parses the lexeme with index `position`.
 #[inline(always)]
 pub fn step(
-    nodes: &mut Nodes,
+    nodes: &mut LiteralNodes,
     opens: &mut Opens,
     stage: Stage,
     position: usize,
@@ -561,7 +580,7 @@ pub fn step(
 }
 
 /// Returns true if a literal can end here. In that case the nodes are complete.
-pub fn end(nodes: &mut Nodes, opens: &mut Opens, stage: Stage) -> Result<bool, Memory>
+pub fn end(nodes: &mut LiteralNodes, opens: &mut Opens, stage: Stage) -> Result<bool, Memory>
     ensures { IfOk result
         (λ ends. end_code nodes.old opens.old stage
         ≡ (if ends then Some nodes.new else None)) }

@@ -9,7 +9,7 @@ ghost use Rattle.text_literal.specs.parser.Bits.{double_in, bits_of_node, bits_o
 ghost use Rattle.text_literal.specs.parser.Standing.{Stands};
 ghost use Rattle.text_literal.specs.parser.Starts.{bits_of, and_bits, bits_of_parts, bits_of_rows};
 
-use crate::grammar::{Form, Node, Nodes};
+use crate::grammar::{LiteralNode, LiteralNodes, NodeForm};
 use base_data::model::Memory;
 use std::alloc::Global;
 use types_lex::Lexemes;
@@ -34,11 +34,11 @@ fn double_at(alloc: Global, lexemes: &Lexemes, position: usize) -> Result<Option
 }
 
 /// Returns the bits if the node is a double without a label.
-fn node_bits(alloc: Global, node: &Node, lexemes: &Lexemes) -> Result<Option<u64>, Memory>
+fn node_bits(alloc: Global, node: &LiteralNode, lexemes: &Lexemes) -> Result<Option<u64>, Memory>
     ensures { IfOk result (λ bits. bits ≡ bits_of_node (kinds_of lexemes.now) node.now) }
 {
     match (node.label, node.form) {
-        (None, Form::Double) => double_at(alloc, lexemes, node.first),
+        (None, NodeForm::Double) => double_at(alloc, lexemes, node.first),
         _ => Ok(None),
     }
 }
@@ -47,7 +47,7 @@ fn node_bits(alloc: Global, node: &Node, lexemes: &Lexemes) -> Result<Option<u64
 /// a label.
 fn all_bits(
     alloc: Global,
-    nodes: &Nodes,
+    nodes: &LiteralNodes,
     from: usize,
     many: usize,
     lexemes: &Lexemes,
@@ -73,7 +73,7 @@ fn all_bits(
 /// without a label.
 pub(crate) fn doubles_of_parts(
     alloc: Global,
-    nodes: &Nodes,
+    nodes: &LiteralNodes,
     at: usize,
     lexemes: &Lexemes,
 ) -> Result<Option<Vec<u64>>, Memory>

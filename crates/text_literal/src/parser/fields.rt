@@ -9,7 +9,7 @@ ghost use Rattle.text_literal.specs.parser.FieldNames as specs;
 ghost use Rattle.text_literal.specs.parser.Standing.{Stands};
 ghost use Rattle.text_literal.specs.parser.Starts.{names_of_rows};
 
-use crate::grammar::Nodes;
+use crate::grammar::LiteralNodes;
 use crate::parser::siblings::sibling;
 use base_data::model::Memory;
 use std::alloc::Global;
@@ -25,7 +25,7 @@ fn name_before<'a>(lexemes: &'a Lexemes, first: usize) -> &'a [u8]
 /// Returns the names of `many` fields. The value of the first field begins at node `from`.
 fn names_from<'a>(
     alloc: Global,
-    nodes: &Nodes,
+    nodes: &LiteralNodes,
     ends: &[u32],
     from: usize,
     many: usize,
@@ -52,7 +52,7 @@ fn names_from<'a>(
 /// Returns the field names of the literal that begins at node `at`.
 pub(crate) fn field_names<'a>(
     alloc: Global,
-    nodes: &Nodes,
+    nodes: &LiteralNodes,
     ends: &[u32],
     at: usize,
     lexemes: &'a Lexemes,

@@ -25,7 +25,7 @@ use types_spec::types::shape::{Constr, PolyTag, ShapeOf};
 
 /// Types of the parts of a block: one type for each part, or one type for all.
 #[derive(Clone, Copy)]
-pub enum Types<'a> {
+pub enum PartTypes<'a> {
     Listed(&'a [usize]),
     Each(usize),
 }
@@ -35,7 +35,7 @@ pub enum Types<'a> {
 #[derive(Clone, Copy)]
 pub enum Opening<'a> {
     Mismatch,
-    Block(u8, Option<i64>, Types<'a>),
+    Block(u8, Option<i64>, PartTypes<'a>),
 }
 
 /// Returns true if there are no field names.
@@ -85,7 +85,7 @@ fn carrying<'a>(blocks: &'a [Constr<usize>], parts: usize, tag: Option<usize>) -
             Opening::Block(
                 tag as u8,
                 None,
-                Types::Listed(blocks[tag].fields.as_slice()),
+                PartTypes::Listed(blocks[tag].fields.as_slice()),
             )
         }
         _ => Opening::Mismatch,
@@ -101,7 +101,7 @@ fn carrying_of<'a>(tag: Option<&'a PolyTag<usize>>) -> Opening<'a>
     match tag {
         Some(tag) => match tag.arg {
             Some(argument) if is_integer(tag.hash) => {
-                Opening::Block(0, Some(tag.hash), Types::Each(argument))
+                Opening::Block(0, Some(tag.hash), PartTypes::Each(argument))
             }
             _ => Opening::Mismatch,
         },
@@ -117,7 +117,7 @@ pub fn tuple_opening<'a>(shape: &'a ShapeOf<usize>, names: &Names, parts: usize)
 {
     match shape {
         ShapeOf::Product(_, types) if is_unnamed(names.fields.as_slice()) && types.len() == parts =>
-            { Opening::Block(0, None, Types::Listed(types.as_slice())) }
+            { Opening::Block(0, None, PartTypes::Listed(types.as_slice())) }
         _ => Opening::Mismatch,
     }
 }
@@ -131,7 +131,7 @@ pub fn array_opening(shape: &ShapeOf<usize>) -> Opening<'static>
 {
     match shape {
         ShapeOf::ArrayOf(part) | ShapeOf::ArrayOfAnything(part) => {
-            Opening::Block(0, None, Types::Each(*part))
+            Opening::Block(0, None, PartTypes::Each(*part))
         }
         _ => Opening::Mismatch,
     }
@@ -224,7 +224,7 @@ pub fn record_opening<'a>(
     match shape {
         ShapeOf::Product(_, types)
             if same_names(names.fields.as_slice(), wanted) && types.len() == parts => {
-            Opening::Block(0, None, Types::Listed(types.as_slice()))
+            Opening::Block(0, None, PartTypes::Listed(types.as_slice()))
         }
         _ => Opening::Mismatch,
     }

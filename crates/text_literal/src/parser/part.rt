@@ -22,13 +22,13 @@ ghost use Rattle.text_literal.specs.parser.Starts.{start_at};
 ghost use Rattle.text_literal.specs.parser.Standing.{Stands, own_node, lead_of_plain};
 ghost use Rattle.text_literal.specs.parser.Underway.{IsText, HasPart, IsMade, Begins, Grows};
 
-use crate::grammar::{Form, Node};
+use crate::grammar::{LiteralNode, NodeForm};
+use crate::parser::block_stack::Opened;
 use crate::parser::fault::LiteralFault;
 use crate::parser::leaf::Leaf;
+use crate::parser::literal_text::{LiteralText, byte_of, plain_first};
 use crate::parser::opening::Opening;
-use crate::parser::stack::Opened;
 use crate::parser::start::{Start, leaf_at, start_of};
-use crate::parser::text::{Text, byte_of, plain_first};
 use base_data::model::Memory;
 use base_data::model::value::Val;
 use marshal_heap::heap::Heap;
@@ -37,7 +37,7 @@ use types_lex::lexeme::LexemeKind;
 
 /// The value of a part, and the block whose own parts are still to be read.
 #[derive(Clone, Copy)]
-pub struct Begun<'a> {
+pub struct PartStart<'a> {
     pub value: Val,
     pub inner: Option<Opened<'a>>,
 }
@@ -45,7 +45,7 @@ pub struct Begun<'a> {
 /// The result of making a literal at its type: a mismatch, an integer out of range, an integer or
 /// an atom, a whole object, or a block whose parts are still to be read.
 #[derive(Clone, Copy)]
-pub enum Made<'a> {
+pub enum MadeLiteral<'a> {
     Mismatch,
     OutOfRange,
     Small(Val),
@@ -75,13 +75,17 @@ fn object_of(labels: &[u64], label: Option<u64>) -> Option<u64>
 }
 
 /// Reads the use of a label.
-fn again<'a>(text: &Text, labels: &[u64], node: &Node) -> Result<Begun<'a>, LiteralFault>
+fn again<'a>(
+    text: &LiteralText,
+    labels: &[u64],
+    node: &LiteralNode,
+) -> Result<PartStart<'a>, LiteralFault>
     ensures { (k n t : ℕ) (graph : List Obj) → node.now ≡ own_node k (again n)
         → All (λ o. o < length graph) labels.now
         → Begins text.now k (again n) t graph graph labels.now labels.now result }
 {
     match object_of(labels, node.label) {
-        Some(o) => Ok(Begun {
+        Some(o) => Ok(PartStart {
             value: Val::Ref(o),
             inner: None,
         }),
@@ -169,18 +173,18 @@ fn prefix_len(hash: Option<i64>) -> u64
 /// Appends the object of a string, a double or a custom value. An integer or an atom needs no
 /// object.
 #[inline(always)]
-fn make_leaf<'a>(heap: &mut Heap, leaf: Leaf) -> Result<Made<'a>, Memory>
+fn make_leaf<'a>(heap: &mut Heap, leaf: Leaf) -> Result<MadeLiteral<'a>, Memory>
     requires { leaves.IsSound leaf }
     ensures made { (parts : ℕ) → IfOk result (IsMade parts (leaf_in leaf.entry) heap.old heap.new) }
     ensures grows { Grows heap.old heap.new }
 {
     match leaf {
-        Leaf::Mismatch => Ok(Made::Mismatch),
-        Leaf::OutOfRange => Ok(Made::OutOfRange),
-        Leaf::Small(value) => Ok(Made::Small(value)),
-        Leaf::Bytes(bytes) => Ok(Made::Whole(add_text(heap, bytes)?)),
-        Leaf::Double(bits) => Ok(Made::Whole(heap.add_double(bits)?)),
-        Leaf::Custom(c) => Ok(Made::Whole(heap.add_custom(c)?)),
+        Leaf::Mismatch => Ok(MadeLiteral::Mismatch),
+        Leaf::OutOfRange => Ok(MadeLiteral::OutOfRange),
+        Leaf::Small(value) => Ok(MadeLiteral::Small(value)),
+        Leaf::Bytes(bytes) => Ok(MadeLiteral::Whole(add_text(heap, bytes)?)),
+        Leaf::Double(bits) => Ok(MadeLiteral::Whole(heap.add_double(bits)?)),
+        Leaf::Custom(c) => Ok(MadeLiteral::Whole(heap.add_custom(c)?)),
     }
 }
 
@@ -191,16 +195,16 @@ fn make_block<'a>(
     opening: Opening<'a>,
     parts: usize,
     t: usize,
-) -> Result<Made<'a>, Memory>
+) -> Result<MadeLiteral<'a>, Memory>
     requires { openings.IsSound opening }
     ensures made { IfOk result (IsMade parts (opening_in t opening.entry) heap.old heap.new) }
     ensures grows { Grows heap.old heap.new }
 {
     let Opening::Block(tag, hash, types) = opening else {
-        return Ok(Made::Mismatch);
+        return Ok(MadeLiteral::Mismatch);
     };
     let block = add_parts(heap, tag, hash, parts)?;
-    Ok(Made::Block(Opened {
+    Ok(MadeLiteral::Block(Opened {
         block,
         field: prefix_len(hash),
         part: 0,
@@ -212,14 +216,19 @@ fn make_block<'a>(
 
 /// Makes a literal of `parts` parts from its start at a type.
 #[inline(always)]
-fn make<'a>(heap: &mut Heap, start: Start<'a>, parts: usize, t: usize) -> Result<Made<'a>, Memory>
+fn make<'a>(
+    heap: &mut Heap,
+    start: Start<'a>,
+    parts: usize,
+    t: usize,
+) -> Result<MadeLiteral<'a>, Memory>
     requires { started.IsSound start }
     ensures made { IfOk result (IsMade parts (start_in t start.entry) heap.old heap.new) }
     ensures grows { Grows heap.old heap.new }
 {
     match start {
         Start::Leaf(leaf) => make_leaf(heap, leaf),
-        Start::Doubles(all) => Ok(Made::Whole(add_doubles(heap, all)?)),
+        Start::Doubles(all) => Ok(MadeLiteral::Whole(add_doubles(heap, all)?)),
         Start::Opening(opening) => make_block(heap, opening, parts, t),
     }
 }
@@ -228,12 +237,12 @@ fn make<'a>(heap: &mut Heap, start: Start<'a>, parts: usize, t: usize) -> Result
 /// made.
 #[inline(always)]
 fn placed<'a>(
-    text: &Text,
+    text: &LiteralText,
     labels: &mut Vec<u64>,
-    node: &Node,
+    node: &LiteralNode,
     t: usize,
-    made: Made<'a>,
-) -> Result<Begun<'a>, LiteralFault>
+    made: MadeLiteral<'a>,
+) -> Result<PartStart<'a>, LiteralFault>
     requires { node.now.first < 2 ^ 63 }
     ensures { (k : ℕ) (l : Option ℕ) (p : Plain) (graph new : List Obj)
         → node.now ≡ own_node k (labelled l p) → is_next labels.old.items l ≡ true
@@ -244,28 +253,28 @@ fn placed<'a>(
         → Begins text.now k (labelled l p) t graph new labels.old.items labels.new.items result }
 {
     match made {
-        Made::Mismatch => Err(LiteralFault::Mismatch(
+        MadeLiteral::Mismatch => Err(LiteralFault::Mismatch(
             byte_of(text.lexemes, text.end, plain_first(node)),
             t,
         )),
-        Made::OutOfRange => Err(LiteralFault::IntRange(byte_of(
+        MadeLiteral::OutOfRange => Err(LiteralFault::IntRange(byte_of(
             text.lexemes,
             text.end,
             plain_first(node),
         ))),
-        Made::Small(_) if node.label.is_some() => Err(LiteralFault::Label(byte_of(
+        MadeLiteral::Small(_) if node.label.is_some() => Err(LiteralFault::Label(byte_of(
             text.lexemes,
             text.end,
             node.first,
         ))),
-        Made::Small(value) => Ok(Begun { value, inner: None }),
-        Made::Whole(o) => {
+        MadeLiteral::Small(value) => Ok(PartStart { value, inner: None }),
+        MadeLiteral::Whole(o) => {
             let value = reference(labels, node.label, o)?;
-            Ok(Begun { value, inner: None })
+            Ok(PartStart { value, inner: None })
         }
-        Made::Block(opened) => {
+        MadeLiteral::Block(opened) => {
             let value = reference(labels, node.label, opened.block)?;
-            Ok(Begun {
+            Ok(PartStart {
                 value,
                 inner: Some(opened),
             })
@@ -278,13 +287,13 @@ fn placed<'a>(
 #[inline(always)]
 fn make_plain<'a>(
     alloc: Global,
-    text: &Text<'a>,
+    text: &LiteralText<'a>,
     heap: &mut Heap,
     j: usize,
-    node: Node,
+    node: LiteralNode,
     kind: &LexemeKind,
     t: usize,
-) -> Result<Made<'a>, Memory>
+) -> Result<MadeLiteral<'a>, Memory>
     requires text { IsText text.now }
     requires node { j < length text.now.nodes.now }
     ensures made { (k : ℕ) (l : Option ℕ) (p : Plain)
@@ -308,12 +317,12 @@ fn make_plain<'a>(
 #[inline(always)]
 pub fn begin<'a>(
     alloc: Global,
-    text: &Text<'a>,
+    text: &LiteralText<'a>,
     heap: &mut Heap,
     labels: &mut Vec<u64>,
     j: usize,
     t: usize,
-) -> Result<Begun<'a>, LiteralFault>
+) -> Result<PartStart<'a>, LiteralFault>
     requires text { IsText text.now }
     requires part { HasPart text.now j }
     ensures begins { (k : ℕ) (v : Literal) → Stands text.now.nodes.now text.now.lexemes.now j k v
@@ -322,7 +331,7 @@ pub fn begin<'a>(
     ensures grows { Grows heap.old heap.new }
 {
     let node = text.nodes.get(j);
-    if let Form::Again = node.form {
+    if let NodeForm::Again = node.form {
         return again(text, labels, &node);
     }
     if !has_next_number(labels, node.label) {

@@ -6,10 +6,10 @@ ghost use Rattle.text_literal.specs.parser.Reading.{Refusal};
 ghost use Rattle.text_literal.specs.parser.Underway.{IsText, MayRefuse, IsUnderway, CanGoOn};
 ghost use Rattle.text_literal.specs.parser.Underway.{Finishes};
 
+use crate::parser::block_stack::{BlockStack, Opened};
 use crate::parser::fault::LiteralFault;
+use crate::parser::literal_text::LiteralText;
 use crate::parser::part::begin;
-use crate::parser::stack::{Opened, Stack};
-use crate::parser::text::Text;
 use marshal_heap::heap::Heap;
 use std::alloc::Global;
 
@@ -17,10 +17,10 @@ use std::alloc::Global;
 #[inline(always)]
 fn read_part<'a>(
     alloc: Global,
-    text: &Text<'a>,
+    text: &LiteralText<'a>,
     heap: &mut Heap,
     labels: &mut Vec<u64>,
-    stack: &mut Stack<'a>,
+    stack: &mut BlockStack<'a>,
     block: Opened<'a>,
     j: usize,
 ) -> Result<usize, LiteralFault>
@@ -54,7 +54,7 @@ fn read_part<'a>(
 /// Reads the parts of a block, beginning at node 1, with everything inside them.
 pub fn read_parts<'a>(
     alloc: Global,
-    text: &Text<'a>,
+    text: &LiteralText<'a>,
     heap: &mut Heap,
     labels: &mut Vec<u64>,
     block: Opened<'a>,
@@ -65,7 +65,7 @@ pub fn read_parts<'a>(
         → IsUnderway text.now old outcome (block.entry ∷ []) 1 heap.old labels.old.items
         → Finishes text.now old outcome heap.new result }
 {
-    let mut stack = Stack::new(alloc);
+    let mut stack = BlockStack::new(alloc);
     stack.push(block)?;
     let mut j = 1;
     'part: while let Some(block) = stack.pop() {

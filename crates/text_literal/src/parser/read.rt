@@ -10,12 +10,12 @@ ghost use Rattle.text_literal.specs.declared.parser.fault.LiteralFault.{LiteralF
 ghost use Rattle.text_literal.specs.parser.LiteralAnswers.{IsAnswer, IsAnswered, Gives};
 ghost use Rattle.text_literal.specs.parser.Underway.{IsText, ReadsTree, Reads};
 
-use crate::grammar::{Nodes, Placed, TreeFault, read_literal_tree};
+use crate::grammar::{LiteralNodes, PlacedNodes, TreeFault, read_literal_tree};
 use crate::parser::fault::LiteralFault;
+use crate::parser::literal_text::{LiteralText, byte_of};
 use crate::parser::part::begin;
 use crate::parser::parts::read_parts;
 use crate::parser::siblings::subtree_ends;
-use crate::parser::text::{Text, byte_of};
 use base_data::model::value::Val;
 use marshal_heap::heap::Heap;
 use std::alloc::Global;
@@ -28,7 +28,12 @@ use types_table::type_table::TypeTable;
 const BYTES_A_WORD: u64 = 3;
 
 /// Reads the literal of a text at a type. After a fault, new objects may remain in the heap.
-fn read_tree(alloc: Global, text: &Text, heap: &mut Heap, at: usize) -> Result<Val, LiteralFault>
+fn read_tree(
+    alloc: Global,
+    text: &LiteralText,
+    heap: &mut Heap,
+    at: usize,
+) -> Result<Val, LiteralFault>
     requires text { IsText text.now }
     requires tree { IsTreeOf text.now.lexemes.now text.now.nodes.now }
     ensures { ReadsTree text.now at heap.old heap.new result }
@@ -52,7 +57,7 @@ fn read_nodes(
     table: &TypeTable,
     at: usize,
     lexemes: &Lexemes,
-    tree: &Nodes,
+    tree: &LiteralNodes,
     end: usize,
 ) -> Result<Val, LiteralFault>
     requires tree { IsTreeOf lexemes.now tree.now }
@@ -60,7 +65,7 @@ fn read_nodes(
 {
     let _few = lexemes.len();
     let ends = subtree_ends(alloc, tree)?;
-    let text = Text {
+    let text = LiteralText {
         table,
         lexemes,
         nodes: tree,
@@ -77,7 +82,7 @@ fn read_in_room(
     table: &TypeTable,
     at: usize,
     lexemes: &Lexemes,
-    tree: &Nodes,
+    tree: &LiteralNodes,
     end: usize,
 ) -> Result<Val, LiteralFault>
     requires tree { IsTreeOf lexemes.now tree.now }
@@ -148,7 +153,7 @@ pub fn read_placed(
     table: &TypeTable,
     at: usize,
     text: &[u8],
-    placed: &Placed,
+    placed: &PlacedNodes,
 ) -> Result<Val, LiteralFault>
     requires placed { IsPlaced text.now placed.now.positions.items placed.now.tree }
 

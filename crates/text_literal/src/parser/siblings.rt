@@ -3,7 +3,7 @@
 ghost use Rattle.std.specs.Prelude.{◌≡◌, length, IfOk};
 ghost use Rattle.text_literal.specs.parser.Ends as specs;
 
-use crate::grammar::Nodes;
+use crate::grammar::LiteralNodes;
 use base_data::model::Memory;
 use std::alloc::Global;
 
@@ -25,7 +25,7 @@ pub(crate) fn sibling(ends: &[u32], from: usize, many: usize) -> usize
 
 /// Returns, for each node, the index of the node after its last part. Returns `Memory` if an index
 /// does not fit into 32 bits.
-pub(crate) fn subtree_ends(alloc: Global, nodes: &Nodes) -> Result<Vec<u32>, Memory>
+pub(crate) fn subtree_ends(alloc: Global, nodes: &LiteralNodes) -> Result<Vec<u32>, Memory>
     ensures len { IfOk result (λ ends. length ends.items ≡ length nodes.now) }
     ensures ends { IfOk result (λ ends. specs.AreEnds nodes.now ends.items) }
 {

@@ -20,15 +20,15 @@ ghost use Rattle.text_literal.specs.parser.Starts as starts;
 ghost use Rattle.text_literal.specs.parser.Started.{start_in, IsSound};
 ghost use Rattle.text_literal.specs.parser.Underway.{IsText};
 
-use crate::grammar::{Form, Node};
+use crate::grammar::{LiteralNode, NodeForm};
 use crate::parser::doubles::doubles_of_parts;
 use crate::parser::fields::field_names;
 use crate::parser::leaf::{Leaf, leaf_of};
+use crate::parser::literal_text::LiteralText;
 use crate::parser::opening::{
     Opening, applied_opening, array_opening, inline_opening, record_opening, tuple_opening,
 };
 use crate::parser::rows::same_names;
-use crate::parser::text::Text;
 use base_data::model::Memory;
 use std::alloc::Global;
 use types_lex::lexeme::{LexemeKind, Symbol};
@@ -45,7 +45,7 @@ pub enum Start<'a> {
 }
 
 /// Reads the parts of the literal at node `j` as doubles in one object.
-fn doubles_at<'a>(alloc: Global, text: &Text<'a>, j: usize) -> Result<Start<'a>, Memory>
+fn doubles_at<'a>(alloc: Global, text: &LiteralText<'a>, j: usize) -> Result<Start<'a>, Memory>
     requires { j < length text.now.nodes.now }
     ensures array { (t k : ℕ) (l : Option ℕ) (ps : Parts) (v : Literal)
         → Stands text.now.nodes.now text.now.lexemes.now j k (labelled l (array ps v))
@@ -66,7 +66,7 @@ fn doubles_at<'a>(alloc: Global, text: &Text<'a>, j: usize) -> Result<Start<'a>,
 /// Reads the beginning of an array literal.
 fn array_start<'a>(
     alloc: Global,
-    text: &Text<'a>,
+    text: &LiteralText<'a>,
     j: usize,
     shape: &'a ShapeOf<usize>,
 ) -> Result<Start<'a>, Memory>
@@ -92,7 +92,12 @@ fn is_flat(names: &Names, wanted: &[&[u8]], many: u64, parts: usize) -> bool
 }
 
 /// Reads the fields of a flat float record, if they match the record.
-fn flat_start<'a>(alloc: Global, text: &Text<'a>, j: usize, fits: bool) -> Result<Start<'a>, Memory>
+fn flat_start<'a>(
+    alloc: Global,
+    text: &LiteralText<'a>,
+    j: usize,
+    fits: bool,
+) -> Result<Start<'a>, Memory>
     requires { j < length text.now.nodes.now }
     ensures fits { (t k : ℕ) (l : Option ℕ) (rs : Rows) (x : Name) (v : Literal)
         → Stands text.now.nodes.now text.now.lexemes.now j k (labelled l (fields None rs x v))
@@ -111,7 +116,7 @@ fn flat_start<'a>(alloc: Global, text: &Text<'a>, j: usize, fits: bool) -> Resul
 /// Reads the beginning of fields without a constructor.
 fn record_start<'a>(
     alloc: Global,
-    text: &Text<'a>,
+    text: &LiteralText<'a>,
     j: usize,
     shape: &'a ShapeOf<usize>,
     names: &Names,
@@ -139,7 +144,7 @@ fn record_start<'a>(
 /// Reads the beginning of fields. The first lexeme says if there is a constructor.
 fn fields_start<'a>(
     alloc: Global,
-    text: &Text<'a>,
+    text: &LiteralText<'a>,
     j: usize,
     shape: &'a ShapeOf<usize>,
     names: &Names,
@@ -169,9 +174,9 @@ fn fields_start<'a>(
 #[inline(always)]
 fn opening_start<'a>(
     alloc: Global,
-    text: &Text<'a>,
+    text: &LiteralText<'a>,
     j: usize,
-    node: Node,
+    node: LiteralNode,
     shape: &'a ShapeOf<usize>,
     names: &Names,
     kind: &LexemeKind,
@@ -186,10 +191,10 @@ fn opening_start<'a>(
     ensures sound { IfOk result IsSound }
 {
     match node.form {
-        Form::Tuple => Ok(Start::Opening(tuple_opening(shape, names, node.parts))),
-        Form::Named => Ok(Start::Opening(applied_opening(shape, names, kind, node.parts))),
-        Form::Array => array_start(alloc, text, j, shape),
-        Form::Fields => fields_start(alloc, text, j, shape, names, kind, node.parts),
+        NodeForm::Tuple => Ok(Start::Opening(tuple_opening(shape, names, node.parts))),
+        NodeForm::Named => Ok(Start::Opening(applied_opening(shape, names, kind, node.parts))),
+        NodeForm::Array => array_start(alloc, text, j, shape),
+        NodeForm::Fields => fields_start(alloc, text, j, shape, names, kind, node.parts),
         _ => Ok(Start::Leaf(Leaf::Mismatch)),
     }
 }
@@ -220,9 +225,9 @@ pub fn leaf_at<'k>(table: &TypeTable, kind: &'k LexemeKind, t: usize) -> Leaf<'k
 #[inline(always)]
 pub fn start_of<'a>(
     alloc: Global,
-    text: &Text<'a>,
+    text: &LiteralText<'a>,
     j: usize,
-    node: Node,
+    node: LiteralNode,
     kind: &LexemeKind,
     t: usize,
 ) -> Result<Start<'a>, Memory>

@@ -10,9 +10,9 @@ use Rattle.base_data.specs.declared.model.value.Obj.{Obj}
 use Rattle.types_table.specs.declared.type_table.tabled.Tabled.{Tabled}
 use Rattle.text_print.specs.show.Chunks.{Chunk, First, has, firsts, agains, labelled, number_in, label_text, chunk_text}
 use Rattle.text_print.proofs.show.ChunkLemmas.{agains-append, firsts-append}
-use Rattle.text_print.specs.declared.print.walk.Step.{Step}
-use Rattle.text_print.specs.declared.print.walk.Step.TheVariants as steps
-use Rattle.text_print.specs.declared.print.walk.Walk.{Walk}
+use Rattle.text_print.specs.declared.print.print_walk.PrintStep.{PrintStep}
+use Rattle.text_print.specs.declared.print.print_walk.PrintStep.TheVariants as steps
+use Rattle.text_print.specs.declared.print.print_walk.PrintWalk.{PrintWalk}
 use Rattle.text_print.specs.print.Labels.{IsBetween, AreNumbers, agains_of, marks_after, IsMarkable, AreCounted}
 use Rattle.text_print.specs.print.Levels.{levels_of}
 use Rattle.text_print.specs.print.Walking.{chunks_left, left_of, step_chunks, IsStep, Goes}
@@ -88,7 +88,7 @@ append_associative (x ∷ xs) ys zs = ap (λ vs. x ∷ vs) (append_associative x
 module _ (table : Tabled) (graph : List Obj) where
   -- ---- steps
 
-  pub some_chunk : (step : Step) → 1 ≤ length (step_chunks table graph step)
+  pub some_chunk : (step : PrintStep) → 1 ≤ length (step_chunks table graph step)
   some_chunk (steps.Integer z t) = omega arith
   some_chunk steps.Empty = omega arith
   some_chunk steps.Wildcard = omega arith
@@ -98,11 +98,11 @@ module _ (table : Tabled) (graph : List Obj) where
   some_chunk (steps.Before frame i) = omega arith
   some_chunk (steps.Closing end) = omega arith
 
-  pub fewer_left : (left : List Chunk) (order : List ℕ) (step : Step) (new : Walk) → Goes table graph left order step new → length (chunks_left table graph new) < length left
+  pub fewer_left : (left : List Chunk) (order : List ℕ) (step : PrintStep) (new : PrintWalk) → Goes table graph left order step new → length (chunks_left table graph new) < length left
   fewer_left left order step new goes =
       omega (arith, ap length goes.chunks, length-append (step_chunks table graph step) (chunks_left table graph new), some_chunk step)
 
-  pub markable : (n : ℕ) (step : Step) → n ≡ length graph → IsStep table graph step → IsMarkable n step
+  pub markable : (n : ℕ) (step : PrintStep) → n ≡ length graph → IsStep table graph step → IsMarkable n step
   markable n (steps.Integer z t) many is = tt
   markable n steps.Empty many is = tt
   markable n steps.Wildcard many is = tt
@@ -112,7 +112,7 @@ module _ (table : Tabled) (graph : List Obj) where
   markable n (steps.Before frame i) many is = tt
   markable n (steps.Closing end) many is = tt
 
-  pub step_agains : (step : Step) → agains (step_chunks table graph step) ≡ agains_of step
+  pub step_agains : (step : PrintStep) → agains (step_chunks table graph step) ≡ agains_of step
   step_agains (steps.Integer z t) = refl
   step_agains steps.Empty = refl
   step_agains steps.Wildcard = refl
@@ -122,7 +122,7 @@ module _ (table : Tabled) (graph : List Obj) where
   step_agains (steps.Before frame i) = refl
   step_agains (steps.Closing end) = refl
 
-  marks_more : (step : Step) (marks : List Bool) (x : ℕ) → IsMarkable (length marks) step → get_or (marks_after step marks) x false ≡ (has (agains_of step) x || get_or marks x false)
+  marks_more : (step : PrintStep) (marks : List Bool) (x : ℕ) → IsMarkable (length marks) step → get_or (marks_after step marks) x false ≡ (has (agains_of step) x || get_or marks x false)
   marks_more (steps.Integer z t) marks x inside = refl
   marks_more steps.Empty marks x inside = refl
   marks_more steps.Wildcard marks x inside = refl
@@ -135,7 +135,7 @@ module _ (table : Tabled) (graph : List Obj) where
   marks_more (steps.Before frame i) marks x inside = refl
   marks_more (steps.Closing end) marks x inside = refl
 
-  marks_length : (step : Step) (marks : List Bool) → length (marks_after step marks) ≡ length marks
+  marks_length : (step : PrintStep) (marks : List Bool) → length (marks_after step marks) ≡ length marks
   marks_length (steps.Integer z t) marks = refl
   marks_length steps.Empty marks = refl
   marks_length steps.Wildcard marks = refl
@@ -147,7 +147,7 @@ module _ (table : Tabled) (graph : List Obj) where
 
   -- ---- the objects that occur again
 
-  pub counted_more : (all : List Chunk) (walk new : Walk) (again : List Bool) (step : Step) → AreCounted table graph all walk again → Goes table graph (chunks_left table graph walk) walk.order step new
+  pub counted_more : (all : List Chunk) (walk new : PrintWalk) (again : List Bool) (step : PrintStep) → AreCounted table graph all walk again → Goes table graph (chunks_left table graph walk) walk.order step new
       → AreCounted table graph all new (marks_after step again)
   counted_more all walk new again step are goes =
       let now = step_chunks table graph step in
@@ -169,18 +169,18 @@ module _ (table : Tabled) (graph : List Obj) where
 
   -- ---- at the start
 
-  pub first_left : (walk : Walk) (v : Val) (t : ℕ) → walk.value ≡ Some (v, t) → walk.stack.items ≡ [] → walk.ends.items ≡ [] → walk.order ≡ []
+  pub first_left : (walk : PrintWalk) (v : Val) (t : ℕ) → walk.value ≡ Some (v, t) → walk.stack.items ≡ [] → walk.ends.items ≡ [] → walk.order ≡ []
       → chunks_left table graph walk ≡ left_of table graph [] (Some (v, t)) []
   first_left walk v t value blocks ends order =
       ap (λ ls. left_of table graph ls walk.value walk.order) (no_levels walk blocks ends) ∙ ap (λ x. left_of table graph [] x walk.order) value
       ∙ ap (λ os. left_of table graph [] (Some (v, t)) os) order
 
   -- If no value comes next, then the remaining chunks are those of the levels.
-  pub none_next : (walk : Walk) → walk.value ≡ None → left_of table graph (levels_of walk) None walk.order ≡ chunks_left table graph walk
+  pub none_next : (walk : PrintWalk) → walk.value ≡ None → left_of table graph (levels_of walk) None walk.order ≡ chunks_left table graph walk
   none_next walk none = ap (λ value. left_of table graph (levels_of walk) value walk.order) (sym none)
 
   -- At the end, the marked objects are those with labels.
-  pub counted_all : (all : List Chunk) (walk : Walk) (again : List Bool) (order : List ℕ) → AreCounted table graph all walk again → chunks_left table graph walk ≡ [] → order ≡ walk.order
+  pub counted_all : (all : List Chunk) (walk : PrintWalk) (again : List Bool) (order : List ℕ) → AreCounted table graph all walk again → chunks_left table graph walk ≡ [] → order ≡ walk.order
       → filter (λ o. get_or again o false) order ≡ labelled all
   counted_all all walk again order are none is =
       let first : firsts all ≡ order = are.met_first ∙ ap (λ ps. walk.order ++ firsts ps) none ∙ append-nil walk.order ∙ sym is in

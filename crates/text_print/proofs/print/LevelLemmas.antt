@@ -3,7 +3,7 @@ use Rattle.std.proofs.Common.{ℕ, suc, ◌≡◌, ◌+◌, ◌<◌, ◌≤◌, 
 use Rattle.std.specs.Prelude.{option_to_list}
 use Rattle.std.proofs.lemmas.List.{length-append, map_push, take_all, drop_all, take-append-le, drop-append-le}
 use Rattle.text_print.specs.declared.print.block.OpenBlock.{OpenBlock}
-use Rattle.text_print.specs.declared.print.walk.Walk.{Walk}
+use Rattle.text_print.specs.declared.print.print_walk.PrintWalk.{PrintWalk}
 use Rattle.text_print.proofs.print.MarkLemmas.{last_split}
 use Rattle.text_print.specs.print.Levels.{Level, Open, Ended, levels_from, levels_of, last_outside, AreNested, with_next, blocks_after, level_after}
 
@@ -56,21 +56,21 @@ level_opened p (b ∷ blocks) block ends all =
 
 -- ---- the levels of a walk
 
-pub same_levels : (walk new : Walk) → new.stack.items ≡ walk.stack.items → new.ends.items ≡ walk.ends.items → levels_of new ≡ levels_of walk
+pub same_levels : (walk new : PrintWalk) → new.stack.items ≡ walk.stack.items → new.ends.items ≡ walk.ends.items → levels_of new ≡ levels_of walk
 same_levels walk new blocks ends = ap (λ (bs : List OpenBlock). levels_from 0 bs new.ends.items) blocks ∙ ap (levels_from 0 walk.stack.items) ends
 
-pub same_nested : (walk new : Walk) → new.stack.items ≡ walk.stack.items → new.ends.items ≡ walk.ends.items → AreNested 0 walk.stack.items (length walk.ends.items) → AreNested 0 new.stack.items (length new.ends.items)
+pub same_nested : (walk new : PrintWalk) → new.stack.items ≡ walk.stack.items → new.ends.items ≡ walk.ends.items → AreNested 0 walk.stack.items (length walk.ends.items) → AreNested 0 new.stack.items (length new.ends.items)
 same_nested walk new blocks ends nested =
     subst (λ (bs : List OpenBlock). AreNested 0 bs (length new.ends.items)) (sym blocks) (subst (λ (es : List ℕ). AreNested 0 walk.stack.items (length es)) (sym ends) nested)
 
-pub no_levels : (walk : Walk) → walk.stack.items ≡ [] → walk.ends.items ≡ [] → levels_of walk ≡ []
+pub no_levels : (walk : PrintWalk) → walk.stack.items ≡ [] → walk.ends.items ≡ [] → levels_of walk ≡ []
 no_levels walk blocks ends = ap (λ (bs : List OpenBlock). levels_from 0 bs walk.ends.items) blocks ∙ ap (levels_from 0 []) ends
 
-pub no_nested : (walk : Walk) → walk.stack.items ≡ [] → AreNested 0 walk.stack.items (length walk.ends.items)
+pub no_nested : (walk : PrintWalk) → walk.stack.items ≡ [] → AreNested 0 walk.stack.items (length walk.ends.items)
 no_nested walk blocks = subst (λ (bs : List OpenBlock). AreNested 0 bs (length walk.ends.items)) (sym blocks) (omega arith)
 
 -- The innermost level is an end.
-pub end_level : (walk new : Walk) (end : ℕ) → AreNested 0 walk.stack.items (length walk.ends.items) → last_outside 0 walk.stack.items < length walk.ends.items
+pub end_level : (walk new : PrintWalk) (end : ℕ) → AreNested 0 walk.stack.items (length walk.ends.items) → last_outside 0 walk.stack.items < length walk.ends.items
     → new.stack.items ≡ walk.stack.items → walk.ends.items ≡ new.ends.items ++ end ∷ []
     → (levels_of walk ≡ levels_of new ++ Ended end ∷ []) × AreNested 0 new.stack.items (length new.ends.items)
 end_level walk new end nested some blocks ends =
@@ -82,13 +82,13 @@ end_level walk new end nested some blocks ends =
     )
 
 -- The innermost level is a block.
-pub record IsInnermost (walk : Walk) (outer : List OpenBlock) (block : OpenBlock) : Type 0 where
+pub record IsInnermost (walk : PrintWalk) (outer : List OpenBlock) (block : OpenBlock) : Type 0 where
   pub blocks : walk.stack.items ≡ outer ++ block ∷ []
   pub outside : block.outside ≡ length walk.ends.items
   pub level : levels_of walk ≡ levels_from 0 outer walk.ends.items ++ Open block ∷ []
   pub outer_nested : AreNested 0 outer (length walk.ends.items)
 
-pub innermost_is : (walk : Walk) (outer : List OpenBlock) (block : OpenBlock) → AreNested 0 walk.stack.items (length walk.ends.items) → length walk.ends.items ≤ last_outside 0 walk.stack.items
+pub innermost_is : (walk : PrintWalk) (outer : List OpenBlock) (block : OpenBlock) → AreNested 0 walk.stack.items (length walk.ends.items) → length walk.ends.items ≤ last_outside 0 walk.stack.items
     → walk.stack.items ≡ outer ++ block ∷ [] → IsInnermost walk outer block
 innermost_is walk outer block nested none blocks =
     let last : last_outside 0 walk.stack.items ≡ block.outside = ap (last_outside 0) blocks ∙ outside_last 0 outer block in
@@ -102,14 +102,14 @@ innermost_is walk outer block nested none blocks =
     }
 
 -- If no end is inside of the last block, then this block is the innermost level.
-pub innermost_at : (walk : Walk) (last : ℕ) (block : OpenBlock) → AreNested 0 walk.stack.items (length walk.ends.items) → length walk.ends.items ≤ last_outside 0 walk.stack.items
+pub innermost_at : (walk : PrintWalk) (last : ℕ) (block : OpenBlock) → AreNested 0 walk.stack.items (length walk.ends.items) → length walk.ends.items ≤ last_outside 0 walk.stack.items
     → length walk.stack.items ≡ suc last → block ≡ get_or walk.stack.items last block → IsInnermost walk (take last walk.stack.items) block
 innermost_at walk last block nested none many is =
     innermost_is walk (take last walk.stack.items) block nested none
     (last_split walk.stack.items last block many ∙ ap (λ (b : OpenBlock). take last walk.stack.items ++ b ∷ []) (sym is))
 
 -- The levels after that block was closed.
-pub closed_levels : (walk new : Walk) (outer : List OpenBlock) (block : OpenBlock) → IsInnermost walk outer block → new.stack.items ≡ outer → new.ends.items ≡ walk.ends.items
+pub closed_levels : (walk new : PrintWalk) (outer : List OpenBlock) (block : OpenBlock) → IsInnermost walk outer block → new.stack.items ≡ outer → new.ends.items ≡ walk.ends.items
     → (levels_of walk ≡ levels_of new ++ Open block ∷ []) × AreNested 0 new.stack.items (length new.ends.items)
 closed_levels walk new outer block inner blocks ends = (
   inner.level ∙ ap (λ (es : List ℕ). levels_from 0 outer es ++ Open block ∷ []) (sym ends) ∙ ap (λ (bs : List OpenBlock). levels_from 0 bs new.ends.items ++ Open block ∷ []) (sym blocks),
@@ -117,7 +117,7 @@ closed_levels walk new outer block inner blocks ends = (
 )
 
 -- The levels after its next part has begun.
-pub passed_levels : (walk new : Walk) (outer : List OpenBlock) (block : OpenBlock) (next : ℕ) (end : Option ℕ) → IsInnermost walk outer block
+pub passed_levels : (walk new : PrintWalk) (outer : List OpenBlock) (block : OpenBlock) (next : ℕ) (end : Option ℕ) → IsInnermost walk outer block
     → new.stack.items ≡ blocks_after outer (with_next block next) end → new.ends.items ≡ walk.ends.items ++ option_to_list end
     → (levels_of new ≡ levels_from 0 outer walk.ends.items ++ level_after (with_next block next) end ∷ []) × AreNested 0 new.stack.items (length new.ends.items)
 passed_levels walk new outer block next None inner blocks ends =

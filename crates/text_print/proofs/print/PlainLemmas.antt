@@ -14,8 +14,8 @@ use Rattle.text_print.specs.show.Shown.{chunks_of}
 use Rattle.text_print.specs.show.Tables.{shape_in, names_in}
 use Rattle.text_print.proofs.show.ChunkLemmas.{agains-append, firsts-append}
 use Rattle.text_print.specs.print.Typed.{IsTypedAt}
-use Rattle.text_print.specs.declared.print.walk.Step.{Step}
-use Rattle.text_print.specs.declared.print.walk.Walk.{Walk}
+use Rattle.text_print.specs.declared.print.print_walk.PrintStep.{PrintStep}
+use Rattle.text_print.specs.declared.print.print_walk.PrintWalk.{PrintWalk}
 use Rattle.text_print.specs.print.Labels.{agains_of, AreCounted}
 use Rattle.text_print.specs.print.Walking.{chunks_left, left_of, step_chunks, IsWalk, Goes}
 use Rattle.text_print.specs.print.Plain.{IsWrittenOn}
@@ -41,7 +41,7 @@ pub no_labels : (chunks : List Chunk) → agains chunks ≡ [] → labelled chun
 no_labels chunks none = ap (λ all. filter (has all) (firsts chunks)) none ∙ none_has (firsts chunks)
 
 module _ (table : Tabled) (graph : List Obj) where
-  pub write_goes : (left : List Chunk) (met_before old text : List ℕ) (step : Step) (new : Walk) → Goes table graph left met_before step new → agains_of step ≡ [] → text ≡ old ++ flat_map (chunk_text []) (step_chunks table graph step)
+  pub write_goes : (left : List Chunk) (met_before old text : List ℕ) (step : PrintStep) (new : PrintWalk) → Goes table graph left met_before step new → agains_of step ≡ [] → text ≡ old ++ flat_map (chunk_text []) (step_chunks table graph step)
       → IsWrittenOn table graph left met_before old text new
   write_goes left met_before old text step new goes fresh write = record {
     now = step_chunks table graph step;
@@ -52,7 +52,7 @@ module _ (table : Tabled) (graph : List Obj) where
     walk = goes.walk;
   }
 
-  pub write_then : (left : List Chunk) (met_before old text all : List ℕ) (between new : Walk) → IsWrittenOn table graph left met_before old text between
+  pub write_then : (left : List Chunk) (met_before old text all : List ℕ) (between new : PrintWalk) → IsWrittenOn table graph left met_before old text between
       → IsWrittenOn table graph (chunks_left table graph between) between.order text all new → IsWrittenOn table graph left met_before old all new
   write_then left met_before old text all between new first then = record {
     now = first.now ++ then.now;
@@ -65,7 +65,7 @@ module _ (table : Tabled) (graph : List Obj) where
   }
 
   -- Nothing was appended.
-  pub write_none : (walk : Walk) (text : List ℕ) → IsWalk table graph walk → IsWrittenOn table graph (chunks_left table graph walk) walk.order text text walk
+  pub write_none : (walk : PrintWalk) (text : List ℕ) → IsWalk table graph walk → IsWrittenOn table graph (chunks_left table graph walk) walk.order text text walk
   write_none walk text is = record {
     now = [];
     chunks = refl;
@@ -76,13 +76,13 @@ module _ (table : Tabled) (graph : List Obj) where
   }
 
   -- The same state except for the next value.
-  pub record IsSame (walk new : Walk) : Type 0 where
+  pub record IsSame (walk new : PrintWalk) : Type 0 where
     pub blocks : new.stack.items ≡ walk.stack.items
     pub ends : new.ends.items ≡ walk.ends.items
     pub marks : new.marks.items ≡ walk.marks.items
     pub order : new.order ≡ walk.order
 
-  pub same_walk : (walk new : Walk) → IsWalk table graph walk → IsSame walk new → IfSome new.value (λ next. IsValue (length graph) next.0 × IsTypedAt (table_of table) graph next.0 next.1) → IsWalk table graph new
+  pub same_walk : (walk new : PrintWalk) → IsWalk table graph walk → IsSame walk new → IfSome new.value (λ next. IsValue (length graph) next.0 × IsTypedAt (table_of table) graph next.0 next.1) → IsWalk table graph new
   same_walk walk new is same value = record {
     is_graph = is.is_graph;
     value = value;
@@ -96,7 +96,7 @@ module _ (table : Tabled) (graph : List Obj) where
   }
 
   -- A step and further ones leave fewer chunks.
-  pub fewer_written : (left : List Chunk) (met_before order text all : List ℕ) (step : Step) (between new : Walk) → Goes table graph left met_before step between
+  pub fewer_written : (left : List Chunk) (met_before order text all : List ℕ) (step : PrintStep) (between new : PrintWalk) → Goes table graph left met_before step between
       → IsWrittenOn table graph (chunks_left table graph between) order text all new → length (chunks_left table graph new) < length left
   fewer_written left met_before order text all step between new goes then =
       omega (
@@ -109,7 +109,7 @@ module _ (table : Tabled) (graph : List Obj) where
       )
 
   -- The visited chunks and the remaining ones are all chunks, and no object occurred again.
-  pub counted_written : (walk new : Walk) (v : Val) (t : ℕ) (again : List Bool) (old text : List ℕ) → walk.value ≡ Some (v, t) → walk.stack.items ≡ [] → walk.ends.items ≡ [] → walk.order ≡ [] → again ≡ replicate (length graph) false
+  pub counted_written : (walk new : PrintWalk) (v : Val) (t : ℕ) (again : List Bool) (old text : List ℕ) → walk.value ≡ Some (v, t) → walk.stack.items ≡ [] → walk.ends.items ≡ [] → walk.order ≡ [] → again ≡ replicate (length graph) false
       → IsWrittenOn table graph (chunks_left table graph walk) walk.order old text new → AreCounted table graph (left_of table graph [] (Some (v, t)) []) new again
   counted_written walk new v t again old text value blocks ends order marks write =
       let left = first_left table graph walk v t value blocks ends order in
@@ -128,12 +128,12 @@ module _ (table : Tabled) (graph : List Obj) where
   -- ---- comparison
 
   -- The text begins with the bytes printed so far.
-  pub record IsKnown (v : Val) (t : ℕ) (text rest : List ℕ) (walk : Walk) : Type 0 where
+  pub record IsKnown (v : Val) (t : ℕ) (text rest : List ℕ) (walk : PrintWalk) : Type 0 where
     pub prefix : List ℕ
     pub split : text ≡ prefix ++ rest
     pub write : IsWrittenOn table graph (left_of table graph [] (Some (v, t)) []) [] [] prefix walk
 
-  pub known_start : (walk : Walk) (v : Val) (t : ℕ) (text : List ℕ) → IsWalk table graph walk → walk.value ≡ Some (v, t) → walk.stack.items ≡ [] → walk.ends.items ≡ [] → walk.order ≡ [] → IsKnown v t text text walk
+  pub known_start : (walk : PrintWalk) (v : Val) (t : ℕ) (text : List ℕ) → IsWalk table graph walk → walk.value ≡ Some (v, t) → walk.stack.items ≡ [] → walk.ends.items ≡ [] → walk.order ≡ [] → IsKnown v t text text walk
   known_start walk v t text is value blocks ends order = record {
     prefix = [];
     split = refl;
@@ -147,7 +147,7 @@ module _ (table : Tabled) (graph : List Obj) where
     };
   }
 
-  pub known_more : (walk new : Walk) (v : Val) (t : ℕ) (text rest more old few : List ℕ) → IsKnown v t text rest walk → old ≡ [] → IsWrittenOn table graph (chunks_left table graph walk) walk.order old few new
+  pub known_more : (walk new : PrintWalk) (v : Val) (t : ℕ) (text rest more old few : List ℕ) → IsKnown v t text rest walk → old ≡ [] → IsWrittenOn table graph (chunks_left table graph walk) walk.order old few new
       → rest ≡ few ++ more → IsKnown v t text more new
   known_more walk new v t text rest more old few known none write follows =
       let whole : few ≡ flat_map (chunk_text []) write.now = write.write ∙ ap (λ (bs : List ℕ). bs ++ flat_map (chunk_text []) write.now) none in
@@ -158,7 +158,7 @@ module _ (table : Tabled) (graph : List Obj) where
         write = write_then (left_of table graph [] (Some (v, t)) []) [] [] known.prefix (known.prefix ++ few) walk new known.write next;
       }
 
-  pub known_whole : (walk : Walk) (v : Val) (t : ℕ) (text rest : List ℕ) → IsKnown v t text rest walk → chunks_left table graph walk ≡ [] → rest ≡ [] → text_of (chunks_of (shape_in table) (names_in table) graph v t) ≡ text
+  pub known_whole : (walk : PrintWalk) (v : Val) (t : ℕ) (text rest : List ℕ) → IsKnown v t text rest walk → chunks_left table graph walk ≡ [] → rest ≡ [] → text_of (chunks_of (shape_in table) (names_in table) graph v t) ≡ text
   known_whole walk v t text rest known none nothing =
       let chunks = chunks_of (shape_in table) (names_in table) graph v t in
       let now = known.write.now in
@@ -171,7 +171,7 @@ module _ (table : Tabled) (graph : List Obj) where
       ∙ sym known.split
 
   -- If nothing is left, then the whole text was appended.
-  pub whole_written : (walk new : Walk) (old text : List ℕ) (all chunks : List Chunk) → all ≡ chunks → chunks_left table graph walk ≡ all → chunks_left table graph new ≡ []
+  pub whole_written : (walk new : PrintWalk) (old text : List ℕ) (all chunks : List Chunk) → all ≡ chunks → chunks_left table graph walk ≡ all → chunks_left table graph new ≡ []
       → IsWrittenOn table graph (chunks_left table graph walk) walk.order old text new → text ≡ old ++ text_of chunks
   whole_written walk new old text all chunks are start none write =
       let whole : chunks ≡ write.now = sym are ∙ sym start ∙ write.chunks ∙ ap (λ ps. write.now ++ ps) none ∙ append-nil write.now in

@@ -25,9 +25,9 @@ use Rattle.text_print.specs.show.Shown.{Met, met, led_by, asked_met, object_met,
 use Rattle.text_print.specs.show.Tables.{shape_in, names_in}
 use Rattle.text_print.specs.print.Typed.{IsTypedAt}
 use Rattle.text_print.specs.declared.print.block.OpenBlock.{OpenBlock}
-use Rattle.text_print.specs.declared.print.walk.Step.{Step}
-use Rattle.text_print.specs.declared.print.walk.Step.TheVariants as steps
-use Rattle.text_print.specs.declared.print.walk.Walk.{Walk}
+use Rattle.text_print.specs.declared.print.print_walk.PrintStep.{PrintStep}
+use Rattle.text_print.specs.declared.print.print_walk.PrintStep.TheVariants as steps
+use Rattle.text_print.specs.declared.print.print_walk.PrintWalk.{PrintWalk}
 use Rattle.text_print.specs.print.Levels.{Level, Open, Ended, end_text, levels_from, levels_of, last_outside, AreNested, IsLastEnd, with_next, blocks_after, level_after}
 use Rattle.text_print.specs.print.Walking.{how_many, meet, parts_left, left_of, step_chunks, IsStep, IsPart, IsOpen, IsBegun, IsWalk, Goes}
 use Rattle.text_print.proofs.print.LevelLemmas.{level_opened, nested_push, same_levels, same_nested, no_levels, no_nested, end_level, IsInnermost, closed_levels, passed_levels}
@@ -40,11 +40,11 @@ field_word_at graph words i valid inside = All-contains (IsFieldWord graph) word
 
 module _ (table : Tabled) (graph : List Obj) where
   -- The blocks of all levels were visited, so there are at most as many levels as objects.
-  pub few_levels : (walk : Walk) → IsWalk table graph walk → length (levels_of walk) ≤ length graph
+  pub few_levels : (walk : PrintWalk) → IsWalk table graph walk → length (levels_of walk) ≤ length graph
   few_levels walk is = omega (arith, is.depth, is.counted, is.many, how_many_within walk.marks.items)
 
   -- The step of a value that opens no block.
-  pub value_goes : (walk new : Walk) (v : Val) (t : ℕ) (step : Step) → IsWalk table graph walk → levels_of new ≡ levels_of walk → new.value ≡ None
+  pub value_goes : (walk new : PrintWalk) (v : Val) (t : ℕ) (step : PrintStep) → IsWalk table graph walk → levels_of new ≡ levels_of walk → new.value ≡ None
       → meet table graph (suc (length graph - length (levels_of walk))) (reverse walk.order) v t ≡ led_by (step_chunks table graph step) (met [] (reverse new.order))
       → new.order ≡ walk.order ++ firsts (step_chunks table graph step) → IsStep table graph step → IsWalk table graph new
       → Goes table graph (left_of table graph (levels_of walk) (Some (v, t)) walk.order) walk.order step new
@@ -62,7 +62,7 @@ module _ (table : Tabled) (graph : List Obj) where
   pub meet_wildcard : (k : ℕ) (seen : List ℕ) (v : Val) (t : ℕ) → is_asked (shape_in table t) ≡ false → meet table graph (suc k) seen v t ≡ met (Text wildcard_text ∷ []) seen
   meet_wildcard k seen v t wildcard = ap (λ b. cond b (asked_met (shape_in table) (names_in table) graph (meet table graph k) seen v t) (met (Text wildcard_text ∷ []) seen)) wildcard
 
-  pub wildcard_goes : (walk : Walk) (v : Val) (t : ℕ) → IsWalk table graph walk → walk.value ≡ None → is_asked (shape_in table t) ≡ false
+  pub wildcard_goes : (walk : PrintWalk) (v : Val) (t : ℕ) → IsWalk table graph walk → walk.value ≡ None → is_asked (shape_in table t) ≡ false
       → Goes table graph (left_of table graph (levels_of walk) (Some (v, t)) walk.order) walk.order steps.Wildcard walk
   wildcard_goes walk v t is none wildcard =
       value_goes walk walk v t steps.Wildcard is refl none (meet_wildcard (length graph - length (levels_of walk)) (reverse walk.order) v t wildcard) (sym (append-nil walk.order)) tt is
@@ -73,7 +73,7 @@ module _ (table : Tabled) (graph : List Obj) where
 
   -- ---- values that are not objects, and objects that occur again
 
-  pub integer_goes : (walk : Walk) (v : Val) (z : ℤ) (t : ℕ) → v ≡ vals.Int z → IsWalk table graph walk → walk.value ≡ None → IsTypedAt (table_of table) graph v t → IsTrue (is_asked (shape_in table t))
+  pub integer_goes : (walk : PrintWalk) (v : Val) (z : ℤ) (t : ℕ) → v ≡ vals.Int z → IsWalk table graph walk → walk.value ≡ None → IsTypedAt (table_of table) graph v t → IsTrue (is_asked (shape_in table t))
       → Goes table graph (left_of table graph (levels_of walk) (Some (v, t)) walk.order) walk.order (steps.Integer z t) walk
   integer_goes walk v z t v_is is none typed asked =
       let meets : meet table graph (suc (length graph - length (levels_of walk))) (reverse walk.order) v t ≡ met (Text (int_text (shape_in table t) (names_in table t) z) ∷ []) (reverse walk.order) =
@@ -82,7 +82,7 @@ module _ (table : Tabled) (graph : List Obj) where
       value_goes walk walk v t (steps.Integer z t) is refl none meets (sym (append-nil walk.order))
       (typed.number, integer_fits (table_of table) graph z t (subst (λ x. IsTypedAt (table_of table) graph x t) v_is typed)) is
 
-  pub atom_goes : (walk : Walk) (v : Val) (tag t : ℕ) → v ≡ vals.Atom tag → IsWalk table graph walk → walk.value ≡ None → IsTrue (is_asked (shape_in table t))
+  pub atom_goes : (walk : PrintWalk) (v : Val) (tag t : ℕ) → v ≡ vals.Atom tag → IsWalk table graph walk → walk.value ≡ None → IsTrue (is_asked (shape_in table t))
       → Goes table graph (left_of table graph (levels_of walk) (Some (v, t)) walk.order) walk.order steps.Empty walk
   atom_goes walk v tag t v_is is none asked =
       let meets : meet table graph (suc (length graph - length (levels_of walk))) (reverse walk.order) v t ≡ met (Text (codes "[||]") ∷ []) (reverse walk.order) =
@@ -100,7 +100,7 @@ module _ (table : Tabled) (graph : List Obj) where
   pub met_unmarked : (k : ℕ) (seen : List ℕ) (o t : ℕ) → IsTrue (is_asked (shape_in table t)) → has seen o ≡ false → meet table graph (suc k) seen (vals.Ref o) t ≡ first_met k seen o t
   met_unmarked k seen o t asked unmarked = meet_asked k seen (vals.Ref o) t asked ∙ ap (λ b. cond b (met (Again o ∷ []) seen) (first_met k seen o t)) unmarked
 
-  pub again_goes : (walk : Walk) (v : Val) (o t : ℕ) → v ≡ vals.Ref o → IsWalk table graph walk → walk.value ≡ None → o < length graph → get_or walk.marks.items o false ≡ true → IsTrue (is_asked (shape_in table t))
+  pub again_goes : (walk : PrintWalk) (v : Val) (o t : ℕ) → v ≡ vals.Ref o → IsWalk table graph walk → walk.value ≡ None → o < length graph → get_or walk.marks.items o false ≡ true → IsTrue (is_asked (shape_in table t))
       → Goes table graph (left_of table graph (levels_of walk) (Some (v, t)) walk.order) walk.order (steps.Again o) walk
   again_goes walk v o t v_is is none inside marked asked =
       let k = length graph - length (levels_of walk) in
@@ -111,14 +111,14 @@ module _ (table : Tabled) (graph : List Obj) where
 
   -- ---- first visits of objects
 
-  pub record IsMarked (walk new : Walk) (o : ℕ) : Type 0 where
+  pub record IsMarked (walk new : PrintWalk) (o : ℕ) : Type 0 where
     pub value : new.value ≡ None
     pub blocks : new.stack.items ≡ walk.stack.items
     pub ends : new.ends.items ≡ walk.ends.items
     pub marks : new.marks.items ≡ set walk.marks.items o true
     pub order : new.order ≡ walk.order ++ o ∷ []
 
-  pub marked_walk : (walk new : Walk) (o : ℕ) → IsWalk table graph walk → o < length graph → get_or walk.marks.items o false ≡ false → IsMarked walk new o → IsWalk table graph new
+  pub marked_walk : (walk new : PrintWalk) (o : ℕ) → IsWalk table graph walk → o < length graph → get_or walk.marks.items o false ≡ false → IsMarked walk new o → IsWalk table graph new
   marked_walk walk new o is inside unmet marked =
       let there : o < length walk.marks.items = omega (arith, is.many) in
       let one_more : length (walk.order ++ o ∷ []) ≡ suc (length walk.order) = omega (arith, length-append walk.order (o ∷ [])) in record {
@@ -153,7 +153,7 @@ module _ (table : Tabled) (graph : List Obj) where
       ∙ ap (object_met (shape_in table) (names_in table) graph (meet table graph k) (o ∷ seen) o t) (object_there o inside)
       ∙ leaf_met (meet table graph k) (o ∷ seen) o t (object_at graph o) no_block
 
-  pub leaf_goes : (walk new : Walk) (o t : ℕ) → IsWalk table graph walk → o < length graph → t < length table.nodes → get_or walk.marks.items o false ≡ false → IsMarked walk new o
+  pub leaf_goes : (walk new : PrintWalk) (o t : ℕ) → IsWalk table graph walk → o < length graph → t < length table.nodes → get_or walk.marks.items o false ≡ false → IsMarked walk new o
       → ((tag : ℕ) (values : List Val) → object_at graph o ≡ objects.Block tag values → ⊥) → IsTrue (is_asked (shape_in table t))
       → Goes table graph (left_of table graph (levels_of walk) (Some (vals.Ref o, t)) walk.order) walk.order (steps.Leaf o t) new
   leaf_goes walk new o t is inside number unmet marked no_block asked =
@@ -179,7 +179,7 @@ module _ (table : Tabled) (graph : List Obj) where
       ∙ ap (λ x. P (frame_in block.frame) block.object x needs) (sym begun.next)
       ∙ ap (P (frame_in block.frame) block.object block.next) (sym begun.needs)
 
-  pub opening_goes : (walk marked new : Walk) (block : OpenBlock) (o t tag : ℕ) → IsWalk table graph walk → o < length graph → get_or walk.marks.items o false ≡ false → IsMarked walk marked o
+  pub opening_goes : (walk marked new : PrintWalk) (block : OpenBlock) (o t tag : ℕ) → IsWalk table graph walk → o < length graph → get_or walk.marks.items o false ≡ false → IsMarked walk marked o
       → object_at graph o ≡ objects.Block tag (fields_of (object_at graph o)) → IsBegun table graph o t tag (length marked.ends.items) block
       → new.value ≡ None → new.marks.items ≡ marked.marks.items → new.order ≡ marked.order → new.stack.items ≡ marked.stack.items ++ block ∷ [] → new.ends.items ≡ marked.ends.items → IsTrue (is_asked (shape_in table t))
       → Goes table graph (left_of table graph (levels_of walk) (Some (vals.Ref o, t)) walk.order) walk.order (steps.Opening o block.frame) new
@@ -219,7 +219,7 @@ module _ (table : Tabled) (graph : List Obj) where
   -- ---- steps without a next value
 
   -- A level whose end alone was left is removed.
-  pub record IsClosed (walk new : Walk) (level : Level) (end : ℕ) : Type 0 where
+  pub record IsClosed (walk new : PrintWalk) (level : Level) (end : ℕ) : Type 0 where
     pub value : new.value ≡ None
     pub levels : levels_of walk ≡ levels_of new ++ level ∷ []
     pub is_at : IsAt table graph level end
@@ -228,10 +228,10 @@ module _ (table : Tabled) (graph : List Obj) where
     pub marks : new.marks.items ≡ walk.marks.items
     pub order : new.order ≡ walk.order
 
-  one_less : (walk : Walk) (outer : List Level) (level : Level) → IsWalk table graph walk → levels_of walk ≡ outer ++ level ∷ [] → length outer < length graph
+  one_less : (walk : PrintWalk) (outer : List Level) (level : Level) → IsWalk table graph walk → levels_of walk ≡ outer ++ level ∷ [] → length outer < length graph
   one_less walk outer level is levels = omega (arith, few_levels walk is, ap length levels, length-append outer (level ∷ []))
 
-  pub closing_goes : (walk new : Walk) (level : Level) (end : ℕ) → IsWalk table graph walk → IsClosed walk new level end
+  pub closing_goes : (walk new : PrintWalk) (level : Level) (end : ℕ) → IsWalk table graph walk → IsClosed walk new level end
       → Goes table graph (left_of table graph (levels_of walk) None walk.order) walk.order (steps.Closing end) new
   closing_goes walk new level end is closed =
       let outer = levels_of new in
@@ -257,7 +257,7 @@ module _ (table : Tabled) (graph : List Obj) where
       }
 
   -- The end at the innermost level.
-  pub end_goes : (walk new : Walk) (end : ℕ) → IsWalk table graph walk → last_outside 0 walk.stack.items < length walk.ends.items → new.value ≡ None → new.stack.items ≡ walk.stack.items
+  pub end_goes : (walk new : PrintWalk) (end : ℕ) → IsWalk table graph walk → last_outside 0 walk.stack.items < length walk.ends.items → new.value ≡ None → new.stack.items ≡ walk.stack.items
       → walk.ends.items ≡ new.ends.items ++ end ∷ [] → new.marks.items ≡ walk.marks.items → new.order ≡ walk.order
       → Goes table graph (left_of table graph (levels_of walk) None walk.order) walk.order (steps.Closing end) new
   end_goes walk new end is some value blocks ends marks order =
@@ -272,11 +272,11 @@ module _ (table : Tabled) (graph : List Obj) where
         order = order;
       })
 
-  pub block_open : (walk : Walk) (outer : List OpenBlock) (block : OpenBlock) → IsWalk table graph walk → walk.stack.items ≡ outer ++ block ∷ [] → All (IsOpen table graph) outer × IsOpen table graph block
+  pub block_open : (walk : PrintWalk) (outer : List OpenBlock) (block : OpenBlock) → IsWalk table graph walk → walk.stack.items ≡ outer ++ block ∷ [] → All (IsOpen table graph) outer × IsOpen table graph block
   block_open walk outer block is blocks = All-pop (IsOpen table graph) walk.stack.items outer (Some block) blocks is.blocks
 
   -- The end of the innermost block, which has no remaining part.
-  pub block_goes : (walk new : Walk) (outer : List OpenBlock) (block : OpenBlock) (end : ℕ) → IsWalk table graph walk → IsInnermost walk outer block → length (needs_in block.needs) ≤ block.next
+  pub block_goes : (walk new : PrintWalk) (outer : List OpenBlock) (block : OpenBlock) (end : ℕ) → IsWalk table graph walk → IsInnermost walk outer block → length (needs_in block.needs) ≤ block.next
       → end_text end ≡ (frame_in block.frame).closing → new.value ≡ None → new.stack.items ≡ outer → new.ends.items ≡ walk.ends.items → new.marks.items ≡ walk.marks.items → new.order ≡ walk.order
       → Goes table graph (left_of table graph (levels_of walk) None walk.order) walk.order (steps.Closing end) new
   block_goes walk new outer block end is inner past closing value blocks ends marks order =
@@ -352,7 +352,7 @@ module _ (table : Tabled) (graph : List Obj) where
   words_many block is = ap length is.words ∙ length-map (fields_of (object_at graph block.object)) (word_of graph)
 
   -- The next part of the innermost block comes next.
-  pub record IsAdvanced (walk new : Walk) (outer : List OpenBlock) (block : OpenBlock) (i t : ℕ) (v : Val) (end : Option ℕ) : Type 0 where
+  pub record IsAdvanced (walk new : PrintWalk) (outer : List OpenBlock) (block : OpenBlock) (i t : ℕ) (v : Val) (end : Option ℕ) : Type 0 where
     pub value : new.value ≡ Some (v, t)
     pub blocks : new.stack.items ≡ blocks_after outer (with_next block (block.next + 1)) end
     pub ends : new.ends.items ≡ walk.ends.items ++ option_to_list end
@@ -369,7 +369,7 @@ module _ (table : Tabled) (graph : List Obj) where
   open_after outer block next None all is = All-push (IsOpen table graph) outer (with_next block next) all (still_open block next is)
   open_after outer block next (Some end) all is = all
 
-  pub part_goes : (walk new : Walk) (outer : List OpenBlock) (block : OpenBlock) (i t : ℕ) (v : Val) (end : Option ℕ) → IsWalk table graph walk → IsInnermost walk outer block → IsValue (length graph) v
+  pub part_goes : (walk new : PrintWalk) (outer : List OpenBlock) (block : OpenBlock) (i t : ℕ) (v : Val) (end : Option ℕ) → IsWalk table graph walk → IsInnermost walk outer block → IsValue (length graph) v
       → IsAdvanced walk new outer block i t v end
       → Goes table graph (left_of table graph (levels_of walk) None walk.order) walk.order (steps.Before block.frame block.next) new
   part_goes walk new outer block i t v end is inner value advanced =
@@ -401,7 +401,7 @@ module _ (table : Tabled) (graph : List Obj) where
 
   -- ---- the first step
 
-  pub first_walk : (walk : Walk) (v : Val) (t : ℕ) → walk.value ≡ Some (v, t) → walk.stack.items ≡ [] → walk.ends.items ≡ [] → walk.marks.items ≡ replicate (length graph) false → walk.order ≡ []
+  pub first_walk : (walk : PrintWalk) (v : Val) (t : ℕ) → walk.value ≡ Some (v, t) → walk.stack.items ≡ [] → walk.ends.items ≡ [] → walk.marks.items ≡ replicate (length graph) false → walk.order ≡ []
       → IsGraph graph → IsValue (length graph) v → IsTypedAt (table_of table) graph v t → IsWalk table graph walk
   first_walk walk v t value blocks ends marks order is_graph is_value typed = record {
     is_graph = is_graph;

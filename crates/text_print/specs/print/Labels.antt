@@ -5,10 +5,10 @@ use Rattle.base_data.specs.declared.model.value.Obj.{Obj}
 use Rattle.types_table.specs.declared.type_table.tabled.Tabled.{Tabled}
 use Rattle.text_print.specs.show.Chunks.{Chunk, has, firsts, agains, number_in}
 use Rattle.text_print.specs.print.Walking.{IsWalk, chunks_left}
-use Rattle.text_print.specs.declared.print.walk.Step.{Step}
-use Rattle.text_print.specs.declared.print.walk.Step.TheVariants as steps
+use Rattle.text_print.specs.declared.print.print_walk.PrintStep.{PrintStep}
+use Rattle.text_print.specs.declared.print.print_walk.PrintStep.TheVariants as steps
 use Rattle.text_print.specs.declared.print.labels.Labels.{Labels}
-use Rattle.text_print.specs.declared.print.walk.Walk.{Walk}
+use Rattle.text_print.specs.declared.print.print_walk.PrintWalk.{PrintWalk}
 
 -- The number is in the range from `first` up to `end`, exclusive.
 abbrev pub IsBetween : ℕ → ℕ → ℕ → Type 0
@@ -25,22 +25,22 @@ abbrev pub AreLabels : Labels → Type 0
 AreLabels labels = AreNumbers labels.objects.items labels.first labels.numbers.items
 
 -- The objects that a step visits again.
-abbrev pub agains_of : Step → List ℕ
+abbrev pub agains_of : PrintStep → List ℕ
 agains_of (steps.Again o) = o ∷ []
 agains_of step = []
 
 -- The marks of the objects that occur again, after a step.
-abbrev pub marks_after : Step → List Bool → List Bool
+abbrev pub marks_after : PrintStep → List Bool → List Bool
 marks_after (steps.Again o) marks = slice_set marks o true
 marks_after step marks = marks
 
 -- There is a mark for the object.
-abbrev pub IsMarkable : ℕ → Step → Type 0
+abbrev pub IsMarkable : ℕ → PrintStep → Type 0
 IsMarkable n (steps.Again o) = o < n
 IsMarkable n step = Unit {0}
 
 -- The marks and visits so far, with those of the remaining chunks, are those of all chunks.
-pub record AreCounted (table : Tabled) (graph : List Obj) (all : List Chunk) (walk : Walk)
+pub record AreCounted (table : Tabled) (graph : List Obj) (all : List Chunk) (walk : PrintWalk)
     (again : List Bool) : Type 0 where
   pub is_walk : IsWalk table graph walk
   pub many : length again ≡ length graph

@@ -4,7 +4,7 @@ use Rattle.std.specs.Prelude.{take, drop, map, Option, Some, None, IfSome, optio
 use Rattle.check_heap.specs.fits.Needs.{needs_in}
 use Rattle.text_print.specs.leaves.FrameView.{frame_in}
 use Rattle.text_print.specs.declared.print.block.OpenBlock.{OpenBlock}
-use Rattle.text_print.specs.declared.print.walk.Walk.{Walk}
+use Rattle.text_print.specs.declared.print.print_walk.PrintWalk.{PrintWalk}
 
 -- ---- ends
 
@@ -35,7 +35,7 @@ levels_from passed (block ∷ blocks) ends =
     map Ended (drop passed (take block.outside ends))
     ++ Open block ∷ levels_from block.outside blocks ends
 
-abbrev pub levels_of : Walk → List Level
+abbrev pub levels_of : PrintWalk → List Level
 levels_of walk = levels_from 0 walk.stack.items walk.ends.items
 
 -- The number of ends outside of the innermost block.
@@ -74,7 +74,7 @@ level_after block (Some end) = Ended end
 
 -- The innermost block advances to its next part. If the part was its last one, only its end is
 -- kept.
-pub record IsPassed (old new : Walk) (next : ℕ) (end : Option ℕ) : Type 0 where
+pub record IsPassed (old new : PrintWalk) (next : ℕ) (end : Option ℕ) : Type 0 where
   pub value : new.value ≡ old.value
   pub marks : new.marks.items ≡ old.marks.items
   pub order : new.order ≡ old.order

@@ -5,13 +5,13 @@ use Rattle.types_table.specs.declared.type_table.tabled.Tabled.{Tabled}
 use Rattle.text_print.specs.leaves.FrameView.{frame_in}
 use Rattle.text_print.specs.show.Chunks.{Chunk, firsts, agains, chunk_text}
 use Rattle.text_print.specs.declared.print.block.OpenBlock.{OpenBlock}
-use Rattle.text_print.specs.declared.print.walk.Walk.{Walk}
+use Rattle.text_print.specs.declared.print.print_walk.PrintWalk.{PrintWalk}
 use Rattle.text_print.specs.print.Walking.{chunks_left, IsWalk, IsBegun}
 
 module _ (table : Tabled) (graph : List Obj) where
   -- The first of the remaining chunks were appended, and none of them visits an object again.
   pub record IsWrittenOn (left : List Chunk) (met_before old text : List ℕ)
-      (new : Walk) : Type 0 where
+      (new : PrintWalk) : Type 0 where
     pub now : List Chunk
     pub chunks : left ≡ now ++ chunks_left table graph new
     pub order : new.order ≡ met_before ++ firsts now

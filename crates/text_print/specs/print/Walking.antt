@@ -21,9 +21,9 @@ use Rattle.text_print.specs.show.Tables.{shape_in, names_in}
 use Rattle.text_print.specs.print.Levels.{Level, Open, Ended, end_text, levels_of, AreNested}
 use Rattle.text_print.specs.print.Typed.{IsTypedAt}
 use Rattle.text_print.specs.declared.print.block.OpenBlock.{OpenBlock}
-use Rattle.text_print.specs.declared.print.walk.Step.{Step}
-use Rattle.text_print.specs.declared.print.walk.Step.TheVariants as steps
-use Rattle.text_print.specs.declared.print.walk.Walk.{Walk}
+use Rattle.text_print.specs.declared.print.print_walk.PrintStep.{PrintStep}
+use Rattle.text_print.specs.declared.print.print_walk.PrintStep.TheVariants as steps
+use Rattle.text_print.specs.declared.print.print_walk.PrintWalk.{PrintWalk}
 
 -- ---- marks
 
@@ -80,12 +80,12 @@ module _ (table : Tabled) (graph : List Obj) where
       (after_inner (length graph + 1) levels
       (value_met (length graph + 1 - length levels) value (reverse order))).chunks
 
-  abbrev pub chunks_left : Walk → List Chunk
+  abbrev pub chunks_left : PrintWalk → List Chunk
   chunks_left walk = left_of (levels_of walk) walk.value walk.order
 
   -- ---- steps
 
-  abbrev pub step_chunks : Step → List Chunk
+  abbrev pub step_chunks : PrintStep → List Chunk
   step_chunks (steps.Integer z t) = Text (int_text (shape_in table t) (names_in table t) z) ∷ []
   step_chunks steps.Empty = Text (codes "[||]") ∷ []
   step_chunks steps.Wildcard = Text wildcard_text ∷ []
@@ -97,7 +97,7 @@ module _ (table : Tabled) (graph : List Obj) where
   step_chunks (steps.Closing end) = Text (end_text end) ∷ []
 
   -- The step refers to existing objects and types, and to integers that match their types.
-  abbrev pub IsStep : Step → Type 0
+  abbrev pub IsStep : PrintStep → Type 0
   IsStep (steps.Integer z t) = (t < length table.nodes) × IsTrue (fits_int (shape_in table t) z)
   IsStep (steps.Again o) = o < length graph
   IsStep (steps.Leaf o t) = (o < length graph) × (t < length table.nodes)
@@ -129,7 +129,7 @@ module _ (table : Tabled) (graph : List Obj) where
     pub outside : block.outside ≡ many
     pub is_open : IsOpen block
 
-  pub record IsWalk (walk : Walk) : Type 0 where
+  pub record IsWalk (walk : PrintWalk) : Type 0 where
     pub is_graph : IsGraph graph
     pub value : IfSome walk.value
         (λ next. IsValue (length graph) next.0 × IsTypedAt (table_of table) graph next.0 next.1)
@@ -142,13 +142,13 @@ module _ (table : Tabled) (graph : List Obj) where
     pub depth : length (levels_of walk) ≤ length walk.order
 
   -- A step takes its chunks from the remaining ones.
-  pub record Goes (left : List Chunk) (met_before : List ℕ) (step : Step) (new : Walk)
+  pub record Goes (left : List Chunk) (met_before : List ℕ) (step : PrintStep) (new : PrintWalk)
       : Type 0 where
     pub chunks : left ≡ step_chunks step ++ chunks_left new
     pub order : new.order ≡ met_before ++ firsts (step_chunks step)
     pub valid : IsStep step
     pub walk : IsWalk new
 
-  abbrev pub Gives : List Chunk → List ℕ → Walk → Option Step → Type 0
+  abbrev pub Gives : List Chunk → List ℕ → PrintWalk → Option PrintStep → Type 0
   Gives left met_before new None = (left ≡ []) × (new.order ≡ met_before)
   Gives left met_before new (Some step) = Goes left met_before step new

@@ -14,7 +14,7 @@ use base_data::model::Memory;
 use base_data::model::code::Custom;
 use base_data::model::value::Val;
 use itoa::Buffer;
-use marshal_heap::heap::{Kind, Placed};
+use marshal_heap::heap::{Kind, NumberedObject};
 
 /// Appends the line of the root.
 pub fn write_root_line(text: &mut Vec<u8>, root: Val) -> Result<(), Memory>
@@ -27,7 +27,7 @@ pub fn write_root_line(text: &mut Vec<u8>, root: Val) -> Result<(), Memory>
 
 /// Appends the line of an object.
 #[tactic(auto, using(crate::proofs::leaves::DumpLemmas::text_by_kind))]
-pub fn write_object_line(text: &mut Vec<u8>, placed: &Placed<'_>) -> Result<(), Memory>
+pub fn write_object_line(text: &mut Vec<u8>, placed: &NumberedObject<'_>) -> Result<(), Memory>
     ensures { OnOk result
         (text.new.items
         ≡ text.old.items
@@ -40,7 +40,7 @@ pub fn write_object_line(text: &mut Vec<u8>, placed: &Placed<'_>) -> Result<(), 
 }
 
 /// Appends the description of an object of this kind.
-fn write_object(text: &mut Vec<u8>, placed: &Placed<'_>, kind: Kind) -> Result<(), Memory>
+fn write_object(text: &mut Vec<u8>, placed: &NumberedObject<'_>, kind: Kind) -> Result<(), Memory>
     requires kind { IsOfKind kind (object_at placed.now.heap.now placed.now.object) }
     ensures { OnOk result
         (text.new.items
@@ -94,7 +94,7 @@ fn write_custom(text: &mut Vec<u8>, custom: Custom) -> Result<(), Memory>
     }
 }
 
-fn write_fields(text: &mut Vec<u8>, placed: &Placed<'_>, size: u64) -> Result<(), Memory>
+fn write_fields(text: &mut Vec<u8>, placed: &NumberedObject<'_>, size: u64) -> Result<(), Memory>
     requires size { size ≡ length (fields_of (object_at placed.now.heap.now placed.now.object)) }
     ensures { OnOk result
         (text.new.items
@@ -109,7 +109,7 @@ fn write_fields(text: &mut Vec<u8>, placed: &Placed<'_>, size: u64) -> Result<()
     Ok(())
 }
 
-fn write_doubles(text: &mut Vec<u8>, placed: &Placed<'_>, len: u64) -> Result<(), Memory>
+fn write_doubles(text: &mut Vec<u8>, placed: &NumberedObject<'_>, len: u64) -> Result<(), Memory>
     requires len { len ≡ length (doubles_of (object_at placed.now.heap.now placed.now.object)) }
     ensures { OnOk result
         (text.new.items

@@ -14,7 +14,7 @@ use crate::leaves::bytes::{write, write_few, write_name_reserved, write_reserved
 use base_data::model::Memory;
 use base_data::model::list::List;
 use base_data::model::value::Val;
-use marshal_heap::heap::{Kind, Placed};
+use marshal_heap::heap::{Kind, NumberedObject};
 use types_spec::types::names::{ConstrNames, Names, TagName};
 use types_spec::types::shape::ShapeOf;
 
@@ -167,7 +167,7 @@ fn write_field_name(text: &mut Vec<u8>, name: &[u8], i: u64) -> Result<(), Memor
 /// Returns the frame of an object that is a block with this tag.
 #[inline(always)]
 pub fn block_frame<'a>(
-    placed: &Placed<'_>,
+    placed: &NumberedObject<'_>,
     tag: u8,
     shape: &ShapeOf<usize>,
     names: &'a Names,
@@ -209,7 +209,7 @@ pub fn name_of_tag(tags: &[TagName], hash: i64) -> &[u8]
 }
 
 /// Returns the integer in field 0 of a block, or 0 if there is none.
-fn first_int(placed: &Placed<'_>) -> i64
+fn first_int(placed: &NumberedObject<'_>) -> i64
     ensures { result
         ≡ tag_of_values (fields_of (object_at placed.now.heap.now placed.now.object)) }
 {

@@ -5,7 +5,7 @@ ghost use Rattle.text_print.specs.show.Dumped.{dump_text};
 
 use crate::leaves::{write_object_line, write_root_line};
 use base_data::model::Memory;
-use marshal_heap::heap::{Placed, Rooted};
+use marshal_heap::heap::{NumberedObject, Rooted};
 
 /// Appends the lines of a graph, without a type.
 #[tactic(auto, unfolding(crate::specs::show::Dumped::dump_text))]
@@ -16,7 +16,7 @@ pub fn write_dump(text: &mut Vec<u8>, value: &Rooted<'_>) -> Result<(), Memory>
     let heap = value.heap;
     write_root_line(text, value.root)?;
     for o in 0..heap.count() {
-        write_object_line(text, &Placed { heap, object: o })?;
+        write_object_line(text, &NumberedObject { heap, object: o })?;
     }
     Ok(())
 }

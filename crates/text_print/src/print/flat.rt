@@ -15,11 +15,11 @@ use crate::leaves::{write_few, write_int_at};
 use crate::print::block::OpenBlock;
 use crate::print::ends::{end_of, write_end};
 use crate::print::plain::{word_at, write_leaf};
-use crate::print::walk::{open_block, value_at};
+use crate::print::print_walk::{open_block, value_at};
 use base_data::model::Memory;
 use base_data::model::value::Val;
 use check_heap::fits::is_asked;
-use marshal_heap::heap::{Heap, Kind, Placed, Rooted};
+use marshal_heap::heap::{Heap, Kind, NumberedObject, Rooted};
 use types_table::type_table::TypeTable;
 
 // The maximal number of parts of an object on the fast path.
@@ -51,7 +51,7 @@ pub fn write_flat(
         }
         Val::Atom(_) => Ok(false),
         Val::Ref(o) => {
-            let placed = Placed {
+            let placed = NumberedObject {
                 heap: value.heap,
                 object: o,
             };
@@ -65,7 +65,7 @@ pub fn write_flat(
 #[inline(always)]
 fn write_flat_object(
     text: &mut Vec<u8>,
-    placed: &Placed<'_>,
+    placed: &NumberedObject<'_>,
     table: &TypeTable,
     at: usize,
 ) -> Result<bool, Memory>

@@ -9,7 +9,7 @@ ghost use Rattle.text_print.specs.show.Shown.{shown_text};
 ghost use Rattle.text_print.specs.show.Tables.{shape_in, names_in};
 
 use crate::print::plain::write_some;
-use crate::print::walk::Walk;
+use crate::print::print_walk::PrintWalk;
 use base_data::model::Memory;
 use marshal_heap::heap::Rooted;
 use std::alloc::Global;
@@ -47,7 +47,7 @@ pub fn is_shown(
         ≡ text.now) }
 {
     let heap = value.heap;
-    let mut walk = Walk::new(alloc, value, table, at)?;
+    let mut walk = PrintWalk::new(alloc, value, table, at)?;
     let mut few = Vec::new(alloc);
     let mut rest = text;
     'chunk: for _ in 0..text.len() {

@@ -7,7 +7,7 @@ ghost use Rattle.text_print.specs.print.Labels.{AreNumbers, AreLabels, IsBetween
 ghost use Rattle.text_print.specs.print.Labels.{marks_after};
 
 use crate::leaves::write;
-use crate::print::walk::Step;
+use crate::print::print_walk::PrintStep;
 use base_data::model::Memory;
 use itoa::Buffer;
 use std::alloc::Global;
@@ -31,7 +31,7 @@ impl Labels {
         ensures objects { IfOk result (λ labels. labels.objects.items ≡ objects.items) }
         ensures labels { IfOk result AreLabels }
     {
-        let Span { first, end } = span_of(&objects, count);
+        let LabelSpan { first, end } = span_of(&objects, count);
         let numbers = number_objects(alloc, &objects, first, end)?;
         Ok(Labels {
             objects,
@@ -97,12 +97,12 @@ fn write_number(text: &mut Vec<u8>, n: u64) -> Result<(), Memory>
 
 /// Marks an object that occurs again.
 #[inline(always)]
-pub fn mark_again(again: &mut Vec<bool>, step: Step<'_>)
+pub fn mark_again(again: &mut Vec<bool>, step: PrintStep<'_>)
     requires { IsMarkable (vec_len again.old) step }
     ensures marks { again.new.items ≡ marks_after step.entry again.old.items }
     ensures len { vec_len again.new ≡ vec_len again.old }
 {
-    if let Step::Again(o) = step {
+    if let PrintStep::Again(o) = step {
         again[o as usize] = true;
     }
 }
@@ -123,13 +123,13 @@ pub fn objects_again(alloc: Global, order: &[u64], again: &[bool]) -> Result<Vec
 }
 
 // The numbers from `first` up to `end`, exclusive.
-struct Span {
+struct LabelSpan {
     first: u64,
     end: u64,
 }
 
 // Returns the range of these objects, which are below `count`.
-fn span_of(objects: &[u64], count: u64) -> Span
+fn span_of(objects: &[u64], count: u64) -> LabelSpan
     requires { All (λ o. o < count) objects.now }
     ensures { All (IsBetween result.first result.end) objects.now }
 {
@@ -139,7 +139,7 @@ fn span_of(objects: &[u64], count: u64) -> Span
         first = first.min(*o);
         end = end.max(*o + 1);
     }
-    Span { first, end }
+    LabelSpan { first, end }
 }
 
 // Returns for each object of the range its index among these objects, or their number if it is none

@@ -11,18 +11,18 @@ ghost use Rattle.text_print.specs.show.Tables.{shape_in, names_in};
 ghost use Rattle.types_table.specs.type_table.Made.{table_of};
 ghost use Rattle.text_print.specs.print.Levels.{levels_of, last_outside};
 ghost use Rattle.text_print.specs.print.Typed.{IsTypedAt};
-ghost use Rattle.text_print.specs.declared.print.walk.Step.TheVariants as steps;
+ghost use Rattle.text_print.specs.declared.print.print_walk.PrintStep.TheVariants as steps;
 ghost use Rattle.text_print.specs.print.Walking.{left_of, chunks_left, IsStep, IsWalk};
 ghost use Rattle.text_print.specs.print.Plain.{IsWrittenOn, IsOpened};
 
 use crate::leaves::{write_few, write_int_at, write_object_at};
 use crate::print::block::OpenBlock;
 use crate::print::ends::{end_of, write_end};
-use crate::print::walk::{Walk, open_block, value_at};
+use crate::print::print_walk::{PrintWalk, open_block, value_at};
 use base_data::model::Memory;
 use base_data::model::value::Val;
 use check_heap::fits::is_asked;
-use marshal_heap::heap::{Heap, Kind, Placed, Rooted};
+use marshal_heap::heap::{Heap, Kind, NumberedObject, Rooted};
 use types_table::type_table::TypeTable;
 
 /// Appends the text of the remaining values up to the first object that occurs again. Returns true
@@ -31,7 +31,7 @@ pub fn write_until_again<'a>(
     text: &mut Vec<u8>,
     heap: &'a Heap,
     table: &'a TypeTable,
-    walk: &mut Walk<'a>,
+    walk: &mut PrintWalk<'a>,
 ) -> Result<bool, Memory>
     requires walk { IsWalk table.now heap.now walk.old }
     ensures write { IfOk result
@@ -54,7 +54,7 @@ pub fn write_some<'a>(
     text: &mut Vec<u8>,
     heap: &'a Heap,
     table: &'a TypeTable,
-    walk: &mut Walk<'a>,
+    walk: &mut PrintWalk<'a>,
     few: usize,
 ) -> Result<bool, Memory>
     requires walk { IsWalk table.now heap.now walk.old }
@@ -77,7 +77,7 @@ fn write_next<'a>(
     text: &mut Vec<u8>,
     heap: &'a Heap,
     table: &'a TypeTable,
-    walk: &mut Walk<'a>,
+    walk: &mut PrintWalk<'a>,
 ) -> Result<bool, Memory>
     requires walk { IsWalk table.now heap.now walk.old }
     ensures none { IfOk result (λ fresh. fresh ≡ true → walk.new.value ≡ None) }
@@ -101,7 +101,7 @@ fn write_part<'a>(
     text: &mut Vec<u8>,
     heap: &'a Heap,
     table: &'a TypeTable,
-    walk: &mut Walk<'a>,
+    walk: &mut PrintWalk<'a>,
 ) -> Result<bool, Memory>
     requires walk { IsWalk table.now heap.now walk.old }
     requires none { walk.old.value ≡ None }
@@ -132,7 +132,7 @@ fn write_in<'a>(
     text: &mut Vec<u8>,
     heap: &'a Heap,
     table: &'a TypeTable,
-    walk: &mut Walk<'a>,
+    walk: &mut PrintWalk<'a>,
 ) -> Result<bool, Memory>
     requires walk { IsWalk table.now heap.now walk.old }
     requires none { walk.old.value ≡ None }
@@ -181,7 +181,7 @@ fn write_value<'a>(
     text: &mut Vec<u8>,
     value: &Rooted<'a>,
     table: &'a TypeTable,
-    walk: &mut Walk<'a>,
+    walk: &mut PrintWalk<'a>,
     word: u64,
     at: usize,
 ) -> Result<bool, Memory>
@@ -216,7 +216,7 @@ fn write_value<'a>(
                 walk.value = Some((v, at));
                 return Ok(false);
             }
-            let placed = Placed { heap, object: o };
+            let placed = NumberedObject { heap, object: o };
             write_object(text, &placed, table, walk, word, at)?;
             Ok(true)
         }
@@ -227,9 +227,9 @@ fn write_value<'a>(
 #[inline(always)]
 fn write_object<'a>(
     text: &mut Vec<u8>,
-    placed: &Placed<'a>,
+    placed: &NumberedObject<'a>,
     table: &'a TypeTable,
-    walk: &mut Walk<'a>,
+    walk: &mut PrintWalk<'a>,
     word: u64,
     at: usize,
 ) -> Result<(), Memory>
@@ -285,7 +285,7 @@ pub fn write_leaf(
 #[inline(never)]
 fn write_block<'a>(
     text: &mut Vec<u8>,
-    placed: &Placed<'a>,
+    placed: &NumberedObject<'a>,
     table: &'a TypeTable,
     stack: &mut Vec<OpenBlock<'a>>,
     word: u64,

@@ -18,7 +18,7 @@ use crate::print::ends::write_end;
 use crate::print::flat::write_flat;
 use crate::print::labels::{Labels, mark_again, objects_again, write_label};
 use crate::print::plain::{write_leaf, write_until_again};
-use crate::print::walk::{Step, Walk};
+use crate::print::print_walk::{PrintStep, PrintWalk};
 use base_data::model::Memory;
 use base_data::model::value::Val;
 use marshal_heap::heap::{Heap, Rooted};
@@ -75,7 +75,7 @@ fn write_without_labels(
         (λ objects. All (λ o. o < length value.now.heap.now) objects.items)) }
 {
     let heap = value.heap;
-    let mut walk = Walk::new(alloc, value, table, at)?;
+    let mut walk = PrintWalk::new(alloc, value, table, at)?;
     if write_until_again(text, heap, table, &mut walk)? {
         return Ok(None);
     }
@@ -108,7 +108,7 @@ fn write_with_labels(
         value.now.root at)) }
 {
     let heap = value.heap;
-    let mut walk = Walk::new(alloc, value, table, at)?;
+    let mut walk = PrintWalk::new(alloc, value, table, at)?;
     while let Some(step) = walk.next(heap, table)? {
         write_step(text, heap, table, labels, step)?;
     }
@@ -121,7 +121,7 @@ fn write_step(
     heap: &Heap,
     table: &TypeTable,
     labels: &Labels,
-    step: Step<'_>,
+    step: PrintStep<'_>,
 ) -> Result<(), Memory>
     requires step { IsStep table.now heap.now step }
     requires labels { AreLabels labels.now }
@@ -132,20 +132,20 @@ fn write_step(
         (step_chunks table.now heap.now step.entry)) }
 {
     match step {
-        Step::Again(o) => labels.write_again(text, o),
-        Step::Leaf(o, _) => {
+        PrintStep::Again(o) => labels.write_again(text, o),
+        PrintStep::Leaf(o, _) => {
             labels.write_first(text, o)?;
             write_plain(text, heap, table, step)
         }
-        Step::Opening(o, _) => {
+        PrintStep::Opening(o, _) => {
             labels.write_first(text, o)?;
             write_plain(text, heap, table, step)
         }
-        Step::Integer(_, _) => write_plain(text, heap, table, step),
-        Step::Empty => write_plain(text, heap, table, step),
-        Step::Wildcard => write_plain(text, heap, table, step),
-        Step::Before(_, _) => write_plain(text, heap, table, step),
-        Step::Closing(_) => write_plain(text, heap, table, step),
+        PrintStep::Integer(_, _) => write_plain(text, heap, table, step),
+        PrintStep::Empty => write_plain(text, heap, table, step),
+        PrintStep::Wildcard => write_plain(text, heap, table, step),
+        PrintStep::Before(_, _) => write_plain(text, heap, table, step),
+        PrintStep::Closing(_) => write_plain(text, heap, table, step),
     }
 }
 
@@ -155,7 +155,7 @@ fn write_plain(
     text: &mut Vec<u8>,
     heap: &Heap,
     table: &TypeTable,
-    step: Step<'_>,
+    step: PrintStep<'_>,
 ) -> Result<(), Memory>
     requires step { IsStep table.now heap.now step }
     ensures { OnOk result
@@ -164,13 +164,13 @@ fn write_plain(
         ++ flat_map (chunk_text []) (step_chunks table.now heap.now step.entry)) }
 {
     match step {
-        Step::Integer(z, at) => write_int_at(text, z, table.shape(at), table.names(at)),
-        Step::Empty => write(text, b"[||]"),
-        Step::Wildcard => write(text, b"_"),
-        Step::Again(_) => write_label(text, 0),
-        Step::Leaf(o, at) => write_leaf(text, heap, table, o, heap.word(Val::Ref(o)), at),
-        Step::Opening(_, frame) => frame.write_opening(text),
-        Step::Before(frame, i) => frame.write_before(text, i),
-        Step::Closing(end) => write_end(text, end),
+        PrintStep::Integer(z, at) => write_int_at(text, z, table.shape(at), table.names(at)),
+        PrintStep::Empty => write(text, b"[||]"),
+        PrintStep::Wildcard => write(text, b"_"),
+        PrintStep::Again(_) => write_label(text, 0),
+        PrintStep::Leaf(o, at) => write_leaf(text, heap, table, o, heap.word(Val::Ref(o)), at),
+        PrintStep::Opening(_, frame) => frame.write_opening(text),
+        PrintStep::Before(frame, i) => frame.write_before(text, i),
+        PrintStep::Closing(end) => write_end(text, end),
     }
 }

@@ -10,7 +10,7 @@ use Rattle.types_lex.proofs.PartLaws.{has_one_outcome, one_fault}
 use Rattle.text_literal.specs.parser.LiteralAnswers.{IsAnswer, IsAnswered}
 use Rattle.text_literal.specs.declared.parser.fault.LiteralFault.{LiteralFault}
 use Rattle.text_literal.specs.declared.parser.fault.LiteralFault.TheVariants as literal
-use Rattle.text_literal.specs.declared.grammar.node.Node.{Node}
+use Rattle.text_literal.specs.declared.grammar.literal_node.LiteralNode.{LiteralNode}
 use Rattle.text_literal.specs.grammar.Nodes.{IsTreeOf}
 use Rattle.text_literal.proofs.parser.AnswerLemmas.{one_answer}
 use Rattle.std.proofs.Common.{true, false, ◌++◌, length-append}
@@ -113,11 +113,11 @@ encoded_some (labelled (Some k) p) e = absurd cc
 some_lexemes : (table : Tabled) (line : List ℕ) (lexemes : List Lexeme) (answer : List Obj × Val) → IsAnswer table 0 lexemes (length line) [] (Ok answer) → lexemes ≢ []
 some_lexemes table line lexemes answer is none = encoded_some is.literal (is.encoded ∙ ap (λ (ls : List Lexeme). map (λ (l : Lexeme). l.kind) ls) none)
 
-tree_some : (lexemes : List Lexeme) (nodes : List Node) → IsTreeOf lexemes nodes → lexemes ≢ []
+tree_some : (lexemes : List Lexeme) (nodes : List LiteralNode) → IsTreeOf lexemes nodes → lexemes ≢ []
 tree_some lexemes nodes is none = encoded_some is.0 (is.1 ∙ ap (λ (ls : List Lexeme). map (λ (l : Lexeme). l.kind) ls) none)
 
 -- If there are no old objects, then a value or a fault of the lexemes is the answer of the line.
-module _ (table : Tabled) (line : List ℕ) (lexemes : List Lexeme) (nodes : List Node) (old new : List Obj) (empty : old ≡ []) (lexes : Lexes line lexemes) (tree : IsTreeOf lexemes nodes) where
+module _ (table : Tabled) (line : List ℕ) (lexemes : List Lexeme) (nodes : List LiteralNode) (old new : List Obj) (empty : old ≡ []) (lexes : Lexes line lexemes) (tree : IsTreeOf lexemes nodes) where
   refused : (fault : LiteralFault) → IsAnswer table 0 lexemes (length line) old (Err fault)
       → (xs : List Lexeme) × Lexes line xs × (xs ≢ []) × IsAnswer table 0 xs (length line) [] (Err fault)
   refused fault is = (lexemes, lexes, tree_some lexemes nodes tree, subst (λ (os : List Obj). IsAnswer table 0 lexemes (length line) os (Err fault)) empty is)

@@ -7,7 +7,7 @@ ghost use Rattle.text_roundtrip.specs.text.Text.{GivesAnswer, GivesBack, ReadsTe
 use base_data::model::value::Val;
 use marshal_heap::heap::Heap;
 use std::alloc::Global;
-use text_literal::grammar::{Placed, PlacedFault, read_placed_tree};
+use text_literal::grammar::{PlacedFault, PlacedNodes, read_placed_tree};
 use text_literal::parser::{LiteralFault, read_literal, read_placed};
 use types_lex::lexeme::LexFault;
 use types_lex::tokens;
@@ -62,7 +62,7 @@ fn read_nodes(
     heap: &mut Heap,
     table: &TypeTable,
     line: &[u8],
-    placed: &Placed,
+    placed: &PlacedNodes,
 ) -> Result<Option<Val>, TextFault>
     requires empty { heap.old ≡ [] }
     requires placed { IsPlaced line.now placed.now.positions.items placed.now.tree }

@@ -14,7 +14,7 @@ use Rattle.types_spec.specs.declared.types.shape.ShapeOf.{ShapeOf}
 use Rattle.types_spec.specs.types.Typing.{values_of}
 use Rattle.types_spec.specs.types.Fault.{type_of_field, step}
 use Rattle.types_spec.specs.types.Fitting.{shaped, object_fields, fields_of, or_none, is_asked, asked_of}
-use Rattle.trees.specs.declared.search_trees.node.Node.{Node}
+use Rattle.trees.specs.declared.search_trees.tree_node.TreeNode.{TreeNode}
 use Rattle.trees.specs.search_trees.TreeType.{IsTreeType, tree_shape}
 use Rattle.marshal_heap.specs.heap.Heap.{fields_of as block_fields}
 use Rattle.trees.specs.search_trees.Parts.{empty_value, node_of, node_at, number_in}
@@ -175,7 +175,7 @@ module _ {T : Type 0} (shape : T → ShapeOf T) (names : T → Names) (Equal : T
   left_step o u tree its asked =
       step_at o u 0 tree its (its.block.l, tree.left)
       (left_by shape tree.left tree.element tree.right tree.height its.block.l its.block.e its.block.d its.block.r its.block.h asked tree.kept)
-      ∙ ap (λ (n : Node). Some (n.left, tree.left)) (sym (node_is tree.kept o its))
+      ∙ ap (λ (n : TreeNode). Some (n.left, tree.left)) (sym (node_is tree.kept o its))
 
   pub right_step :
       (o : ℕ) (u : T) (tree : IsTreeType shape names Equal u) (its : IsNodeObject tree.kept graph o) → IsTrue (is_asked (shape tree.right))
@@ -183,7 +183,7 @@ module _ {T : Type 0} (shape : T → ShapeOf T) (names : T → Names) (Equal : T
   right_step o u tree its asked =
       step_at o u (position_of_right tree.kept) tree its (its.block.r, tree.right)
       (right_by shape tree.left tree.element tree.right tree.height its.block.l its.block.e its.block.d its.block.r its.block.h asked tree.kept)
-      ∙ ap (λ (n : Node). Some (n.right, tree.right)) (sym (node_is tree.kept o its))
+      ∙ ap (λ (n : TreeNode). Some (n.right, tree.right)) (sym (node_is tree.kept o its))
 
   -- ---- values
 

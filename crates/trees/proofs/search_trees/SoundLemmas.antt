@@ -19,8 +19,8 @@ use Rattle.types_spec.specs.types.Fault.{value_at}
 use Rattle.types_spec.specs.types.Fitting.{shaped}
 use Rattle.types_spec.proofs.types.FaultLemmas.{held_by_some, position_is_held}
 use Rattle.types_theory.proofs.typing.PathLemmas.{value_at-push}
-use Rattle.trees.specs.declared.search_trees.node.TreeKind.{TreeKind}
-use Rattle.trees.specs.declared.search_trees.node.TreeKind.TheVariants as kinds
+use Rattle.trees.specs.declared.search_trees.tree_node.TreeKind.{TreeKind}
+use Rattle.trees.specs.declared.search_trees.tree_node.TreeKind.TheVariants as kinds
 use Rattle.trees.specs.search_trees.TreeType.{IsTreeType}
 use Rattle.trees.specs.search_trees.Parts.{node_of, node_at, height_of, is_less, IsAtOrBelow}
 use Rattle.trees.specs.search_trees.TreeFault.{left_height, right_height, IsMiscounted, IsUnbalanced, IsElementLess, IsNodeWith, IsTreeFault, HasNoTreeFault}

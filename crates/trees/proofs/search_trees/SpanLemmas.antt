@@ -6,8 +6,8 @@ use Rattle.base_data.proofs.model.Options.{true_or_not}
 use Rattle.base_data.specs.declared.model.value.Val.{Val}
 use Rattle.base_data.specs.declared.model.value.Val.TheVariants as vals
 use Rattle.base_data.specs.declared.model.value.Obj.{Obj}
-use Rattle.trees.specs.declared.search_trees.span.Span.{Span}
-use Rattle.trees.specs.declared.search_trees.span.Settled.{Settled}
+use Rattle.trees.specs.declared.search_trees.element_span.ElementSpan.{ElementSpan}
+use Rattle.trees.specs.declared.search_trees.element_span.SettledNode.{SettledNode}
 use Rattle.trees.specs.search_trees.Parts.{node_at, is_less, IsAtOrBelow}
 use Rattle.trees.specs.search_trees.Span.{IsLesser, IsGreater, IsSpread, IsSpan, IsOnLeftOrAt, IsLeftOver, IsRightUnder, IsSettledAs, IsSettled, IsPartSettled}
 use Rattle.trees.specs.search_trees.TreeFault.{IsElementLess, IsDisordered}
@@ -51,18 +51,18 @@ module _ (graph : List Obj) where
   pub first_greater : (o p : ℕ) → (¬ IsElementLess graph o p) → IsGreater graph o p o
   first_greater o p never = record { one = inl refl; first = never_itself o; second = never }
 
-  pub apart_lesser : (first second : Span) → IsSpread graph first → IsElementLess graph first.greatest second.least → IsLesser graph first.least second.least first.least
+  pub apart_lesser : (first second : ElementSpan) → IsSpread graph first → IsElementLess graph first.greatest second.least → IsLesser graph first.least second.least first.least
   apart_lesser first second spread apart =
       first_lesser first.least second.least (λ is. spread.rising (transitive first.greatest second.least first.least apart is))
 
-  pub apart_greater : (first second : Span) → IsSpread graph second → IsElementLess graph first.greatest second.least → IsGreater graph first.greatest second.greatest second.greatest
+  pub apart_greater : (first second : ElementSpan) → IsSpread graph second → IsElementLess graph first.greatest second.least → IsGreater graph first.greatest second.greatest second.greatest
   apart_greater first second spread apart = record {
     one = inr refl;
     first = λ is. spread.rising (transitive second.greatest first.greatest second.least is apart);
     second = never_itself second.greatest;
   }
 
-  pub spread : (Has : ℕ → Type 0) (span : Span) → IsSpan graph Has span → IsSpread graph span
+  pub spread : (Has : ℕ → Type 0) (span : ElementSpan) → IsSpan graph Has span → IsSpread graph span
   spread Has span is = record {
     least_inside = is.least_inside;
     greatest_inside = is.greatest_inside;
@@ -81,7 +81,7 @@ module _ (graph : List Obj) where
   there Has Others o p q (inr is) first second = inr (subst Others (sym is) second)
 
   join_spans :
-      (Has Others : ℕ → Type 0) (first second span : Span) → IsSpan graph Has first → IsSpan graph Others second
+      (Has Others : ℕ → Type 0) (first second span : ElementSpan) → IsSpan graph Has first → IsSpan graph Others second
       → IsLesser graph first.least second.least span.least → IsGreater graph first.greatest second.greatest span.greatest
       → IsSpan graph (Either Has Others) span
   join_spans Has Others first second span one two lesser greater = record {
@@ -100,13 +100,13 @@ module _ (graph : List Obj) where
   }
 
   -- All of the first span is less than all of the second.
-  all_apart : (Has Others : ℕ → Type 0) (first second : Span) → IsSpan graph Has first → IsSpan graph Others second
+  all_apart : (Has Others : ℕ → Type 0) (first second : ElementSpan) → IsSpan graph Has first → IsSpan graph Others second
       → IsElementLess graph first.greatest second.least → (p q : ℕ) → Has p → Others q → IsElementLess graph p q
   all_apart Has Others first second one two apart p q has other =
       let low = ⊎_elim (λ never. absurd (one.greatest p has never)) (λ is. is) (between first.greatest p second.least apart) in
       ⊎_elim (λ is. is) (λ never. absurd (two.least q other never)) (between p q second.least low)
 
-  same_span : (Has Others : ℕ → Type 0) (span : Span) → IsSpan graph Has span → ((p : ℕ) → Has p → Others p) → ((p : ℕ) → Others p → Has p) → IsSpan graph Others span
+  same_span : (Has Others : ℕ → Type 0) (span : ElementSpan) → IsSpan graph Has span → ((p : ℕ) → Has p → Others p) → ((p : ℕ) → Others p → Has p) → IsSpan graph Others span
   same_span Has Others span is forth back = record {
     least_inside = is.least_inside;
     greatest_inside = is.greatest_inside;
@@ -138,12 +138,12 @@ module _ (graph : List Obj) where
   none_below (vals.Ref o) other p below = other o refl
 
   pub settled_part :
-      (all : List Settled) (v : Val) (p : ℕ) (other : Settled) → v ≡ vals.Ref p → IsPartSettled graph all v → IsSettledAs graph p (get_or all p other)
+      (all : List SettledNode) (v : Val) (p : ℕ) (other : SettledNode) → v ≡ vals.Ref p → IsPartSettled graph all v → IsSettledAs graph p (get_or all p other)
   settled_part all v p other is part =
       let known : IsSettled graph all p = subst (λ w. IsPartSettled graph all w) is part in
       subst (λ s. IsSettledAs graph p s) (sym (get_or_from_slice_get all p known.0 other known.1)) known.2
 
-  part_span : (v : Val) (p : ℕ) (settled : Settled) → v ≡ vals.Ref p → IsSettledAs graph p settled → IsSpan graph (IsAtOrBelow graph v) settled.span
+  part_span : (v : Val) (p : ℕ) (settled : SettledNode) → v ≡ vals.Ref p → IsSettledAs graph p settled → IsSpan graph (IsAtOrBelow graph v) settled.span
   part_span v p settled is known = subst (λ w. IsSpan graph (IsAtOrBelow graph w) settled.span) (sym is) known.span
 
   module _ (o : ℕ) where
@@ -157,7 +157,7 @@ module _ (graph : List Obj) where
     Whole p = IsAtOrBelow graph (vals.Ref o) p
 
     pub left_span :
-        o < length graph → (p : ℕ) (settled : Settled) (span : Span) → (node_at graph o).left ≡ vals.Ref p → IsSettledAs graph p settled
+        o < length graph → (p : ℕ) (settled : SettledNode) (span : ElementSpan) → (node_at graph o).left ≡ vals.Ref p → IsSettledAs graph p settled
         → IsLesser graph settled.span.least o span.least → IsGreater graph settled.span.greatest o span.greatest
         → IsSpan graph (IsOnLeftOrAt graph o) span
     left_span below p settled span is known lesser greater =
@@ -165,7 +165,7 @@ module _ (graph : List Obj) where
         (part_span (node_at graph o).left p settled is known) (own_span o below) lesser greater
 
     pub left_over :
-        (p : ℕ) (settled : Settled) → (node_at graph o).left ≡ vals.Ref p → IsSettledAs graph p settled
+        (p : ℕ) (settled : SettledNode) → (node_at graph o).left ≡ vals.Ref p → IsSettledAs graph p settled
         → (¬ IsElementLess graph settled.span.greatest o) ↔ IsLeftOver graph o
     left_over p settled is known =
         let span = part_span (node_at graph o).left p settled is known in (
@@ -188,7 +188,7 @@ module _ (graph : List Obj) where
     whole_joined p (on_right right) = inr right
 
     pub right_span :
-        (before : Span) → IsSpan graph (IsOnLeftOrAt graph o) before → (p : ℕ) (settled : Settled) (span : Span) → (node_at graph o).right ≡ vals.Ref p → IsSettledAs graph p settled
+        (before : ElementSpan) → IsSpan graph (IsOnLeftOrAt graph o) before → (p : ℕ) (settled : SettledNode) (span : ElementSpan) → (node_at graph o).right ≡ vals.Ref p → IsSettledAs graph p settled
         → IsLesser graph before.least settled.span.least span.least → IsGreater graph before.greatest settled.span.greatest span.greatest
         → IsSpan graph (IsAtOrBelow graph (vals.Ref o)) span
     right_span before one p settled span is known lesser greater =
@@ -197,7 +197,7 @@ module _ (graph : List Obj) where
         joined_whole (λ q has. whole_joined q (at_node graph o q has))
 
     pub right_under :
-        (before : Span) → IsSpan graph (IsOnLeftOrAt graph o) before → (p : ℕ) (settled : Settled) → (node_at graph o).right ≡ vals.Ref p → IsSettledAs graph p settled
+        (before : ElementSpan) → IsSpan graph (IsOnLeftOrAt graph o) before → (p : ℕ) (settled : SettledNode) → (node_at graph o).right ≡ vals.Ref p → IsSettledAs graph p settled
         → (¬ IsElementLess graph before.greatest settled.span.least) ↔ IsRightUnder graph o
     right_under before one p settled is known =
         let span = part_span (node_at graph o).right p settled is known in (
@@ -205,7 +205,7 @@ module _ (graph : List Obj) where
           λ wrong apart. wrong.4 (all_apart (IsOnLeftOrAt graph o) Right before settled.span one span apart wrong.0 wrong.1 wrong.2 wrong.3),
         )
 
-    pub no_right : (before : Span) → IsSpan graph (IsOnLeftOrAt graph o) before → ((p : ℕ) → Right p → ⊥) → IsSpan graph (IsAtOrBelow graph (vals.Ref o)) before
+    pub no_right : (before : ElementSpan) → IsSpan graph (IsOnLeftOrAt graph o) before → ((p : ℕ) → Right p → ⊥) → IsSpan graph (IsAtOrBelow graph (vals.Ref o)) before
     no_right before one none = same_span (IsOnLeftOrAt graph o) Whole before one
         (λ p has. joined_whole p (inl has))
         (λ p has. ⊎_elim (λ left. left) (λ right. absurd (none p right)) (whole_joined p (at_node graph o p has)))

@@ -14,11 +14,11 @@ use Rattle.base_data.proofs.model.Lists.{slice_get-set_other, slice_get-set_here
 use Rattle.marshal_heap.specs.heap.Heap.{object_at, fields_of, field_at, word_of}
 use Rattle.marshal_heap.proofs.heap.ReadLemmas.{field_word-at, word_of-inj}
 use Rattle.marshal_heap.proofs.heap.FieldLemmas.{values_there}
-use Rattle.trees.specs.declared.search_trees.judging.Judgement.{Judgement}
-use Rattle.trees.specs.declared.search_trees.judging.Judgement.TheVariants.{Sound, Faulty}
-use Rattle.trees.specs.declared.search_trees.node.TreeKind.{TreeKind}
-use Rattle.trees.specs.declared.search_trees.node.TreeKind.TheVariants as kinds
-use Rattle.trees.specs.declared.search_trees.span.Settled.{Settled}
+use Rattle.trees.specs.declared.search_trees.judging.NodesVerdict.{NodesVerdict}
+use Rattle.trees.specs.declared.search_trees.judging.NodesVerdict.TheVariants.{Sound, Faulty}
+use Rattle.trees.specs.declared.search_trees.tree_node.TreeKind.{TreeKind}
+use Rattle.trees.specs.declared.search_trees.tree_node.TreeKind.TheVariants as kinds
+use Rattle.trees.specs.declared.search_trees.element_span.SettledNode.{SettledNode}
 use Rattle.trees.specs.search_trees.Judgement.{rank_of, IsFaultAt, IsKnownBefore, IsJudgement}
 use Rattle.trees.specs.search_trees.Parts.{node_of, number_in}
 use Rattle.trees.specs.search_trees.Span.{IsSettledAs}
@@ -79,13 +79,13 @@ all_agree zero x i y at = absurd (none-some y at)
 all_agree (suc n) x zero y at = same_Some x y at
 all_agree (suc n) x (suc i) y at = all_agree n x i y at
 
-pub none_known : (graph : List Obj) (n : ℕ) (unknown : Settled)
+pub none_known : (graph : List Obj) (n : ℕ) (unknown : SettledNode)
     → unknown.span.least ≡ 2 ^ 64 - 1 → AreKnown graph (replicate n unknown)
 none_known graph n unknown marked o settled at clear =
-    absurd (clear (ap (λ (s : Settled). s.span.least) (sym (all_agree n unknown o settled at))
+    absurd (clear (ap (λ (s : SettledNode). s.span.least) (sym (all_agree n unknown o settled at))
     ∙ marked))
 
-pub one_more_known : (graph : List Obj) (all : List Settled) (o : ℕ) (new : Settled)
+pub one_more_known : (graph : List Obj) (all : List SettledNode) (o : ℕ) (new : SettledNode)
     → o < length all → AreKnown graph all → IsSettledAs graph o new
     → AreKnown graph (set all o new)
 one_more_known graph all o new below known is p settled at clear = ⊎_elim
@@ -148,7 +148,7 @@ module _ (graph : List Obj) (nodes : List ℕ) (i o : ℕ) (at : slice_get nodes
     by_order other (inr same) more =
         let one : rank_of other ≡ rank_of kind = ap rank_of same.0 in omega (arith, one, more)
 
-  replaced_from : (most_severe : Judgement) (kind : TreeKind)
+  replaced_from : (most_severe : NodesVerdict) (kind : TreeKind)
       → IsMostSevereFrom graph nodes (i + 1) most_severe → IsMostSevere graph o (Some kind)
       → IsMostSevereFrom graph nodes i (replaced most_severe kind i)
   replaced_from Sound kind so_far own =
@@ -169,7 +169,7 @@ module _ (graph : List Obj) (nodes : List ℕ) (i o : ℕ) (at : slice_get nodes
             write_here kind own (λ x j p after at_j has less.
             so_far.1 x j p after at_j has (inl (omega (arith, less, not_less))))
 
-  pub more_severe_from : (most_severe : Judgement) (fault : Option TreeKind)
+  pub more_severe_from : (most_severe : NodesVerdict) (fault : Option TreeKind)
       → IsMostSevereFrom graph nodes (i + 1) most_severe → IsMostSevere graph o fault
       → IsMostSevereFrom graph nodes i (more_severe most_severe fault i)
   more_severe_from Sound None so_far own = λ j p from at_j kind.
@@ -199,7 +199,7 @@ module _ (graph : List Obj) (nodes : List ℕ) where
         is.1 kinds.Height j some.0 (omega arith) some.1 some.2 (inl (omega arith)),
   )
 
-  pub swept : (most_severe : Judgement) (from : ℕ) → from ≡ 0 → IsMostSevereFrom graph nodes from most_severe
+  pub swept : (most_severe : NodesVerdict) (from : ℕ) → from ≡ 0 → IsMostSevereFrom graph nodes from most_severe
       → IsJudgement graph nodes most_severe
   swept Sound from start is = λ kind i fault.
       let wrong = wrong_at kind i fault in

@@ -12,7 +12,7 @@ use Rattle.base_data.proofs.model.Options.{slice_get-Contains, none_or_some}
 use Rattle.types_spec.specs.types.Reached.{named_in}
 use Rattle.types_spec.specs.types.Table.{node_or_none}
 use Rattle.types_table.specs.declared.type_table.tabled.Tabled.{Tabled}
-use Rattle.trees.specs.declared.search_trees.types.Layout.TheVariants as layouts
+use Rattle.trees.specs.declared.search_trees.types.NodeRepresentation.TheVariants as layouts
 use Rattle.trees.specs.search_trees.TreeType.{layout_of, fields_in, tree_shape, shape_in, IsTreeNumber}
 use Rattle.trees.specs.search_trees.NodeType.{AreParts, IsNamed, IsNodeType}
 

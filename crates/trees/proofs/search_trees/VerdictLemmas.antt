@@ -9,8 +9,8 @@ use Rattle.types_spec.specs.declared.types.shape.ShapeOf.{ShapeOf}
 use Rattle.types_spec.specs.types.Fault.{IsBefore}
 use Rattle.types_theory.proofs.typing.Choices.{without}
 use Rattle.types_theory.proofs.typing.PathLemmas.{OneOfThree, paths_compare}
-use Rattle.trees.specs.declared.search_trees.node.TreeKind.{TreeKind}
-use Rattle.trees.specs.declared.search_trees.node.TreeKind.TheVariants as kinds
+use Rattle.trees.specs.declared.search_trees.tree_node.TreeKind.{TreeKind}
+use Rattle.trees.specs.declared.search_trees.tree_node.TreeKind.TheVariants as kinds
 use Rattle.trees.specs.declared.search_trees.verdict.TreeVerdict.{TreeVerdict}
 use Rattle.trees.specs.declared.search_trees.verdict.TreeVerdict.TheVariants.{Sound, Faulty}
 use Rattle.trees.specs.search_trees.Judgement.{rank_of}

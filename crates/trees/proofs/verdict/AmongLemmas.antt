@@ -21,9 +21,9 @@ use Rattle.types_table.specs.type_table.Made.{table_of, IsLawful}
 use Rattle.check_heap.specs.declared.check.visits.Visit.{Visit}
 use Rattle.check_heap.specs.check.Known.{IsPathOf}
 use Rattle.check_heap.specs.check.Met.{AreAllMet}
-use Rattle.trees.specs.declared.search_trees.node.TreeKind.{TreeKind}
-use Rattle.trees.specs.declared.search_trees.node.TreeKind.TheVariants as kinds
-use Rattle.trees.specs.declared.search_trees.judging.Judgement.TheVariants as judgements
+use Rattle.trees.specs.declared.search_trees.tree_node.TreeKind.{TreeKind}
+use Rattle.trees.specs.declared.search_trees.tree_node.TreeKind.TheVariants as kinds
+use Rattle.trees.specs.declared.search_trees.judging.NodesVerdict.TheVariants as judgements
 use Rattle.trees.specs.declared.search_trees.verdict.TreeVerdict.{TreeVerdict}
 use Rattle.trees.specs.declared.search_trees.verdict.TreeVerdict.TheVariants.{Sound, Faulty}
 use Rattle.trees.specs.search_trees.TreeType.{shape_in, names_in, SameClass, IsTreeNumber}
@@ -33,7 +33,7 @@ use Rattle.trees.specs.search_trees.Judgement.{IsAmong, AreClosed, HasAt, IsFaul
 use Rattle.trees.specs.search_trees.Verdict.{IsLessFault, AreNodes}
 use Rattle.trees.proofs.search_trees.NodeLemmas.{position_of_right}
 use Rattle.trees.proofs.search_trees.SoundLemmas.{object_of, left_leads, right_leads}
-use Rattle.trees.specs.declared.verdict.nodes.Nodes.{Nodes}
+use Rattle.trees.specs.declared.verdict.tree_nodes.TreeNodes.{TreeNodes}
 use Rattle.trees.specs.verdict.NodeVisits.{AreNodeVisits, IsVerdictAmong}
 use Rattle.trees.specs.verdict.TreeTable.{IsTreeTable, IsTableVerdict}
 
@@ -50,7 +50,7 @@ module _ (table : Tabled) (graph : List Obj) (root : Val)
     (lawful : IsLawful (table_of table)) (its : IsTreeTable table)
     (has : HasType (table_shapes (table_of table)) graph root 0)
     (all : List Visit) (met : AreAllMet (table_of table) graph root all)
-    (nodes : Nodes) (among : AreNodeVisits (IsTreeNumber table) all (length all) nodes) where
+    (nodes : TreeNodes) (among : AreNodeVisits (IsTreeNumber table) all (length all) nodes) where
   abbrev objects : List ℕ
   objects = nodes.objects.items
 

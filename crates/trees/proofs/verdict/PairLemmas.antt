@@ -23,9 +23,9 @@ use Rattle.types_table.specs.declared.type_table.tabled.Tabled.{Tabled}
 use Rattle.types_table.specs.type_table.Made.{table_of, IsLawful}
 use Rattle.check_heap.specs.scan.Paths.{HasPath}
 use Rattle.check_heap.specs.check.Verdict.{IsYes}
-use Rattle.trees.specs.declared.search_trees.node.TreeKind.{TreeKind}
-use Rattle.trees.specs.declared.search_trees.node.TreeKind.TheVariants as kinds
-use Rattle.trees.specs.declared.search_trees.judging.Judgement.TheVariants as judgements
+use Rattle.trees.specs.declared.search_trees.tree_node.TreeKind.{TreeKind}
+use Rattle.trees.specs.declared.search_trees.tree_node.TreeKind.TheVariants as kinds
+use Rattle.trees.specs.declared.search_trees.judging.NodesVerdict.TheVariants as judgements
 use Rattle.trees.specs.declared.search_trees.verdict.TreeVerdict.TheVariants.{Sound, Faulty}
 use Rattle.trees.specs.search_trees.TreeType.{shape_in, names_in, SameClass, IsTreeNumber}
 use Rattle.trees.specs.search_trees.Parts.{node_at}

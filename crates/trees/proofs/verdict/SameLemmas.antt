@@ -13,8 +13,8 @@ use Rattle.types_spec.specs.declared.types.shape.ShapeOf.{ShapeOf}
 use Rattle.types_spec.specs.types.Fault.{value_at}
 use Rattle.types_spec.specs.types.Fitting.{shaped}
 use Rattle.types_theory.proofs.equality.SimulationLemmas.{SayTheSame, SamePosition, position_same}
-use Rattle.trees.specs.declared.search_trees.node.TreeKind.{TreeKind}
-use Rattle.trees.specs.declared.search_trees.node.TreeKind.TheVariants as kinds
+use Rattle.trees.specs.declared.search_trees.tree_node.TreeKind.{TreeKind}
+use Rattle.trees.specs.declared.search_trees.tree_node.TreeKind.TheVariants as kinds
 use Rattle.trees.specs.declared.search_trees.verdict.TreeVerdict.{TreeVerdict}
 use Rattle.trees.specs.declared.search_trees.verdict.TreeVerdict.TheVariants.{Sound, Faulty}
 use Rattle.trees.specs.search_trees.TreeType.{IsTreeType}

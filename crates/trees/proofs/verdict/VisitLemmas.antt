@@ -7,13 +7,13 @@ use Rattle.base_data.proofs.model.Options.{slice_get_there}
 use Rattle.base_data.proofs.model.Lists.{slice_get-append_left, slice_get-last}
 use Rattle.check_heap.specs.declared.check.visits.Visit.{Visit}
 use Rattle.check_heap.proofs.scan.PositionLemmas.{slice_get-push_cases}
-use Rattle.trees.specs.declared.verdict.nodes.Nodes.{Nodes}
+use Rattle.trees.specs.declared.verdict.tree_nodes.TreeNodes.{TreeNodes}
 use Rattle.trees.specs.verdict.NodeVisits.{IsVisitAt, AreNodeVisits}
 
 module _ (IsTree : ℕ → Type 0) (all : List Visit) where
   -- If there are no visits, then there are no nodes.
   pub none_yet :
-      (nodes : Nodes) → nodes.objects.items ≡ [] → nodes.visits.items ≡ []
+      (nodes : TreeNodes) → nodes.objects.items ≡ [] → nodes.visits.items ≡ []
       → AreNodeVisits IsTree all 0 nodes
   none_yet nodes no_objects no_visits = record {
     many = ap length no_visits ∙ sym (ap length no_objects);
@@ -27,7 +27,7 @@ module _ (IsTree : ℕ → Type 0) (all : List Visit) where
 
   -- A visit at another type.
   pub not_taken :
-      (nodes : Nodes) (n : ℕ) (v : Visit) → slice_get all n ≡ Some v → (¬ IsTree v.ty)
+      (nodes : TreeNodes) (n : ℕ) (v : Visit) → slice_get all n ≡ Some v → (¬ IsTree v.ty)
       → AreNodeVisits IsTree all n nodes → AreNodeVisits IsTree all (n + 1) nodes
   not_taken nodes n v at_n other so_far = record {
     many = so_far.many;
@@ -45,7 +45,7 @@ module _ (IsTree : ℕ → Type 0) (all : List Visit) where
 
   -- A visit at a marked type.
   pub taken :
-      (old new : Nodes) (n : ℕ) (v : Visit) → slice_get all n ≡ Some v → IsTree v.ty
+      (old new : TreeNodes) (n : ℕ) (v : Visit) → slice_get all n ≡ Some v → IsTree v.ty
       → new.objects.items ≡ old.objects.items ++ v.object ∷ []
       → new.visits.items ≡ old.visits.items ++ n ∷ []
       → AreNodeVisits IsTree all n old → AreNodeVisits IsTree all (n + 1) new
@@ -144,7 +144,7 @@ module _ (IsTree : ℕ → Type 0) (all : List Visit) where
 
 -- The nodes are the same for equivalent sets of types.
 pub same_visits :
-    (P Q : ℕ → Type 0) (all : List Visit) (n : ℕ) (nodes : Nodes) → ((t : ℕ) → P t ↔ Q t)
+    (P Q : ℕ → Type 0) (all : List Visit) (n : ℕ) (nodes : TreeNodes) → ((t : ℕ) → P t ↔ Q t)
     → AreNodeVisits P all n nodes → AreNodeVisits Q all n nodes
 same_visits P Q all n nodes same are = record {
   many = are.many;

@@ -4,10 +4,10 @@ use Rattle.std.specs.Prelude.{Contains, IsSomeAnd}
 use Rattle.base_data.specs.declared.model.value.Val.{Val}
 use Rattle.base_data.specs.declared.model.value.Val.TheVariants as vals
 use Rattle.base_data.specs.declared.model.value.Obj.{Obj}
-use Rattle.trees.specs.declared.search_trees.node.TreeKind.{TreeKind}
-use Rattle.trees.specs.declared.search_trees.node.TreeKind.TheVariants as kinds
-use Rattle.trees.specs.declared.search_trees.judging.Judgement.{Judgement}
-use Rattle.trees.specs.declared.search_trees.judging.Judgement.TheVariants.{Sound, Faulty}
+use Rattle.trees.specs.declared.search_trees.tree_node.TreeKind.{TreeKind}
+use Rattle.trees.specs.declared.search_trees.tree_node.TreeKind.TheVariants as kinds
+use Rattle.trees.specs.declared.search_trees.judging.NodesVerdict.{NodesVerdict}
+use Rattle.trees.specs.declared.search_trees.judging.NodesVerdict.TheVariants.{Sound, Faulty}
 use Rattle.trees.specs.search_trees.Parts.{node_at}
 use Rattle.trees.specs.search_trees.TreeFault.{IsMiscounted, IsUnbalanced, IsDisordered}
 
@@ -51,7 +51,7 @@ abbrev pub IsKnownBefore : TreeKind → ℕ → TreeKind → ℕ → Type 0
 IsKnownBefore kind i other j = (rank_of kind < rank_of other) ⊎ ((kind ≡ other) × (i < j))
 
 -- No node has a fault, or this is a fault and no other fault comes before it.
-abbrev pub IsJudgement : List Obj → List ℕ → Judgement → Type 0
+abbrev pub IsJudgement : List Obj → List ℕ → NodesVerdict → Type 0
 IsJudgement graph nodes Sound = (kind : TreeKind) (i : ℕ) → ¬ IsFaultAt graph nodes kind i
 IsJudgement graph nodes (Faulty kind i) =
     IsFaultAt graph nodes kind i

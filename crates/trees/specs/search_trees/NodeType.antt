@@ -3,7 +3,7 @@ use Rattle.std.specs.Prelude.{ℕ, ◌≡◌, ◌⊎◌, false, Option}
 use Rattle.types_spec.specs.declared.types.shape.Constr.{Constr}
 use Rattle.types_spec.specs.declared.types.shape.ShapeOf.TheVariants as shapes
 use Rattle.types_table.specs.declared.type_table.tabled.Tabled.{Tabled}
-use Rattle.trees.specs.declared.search_trees.types.Layout.{Layout}
+use Rattle.trees.specs.declared.search_trees.types.NodeRepresentation.{NodeRepresentation}
 use Rattle.trees.specs.search_trees.TreeType.{layout_of, field_names, names_with, fields_in}
 use Rattle.trees.specs.search_trees.TreeType.{shape_in}
 use Rattle.trees.specs.search_trees.TreeType.{names_in, SameClass}
@@ -17,7 +17,7 @@ pub record AreParts (table : Tabled) (t left element right height : ℕ) : Type 
   pub counted : shape_in table height ≡ shapes.AnyInt
 
 -- The type has the names of such a tree.
-abbrev pub IsNamed : Tabled → ℕ → Layout → Type 0
+abbrev pub IsNamed : Tabled → ℕ → NodeRepresentation → Type 0
 IsNamed table t layout = names_in table t ≡ names_with (field_names layout)
 
 -- This is the constructor of the nodes of a set or of a map.

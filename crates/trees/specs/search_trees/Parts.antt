@@ -7,7 +7,7 @@ use Rattle.base_data.specs.declared.model.value.Val.{Val}
 use Rattle.base_data.specs.declared.model.value.Val.TheVariants as vals
 use Rattle.base_data.specs.declared.model.value.Obj.{Obj}
 use Rattle.marshal_heap.specs.heap.Heap.{object_at, fields_of, bytes_of}
-use Rattle.trees.specs.declared.search_trees.node.Node.{Node}
+use Rattle.trees.specs.declared.search_trees.tree_node.TreeNode.{TreeNode}
 
 -- ---- the parts of a node
 
@@ -20,7 +20,7 @@ abbrev pub number_in : Val → ℤ
 number_in (vals.Int z) = z
 number_in v = pos 0
 
-abbrev pub no_node : Node
+abbrev pub no_node : TreeNode
 no_node = record {
   left = empty_value;
   element = empty_value;
@@ -30,7 +30,7 @@ no_node = record {
 
 -- The parts by position: a node of a set has l, v, r and h, and a node of a map has l, v, d, r and
 -- h.
-abbrev pub node_of : List Val → Node
+abbrev pub node_of : List Val → TreeNode
 node_of (l ∷ v ∷ r ∷ h ∷ []) =
     record { left = l; element = v; right = r; height = number_in h }
 node_of (l ∷ v ∷ d ∷ r ∷ h ∷ []) =
@@ -38,7 +38,7 @@ node_of (l ∷ v ∷ d ∷ r ∷ h ∷ []) =
 node_of values = no_node
 
 -- The node that is stored in object o.
-abbrev pub node_at : List Obj → ℕ → Node
+abbrev pub node_at : List Obj → ℕ → TreeNode
 node_at graph o = node_of (fields_of (object_at graph o))
 
 -- The height of `Empty` is 0. The height of a node is the number that it stores.

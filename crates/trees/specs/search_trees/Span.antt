@@ -3,8 +3,8 @@ use Rattle.std.specs.Prelude.{ℕ, ◌<◌, ◌≡◌, ◌⊎◌, ◌↔◌, IsT
 use Rattle.base_data.specs.declared.model.value.Val.{Val}
 use Rattle.base_data.specs.declared.model.value.Val.TheVariants as vals
 use Rattle.base_data.specs.declared.model.value.Obj.{Obj}
-use Rattle.trees.specs.declared.search_trees.span.Span.{Span}
-use Rattle.trees.specs.declared.search_trees.span.Settled.{Settled}
+use Rattle.trees.specs.declared.search_trees.element_span.ElementSpan.{ElementSpan}
+use Rattle.trees.specs.declared.search_trees.element_span.SettledNode.{SettledNode}
 use Rattle.trees.specs.search_trees.Parts.{node_at, IsAtOrBelow}
 use Rattle.trees.specs.search_trees.TreeFault.{IsElementLess, IsDisordered}
 
@@ -21,7 +21,7 @@ pub record IsGreater (graph : List Obj) (o p greater : ℕ) : Type 0 where
   pub second : ¬ IsElementLess graph greater p
 
 -- Two objects of the graph. The element of the second is not less than that of the first.
-pub record IsSpread (graph : List Obj) (span : Span) : Type 0 where
+pub record IsSpread (graph : List Obj) (span : ElementSpan) : Type 0 where
   pub least_inside : span.least < length graph
   pub greatest_inside : span.greatest < length graph
   pub rising : ¬ IsElementLess graph span.greatest span.least
@@ -29,7 +29,7 @@ pub record IsSpread (graph : List Obj) (span : Span) : Type 0 where
 -- ---- the least and the greatest of many nodes
 
 -- Among all nodes with the property, the nodes of the span have the least and the greatest element.
-pub record IsSpan (graph : List Obj) (Has : ℕ → Type 0) (span : Span) : Type 0 where
+pub record IsSpan (graph : List Obj) (Has : ℕ → Type 0) (span : ElementSpan) : Type 0 where
   pub least_inside : span.least < length graph
   pub greatest_inside : span.greatest < length graph
   pub least_there : Has span.least
@@ -56,27 +56,27 @@ IsRightUnder graph o =
 -- ---- settled nodes
 
 -- The span of all nodes at and below the node, and whether the node is out of order.
-pub record IsSettledAs (graph : List Obj) (o : ℕ) (settled : Settled) : Type 0 where
+pub record IsSettledAs (graph : List Obj) (o : ℕ) (settled : SettledNode) : Type 0 where
   pub span : IsSpan graph (IsAtOrBelow graph (vals.Ref o)) settled.span
   pub disordered : IsTrue settled.disordered ↔ IsDisordered graph o
 
-abbrev pub IsSettled : List Obj → List Settled → ℕ → Type 0
+abbrev pub IsSettled : List Obj → List SettledNode → ℕ → Type 0
 IsSettled graph all o =
-    (settled : Settled) × (slice_get all o ≡ Some settled) × IsSettledAs graph o settled
+    (settled : SettledNode) × (slice_get all o ≡ Some settled) × IsSettledAs graph o settled
 
 -- If the value is a reference, then its object is settled.
-abbrev pub IsPartSettled : List Obj → List Settled → Val → Type 0
+abbrev pub IsPartSettled : List Obj → List SettledNode → Val → Type 0
 IsPartSettled graph all (vals.Int z) = Unit {0}
 IsPartSettled graph all (vals.Atom tag) = Unit {0}
 IsPartSettled graph all (vals.Ref o) = IsSettled graph all o
 
 -- Both parts of the node are settled.
-pub record IsReady (graph : List Obj) (all : List Settled) (o : ℕ) : Type 0 where
+pub record IsReady (graph : List Obj) (all : List SettledNode) (o : ℕ) : Type 0 where
   pub inside : o < length graph
   pub left : IsPartSettled graph all (node_at graph o).left
   pub right : IsPartSettled graph all (node_at graph o).right
 
 -- The node is marked as out of order.
-abbrev pub IsMarked : List Settled → ℕ → Type 0
+abbrev pub IsMarked : List SettledNode → ℕ → Type 0
 IsMarked all o =
-    (settled : Settled) × (slice_get all o ≡ Some settled) × IsTrue settled.disordered
+    (settled : SettledNode) × (slice_get all o ≡ Some settled) × IsTrue settled.disordered

@@ -2,11 +2,11 @@
 use Rattle.std.specs.Prelude.{ℕ, ◌≡◌, ◌≢◌, ◌<◌, ◌≤◌, ◌-◌, ◌^◌, nat_lt, if◌then◌else◌, List, Option}
 use Rattle.std.specs.Prelude.{Some, None, slice_get}
 use Rattle.base_data.specs.declared.model.value.Obj.{Obj}
-use Rattle.trees.specs.declared.search_trees.judging.Judgement.{Judgement}
-use Rattle.trees.specs.declared.search_trees.judging.Judgement.TheVariants.{Sound, Faulty}
-use Rattle.trees.specs.declared.search_trees.node.TreeKind.{TreeKind}
-use Rattle.trees.specs.declared.search_trees.node.TreeKind.TheVariants as kinds
-use Rattle.trees.specs.declared.search_trees.span.Settled.{Settled}
+use Rattle.trees.specs.declared.search_trees.judging.NodesVerdict.{NodesVerdict}
+use Rattle.trees.specs.declared.search_trees.judging.NodesVerdict.TheVariants.{Sound, Faulty}
+use Rattle.trees.specs.declared.search_trees.tree_node.TreeKind.{TreeKind}
+use Rattle.trees.specs.declared.search_trees.tree_node.TreeKind.TheVariants as kinds
+use Rattle.trees.specs.declared.search_trees.element_span.SettledNode.{SettledNode}
 use Rattle.trees.specs.search_trees.Judgement.{rank_of, IsKnownBefore}
 use Rattle.trees.specs.search_trees.Span.{IsSettledAs}
 use Rattle.trees.specs.search_trees.TreeFault.{IsMiscounted, IsUnbalanced, IsDisordered}
@@ -15,9 +15,9 @@ use Rattle.trees.specs.search_trees.TreeFault.{IsMiscounted, IsUnbalanced, IsDis
 
 -- A node counts as settled if the least object of its span is not 2^64 - 1. Each such entry is
 -- correct.
-abbrev pub AreKnown : List Obj → List Settled → Type 0
+abbrev pub AreKnown : List Obj → List SettledNode → Type 0
 AreKnown graph all =
-    (o : ℕ) (settled : Settled) → slice_get all o ≡ Some settled
+    (o : ℕ) (settled : SettledNode) → slice_get all o ≡ Some settled
     → settled.span.least ≢ 2 ^ 64 - 1 → IsSettledAs graph o settled
 
 -- ---- the faults of one node
@@ -36,18 +36,18 @@ IsMostSevere graph o (Some kind) =
 
 -- ---- the first fault so far
 
-abbrev pub replaced : Judgement → TreeKind → ℕ → Judgement
+abbrev pub replaced : NodesVerdict → TreeKind → ℕ → NodesVerdict
 replaced Sound kind i = Faulty kind i
 replaced (Faulty other j) kind i =
     if nat_lt (rank_of other) (rank_of kind) then Faulty other j else Faulty kind i
 
 -- The first fault after node i is added before the nodes so far.
-abbrev pub more_severe : Judgement → Option TreeKind → ℕ → Judgement
+abbrev pub more_severe : NodesVerdict → Option TreeKind → ℕ → NodesVerdict
 more_severe most_severe None i = most_severe
 more_severe most_severe (Some kind) i = replaced most_severe kind i
 
 -- No node from this index on has a fault, or this is the first fault of the lowest rank.
-abbrev pub IsMostSevereFrom : List Obj → List ℕ → ℕ → Judgement → Type 0
+abbrev pub IsMostSevereFrom : List Obj → List ℕ → ℕ → NodesVerdict → Type 0
 IsMostSevereFrom graph nodes from Sound =
     (j o : ℕ) → from ≤ j → slice_get nodes j ≡ Some o → (kind : TreeKind) → ¬ HasKind graph kind o
 IsMostSevereFrom graph nodes from (Faulty kind i) =

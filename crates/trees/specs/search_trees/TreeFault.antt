@@ -9,8 +9,8 @@ use Rattle.types_spec.specs.declared.types.names.Names.{Names}
 use Rattle.types_spec.specs.declared.types.shape.ShapeOf.{ShapeOf}
 use Rattle.types_spec.specs.types.Fault.{value_at}
 use Rattle.types_spec.specs.types.Fitting.{shaped}
-use Rattle.trees.specs.declared.search_trees.node.TreeKind.{TreeKind}
-use Rattle.trees.specs.declared.search_trees.node.TreeKind.TheVariants as kinds
+use Rattle.trees.specs.declared.search_trees.tree_node.TreeKind.{TreeKind}
+use Rattle.trees.specs.declared.search_trees.tree_node.TreeKind.TheVariants as kinds
 use Rattle.trees.specs.search_trees.TreeType.{IsTreeType}
 use Rattle.trees.specs.search_trees.Parts.{node_at, height_of, is_less, IsAtOrBelow}
 

@@ -12,18 +12,18 @@ use Rattle.types_spec.specs.declared.types.shape.ShapeOf.TheVariants as shapes
 use Rattle.types_spec.specs.types.Names.{no_names}
 use Rattle.types_spec.specs.types.Table.{node_or_none}
 use Rattle.types_table.specs.declared.type_table.tabled.Tabled.{Tabled}
-use Rattle.trees.specs.declared.search_trees.types.Layout.{Layout}
-use Rattle.trees.specs.declared.search_trees.types.Layout.TheVariants as layouts
+use Rattle.trees.specs.declared.search_trees.types.NodeRepresentation.{NodeRepresentation}
+use Rattle.trees.specs.declared.search_trees.types.NodeRepresentation.TheVariants as layouts
 
 -- A node of a map has a datum for its element.
-abbrev pub layout_of : {T : Type 0} → Option T → Layout
+abbrev pub layout_of : {T : Type 0} → Option T → NodeRepresentation
 layout_of None = layouts.Set
 layout_of (Some carried) = layouts.Map
 
 -- ---- names
 
 -- The fields of a node.
-abbrev pub field_names : Layout → List (List ℕ)
+abbrev pub field_names : NodeRepresentation → List (List ℕ)
 field_names layouts.Set = codes "l" ∷ codes "v" ∷ codes "r" ∷ codes "h" ∷ []
 field_names layouts.Map = codes "l" ∷ codes "v" ∷ codes "d" ∷ codes "r" ∷ codes "h" ∷ []
 

@@ -1,10 +1,10 @@
 -- Nodes of a graph.
 use Rattle.std.specs.Prelude.{ℕ}
 use Rattle.base_data.specs.model.Graph.{IsValue, IsInteger}
-use Rattle.trees.specs.declared.search_trees.node.Node.{Node}
+use Rattle.trees.specs.declared.search_trees.tree_node.TreeNode.{TreeNode}
 
 -- The values are among n objects, and the height has 63 bits.
-pub record IsValid (n : ℕ) (node : Node) : Type 0 where
+pub record IsValid (n : ℕ) (node : TreeNode) : Type 0 where
   pub left : IsValue n node.left
   pub element : IsValue n node.element
   pub right : IsValue n node.right

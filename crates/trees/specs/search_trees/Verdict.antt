@@ -5,7 +5,7 @@ use Rattle.base_data.specs.declared.model.value.Obj.{Obj}
 use Rattle.types_spec.specs.declared.types.names.Names.{Names}
 use Rattle.types_spec.specs.declared.types.shape.ShapeOf.{ShapeOf}
 use Rattle.types_spec.specs.types.Fault.{IsBefore}
-use Rattle.trees.specs.declared.search_trees.node.TreeKind.{TreeKind}
+use Rattle.trees.specs.declared.search_trees.tree_node.TreeKind.{TreeKind}
 use Rattle.trees.specs.declared.search_trees.verdict.TreeVerdict.{TreeVerdict}
 use Rattle.trees.specs.declared.search_trees.verdict.TreeVerdict.TheVariants.{Sound, Faulty}
 use Rattle.trees.specs.search_trees.Judgement.{rank_of}

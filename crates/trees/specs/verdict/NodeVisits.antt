@@ -4,11 +4,11 @@ use Rattle.std.specs.Prelude.{slice_index_or}
 use Rattle.base_data.specs.declared.model.value.Obj.{Obj}
 use Rattle.check_heap.specs.declared.check.visits.Visit.{Visit}
 use Rattle.check_heap.specs.check.Known.{IsPathOf}
-use Rattle.trees.specs.declared.search_trees.judging.Judgement.TheVariants as judgements
+use Rattle.trees.specs.declared.search_trees.judging.NodesVerdict.TheVariants as judgements
 use Rattle.trees.specs.declared.search_trees.verdict.TreeVerdict.{TreeVerdict}
 use Rattle.trees.specs.declared.search_trees.verdict.TreeVerdict.TheVariants.{Sound, Faulty}
 use Rattle.trees.specs.search_trees.Judgement.{IsJudgement}
-use Rattle.trees.specs.declared.verdict.nodes.Nodes.{Nodes}
+use Rattle.trees.specs.declared.verdict.tree_nodes.TreeNodes.{TreeNodes}
 
 -- ---- marks
 
@@ -28,7 +28,7 @@ pub record IsVisitAt (IsTree : ℕ → Type 0) (all : List Visit) (k o : ℕ) : 
   pub tree : IsTree visit.ty
 
 -- The nodes are all visits at the types of trees among the first n visits, in order.
-pub record AreNodeVisits (IsTree : ℕ → Type 0) (all : List Visit) (n : ℕ) (nodes : Nodes)
+pub record AreNodeVisits (IsTree : ℕ → Type 0) (all : List Visit) (n : ℕ) (nodes : TreeNodes)
     : Type 0 where
   pub many : length nodes.visits.items ≡ length nodes.objects.items
   pub below : (i k : ℕ) → slice_get nodes.visits.items i ≡ Some k → k < n
@@ -42,7 +42,7 @@ pub record AreNodeVisits (IsTree : ℕ → Type 0) (all : List Visit) (n : ℕ) 
 -- ---- the verdict
 
 -- No fault and the number of nodes, or the first fault and the path to its visit.
-abbrev pub IsVerdictAmong : List Obj → List Visit → Nodes → TreeVerdict → Type 0
+abbrev pub IsVerdictAmong : List Obj → List Visit → TreeNodes → TreeVerdict → Type 0
 IsVerdictAmong graph all nodes (Sound n) =
     IsJudgement graph nodes.objects.items judgements.Sound × (n ≡ length nodes.objects.items)
 IsVerdictAmong graph all nodes (Faulty kind path) =

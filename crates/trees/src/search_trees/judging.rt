@@ -5,18 +5,18 @@ ghost use Rattle.trees.specs.search_trees.TreeFault.{IsMiscounted, IsUnbalanced,
 ghost use Rattle.trees.specs.search_trees.Span.{IsMarked};
 ghost use Rattle.trees.specs.search_trees.Judgement.{AreClosed, IsJudgement, IsFirst, HasAt};
 
+use crate::search_trees::element_span::SettledNode;
 use crate::search_trees::levels::{by_height, settle_all};
-use crate::search_trees::node::{TreeKind, is_miscounted, is_unbalanced};
-use crate::search_trees::span::Settled;
 use crate::search_trees::sweep::sweep;
+use crate::search_trees::tree_node::{TreeKind, is_miscounted, is_unbalanced};
 use base_data::model::Memory;
-use marshal_heap::heap::{Heap, Placed};
+use marshal_heap::heap::{Heap, NumberedObject};
 use std::alloc::Global;
 
 /// The result for a list of nodes: no node has a fault, or the first fault with the position of its
 /// node in the list.
 #[derive(Clone, Copy)]
-pub enum Judgement {
+pub enum NodesVerdict {
     Sound,
     Faulty(TreeKind, usize),
 }
@@ -24,7 +24,7 @@ pub enum Judgement {
 /// Returns the first fault among the nodes, which must contain the parts of each node. Wrong
 /// heights come first. If there are none, nodes whose parts differ too much in height come next. If
 /// there are none of these either, nodes out of order come last.
-pub fn judge(alloc: Global, heap: &Heap, nodes: &[usize]) -> Result<Judgement, Memory>
+pub fn judge(alloc: Global, heap: &Heap, nodes: &[usize]) -> Result<NodesVerdict, Memory>
     requires { AreClosed heap.now nodes.now }
     ensures { IfOk result (IsJudgement heap.now nodes.now) }
 {
@@ -35,19 +35,19 @@ pub fn judge(alloc: Global, heap: &Heap, nodes: &[usize]) -> Result<Judgement, M
 }
 
 /// Returns the same result as `judge`, for nodes in any order.
-fn judge_by_height(alloc: Global, heap: &Heap, nodes: &[usize]) -> Result<Judgement, Memory>
+fn judge_by_height(alloc: Global, heap: &Heap, nodes: &[usize]) -> Result<NodesVerdict, Memory>
     requires { AreClosed heap.now nodes.now }
     ensures { IfOk result (IsJudgement heap.now nodes.now) }
 {
     if let Some(i) = first_miscounted(heap, nodes) {
-        return Ok(Judgement::Faulty(TreeKind::Height, i));
+        return Ok(NodesVerdict::Faulty(TreeKind::Height, i));
     }
     if let Some(i) = first_unbalanced(heap, nodes) {
-        return Ok(Judgement::Faulty(TreeKind::Balance, i));
+        return Ok(NodesVerdict::Faulty(TreeKind::Balance, i));
     }
     match first_disordered(alloc, heap, nodes)? {
-        Some(i) => Ok(Judgement::Faulty(TreeKind::Order, i)),
-        None => Ok(Judgement::Sound),
+        Some(i) => Ok(NodesVerdict::Faulty(TreeKind::Order, i)),
+        None => Ok(NodesVerdict::Sound),
     }
 }
 
@@ -57,7 +57,7 @@ fn first_miscounted(heap: &Heap, nodes: &[usize]) -> Option<usize>
     ensures { IsFirst (IsMiscounted heap.now) nodes.now result }
 {
     for (i, o) in nodes.iter().enumerate() {
-        if is_miscounted(&Placed {
+        if is_miscounted(&NumberedObject {
             heap,
             object: *o as u64,
         }) {
@@ -73,7 +73,7 @@ fn first_unbalanced(heap: &Heap, nodes: &[usize]) -> Option<usize>
     ensures { IsFirst (IsUnbalanced heap.now) nodes.now result }
 {
     for (i, o) in nodes.iter().enumerate() {
-        if is_unbalanced(&Placed {
+        if is_unbalanced(&NumberedObject {
             heap,
             object: *o as u64,
         }) {
@@ -95,7 +95,7 @@ fn first_disordered(alloc: Global, heap: &Heap, nodes: &[usize]) -> Result<Optio
 }
 
 /// Returns the first node that is marked as out of order.
-fn first_marked(nodes: &[usize], all: &[Settled]) -> Option<usize>
+fn first_marked(nodes: &[usize], all: &[SettledNode]) -> Option<usize>
     requires { All (λ o. o < length all.now) nodes.now }
     ensures { IsFirst (IsMarked all.now) nodes.now result }
 {

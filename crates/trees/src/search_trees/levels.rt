@@ -7,10 +7,10 @@ ghost use Rattle.trees.specs.search_trees.Levels.{AreLevels, AreRising, HasLevel
 ghost use Rattle.trees.specs.search_trees.Levels.{IsWritten, Has};
 ghost use Rattle.trees.specs.search_trees.Span.{IsSettled};
 
-use crate::search_trees::node::node_at;
-use crate::search_trees::span::{Settled, Span, settle};
+use crate::search_trees::element_span::{ElementSpan, SettledNode, settle};
+use crate::search_trees::tree_node::node_at;
 use base_data::model::Memory;
-use marshal_heap::heap::{Heap, Placed};
+use marshal_heap::heap::{Heap, NumberedObject};
 use std::alloc::Global;
 
 /// Returns the nodes of each height, indexed by height.
@@ -24,7 +24,7 @@ pub fn by_height(alloc: Global, heap: &Heap, nodes: &[usize]) -> Result<Vec<Vec<
         write(
             alloc,
             &mut levels,
-            level_of(&Placed {
+            level_of(&NumberedObject {
                 heap,
                 object: *o as u64,
             }),
@@ -35,7 +35,7 @@ pub fn by_height(alloc: Global, heap: &Heap, nodes: &[usize]) -> Result<Vec<Vec<
 }
 
 /// Returns the height of a node. The height must not be negative.
-fn level_of(node: &Placed<'_>) -> usize
+fn level_of(node: &NumberedObject<'_>) -> usize
     requires { HasLevel node.now.heap.now node.now.object }
     ensures level { (parts.node_at node.now.heap.now node.now.object).height ≡ pos result }
     ensures small { result < 2 ^ 62 }
@@ -64,14 +64,18 @@ fn make_rooms(alloc: Global, levels: &mut Vec<Vec<usize>>, many: usize) -> Resul
 }
 
 /// Settles all nodes, level by level.
-pub fn settle_all(alloc: Global, heap: &Heap, levels: &[Vec<usize>]) -> Result<Vec<Settled>, Memory>
+pub fn settle_all(
+    alloc: Global,
+    heap: &Heap,
+    levels: &[Vec<usize>],
+) -> Result<Vec<SettledNode>, Memory>
     requires { AreRising heap.now levels.now }
     ensures many { IfOk result (λ all. vec_len all ≡ length heap.now) }
     ensures settled { IfOk result
         (λ all. (h o : ℕ) → Has levels.now h o → IsSettled heap.now all.items o) }
 {
-    let none = Settled {
-        span: Span {
+    let none = SettledNode {
+        span: ElementSpan {
             least: 0,
             greatest: 0,
         },

@@ -9,9 +9,9 @@ ghost use Rattle.trees.specs.search_trees.Parts as parts;
 ghost use Rattle.trees.specs.search_trees.Parts.{number, key_of, is_key_less, are_before};
 ghost use Rattle.trees.specs.search_trees.TreeFault.{IsElementLess};
 
-use crate::search_trees::node::{element_at, number_in};
+use crate::search_trees::tree_node::{element_at, number_in};
 use base_data::model::value::Val;
-use marshal_heap::heap::{Heap, Kind, Placed};
+use marshal_heap::heap::{Heap, Kind, NumberedObject};
 
 /// Two objects of a heap.
 #[derive(Clone, Copy)]
@@ -25,7 +25,7 @@ pub struct Objects<'a> {
 
 /// Two values of a heap.
 #[derive(Clone, Copy)]
-struct Values<'a> {
+struct ValuePair<'a> {
     heap: &'a Heap,
     first: Val,
     second: Val,
@@ -39,15 +39,15 @@ pub fn is_element_less(nodes: &Objects<'_>) -> bool
         ↔ IsElementLess nodes.now.heap.now nodes.now.first nodes.now.second }
 {
     let heap = nodes.heap;
-    let first = element_at(&Placed {
+    let first = element_at(&NumberedObject {
         heap,
         object: nodes.first,
     });
-    let second = element_at(&Placed {
+    let second = element_at(&NumberedObject {
         heap,
         object: nodes.second,
     });
-    is_less(&Values {
+    is_less(&ValuePair {
         heap,
         first,
         second,
@@ -55,7 +55,7 @@ pub fn is_element_less(nodes: &Objects<'_>) -> bool
 }
 
 /// Returns true if the first value is less than the second.
-fn is_less(values: &Values<'_>) -> bool
+fn is_less(values: &ValuePair<'_>) -> bool
     ensures { result ≡ parts.is_less values.now.heap.now values.now.first values.now.second }
 {
     match values.first {
@@ -91,8 +91,8 @@ fn is_before(strings: &Objects<'_>) -> bool
     if o == p {
         return false;
     }
-    let first = len_of(&Placed { heap, object: o });
-    let second = len_of(&Placed { heap, object: p });
+    let first = len_of(&NumberedObject { heap, object: o });
+    let second = len_of(&NumberedObject { heap, object: p });
     for i in 0..first.min(second) {
         let a = heap.byte(o, i);
         let b = heap.byte(p, i);
@@ -104,7 +104,7 @@ fn is_before(strings: &Objects<'_>) -> bool
 }
 
 /// Returns the length of a string in bytes, or 0 if the object is not a string.
-fn len_of(placed: &Placed<'_>) -> u64
+fn len_of(placed: &NumberedObject<'_>) -> u64
     ensures { result ≡ length (bytes_of (object_at placed.now.heap.now placed.now.object)) }
 {
     match placed.heap.kind(placed.object) {

@@ -14,34 +14,36 @@ ghost use Rattle.trees.specs.search_trees.Sweep.{AreKnown, IsMostSevere};
 ghost use Rattle.trees.specs.search_trees.TreeFault.{IsDisordered};
 ghost use Rattle.trees.specs.search_trees.Valid.{IsValid};
 
-use crate::search_trees::judging::Judgement;
-use crate::search_trees::node::{Node, TreeKind, height_of, is_count_wrong, is_lopsided, node_at};
-use crate::search_trees::span::{Settled, Span, settle_node};
+use crate::search_trees::element_span::{ElementSpan, SettledNode, settle_node};
+use crate::search_trees::judging::NodesVerdict;
+use crate::search_trees::tree_node::{
+    TreeKind, TreeNode, height_of, is_count_wrong, is_lopsided, node_at,
+};
 use base_data::model::Memory;
 use base_data::model::value::Val;
-use marshal_heap::heap::{Heap, Placed, Rooted};
+use marshal_heap::heap::{Heap, NumberedObject, Rooted};
 use std::alloc::Global;
 
 /// Finds the first fault among nodes, which must contain the parts of each node, in one sweep from
 /// the last to the first. Returns `None` if some node does not come before each of its parts.
-pub fn sweep(alloc: Global, heap: &Heap, nodes: &[usize]) -> Result<Option<Judgement>, Memory>
+pub fn sweep(alloc: Global, heap: &Heap, nodes: &[usize]) -> Result<Option<NodesVerdict>, Memory>
     requires { AreClosed heap.now nodes.now }
     ensures { IfOk result (λ reported. IfSome reported (IsJudgement heap.now nodes.now)) }
 {
-    let unknown = Settled {
-        span: Span {
+    let unknown = SettledNode {
+        span: ElementSpan {
             least: usize::MAX,
             greatest: usize::MAX,
         },
         disordered: false,
     };
     let mut all = vec![in alloc; unknown; heap.count() as usize]?;
-    let mut most_severe = Judgement::Sound;
+    let mut most_severe = NodesVerdict::Sound;
     for k in 0..nodes.len() {
         let i = nodes.len() - 1 - k;
         let o = nodes[i];
         match sweep_node(
-            &Placed {
+            &NumberedObject {
                 heap,
                 object: o as u64,
             },
@@ -57,7 +59,7 @@ pub fn sweep(alloc: Global, heap: &Heap, nodes: &[usize]) -> Result<Option<Judge
 /// Settles a node whose parts are settled, and returns its fault. Returns `None` if a part is not
 /// settled.
 #[inline(always)]
-fn sweep_node(placed: &Placed<'_>, all: &mut Vec<Settled>) -> Option<Option<TreeKind>>
+fn sweep_node(placed: &NumberedObject<'_>, all: &mut Vec<SettledNode>) -> Option<Option<TreeKind>>
     requires many { vec_len all.old ≡ length placed.now.heap.now }
     requires known { AreKnown placed.now.heap.now all.old.items }
     ensures many { vec_len all.new ≡ length placed.now.heap.now }
@@ -76,7 +78,7 @@ fn sweep_node(placed: &Placed<'_>, all: &mut Vec<Settled>) -> Option<Option<Tree
 
 /// Returns true if a part of a node is settled.
 #[inline(always)]
-fn is_part_known(all: &[Settled], part: Val) -> bool
+fn is_part_known(all: &[SettledNode], part: Val) -> bool
     requires { IsValue (length all.now) part }
     ensures { OnTrue result
         ((graph : List Obj) → AreKnown graph all.now → IsPartSettled graph all.now part) }
@@ -89,7 +91,7 @@ fn is_part_known(all: &[Settled], part: Val) -> bool
 
 /// Returns the fault with the lowest rank of the object `o`, whose node is `node`.
 #[inline(always)]
-fn fault_of(heap: &Heap, o: usize, node: Node, disordered: bool) -> Option<TreeKind>
+fn fault_of(heap: &Heap, o: usize, node: TreeNode, disordered: bool) -> Option<TreeKind>
     requires node { node ≡ parts.node_at heap.now o }
     requires valid { IsValid (length heap.now) node }
     requires disordered { IsTrue disordered ↔ IsDisordered heap.now o }
@@ -117,7 +119,7 @@ fn fault_of(heap: &Heap, o: usize, node: Node, disordered: bool) -> Option<TreeK
 
 /// Returns the first fault after node `i` is added before the nodes so far.
 #[inline(always)]
-fn more_severe(most_severe: Judgement, fault: Option<TreeKind>, i: usize) -> Judgement
+fn more_severe(most_severe: NodesVerdict, fault: Option<TreeKind>, i: usize) -> NodesVerdict
     ensures { result ≡ sweeps.more_severe most_severe fault i }
 {
     match fault {
@@ -127,18 +129,18 @@ fn more_severe(most_severe: Judgement, fault: Option<TreeKind>, i: usize) -> Jud
 }
 
 /// Returns the fault `kind` of node `i`, or the given one if its rank is lower.
-fn replaced(most_severe: Judgement, kind: TreeKind, i: usize) -> Judgement
+fn replaced(most_severe: NodesVerdict, kind: TreeKind, i: usize) -> NodesVerdict
     ensures { result ≡ sweeps.replaced most_severe kind i }
 {
     match most_severe {
-        Judgement::Faulty(other, j) => {
+        NodesVerdict::Faulty(other, j) => {
             if rank_of(other) < rank_of(kind) {
-                Judgement::Faulty(other, j)
+                NodesVerdict::Faulty(other, j)
             } else {
-                Judgement::Faulty(kind, i)
+                NodesVerdict::Faulty(kind, i)
             }
         }
-        Judgement::Sound => Judgement::Faulty(kind, i),
+        NodesVerdict::Sound => NodesVerdict::Faulty(kind, i),
     }
 }
 

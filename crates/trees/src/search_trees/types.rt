@@ -7,7 +7,7 @@ ghost use Rattle.types_spec.specs.declared.types.shape.ShapeOf.TheVariants as sh
 ghost use Rattle.trees.specs.search_trees.TreeType.{IsTreeNumber, names_with, node_with};
 ghost use Rattle.trees.specs.search_trees.TreeType.{field_names, SameClass};
 ghost use Rattle.trees.specs.search_trees.NodeType.{AreParts, IsNamed, IsNodeType};
-ghost use Rattle.trees.specs.declared.search_trees.types.Layout.TheVariants as layouts;
+ghost use Rattle.trees.specs.declared.search_trees.types.NodeRepresentation.TheVariants as layouts;
 
 use base_data::model::Memory;
 use base_data::model::list::List;
@@ -18,7 +18,7 @@ use types_table::type_table::TypeTable;
 
 /// The representation of a node. A node of a map also has a datum for its element.
 #[derive(Clone, Copy)]
-pub enum Layout {
+pub enum NodeRepresentation {
     Set,
     Map,
 }

@@ -1,6 +1,6 @@
 //! The verdict on the sets and maps in a value.
 
-use crate::search_trees::node::TreeKind;
+use crate::search_trees::tree_node::TreeKind;
 use base_data::model::path::Path;
 
 /// No fault and the number of nodes, or the first fault with the path to its node.

@@ -10,9 +10,9 @@ ghost use Rattle.trees.specs.search_trees.Judgement.{AreClosed};
 ghost use Rattle.trees.specs.verdict.NodeVisits.{NoneMarked, IsVerdictAmong};
 ghost use Rattle.trees.specs.verdict.TreeTable.{IsTreeTable, AreMarked, IsTableVerdict};
 
-use crate::search_trees::{Judgement, TreeVerdict, judge, tree_types};
+use crate::search_trees::{NodesVerdict, TreeVerdict, judge, tree_types};
 use crate::verdict::found::{is_marked, nodes_found};
-use crate::verdict::nodes::{Nodes, nodes_among};
+use crate::verdict::tree_nodes::{TreeNodes, nodes_among};
 use base_data::model::Memory;
 use base_data::model::path::Path;
 use base_data::model::value::Val;
@@ -68,8 +68,8 @@ fn verdict_found(
     table.holds();
     let nodes = nodes_found(alloc, value, table, found)?;
     match judge(alloc, value.heap, nodes.as_slice())? {
-        Judgement::Sound => Ok(Some(TreeVerdict::Sound(nodes.len() as u64))),
-        Judgement::Faulty(kind, i) => {
+        NodesVerdict::Sound => Ok(Some(TreeVerdict::Sound(nodes.len() as u64))),
+        NodesVerdict::Faulty(kind, i) => {
             if is_marked(found, 0) && is_object(value.root, nodes[i]) {
                 return Ok(Some(TreeVerdict::Faulty(kind, Path::new(alloc))));
             }
@@ -111,7 +111,7 @@ fn verdict_among(
     alloc: Global,
     heap: &Heap,
     all: &AllMet,
-    nodes: &Nodes,
+    nodes: &TreeNodes,
 ) -> Result<TreeVerdict, Memory>
     requires ordered { AreOrdered all.now }
     requires inside { All (λ k. k < length all.now) nodes.now.visits.items }
@@ -120,8 +120,8 @@ fn verdict_among(
     ensures { IfOk result (IsVerdictAmong heap.now all.now nodes.now) }
 {
     match judge(alloc, heap, nodes.objects.as_slice())? {
-        Judgement::Sound => Ok(TreeVerdict::Sound(nodes.objects.len() as u64)),
-        Judgement::Faulty(kind, i) => {
+        NodesVerdict::Sound => Ok(TreeVerdict::Sound(nodes.objects.len() as u64)),
+        NodesVerdict::Faulty(kind, i) => {
             let path = all.path(alloc, nodes.visits[i])?;
             Ok(TreeVerdict::Faulty(kind, path))
         }

@@ -27,7 +27,7 @@ use Rattle.types_build.proofs.representation.FoundLemmas.{tags_of_head}
 use Rattle.types_build.specs.declared.representation.representation.Representation.{Representation}
 use Rattle.types_build.specs.representation.Found.{AreFound}
 use Rattle.types_build.specs.representation.Representation.{IsRepresentationOf, AreNamesAt}
-use Rattle.types_build.specs.declared.builder.entry.Entry.{Entry}
+use Rattle.types_build.specs.declared.builder.type_entry.TypeEntry.{TypeEntry}
 use Rattle.types_build.specs.builder.Placed.{SayTheSame, IsShapePlaced, IsHeadPlaced}
 use Rattle.types_build.specs.builder.Listed.{types_at, AreWithin, IsPlacedEntry, IsEntry, IsListing}
 use Rattle.types_build.proofs.builder.PlacedLemmas.{SayTheSame-before, IsPlaced-grows, one_more}
@@ -70,13 +70,13 @@ says_types types met all within grown = record {
 }
 
 -- The entry of a type, derived from its representation.
-pub record IsMet (decls : List Decl) (t : Ty) (old new : List Ty) (before after : List ℕ) (entry : Entry) : Type 0 where
+pub record IsMet (decls : List Decl) (t : Ty) (old new : List Ty) (before after : List ℕ) (entry : TypeEntry) : Type 0 where
   pub within : AreWithin new after
   pub is : IsEntry decls t (types_at old before) (types_at new after) entry
 
 module _ (decls : List Decl) (t : Ty) (old new : List Ty) (distinct : AreDistinct new) (grown : Grows old new)
     (before middle after : List ℕ) (within : AreWithin old before)
-    (representation : Representation) (is : IsRepresentationOf decls new t representation) (entry : Entry)
+    (representation : Representation) (is : IsRepresentationOf decls new t representation) (entry : TypeEntry)
     (shapes : IsShapePlaced before middle representation.shape entry.shape)
     (heads : IsHeadPlaced middle after representation.head entry.head)
     (named : AreNamesAt decls representation.head entry.names) where
@@ -138,7 +138,7 @@ module _ (decls : List Decl) (t : Ty) (old new : List Ty) (distinct : AreDistinc
 
 pub placed_is_met :
     (decls : List Decl) (t : Ty) (old new : List Ty) → AreDistinct new → Grows old new → (before after : List ℕ) → AreWithin old before
-    → (representation : Representation) → IsRepresentationOf decls new t representation → (entry : Entry) → IsPlacedEntry decls before after representation entry
+    → (representation : Representation) → IsRepresentationOf decls new t representation → (entry : TypeEntry) → IsPlacedEntry decls before after representation entry
     → IsMet decls t old new before after entry
 placed_is_met decls t old new distinct grown before after within representation is entry placed =
     is_met decls t old new distinct grown before placed.middle after within representation is entry placed.shape placed.head placed.names
@@ -147,7 +147,7 @@ placed_is_met decls t old new distinct grown before after within representation 
 
 module _ (decls : List Decl) (t : Ty) (k : ℕ) (met : List Ty) (nodes : List (ShapeOf ℕ)) (tops : List (HeadOf ℕ)) (names : List Names)
     (was : IsListing decls t k met nodes tops names) (u : Ty) (next : slice_get met k ≡ Some u)
-    (more : List Ty) (entry : Entry) (is : IsEntry decls u met more entry) where
+    (more : List Ty) (entry : TypeEntry) (is : IsEntry decls u met more entry) where
   within_met : k < length met
   within_met = slice_get_within met k u next
 
@@ -215,7 +215,7 @@ pub next_listed :
     (decls : List Decl) (t : Ty) (met : List Ty) (nodes : List (ShapeOf ℕ)) (tops : List (HeadOf ℕ)) (names : List Names)
     → IsListing decls t (length nodes) met nodes tops names
     → (u : Ty) → slice_get met (length nodes) ≡ Some u
-    → (more : List Ty) (entry : Entry) → IsEntry decls u met more entry
+    → (more : List Ty) (entry : TypeEntry) → IsEntry decls u met more entry
     → (shapes' : List (ShapeOf ℕ)) (tops' : List (HeadOf ℕ)) (names' : List Names)
     → shapes' ≡ nodes ++ entry.shape ∷ [] → tops' ≡ tops ++ entry.head ∷ [] → names' ≡ names ++ entry.names ∷ []
     → IsListing decls t (length shapes') more shapes' tops' names'

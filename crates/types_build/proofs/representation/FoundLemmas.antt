@@ -22,8 +22,8 @@ use Rattle.types_spec.specs.types.Reached.{listed_if, parts_of}
 use Rattle.types_spec.specs.types.Table.{tag_with_part, head_with_parts}
 use Rattle.types_table.specs.store.Held.{Grows}
 use Rattle.types_table.proofs.store.HeldLemmas.{get-map}
-use Rattle.types_build.specs.declared.representation.bracket.Step.{Step}
-use Rattle.types_build.specs.declared.representation.bracket.Step.TheVariants as steps
+use Rattle.types_build.specs.declared.representation.bracket.BracketStep.{BracketStep}
+use Rattle.types_build.specs.declared.representation.bracket.BracketStep.TheVariants as steps
 use Rattle.types_build.specs.representation.Tags.{with_tag, with_tags, has_name, tags_at, IsTagWithin, IsHeadOf}
 use Rattle.types_build.specs.representation.Found.{AreFound, AreTagsOf, IsLocation, part_number, part_types}
 use Rattle.types_build.specs.representation.Steps.{AreGathered, AreLeft, AreSettled}
@@ -305,7 +305,7 @@ module _ (decls : List Decl) (types : List Ty) (by_position : Bool) (numbers : L
       (All-weaker (λ i. i < length those) (λ q. at q < length types) (number_within types numbers are.within by_position)
       (parts_of (heads.Variants tags)) parts_there))
 
-  pub found_gathered : (gathered : List (TagOf ℕ)) (settled : List ℕ) (rest : List Step) (all : List (TagOf Ty))
+  pub found_gathered : (gathered : List (TagOf ℕ)) (settled : List ℕ) (rest : List BracketStep) (all : List (TagOf Ty))
       → AreGathered decls types gathered settled (steps.Included number ∷ rest) all
       → AreGathered decls types (with_tags gathered more) settled rest all
   found_gathered gathered settled rest all was =

@@ -19,16 +19,16 @@ use Rattle.types_spec.specs.types.Accepted.{AreSound}
 use Rattle.types_spec.specs.types.Table.{tag_with_part, head_with_parts}
 use Rattle.types_spec.proofs.types.NodeLemmas.{at_kept}
 use Rattle.types_table.specs.store.Held.{Grows}
-use Rattle.types_table.specs.declared.store.node.TypeNode.{TypeNode}
-use Rattle.types_table.specs.declared.store.node.TypeNode.TheVariants as borrowed
+use Rattle.types_table.specs.declared.store.stored_node.TypeNode.{TypeNode}
+use Rattle.types_table.specs.declared.store.stored_node.TypeNode.TheVariants as borrowed
 use Rattle.types_table.specs.store.Borrowed.{written_of}
 use Rattle.std.specs.Borrow.{Bor}
 use Rattle.types_theory.proofs.equality.NeedLemmas.{head_plain}
 use Rattle.types_theory.proofs.equality.RankedLemmas.{are_ranked}
 use Rattle.types_build.specs.representation.Plain.{IsBracketed, IsPlainHead}
 use Rattle.types_build.specs.representation.Unfolded.{HasHeadOf}
-use Rattle.types_build.specs.declared.representation.bracket.Step.{Step}
-use Rattle.types_build.specs.declared.representation.bracket.Step.TheVariants as steps
+use Rattle.types_build.specs.declared.representation.bracket.BracketStep.{BracketStep}
+use Rattle.types_build.specs.declared.representation.bracket.BracketStep.TheVariants as steps
 use Rattle.types_build.specs.representation.Tags.{has_bracket, before_item, items, tags_of_item, with_item, with_items, tags_at, tags_of_entries, IsTagWithin, has_name, with_tag, IsHeadOf}
 use Rattle.types_build.specs.representation.Work.{work, written_work}
 use Rattle.types_build.specs.representation.Steps.{BringsNone, IsSettled, IsSure, AreSettled, AreLeft, AreGathered, AreAll, IsStepWithin, item_work, steps_work}
@@ -102,7 +102,7 @@ tag_pushed types found all false name argument within =
 -- ---- steps in growing type stores
 
 module _ (decls : List Decl) (types added : List Ty) where
-  left_kept : (rest : List Step) (tags all : List (TagOf Ty)) → AreLeft decls types tags rest all
+  left_kept : (rest : List BracketStep) (tags all : List (TagOf Ty)) → AreLeft decls types tags rest all
       → AreLeft decls (types ++ added) tags rest all
   left_kept [] tags all left = left
   left_kept (steps.Item i ∷ rest) tags all left = (
@@ -117,7 +117,7 @@ module _ (decls : List Decl) (types added : List Ty) where
   )
   left_kept (steps.Settle d ∷ rest) tags all left = (left.0, left.1, left_kept rest tags all left.2)
 
-  work_kept : (rest : List Step) (tags all : List (TagOf Ty)) → AreLeft decls types tags rest all
+  work_kept : (rest : List BracketStep) (tags all : List (TagOf Ty)) → AreLeft decls types tags rest all
       → steps_work decls (types ++ added) rest ≡ steps_work decls types rest
   work_kept [] tags all left = refl
   work_kept (steps.Item i ∷ rest) tags all left =
@@ -148,7 +148,7 @@ item_positive w (including t a) = omega arith
 -- ---- gathered tags in growing type stores
 
 module _ (decls : List Decl) (old new : List Ty) (grown : Grows old new) (found : List (TagOf ℕ)) (settled : List ℕ)
-    (waiting : List Step) (all : List (TagOf Ty)) where
+    (waiting : List BracketStep) (all : List (TagOf Ty)) where
   gathered_more : (added : List Ty) → AreGathered decls old found settled waiting all
       → AreGathered decls (old ++ added) found settled waiting all
   gathered_more added was =
@@ -170,9 +170,9 @@ module _ (decls : List Decl) (old new : List Ty) (grown : Grows old new) (found 
 
 -- ---- one step
 
-module _ (decls : List Decl) (types : List Ty) (found : List (TagOf ℕ)) (settled : List ℕ) (rest : List Step) (all : List (TagOf Ty)) where
+module _ (decls : List Decl) (types : List Ty) (found : List (TagOf ℕ)) (settled : List ℕ) (rest : List BracketStep) (all : List (TagOf Ty)) where
   -- The same tags remain to be gathered.
-  pub left_by : (waiting : List Step) → AreGathered decls types found settled waiting all
+  pub left_by : (waiting : List BracketStep) → AreGathered decls types found settled waiting all
       → (AreLeft decls types (tags_at types found) waiting all → AreLeft decls types (tags_at types found) rest all)
       → AreGathered decls types found settled rest all
   left_by waiting was goes =
@@ -211,11 +211,11 @@ module _ (decls : List Decl) (types : List Ty) (found : List (TagOf ℕ)) (settl
       left = (within, brings (tags_in (head decls (type_at types included))) (ap (tags_of_item (head decls)) is));
     }
 
-pub item_less : (decls : List Decl) (types : List Ty) (item : ℕ) (rest : List Step)
+pub item_less : (decls : List Decl) (types : List Ty) (item : ℕ) (rest : List BracketStep)
     → steps_work decls types rest < steps_work decls types (steps.Item item ∷ rest)
 item_less decls types item rest = let more = item_positive (work decls) (type_at types item) in omega (arith, more)
 
-pub including_less : (decls : List Decl) (types : List Ty) (item : ℕ) (rest : List Step) (whole : Ty) (included : ℕ)
+pub including_less : (decls : List Decl) (types : List Ty) (item : ℕ) (rest : List BracketStep) (whole : Ty) (included : ℕ)
     → type_at types item ≡ including whole (type_at types included)
     → steps_work decls types (steps.Included included ∷ rest) < steps_work decls types (steps.Item item ∷ rest)
 including_less decls types item rest whole included is =
@@ -224,7 +224,7 @@ including_less decls types item rest whole included is =
 -- ---- an abbreviation is settled
 
 module _ (decls : List Decl) (old new : List Ty) (grown : Grows old new) (found : List (TagOf ℕ)) (settled : List ℕ)
-    (d : ℕ) (rest : List Step) (all : List (TagOf Ty)) (was : AreGathered decls old found settled (steps.Settle d ∷ rest) all) where
+    (d : ℕ) (rest : List BracketStep) (all : List (TagOf Ty)) (was : AreGathered decls old found settled (steps.Settle d ∷ rest) all) where
   pub settle_gathered : (settled' : List ℕ)
       → (IsSure decls (tags_at new found) d → AreSettled decls (tags_at new found) settled
       → AreSettled decls (tags_at new found) settled')
@@ -240,7 +240,7 @@ module _ (decls : List Decl) (old new : List Ty) (grown : Grows old new) (found 
 -- ---- an included type
 
 module _ (decls : List Decl) (old new : List Ty) (grown : Grows old new) (found : List (TagOf ℕ)) (settled : List ℕ)
-    (n : ℕ) (rest waiting : List Step) (all : List (TagOf Ty)) (within : n < length old)
+    (n : ℕ) (rest waiting : List BracketStep) (all : List (TagOf Ty)) (within : n < length old)
     (was : AreGathered decls old found settled (steps.Included n ∷ rest) all) where
   kept_rest : steps_work decls new rest ≡ steps_work decls old rest
   kept_rest =
@@ -260,11 +260,11 @@ module _ (decls : List Decl) (old new : List Ty) (grown : Grows old new) (found 
       let same = ap (work decls) is in
       omega (arith, kept, same, write)
 
-pub included_less : (decls : List Decl) (types : List Ty) (n : ℕ) (rest : List Step)
+pub included_less : (decls : List Decl) (types : List Ty) (n : ℕ) (rest : List BracketStep)
     → steps_work decls types rest < steps_work decls types (steps.Included n ∷ rest)
 included_less decls types n rest = omega arith
 
-module _ (decls : List Decl) (sound : AreSound decls) (types : List Ty) (n : ℕ) (rest : List Step) (tags all : List (TagOf Ty))
+module _ (decls : List Decl) (sound : AreSound decls) (types : List Ty) (n : ℕ) (rest : List BracketStep) (tags all : List (TagOf Ty))
     (left : AreLeft decls types tags (steps.Included n ∷ rest) all) where
   pub include_there : BringsNone decls tags (type_at types n) → AreLeft decls types tags rest all
   include_there none =
@@ -329,7 +329,7 @@ nothing_waits [] none = refl
 nothing_waits (x ∷ xs) none = absurd (omega (arith, none))
 
 pub push_left :
-    (decls : List Decl) (types : List Ty) (tags all : List (TagOf Ty)) (at : ℕ) (w : Ty) (rest : List Step) → at < length types
+    (decls : List Decl) (types : List Ty) (tags all : List (TagOf Ty)) (at : ℕ) (w : Ty) (rest : List BracketStep) → at < length types
     → before_item (type_at types at) ≡ Some w
     → AreLeft decls types (with_items (head decls) tags (items (type_at types at))) rest all
     → AreLeft decls types (with_items (head decls) tags (items w)) (steps.Item at ∷ rest) all
@@ -359,7 +359,7 @@ tags_of_item-none head types (borrowed.Including whole included) no_tag no_tag_o
 -- ---- the first items, and the end
 
 pub none_gathered :
-    (decls : List Decl) (types : List Ty) (t : Ty) (entries : List (Vec ℕ × Option ℕ)) (waiting : List Step) → entries ≡ []
+    (decls : List Decl) (types : List Ty) (t : Ty) (entries : List (Vec ℕ × Option ℕ)) (waiting : List BracketStep) → entries ≡ []
     → AreLeft decls types [] waiting (with_items (head decls) [] (items t))
     → AreGathered decls types (tags_of_entries entries) [] waiting (with_items (head decls) [] (items t))
 none_gathered decls types t entries waiting none left =
@@ -368,16 +368,16 @@ none_gathered decls types t entries waiting none left =
     (record { found_within = All-nil (IsTagWithin types); brought = All-nil (IsSettled decls []); left = left })
 
 pub nothing_left :
-    (decls : List Decl) (types : List Ty) (found : List (TagOf ℕ)) (settled : List ℕ) (waiting : List Step) (all : List (TagOf Ty))
+    (decls : List Decl) (types : List Ty) (found : List (TagOf ℕ)) (settled : List ℕ) (waiting : List BracketStep) (all : List (TagOf Ty))
     → waiting ≡ [] → AreGathered decls types found settled waiting all → AreAll types found all
 nothing_left decls types found settled waiting all none gathered = record {
   found_within = gathered.found_within;
-  are = subst (λ (ss : List Step). AreLeft decls types (tags_at types found) ss all) none gathered.left;
+  are = subst (λ (ss : List BracketStep). AreLeft decls types (tags_at types found) ss all) none gathered.left;
 }
 
 -- The first pending step.
 pub step_within :
-    (decls : List Decl) (types : List Ty) (tags all : List (TagOf Ty)) (step : Step) (rest : List Step)
+    (decls : List Decl) (types : List Ty) (tags all : List (TagOf Ty)) (step : BracketStep) (rest : List BracketStep)
     → AreLeft decls types tags (step ∷ rest) all → IsStepWithin decls types step
 step_within decls types tags all (steps.Item i) rest left = left.0
 step_within decls types tags all (steps.Included n) rest left = left.0

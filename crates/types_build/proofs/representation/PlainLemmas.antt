@@ -8,8 +8,8 @@ use Rattle.types_spec.specs.declared.types.decl.Predeclared.{Predeclared}
 use Rattle.types_spec.specs.declared.types.head.TagOf.{TagOf}
 use Rattle.types_spec.specs.declared.types.head.HeadOf.{HeadOf}
 use Rattle.types_spec.specs.declared.types.head.HeadOf.TheVariants as heads
-use Rattle.types_spec.specs.declared.types.ty.Node.{Node}
-use Rattle.types_spec.specs.declared.types.ty.Node.TheVariants as nodes
+use Rattle.types_spec.specs.declared.types.ty.TypeTreeNode.{TypeTreeNode}
+use Rattle.types_spec.specs.declared.types.ty.TypeTreeNode.TheVariants as nodes
 use Rattle.types_spec.specs.types.Ty.{Ty, variable, named, tuple, bracket, part, tag, tag_of, including, parts}
 use Rattle.types_spec.specs.types.Nodes.{type_at, type_of_node}
 use Rattle.types_spec.specs.types.Declarations.{predeclared}
@@ -123,7 +123,7 @@ module _ (types : List Ty) (t : Ty) (numbers : List ℕ) (are : map (type_at typ
 
   -- The head from the root and the indices of the parts.
   pub plain_by_root :
-      (root : Node) → type_of_node types root ≡ root_of t
+      (root : TypeTreeNode) → type_of_node types root ≡ root_of t
       → MatchOption (head_of_root root numbers) (IsBracketed t) (IsPlainHead types t)
   plain_by_root (nodes.Named name) is = meant_parts (predeclared name) name (sym is) refl
   plain_by_root nodes.Tuple is =

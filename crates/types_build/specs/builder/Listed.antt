@@ -18,7 +18,7 @@ use Rattle.types_build.specs.declared.representation.representation.Representati
 use Rattle.types_build.specs.representation.Representation.{AreNamesAt}
 use Rattle.types_table.specs.partition.Found.{AreClasses}
 use Rattle.types_table.specs.declared.type_table.tabled.Tabled.{Tabled}
-use Rattle.types_build.specs.declared.builder.entry.Entry.{Entry}
+use Rattle.types_build.specs.declared.builder.type_entry.TypeEntry.{TypeEntry}
 use Rattle.types_build.specs.declared.builder.listing.Listing.{Listing}
 use Rattle.types_build.specs.builder.Placed.{IsShapePlaced, IsHeadPlaced}
 
@@ -35,7 +35,7 @@ AreWithin types numbers = All (λ i. i < length types) numbers
 -- The entry is the representation with indices, together with the names of its head.
 pub record IsPlacedEntry (decls : List Decl) (before after : List ℕ)
     (representation : Representation)
-    (entry : Entry) : Type 0 where
+    (entry : TypeEntry) : Type 0 where
   pub middle : List ℕ
   pub shape : IsShapePlaced before middle representation.shape entry.shape
   pub head : IsHeadPlaced middle after representation.head entry.head
@@ -43,7 +43,7 @@ pub record IsPlacedEntry (decls : List Decl) (before after : List ℕ)
 
 -- The entry of a type. The types that it names are discovered after the earlier types. The head and
 -- the shape with indices are correct, even if more types are discovered later.
-pub record IsEntry (decls : List Decl) (t : Ty) (before after : List Ty) (entry : Entry)
+pub record IsEntry (decls : List Decl) (t : Ty) (before after : List Ty) (entry : TypeEntry)
     : Type 0 where
   pub added : List Ty
   pub kept : after ≡ before ++ added

@@ -3,8 +3,8 @@ use Rattle.std.specs.Prelude.{ℕ, ◌≡◌, List, [], ◌∷◌, Option, Some,
 use Rattle.types_spec.specs.declared.types.decl.Predeclared.{Predeclared}
 use Rattle.types_spec.specs.declared.types.head.HeadOf.{HeadOf}
 use Rattle.types_spec.specs.declared.types.head.HeadOf.TheVariants as heads
-use Rattle.types_spec.specs.declared.types.ty.Node.{Node}
-use Rattle.types_spec.specs.declared.types.ty.Node.TheVariants as nodes
+use Rattle.types_spec.specs.declared.types.ty.TypeTreeNode.{TypeTreeNode}
+use Rattle.types_spec.specs.declared.types.ty.TypeTreeNode.TheVariants as nodes
 use Rattle.types_spec.specs.types.Declarations.{predeclared}
 use Rattle.types_spec.specs.types.Ty.{Ty, bracket, part, tag, tag_of, including}
 use Rattle.types_spec.specs.types.Head.{plain_head}
@@ -37,7 +37,7 @@ meant_with (Some base) name numbers = heads.Predeclared base numbers
 meant_with None name numbers = heads.Datatype name numbers
 
 -- The result is `None` for a bracket. Only names and tuples have parts.
-abbrev pub head_of_root : Node → List ℕ → Option (HeadOf ℕ)
+abbrev pub head_of_root : TypeTreeNode → List ℕ → Option (HeadOf ℕ)
 head_of_root (nodes.Named name) numbers = Some (meant_with (predeclared name) name numbers)
 head_of_root nodes.Tuple numbers = Some (heads.Tuple numbers)
 head_of_root (nodes.Variable name) [] = Some (heads.Variable name)

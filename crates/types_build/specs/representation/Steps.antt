@@ -6,14 +6,14 @@ use Rattle.types_spec.specs.declared.types.head.TagOf.{TagOf}
 use Rattle.types_spec.specs.types.Ty.{Ty, including, instance}
 use Rattle.types_spec.specs.types.Nodes.{type_at}
 use Rattle.types_spec.specs.types.Head.{head, has_tag, joined, tags_in}
-use Rattle.types_build.specs.declared.representation.bracket.Step.{Step}
-use Rattle.types_build.specs.declared.representation.bracket.Step.TheVariants as steps
+use Rattle.types_build.specs.declared.representation.bracket.BracketStep.{BracketStep}
+use Rattle.types_build.specs.declared.representation.bracket.BracketStep.TheVariants as steps
 use Rattle.types_build.specs.representation.Tags.{tags_of_item, with_item, tags_at, IsTagWithin}
 use Rattle.types_build.specs.representation.Way.{IsAbbreviation, IsBare}
 use Rattle.types_build.specs.representation.Work.{work}
 
 -- The number of the step is the index of a type or of a declaration.
-abbrev pub IsStepWithin : List Decl → List Ty → Step → Type 0
+abbrev pub IsStepWithin : List Decl → List Ty → BracketStep → Type 0
 IsStepWithin decls types (steps.Item i) = i < length types
 IsStepWithin decls types (steps.Included n) = n < length types
 IsStepWithin decls types (steps.Settle d) = d < length decls
@@ -61,7 +61,8 @@ AreSettled decls tags settled = All (IsSettled decls tags) settled
 -- ---- pending steps
 
 -- These tags, and then those of the pending steps, are all tags.
-abbrev pub AreLeft : List Decl → List Ty → List (TagOf Ty) → List Step → List (TagOf Ty) → Type 0
+abbrev pub AreLeft : List Decl → List Ty → List (TagOf Ty) → List BracketStep → List (TagOf Ty)
+    → Type 0
 AreLeft decls types tags [] all = tags ≡ all
 AreLeft decls types tags (steps.Item i ∷ rest) all =
     (i < length types)
@@ -75,7 +76,7 @@ AreLeft decls types tags (steps.Settle d ∷ rest) all =
 -- The tags found and those of the pending steps are all tags. The tags of settled abbreviations
 -- were found.
 pub record AreGathered (decls : List Decl) (types : List Ty) (found : List (TagOf ℕ))
-    (settled : List ℕ) (waiting : List Step)
+    (settled : List ℕ) (waiting : List BracketStep)
     (all : List (TagOf Ty)) : Type 0 where
   pub found_within : All (IsTagWithin types) found
   pub brought : AreSettled decls (tags_at types found) settled
@@ -92,12 +93,12 @@ abbrev pub item_work : (Ty → ℕ) → Ty → ℕ
 item_work w (including whole included) = suc (suc (w included))
 item_work w t = 1
 
-abbrev pub step_work : List Decl → List Ty → Step → ℕ
+abbrev pub step_work : List Decl → List Ty → BracketStep → ℕ
 step_work decls types (steps.Item i) = item_work (work decls) (type_at types i)
 step_work decls types (steps.Included n) = suc (work decls (type_at types n))
 step_work decls types (steps.Settle d) = 1
 
-abbrev pub steps_work : List Decl → List Ty → List Step → ℕ
+abbrev pub steps_work : List Decl → List Ty → List BracketStep → ℕ
 steps_work decls types [] = 0
 steps_work decls types (step ∷ rest) = step_work decls types step + steps_work decls types rest
 

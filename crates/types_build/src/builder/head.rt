@@ -3,7 +3,7 @@
 ghost use Rattle.std.specs.Prelude.{◌≡◌, IfOk};
 ghost use Rattle.types_build.specs.builder.Placed.{AreHeadTagsPlaced, IsHeadPlaced};
 
-use crate::builder::met::{Met, position_if, positions};
+use crate::builder::discovered_types::{DiscoveredTypes, position_if, positions};
 use base_data::model::Memory;
 use base_data::model::list::List;
 use std::alloc::Global;
@@ -12,7 +12,7 @@ use types_spec::types::head::{HeadOf, TagOf};
 /// Replaces the parts of a head by their indices. Adds new parts to `met` in order.
 pub(crate) fn placed_head(
     alloc: Global,
-    met: &mut Met,
+    met: &mut DiscoveredTypes,
     head: &HeadOf<usize>,
 ) -> Result<HeadOf<usize>, Memory>
     ensures { IfOk result (IsHeadPlaced met.old.keys met.new.keys head.now) }
@@ -37,7 +37,7 @@ pub(crate) fn placed_head(
 /// Replaces the arguments of tags by their indices. The tags keep their names.
 fn placed_tags(
     alloc: Global,
-    met: &mut Met,
+    met: &mut DiscoveredTypes,
     tags: &[TagOf<usize>],
 ) -> Result<List<TagOf<usize>>, Memory>
     ensures { IfOk result (AreHeadTagsPlaced met.old.keys met.new.keys tags.now) }

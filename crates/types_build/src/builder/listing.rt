@@ -5,8 +5,8 @@ ghost use Rattle.types_spec.specs.declared.types.decl.Decl.{Decl as Declaration}
 ghost use Rattle.types_spec.specs.types.Ty.{Ty as Tree};
 ghost use Rattle.types_build.specs.builder.Listed.{AreWithin, IsListingOf};
 
-use crate::builder::entry::{Entry, entry_of};
-use crate::builder::met::{Met, position};
+use crate::builder::discovered_types::{DiscoveredTypes, position};
+use crate::builder::type_entry::{TypeEntry, entry_of};
 use base_data::model::Memory;
 use indexmap::IndexSet;
 use std::alloc::Global;
@@ -15,14 +15,14 @@ use types_spec::types::head::HeadOf;
 use types_spec::types::names::Names;
 use types_spec::types::shape::ShapeOf;
 use types_spec::types::ty::Ty;
-use types_table::store::Types;
+use types_table::store::TypeStore;
 
 /// A store of types, the numbers of the discovered types in that store, and the shapes, heads and
 /// names of the first of them.
 #[derive(Drop)]
 pub(crate) struct Listing {
-    pub(crate) types: Types,
-    pub(crate) met: Met,
+    pub(crate) types: TypeStore,
+    pub(crate) met: DiscoveredTypes,
     pub(crate) nodes: Vec<ShapeOf<usize>>,
     pub(crate) heads: Vec<HeadOf<usize>>,
     pub(crate) names: Vec<Names>,
@@ -34,7 +34,7 @@ pub(crate) fn started(alloc: Global, ty: &Ty) -> Result<Listing, Memory>
     ensures one { IfOk result (λ l. length l.met.keys ≡ 1) }
     ensures is { IfOk result (λ l. (decls : List Declaration) → IsListingOf decls ty.now l) }
 {
-    let mut types = Types::new(alloc);
+    let mut types = TypeStore::new(alloc);
     let mut met = IndexSet::new(alloc);
     let number = types.add(alloc, ty)?;
     let _ = position(&mut met, number)?;
@@ -77,7 +77,7 @@ pub(crate) fn go_on(
 }
 
 /// Appends an entry.
-fn write(listing: &mut Listing, entry: Entry) -> Result<(), Memory>
+fn write(listing: &mut Listing, entry: TypeEntry) -> Result<(), Memory>
     ensures types { listing.new.types ≡ listing.old.types }
     ensures met { listing.new.met ≡ listing.old.met }
     ensures nodes { OnOk result

@@ -4,7 +4,7 @@ ghost use Rattle.std.specs.Prelude.{IfOk};
 ghost use Rattle.types_build.specs.builder.Placed.{AreBlocksPlaced, IsTagPlaced, AreTagsPlaced};
 ghost use Rattle.types_build.specs.builder.Placed.{IsShapePlaced};
 
-use crate::builder::met::{Met, position, position_if, positions};
+use crate::builder::discovered_types::{DiscoveredTypes, position, position_if, positions};
 use base_data::model::Memory;
 use base_data::model::list::List;
 use std::alloc::Global;
@@ -14,7 +14,7 @@ use types_spec::types::shape::{Constr, PolyTag, ShapeOf};
 /// constructor and field by field, and for tags in their order.
 pub(crate) fn placed_shape(
     alloc: Global,
-    met: &mut Met,
+    met: &mut DiscoveredTypes,
     shape: &ShapeOf<usize>,
 ) -> Result<ShapeOf<usize>, Memory>
     ensures { IfOk result (IsShapePlaced met.old.keys met.new.keys shape.now) }
@@ -46,10 +46,11 @@ pub(crate) fn placed_shape(
     }
 }
 
-/// Replaces the field types of constructors with arguments by their indices.
+/// Replaces the field types of constructors with arguments, which are numbers of types, by the
+/// positions of these types in `met`.
 fn placed_blocks(
     alloc: Global,
-    met: &mut Met,
+    met: &mut DiscoveredTypes,
     blocks: &[Constr<usize>],
 ) -> Result<List<Constr<usize>>, Memory>
     ensures { IfOk result (AreBlocksPlaced met.old.keys met.new.keys blocks.now) }
@@ -63,10 +64,11 @@ fn placed_blocks(
     Ok(List::of(found))
 }
 
-/// Replaces the arguments of tags by their indices. The tags keep their hashes.
+/// Replaces the arguments of tags, which are numbers of types, by the positions of these types in
+/// `met`. The tags keep their hashes.
 fn placed_tags(
     alloc: Global,
-    met: &mut Met,
+    met: &mut DiscoveredTypes,
     tags: &[PolyTag<usize>],
 ) -> Result<List<PolyTag<usize>>, Memory>
     ensures { IfOk result (AreTagsPlaced met.old.keys met.new.keys tags.now) }
@@ -78,8 +80,9 @@ fn placed_tags(
     Ok(List::of(found))
 }
 
-/// Replaces the argument of a tag by its index. The tag keeps its hash.
-fn placed_tag(met: &mut Met, tag: &PolyTag<usize>) -> Result<PolyTag<usize>, Memory>
+/// Replaces the argument of a tag, which is the number of a type, by the position of this type in
+/// `met`. The tag keeps its hash.
+fn placed_tag(met: &mut DiscoveredTypes, tag: &PolyTag<usize>) -> Result<PolyTag<usize>, Memory>
     ensures { IfOk result (IsTagPlaced met.old.keys met.new.keys tag.now) }
 {
     let arg = position_if(met, tag.arg)?;

@@ -12,7 +12,7 @@ ghost use Rattle.types_spec.specs.types.Head.{head, joined, tags_in};
 ghost use Rattle.types_spec.specs.types.Accepted.{AreSound};
 ghost use Rattle.types_table.specs.store.Held.{Grows};
 ghost use Rattle.types_build.specs.representation.Plain.{IsBracketed};
-ghost use Rattle.types_build.specs.declared.representation.bracket.Step.TheVariants as steps;
+ghost use Rattle.types_build.specs.declared.representation.bracket.BracketStep.TheVariants as steps;
 ghost use Rattle.types_build.specs.representation.Tags.{has_bracket, before_item, items};
 ghost use Rattle.types_build.specs.representation.Tags.{with_items, with_tag};
 ghost use Rattle.types_build.specs.representation.Tags.{tags_of_entries, IsHeadOf};
@@ -24,17 +24,17 @@ ghost use Rattle.types_build.specs.representation.Steps.{IsStepWithin, IsSure};
 ghost use Rattle.types_build.specs.representation.Steps.{steps_work};
 
 use crate::representation::borrowed::Stored;
-use crate::representation::found::{Found, add_found, found_tags};
-use crate::representation::known::{Known, abbreviation, none_known};
+use crate::representation::found_heads::{FoundHeads, add_found, found_tags};
+use crate::representation::known_abbreviations::{KnownAbbreviations, abbreviation, none_known};
 use crate::representation::replaced::nearer_from;
-use crate::representation::settled::{Settled, is_settled, settle};
+use crate::representation::settled_abbreviations::{SettledAbbreviations, is_settled, settle};
 use base_data::model::Memory;
 use base_data::model::list::List;
 use indexmap::{IndexMap, IndexSet};
 use std::alloc::Global;
 use types_resolve::scope::SoundEnvironment;
 use types_spec::types::head::{HeadOf, TagOf};
-use types_table::store::{TypeNode, Types};
+use types_table::store::{TypeNode, TypeStore};
 
 /// Tags by name, in insertion order. Each has the index of its argument type, if it has an
 /// argument.
@@ -44,7 +44,7 @@ pub(crate) type Tags = IndexMap<Vec<u8>, Option<usize>>;
 /// `Included` is an included type. `Settle` is the declaration index of an abbreviation whose tags
 /// have been gathered.
 #[derive(Clone, Copy)]
-pub(crate) enum Step {
+pub(crate) enum BracketStep {
     Item(usize),
     Included(usize),
     Settle(usize),
@@ -56,9 +56,9 @@ pub(crate) enum Step {
 /// append types to `types`, even if it returns `Memory`.
 pub fn bracket_head(
     alloc: Global,
-    types: &mut Types,
+    types: &mut TypeStore,
     decls: &SoundEnvironment<'_>,
-    found: &Found<'_>,
+    found: &FoundHeads<'_>,
     number: usize,
 ) -> Result<HeadOf<usize>, Memory>
     requires number { number < length types.old }
@@ -82,11 +82,11 @@ pub fn bracket_head(
 /// Takes all pending steps.
 fn gather_all(
     alloc: Global,
-    types: &mut Types,
+    types: &mut TypeStore,
     decls: &SoundEnvironment<'_>,
-    found: &Found<'_>,
+    found: &FoundHeads<'_>,
     tags: &mut Tags,
-    waiting: &mut Vec<Step>,
+    waiting: &mut Vec<BracketStep>,
 ) -> Result<(), Memory>
     requires found { AreFound decls.now types.old found.now.by_position found.now.met.now.keys
         found.now.heads.now }
@@ -100,7 +100,7 @@ fn gather_all(
         → AreAll types.new (tags_of_entries tags.new.entries) all) }
     ensures grown { Grows types.old types.new }
 {
-    let mut settled: Settled = IndexSet::new(alloc);
+    let mut settled: SettledAbbreviations = IndexSet::new(alloc);
     let mut known = none_known(alloc);
     'step: while let Some(step) = waiting.pop() {
         gather(
@@ -121,14 +121,14 @@ fn gather_all(
 /// Takes one step.
 fn gather(
     alloc: Global,
-    types: &mut Types,
+    types: &mut TypeStore,
     decls: &SoundEnvironment<'_>,
-    found: &Found<'_>,
-    step: Step,
-    known: &mut Known,
+    found: &FoundHeads<'_>,
+    step: BracketStep,
+    known: &mut KnownAbbreviations,
     tags: &mut Tags,
-    settled: &mut Settled,
-    waiting: &mut Vec<Step>,
+    settled: &mut SettledAbbreviations,
+    waiting: &mut Vec<BracketStep>,
 ) -> Result<(), Memory>
     requires step { IsStepWithin decls.now types.old step }
     requires found { AreFound decls.now types.old found.now.by_position found.now.met.now.keys
@@ -150,22 +150,22 @@ fn gather(
     ensures grown { Grows types.old types.new }
 {
     match step {
-        Step::Item(item) => gather_item(alloc, types, item, tags, waiting),
-        Step::Included(included) => match found_tags(found, included, tags.len()) {
+        BracketStep::Item(item) => gather_item(alloc, types, item, tags, waiting),
+        BracketStep::Included(included) => match found_tags(found, included, tags.len()) {
             Some(more) => add_found(alloc, tags, found, more),
             None => include(alloc, types, decls, known, settled, included, waiting),
         },
-        Step::Settle(decl) => settle(alloc, types, decls, known, tags, settled, decl),
+        BracketStep::Settle(decl) => settle(alloc, types, decls, known, tags, settled, decl),
     }
 }
 
 /// Adds the tag of an item, or pushes the type that the item includes.
 fn gather_item(
     alloc: Global,
-    types: &Types,
+    types: &TypeStore,
     item: usize,
     tags: &mut Tags,
-    waiting: &mut Vec<Step>,
+    waiting: &mut Vec<BracketStep>,
 ) -> Result<(), Memory>
     requires { item < length types.now }
     ensures gathered { OnOk result
@@ -183,7 +183,7 @@ fn gather_item(
         TypeNode::Tag(_, name) => add_tag(alloc, tags, name, None),
         TypeNode::TagOf(_, name, argument) => add_tag(alloc, tags, name, Some(argument)),
         TypeNode::Including(_, included) => {
-            waiting.push(Step::Included(included))?;
+            waiting.push(BracketStep::Included(included))?;
             Ok(())
         }
         _ => Ok(()),
@@ -194,12 +194,12 @@ fn gather_item(
 /// expansions at the head instead. If this abbreviation is settled, pushes nothing.
 fn include(
     alloc: Global,
-    types: &mut Types,
+    types: &mut TypeStore,
     decls: &SoundEnvironment<'_>,
-    known: &mut Known,
-    settled: &Settled,
+    known: &mut KnownAbbreviations,
+    settled: &SettledAbbreviations,
     included: usize,
-    waiting: &mut Vec<Step>,
+    waiting: &mut Vec<BracketStep>,
 ) -> Result<(), Memory>
     requires included { included < length types.old }
     requires known { AreKnown decls.now None known.old }
@@ -238,7 +238,7 @@ fn include(
 
 /// Pushes the type after an expansion, and below it the step that settles the expanded
 /// abbreviation.
-fn push_next(decl: Option<usize>, next: usize, waiting: &mut Vec<Step>) -> Result<(), Memory>
+fn push_next(decl: Option<usize>, next: usize, waiting: &mut Vec<BracketStep>) -> Result<(), Memory>
     ensures left { OnOk result
         ((decls : List Declaration) (types : List Ty) (tags all : List (Tag Ty))
         → IfSome decl (λ d. d < length decls)
@@ -253,19 +253,23 @@ fn push_next(decl: Option<usize>, next: usize, waiting: &mut Vec<Step>) -> Resul
 {
     match decl {
         Some(decl) => {
-            waiting.push(Step::Settle(decl))?;
-            waiting.push(Step::Included(next))?;
+            waiting.push(BracketStep::Settle(decl))?;
+            waiting.push(BracketStep::Included(next))?;
             Ok(())
         }
         None => {
-            waiting.push(Step::Included(next))?;
+            waiting.push(BracketStep::Included(next))?;
             Ok(())
         }
     }
 }
 
 /// Pushes the items of an included bracket.
-fn write_items(types: &Types, bracket: usize, waiting: &mut Vec<Step>) -> Result<(), Memory>
+fn write_items(
+    types: &TypeStore,
+    bracket: usize,
+    waiting: &mut Vec<BracketStep>,
+) -> Result<(), Memory>
     requires { bracket < length types.now }
     ensures left { OnOk result
         ((decls : List Declaration) (tags all : List (Tag Ty)) → AreSound decls
@@ -339,7 +343,7 @@ pub(crate) fn has_bracket(t: &Stored<'_>) -> bool
 }
 
 /// Pushes the items of a bracket. The first item is on top.
-fn push_items(t: &Stored<'_>, waiting: &mut Vec<Step>) -> Result<(), Memory>
+fn push_items(t: &Stored<'_>, waiting: &mut Vec<BracketStep>) -> Result<(), Memory>
     ensures left { OnOk result
         ((decls : List Declaration) (tags all : List (Tag Ty))
         → AreLeft decls t.now.types.now
@@ -355,7 +359,7 @@ fn push_items(t: &Stored<'_>, waiting: &mut Vec<Step>) -> Result<(), Memory>
     let types = t.types;
     let mut at = t.number;
     while let Some(whole) = before_item(&Stored { types, number: at }) {
-        waiting.push(Step::Item(at))?;
+        waiting.push(BracketStep::Item(at))?;
         at = whole;
     }
     Ok(())

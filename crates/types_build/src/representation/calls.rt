@@ -14,13 +14,13 @@ use types_resolve::scope::SoundEnvironment;
 use types_spec::types::decl::{Body, Decl};
 use types_spec::types::shape::ShapeOf;
 use types_spec::types::ty::Ty;
-use types_table::store::Types;
+use types_table::store::TypeStore;
 
 /// Returns the shape of a type, which describes the representation of its values.
 pub fn shape(alloc: Global, decls: &SoundEnvironment<'_>, t: &Ty) -> Result<ShapeOf<Ty>, Memory>
     ensures { IfOk result (λ found. found ≡ shape decls.now t.now) }
 {
-    let mut types = Types::new(alloc);
+    let mut types = TypeStore::new(alloc);
     let number = types.add(alloc, t)?;
     let representation = representation_of(alloc, &mut types, decls, number)?;
     trees_of_shape(alloc, &types, &representation.shape)
@@ -30,7 +30,7 @@ pub fn shape(alloc: Global, decls: &SoundEnvironment<'_>, t: &Ty) -> Result<Shap
 pub fn expand(alloc: Global, decls: &SoundEnvironment<'_>, t: &Ty) -> Result<Ty, Memory>
     ensures { IfOk result (IsExpanded decls.now t.now) }
 {
-    let mut types = Types::new(alloc);
+    let mut types = TypeStore::new(alloc);
     let number = types.add(alloc, t)?;
     let end = expanded(alloc, &mut types, decls, number)?;
     types.tree(alloc, end)
@@ -43,6 +43,6 @@ pub fn flat_float(alloc: Global, decls: &SoundEnvironment<'_>, decl: &Decl) -> R
     let Body::Record(fields) = &decl.body else {
         return Ok(false);
     };
-    let mut types = Types::new(alloc);
+    let mut types = TypeStore::new(alloc);
     is_flat(alloc, &mut types, decls, fields.as_slice())
 }

@@ -17,13 +17,13 @@ use types_resolve::scope::SoundEnvironment;
 use types_spec::types::decl::{Arguments, Body, Constructor, Decl, Field};
 use types_spec::types::shape::{Constr, ShapeOf};
 use types_spec::types::ty::Ty;
-use types_table::store::Types;
+use types_table::store::TypeStore;
 
 /// Returns the shape of a declared type with these arguments. May append types to `types`, even if
 /// it returns `Memory`.
 pub(crate) fn datatype_shape(
     alloc: Global,
-    types: &mut Types,
+    types: &mut TypeStore,
     decls: &SoundEnvironment<'_>,
     decl: &Decl,
     arguments: &[usize],
@@ -56,7 +56,7 @@ pub(crate) fn datatype_shape(
 /// Returns true if the declared types of all fields are `float`.
 pub(crate) fn is_flat(
     alloc: Global,
-    types: &mut Types,
+    types: &mut TypeStore,
     decls: &SoundEnvironment<'_>,
     fields: &[Field],
 ) -> Result<bool, Memory>
@@ -74,7 +74,7 @@ pub(crate) fn is_flat(
 /// Returns the blocks of the constructors with arguments.
 fn blocks(
     alloc: Global,
-    types: &mut Types,
+    types: &mut TypeStore,
     decl: &Decl,
     arguments: &[usize],
     constructors: &[Constructor],
@@ -97,7 +97,7 @@ fn blocks(
 /// Returns the block of a constructor, or `None` if it has no arguments.
 fn block_of(
     alloc: Global,
-    types: &mut Types,
+    types: &mut TypeStore,
     decl: &Decl,
     arguments: &[usize],
     written: &Arguments,
@@ -130,7 +130,7 @@ fn block_of(
 /// Returns the indices of the types of fields, with these arguments for the parameters.
 fn instances_of_fields(
     alloc: Global,
-    types: &mut Types,
+    types: &mut TypeStore,
     decl: &Decl,
     arguments: &[usize],
     fields: &[Field],
@@ -153,7 +153,7 @@ fn instances_of_fields(
 /// Returns the indices of types, with these arguments for the parameters.
 fn instances(
     alloc: Global,
-    types: &mut Types,
+    types: &mut TypeStore,
     decl: &Decl,
     arguments: &[usize],
     written: &[Ty],

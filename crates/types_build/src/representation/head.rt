@@ -8,7 +8,7 @@ ghost use Rattle.types_build.specs.representation.Found.{AreFound};
 
 use crate::representation::borrowed::Stored;
 use crate::representation::bracket::bracket_head;
-use crate::representation::found::Found;
+use crate::representation::found_heads::FoundHeads;
 use crate::representation::plain::plain;
 use crate::representation::replaced::expanded;
 use base_data::model::Memory;
@@ -16,13 +16,13 @@ use indexmap::IndexSet;
 use std::alloc::Global;
 use types_resolve::scope::SoundEnvironment;
 use types_spec::types::head::HeadOf;
-use types_table::store::Types;
+use types_table::store::TypeStore;
 
 /// Returns the head of a type. Abbreviations at the head are expanded, and included types are
 /// replaced by their tags. May append types to `types`, even if it returns `Memory`.
 pub fn head_of(
     alloc: Global,
-    types: &mut Types,
+    types: &mut TypeStore,
     decls: &SoundEnvironment<'_>,
     number: usize,
 ) -> Result<HeadOf<usize>, Memory>
@@ -31,7 +31,7 @@ pub fn head_of(
     ensures grown { Grows types.old types.new }
 {
     let met = IndexSet::new(alloc);
-    let none = Found {
+    let none = FoundHeads {
         by_position: true,
         met: &met,
         heads: &[],
@@ -42,9 +42,9 @@ pub fn head_of(
 /// Returns the head of a type like `head_of`, and uses heads that were found before.
 pub(crate) fn head_with(
     alloc: Global,
-    types: &mut Types,
+    types: &mut TypeStore,
     decls: &SoundEnvironment<'_>,
-    found: &Found<'_>,
+    found: &FoundHeads<'_>,
     number: usize,
 ) -> Result<HeadOf<usize>, Memory>
     requires number { number < length types.old }

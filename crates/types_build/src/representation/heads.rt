@@ -8,7 +8,7 @@ ghost use Rattle.types_table.specs.store.Held.{Grows};
 ghost use Rattle.types_build.specs.representation.Tags.{IsHeadOf};
 ghost use Rattle.types_build.specs.representation.Heads.{AreHeads, IsTagsHead};
 
-use crate::representation::found::Found;
+use crate::representation::found_heads::FoundHeads;
 use crate::representation::head::head_with;
 use base_data::model::Memory;
 use base_data::model::list::List;
@@ -16,7 +16,7 @@ use indexmap::IndexSet;
 use std::alloc::Global;
 use types_resolve::scope::SoundEnvironment;
 use types_spec::types::head::{HeadOf, TagOf};
-use types_table::store::{TypeNode, Types};
+use types_table::store::{TypeNode, TypeStore};
 
 /// Heads of included types, with the indices of these types.
 #[derive(Drop)]
@@ -39,7 +39,7 @@ pub fn no_heads(alloc: Global) -> Heads
 /// another type, remembers the head as that of the other type.
 pub fn item_head(
     alloc: Global,
-    types: &mut Types,
+    types: &mut TypeStore,
     decls: &SoundEnvironment<'_>,
     heads: &mut Heads,
     number: usize,
@@ -50,7 +50,7 @@ pub fn item_head(
     ensures heads { OnOk result (AreHeads decls.now types.new heads.new) }
     ensures grown { Grows types.old types.new }
 {
-    let found = Found {
+    let found = FoundHeads {
         by_position: false,
         met: &heads.met,
         heads: heads.heads.as_slice(),
@@ -63,7 +63,7 @@ pub fn item_head(
 /// Remembers the head of an item as the head of the type that it includes, if it includes one.
 fn keep(
     alloc: Global,
-    types: &Types,
+    types: &TypeStore,
     decls: &SoundEnvironment<'_>,
     heads: &mut Heads,
     number: usize,
@@ -87,7 +87,7 @@ fn keep(
 /// Remembers the tags of a type.
 fn remember(
     alloc: Global,
-    types: &Types,
+    types: &TypeStore,
     decls: &SoundEnvironment<'_>,
     heads: &mut Heads,
     number: usize,

@@ -18,13 +18,13 @@ use types_resolve::scope::SoundEnvironment;
 use types_resolve::scope::predeclared::predeclared;
 use types_spec::types::decl::Predeclared;
 use types_spec::types::ty::Ty;
-use types_table::store::Types;
+use types_table::store::TypeStore;
 
 /// Returns true if a type is a polymorphic variant. May append types to `types`, even if it returns
 /// `Memory`.
 pub fn is_polymorphic_variant(
     alloc: Global,
-    types: &mut Types,
+    types: &mut TypeStore,
     decls: &SoundEnvironment<'_>,
     number: usize,
 ) -> Result<bool, Memory>
@@ -41,7 +41,7 @@ pub fn is_polymorphic_variant(
 /// Returns true if a type is `float`. May append types to `types`, even if it returns `Memory`.
 pub fn is_float(
     alloc: Global,
-    types: &mut Types,
+    types: &mut TypeStore,
     decls: &SoundEnvironment<'_>,
     t: &Ty,
 ) -> Result<bool, Memory>

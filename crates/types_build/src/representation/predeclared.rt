@@ -16,13 +16,13 @@ use types_resolve::scope::SoundEnvironment;
 use types_spec::types::decl::{Decl, Predeclared};
 use types_spec::types::head::HeadOf;
 use types_spec::types::shape::{Constr, ShapeOf};
-use types_table::store::Types;
+use types_table::store::TypeStore;
 
 /// Returns the shape of a predeclared type. May append types to `types`, even if it returns
 /// `Memory`.
 pub(crate) fn predeclared_shape(
     alloc: Global,
-    types: &mut Types,
+    types: &mut TypeStore,
     decls: &SoundEnvironment<'_>,
     base: Predeclared,
     parts: &[usize],
@@ -67,7 +67,7 @@ fn alone(base: Predeclared) -> ShapeOf<usize>
 /// Returns the shape of a predeclared type with one argument.
 fn of_one(
     alloc: Global,
-    types: &mut Types,
+    types: &mut TypeStore,
     decls: &SoundEnvironment<'_>,
     base: Predeclared,
     part: usize,
@@ -90,7 +90,7 @@ fn of_one(
 }
 
 /// Returns the shape of lists with elements of type `part`.
-fn list_shape(alloc: Global, types: &mut Types, part: usize) -> Result<ShapeOf<usize>, Memory>
+fn list_shape(alloc: Global, types: &mut TypeStore, part: usize) -> Result<ShapeOf<usize>, Memory>
     requires { part < length types.old }
     ensures ok { IfOk result
         (IsShapeAt types.new

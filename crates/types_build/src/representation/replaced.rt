@@ -9,19 +9,21 @@ ghost use Rattle.types_build.specs.representation.Unfolded.{IsReplaced, IsLeft, 
 ghost use Rattle.types_build.specs.representation.Way.{AreKnown, IsAbbreviation, IsBare, IsNearer};
 
 use crate::representation::borrowed::Stored;
-use crate::representation::known::{Known, abbreviation, inspect_at, known_part, none_known};
+use crate::representation::known_abbreviations::{
+    KnownAbbreviations, abbreviation, inspect_at, known_part, none_known,
+};
 use crate::representation::spine::{name, parts};
 use base_data::model::Memory;
 use std::alloc::Global;
 use types_resolve::scope::SoundEnvironment;
 use types_spec::types::decl::Body;
-use types_table::store::Types;
+use types_table::store::TypeStore;
 
 /// Returns the type after one expansion at its head, or `None` if no abbreviation is there. Takes
 /// one step for each node of the type of the abbreviation and for each part.
 pub fn unfolded(
     alloc: Global,
-    types: &mut Types,
+    types: &mut TypeStore,
     decls: &SoundEnvironment<'_>,
     number: usize,
 ) -> Result<Option<usize>, Memory>
@@ -56,9 +58,9 @@ pub fn unfolded(
 /// returns the type after one expansion.
 fn passed(
     alloc: Global,
-    types: &mut Types,
+    types: &mut TypeStore,
     decls: &SoundEnvironment<'_>,
-    known: &Known,
+    known: &KnownAbbreviations,
     number: usize,
 ) -> Result<Option<usize>, Memory>
     requires number { number < length types.old }
@@ -78,7 +80,7 @@ fn passed(
 /// Takes one step for each node of the type of the abbreviation.
 fn bare_unfolded(
     alloc: Global,
-    types: &mut Types,
+    types: &mut TypeStore,
     decls: &SoundEnvironment<'_>,
     number: usize,
     decl: usize,
@@ -103,10 +105,10 @@ fn bare_unfolded(
 /// there. Each expansion after the first is of an abbreviation outside the group.
 pub fn nearer(
     alloc: Global,
-    types: &mut Types,
+    types: &mut TypeStore,
     decls: &SoundEnvironment<'_>,
     group: Option<usize>,
-    known: &mut Known,
+    known: &mut KnownAbbreviations,
     number: usize,
 ) -> Result<Option<usize>, Memory>
     requires number { number < length types.old }
@@ -125,10 +127,10 @@ pub fn nearer(
 /// parameters is expanded once, because it does not expand to an argument.
 pub(crate) fn nearer_from(
     alloc: Global,
-    types: &mut Types,
+    types: &mut TypeStore,
     decls: &SoundEnvironment<'_>,
     group: Option<usize>,
-    known: &mut Known,
+    known: &mut KnownAbbreviations,
     number: usize,
     decl: Option<usize>,
 ) -> Result<Option<usize>, Memory>
@@ -157,7 +159,7 @@ pub(crate) fn nearer_from(
 /// `Memory`.
 pub fn expanded(
     alloc: Global,
-    types: &mut Types,
+    types: &mut TypeStore,
     decls: &SoundEnvironment<'_>,
     number: usize,
 ) -> Result<usize, Memory>

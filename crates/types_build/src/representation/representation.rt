@@ -10,7 +10,7 @@ ghost use Rattle.types_build.specs.representation.Representation.{head_of_types,
 ghost use Rattle.types_build.specs.representation.Representation.{IsRepresentationOf, IsShapeAt};
 
 use crate::representation::datatype::datatype_shape;
-use crate::representation::found::Found;
+use crate::representation::found_heads::FoundHeads;
 use crate::representation::head::head_with;
 use crate::representation::predeclared::predeclared_shape;
 use base_data::model::Memory;
@@ -21,7 +21,7 @@ use types_resolve::scope::SoundEnvironment;
 use types_spec::tag_hash::hash;
 use types_spec::types::head::{HeadOf, TagOf};
 use types_spec::types::shape::{PolyTag, ShapeOf};
-use types_table::store::Types;
+use types_table::store::TypeStore;
 
 /// The head and the shape of a type. Their parts are type indices.
 #[derive(Drop)]
@@ -34,7 +34,7 @@ pub struct Representation {
 /// `Memory`.
 pub fn representation_of(
     alloc: Global,
-    types: &mut Types,
+    types: &mut TypeStore,
     decls: &SoundEnvironment<'_>,
     number: usize,
 ) -> Result<Representation, Memory>
@@ -43,7 +43,7 @@ pub fn representation_of(
     ensures grown { Grows types.old types.new }
 {
     let met = IndexSet::new(alloc);
-    let none = Found {
+    let none = FoundHeads {
         by_position: true,
         met: &met,
         heads: &[],
@@ -55,9 +55,9 @@ pub fn representation_of(
 /// found before.
 pub fn representation_with(
     alloc: Global,
-    types: &mut Types,
+    types: &mut TypeStore,
     decls: &SoundEnvironment<'_>,
-    found: &Found<'_>,
+    found: &FoundHeads<'_>,
     number: usize,
 ) -> Result<Representation, Memory>
     requires number { number < length types.old }
@@ -74,7 +74,7 @@ pub fn representation_with(
 /// Returns the shape of a type with this head.
 fn shape_at(
     alloc: Global,
-    types: &mut Types,
+    types: &mut TypeStore,
     decls: &SoundEnvironment<'_>,
     at: &HeadOf<usize>,
 ) -> Result<ShapeOf<usize>, Memory>

@@ -10,12 +10,12 @@ use base_data::model::list::List;
 use std::alloc::Global;
 use types_spec::types::shape::{Constr, PolyTag, ShapeOf};
 use types_spec::types::ty::Ty;
-use types_table::store::Types;
+use types_table::store::TypeStore;
 
 /// Returns the shape with types instead of indices.
 pub(crate) fn trees_of_shape(
     alloc: Global,
-    types: &Types,
+    types: &TypeStore,
     found: &ShapeOf<usize>,
 ) -> Result<ShapeOf<Ty>, Memory>
     requires { All (λ i. i < length types.now) (named_in found.now) }
@@ -56,7 +56,7 @@ pub(crate) fn trees_of_shape(
 /// Returns the blocks with types instead of indices.
 fn trees_of_blocks(
     alloc: Global,
-    types: &Types,
+    types: &TypeStore,
     blocks: &[Constr<usize>],
 ) -> Result<Vec<Constr<Ty>>, Memory>
     requires { All (λ block. All (λ i. i < length types.now) block.fields) blocks.now }
@@ -76,7 +76,7 @@ fn trees_of_blocks(
 /// Returns the tags with types instead of indices.
 fn trees_of_tags(
     alloc: Global,
-    types: &Types,
+    types: &TypeStore,
     tags: &[PolyTag<usize>],
 ) -> Result<Vec<PolyTag<Ty>>, Memory>
     requires { All (λ tag. IfSome tag.arg (λ i. i < length types.now)) tags.now }
@@ -97,7 +97,7 @@ fn trees_of_tags(
 }
 
 /// Returns the types with these indices.
-fn trees(alloc: Global, types: &Types, numbers: &[usize]) -> Result<Vec<Ty>, Memory>
+fn trees(alloc: Global, types: &TypeStore, numbers: &[usize]) -> Result<Vec<Ty>, Memory>
     requires { All (λ i. i < length types.now) numbers.now }
     ensures { IfOk result (λ v. v.items ≡ map (type_at types.now) numbers.now) }
 {

@@ -1,5 +1,5 @@
--- For each state, some text begins with the lexemes read, and the type that was read last ends in
--- it.
+-- For each state of the table, some text begins with the lexemes read so far. In this text, a type
+-- that ends at the last lexeme read is at least as deep as the state records.
 use Rattle.std.proofs.Common.{
   ℕ,
   ◌-◌,

@@ -5,13 +5,13 @@ use Rattle.types_parse.specs.grammar.Holes.{due, read, name_due, tag_read, outsi
 use Rattle.types_parse.specs.grammar.File.{Before, head_of, rest_of, BodyHole, ConstrHole, RecordHole, body_record, inline_record, TypeOutside, body_type, field_type, PartOutside, listed_part, Outside, file_due, decl_due, param_due, param_read, params_read, name_read, body_due, constr_due, upper_read, of_read, field_due, mutable_read, field_named, record_read, FileState, decl_with, variant_with, constr_with, closed_decl, closed_constr, closed_record, closed_outer_part, accepted_outside, file_accepted}
 use Rattle.types_parse.proofs.grammar.HolesLead.{type_read}
 use Rattle.types_spec.specs.types.Nodes.{type_of, AreOrdered}
-use Rattle.types_spec.specs.declared.types.ty.Node.{Node}
+use Rattle.types_spec.specs.declared.types.ty.TypeTreeNode.{TypeTreeNode}
 use Rattle.types_spec.specs.declared.types.decl.Arguments.TheVariants as arguments
 use Rattle.types_spec.specs.declared.types.decl.Body.TheVariants as bodies
 use Rattle.types_spec.specs.declared.types.decl.Decl.{Decl}
 use Rattle.types_parse.specs.parse.Written.{type_of_app, fields_of_tree, constructor_of_tree, declarations_of}
-use Rattle.types_parse.specs.declared.parse.open.Frame.{Frame}
-use Rattle.types_parse.specs.declared.parse.open.Phase.{Phase}
+use Rattle.types_parse.specs.declared.parse.open.OpenConstruct.{OpenConstruct}
+use Rattle.types_parse.specs.declared.parse.open.ParsePhase.{ParsePhase}
 use Rattle.types_parse.specs.declared.parse.so_far.FilePhase.{FilePhase}
 use Rattle.types_parse.specs.declared.parse.so_far.FilePhase.TheVariants as files
 use Rattle.types_parse.specs.parse.TypeCode.{whole_code}
@@ -66,7 +66,7 @@ none_accepted (read (alone q) a) h = absurd (cc)
 none_accepted (outside q) h = absurd (cc)
 none_accepted s h = refl
 
-all_ends : (b : Bottom TypeOutside PartOutside) (s : FileState) (all : List Node) →
+all_ends : (b : Bottom TypeOutside PartOutside) (s : FileState) (all : List TypeTreeNode) →
     IsAllAt b s all → EndsFile (file_accepted s) (closed_type_code (around_of b) (type_of all))
 all_ends (at_type (body_type b)) s all h = (
   closed_decl b.group (decl_with b (type_body h.type)),
@@ -84,12 +84,12 @@ all_ends (at_part (listed_part c x b)) s all h = (
       ∙ listed_ends c x b h.type,
 )
 
-type_ends : (b : Bottom TypeOutside PartOutside) (s : FileState) (found : Option (List Node)) →
+type_ends : (b : Bottom TypeOutside PartOutside) (s : FileState) (found : Option (List TypeTreeNode)) →
     Ends b s found → EndsFile (file_accepted s) (in_type_whole (around_of b) found)
 type_ends b s (Some all) h = all_ends b s all h
 type_ends b s None h = none_accepted s h
 
-inside_ends : (s : FileState) (ns : List Node) (fs : List Frame) (phase : FilePhase) →
+inside_ends : (s : FileState) (ns : List TypeTreeNode) (fs : List OpenConstruct) (phase : FilePhase) →
     IsInType ns fs phase s → EndsFile (file_accepted s) (file_whole_code ns fs phase)
 inside_ends s ns fs phase h =
     subst (λ p. EndsFile (file_accepted s) (file_whole_code ns fs p)) (sym h.phase_is)
@@ -99,8 +99,8 @@ inside_ends s ns fs phase h =
     h.shown)))
 
 -- The nodes of a complete type are ordered.
-inside_written : (s : FileState) (ns : List Node) (fs : List Frame) (phase : FilePhase)
-    (h : IsInType ns fs phase s) (all : List Node) → whole_code ns fs h.inner ≡ Some all →
+inside_written : (s : FileState) (ns : List TypeTreeNode) (fs : List OpenConstruct) (phase : FilePhase)
+    (h : IsInType ns fs phase s) (all : List TypeTreeNode) → whole_code ns fs h.inner ≡ Some all →
     AreOrdered all
 inside_written s ns fs phase h all e =
     written h.bottom (subst (Ends h.bottom s) e (whole_ends h.bottom s ns fs h.inner h.ordered
@@ -110,8 +110,8 @@ inside_written s ns fs phase h all e =
     written (at_type w) a = a.ordered
     written (at_part q) a = a.ordered
 
-pub readable_closed : (ns : List Node) (fs : List Frame) (around : Around) (phase : Phase) →
-    IsReadable ns fs (files.InType around phase) → (all : List Node) → whole_code ns fs phase
+pub readable_closed : (ns : List TypeTreeNode) (fs : List OpenConstruct) (around : Around) (phase : ParsePhase) →
+    IsReadable ns fs (files.InType around phase) → (all : List TypeTreeNode) → whole_code ns fs phase
     ≡ Some all → AreOrdered all
 readable_closed ns fs around phase r all e =
     let h = in_type_is ns fs around phase r.0 r.1 in
@@ -141,7 +141,7 @@ outside_ends (field_due r b) = refl
 outside_ends (mutable_read r b) = refl
 outside_ends (field_named r b mutable x) = refl
 
-pub file_ends_follow : (s : FileState) (ns : List Node) (fs : List Frame) (phase : FilePhase) →
+pub file_ends_follow : (s : FileState) (ns : List TypeTreeNode) (fs : List OpenConstruct) (phase : FilePhase) →
     file_shown ns fs phase s → EndsFile (file_accepted s) (file_whole_code ns fs phase)
 file_ends_follow (outside q) ns fs phase h =
     subst (λ n. EndsFile (accepted_outside q) (file_whole_code n fs phase)) (sym h.0)

@@ -9,13 +9,13 @@ use Rattle.types_parse.specs.grammar.Holes.{due, read, name_due, tag_read, outsi
 use Rattle.types_parse.specs.grammar.File.{Before, nothing, so_far, head_of, rest_of, with_one, GroupHole, BodyHole, ConstrHole, RecordHole, body_record, inline_record, TypeOutside, body_type, field_type, PartOutside, listed_part, Outside, file_due, decl_due, param_due, param_read, params_read, name_read, body_due, constr_due, upper_read, of_read, field_due, mutable_read, field_named, record_read, FileState, group_with, decl_with, variant_with, constr_with, field_with, after_decl, after_constr, after_record, after_field, outer_type_step, outer_part_step, outer_step, declarations}
 use Rattle.types_spec.specs.types.Nodes.{type_of}
 use Rattle.types_spec.proofs.types.NodeLemmas.{AreOrdered-none}
-use Rattle.types_spec.specs.declared.types.ty.Node.{Node}
+use Rattle.types_spec.specs.declared.types.ty.TypeTreeNode.{TypeTreeNode}
 use Rattle.types_spec.specs.declared.types.decl.Arguments.TheVariants as arguments
 use Rattle.types_spec.specs.declared.types.decl.Body.TheVariants as bodies
 use Rattle.types_spec.specs.declared.types.decl.Decl.{Decl}
 use Rattle.types_parse.specs.parse.Written.{type_of_texpr, type_of_app, field_of_tree, fields_of_tree, constructor_of_tree, declaration_of_tree, declarations_of}
-use Rattle.types_parse.specs.declared.parse.open.Frame.{Frame}
-use Rattle.types_parse.specs.declared.parse.open.Phase.TheVariants as phases
+use Rattle.types_parse.specs.declared.parse.open.OpenConstruct.{OpenConstruct}
+use Rattle.types_parse.specs.declared.parse.open.ParsePhase.TheVariants as phases
 use Rattle.types_parse.specs.declared.parse.so_far.FilePhase.{FilePhase}
 use Rattle.types_parse.specs.declared.parse.so_far.FilePhase.TheVariants as files
 use Rattle.types_parse.specs.parse.TypeCode.{StepCode, goes, ended, stops, begin_code, step_code}
@@ -136,7 +136,7 @@ alone_follows (listed_part c x b) a kind =
 
 -- ---- in types
 
-in_type_shown : (ns : List Node) (fs : List Frame) (phase : FilePhase) (s : FileState) →
+in_type_shown : (ns : List TypeTreeNode) (fs : List OpenConstruct) (phase : FilePhase) (s : FileState) →
     IsInType ns fs phase s → file_shown ns fs phase s
 in_type_shown ns fs phase (outside q) h = absurd (none_outside h.bottom q ns fs h.inner h.shown)
 in_type_shown ns fs phase (due p) h = h
@@ -145,7 +145,7 @@ in_type_shown ns fs phase (name_due p ts t) h = h
 in_type_shown ns fs phase (tag_read p x) h = h
 
 ends_follow : (b : Bottom TypeOutside PartOutside) (next : Option FileState) (kind : LexemeKind)
-    (ns : List Node) → EndsAt declarations b next kind ns →
+    (ns : List TypeTreeNode) → EndsAt declarations b next kind ns →
     FollowsOut next (after_type_code (around_of b) (type_of ns) kind)
 ends_follow (at_type w) next kind ns e =
     subst (λ t. FollowsOut next (after_type_code (around_of (at_type w)) t kind)) (sym e.type_is)
@@ -318,7 +318,7 @@ argument_alone (at_type (field_type r b mutable x)) = refl
 argument_alone (at_part (listed_part c x b)) = refl
 
 -- The step of the type that is being read.
-pub inner_follows : (ns : List Node) (fs : List Frame) (phase : FilePhase) (s : FileState)
+pub inner_follows : (ns : List TypeTreeNode) (fs : List OpenConstruct) (phase : FilePhase) (s : FileState)
     (kind : LexemeKind) (h : IsInType ns fs phase s) → Follows declarations h.bottom
     (step declarations s kind) kind (step_code (is_argument h.around) ns fs h.inner kind)
 inner_follows ns fs phase s kind h =
@@ -326,7 +326,7 @@ inner_follows ns fs phase s kind h =
     (step_code a ns fs h.inner kind)) (sym (ap is_argument h.around_is ∙ argument_alone h.bottom))
     (step_follows declarations h.bottom s ns fs h.inner kind h.ordered h.shown)
 
-inside_follows : (ns : List Node) (fs : List Frame) (phase : FilePhase) (s : FileState)
+inside_follows : (ns : List TypeTreeNode) (fs : List OpenConstruct) (phase : FilePhase) (s : FileState)
     (kind : LexemeKind) → IsInType ns fs phase s → FollowsFile (step declarations s kind)
     (file_step_code ns fs phase kind)
 inside_follows ns fs phase s kind h =
@@ -338,7 +338,7 @@ inside_follows ns fs phase s kind h =
     (in_type_follows h.bottom (step declarations s kind) kind (step_code (is_argument h.around) ns
     fs h.inner kind) (inner_follows ns fs phase s kind h)))
 
-pub file_follows : (s : FileState) (ns : List Node) (fs : List Frame) (phase : FilePhase)
+pub file_follows : (s : FileState) (ns : List TypeTreeNode) (fs : List OpenConstruct) (phase : FilePhase)
     (kind : LexemeKind) → file_shown ns fs phase s → FollowsFile (step declarations s kind)
     (file_step_code ns fs phase kind)
 file_follows (outside q) ns fs phase kind h =
@@ -370,12 +370,12 @@ outside_depth (mutable_read r b) = refl
 outside_depth (field_named r b mutable x) = refl
 outside_depth (record_read r t) = refl
 
-inside_depth : (ns : List Node) (fs : List Frame) (phase : FilePhase) (s : FileState) →
+inside_depth : (ns : List TypeTreeNode) (fs : List OpenConstruct) (phase : FilePhase) (s : FileState) →
     IsInType ns fs phase s → file_depth_code fs phase ≡ min 201 (table_ended s)
 inside_depth ns fs phase s h = ap (file_depth_code fs) h.phase_is ∙ depth_follows declarations
     h.bottom s ns fs h.inner h.shown
 
-pub file_depth_follows : (s : FileState) (ns : List Node) (fs : List Frame) (phase : FilePhase) →
+pub file_depth_follows : (s : FileState) (ns : List TypeTreeNode) (fs : List OpenConstruct) (phase : FilePhase) →
     file_shown ns fs phase s → file_depth_code fs phase ≡ min 201 (table_ended s)
 file_depth_follows (outside q) ns fs phase h = let zero_is : 0 ≡ min 201 0 = refl in
     ap (λ f. file_depth_code f phase) h.1 ∙ ap (file_depth_code []) h.2 ∙ outside_depth q ∙ zero_is

@@ -8,11 +8,11 @@ use Rattle.types_parse.specs.grammar.Holes.{step}
 use Rattle.types_parse.specs.grammar.File.{FileState, declarations, file_accepted}
 use Rattle.types_parse.proofs.grammar.FileTable.{file_table}
 use Rattle.types_parse.proofs.grammar.ReachedLemmas.{Reached, Moved, reached_first, refused_syntax, refused_end, read_whole, refused_deep, reached_next}
-use Rattle.types_spec.specs.declared.types.ty.Node.{Node}
+use Rattle.types_spec.specs.declared.types.ty.TypeTreeNode.{TypeTreeNode}
 use Rattle.types_spec.specs.declared.types.decl.Decl.{Decl}
 use Rattle.types_parse.specs.parse.Written.{declarations_of}
 use Rattle.types_parse.specs.parse.Parsed.{AreDeclarationsOf}
-use Rattle.types_parse.specs.declared.parse.open.Frame.{Frame}
+use Rattle.types_parse.specs.declared.parse.open.OpenConstruct.{OpenConstruct}
 use Rattle.types_parse.specs.declared.parse.so_far.FilePhase.{FilePhase}
 use Rattle.types_parse.specs.declared.parse.so_far.FilePhase.TheVariants as files
 use Rattle.types_parse.specs.parse.FileCode.{FileStep, file_step_code, file_depth_code, file_whole_code, FileStepIs}
@@ -20,7 +20,7 @@ use Rattle.types_parse.specs.parse.FileShown.{file_shown, IsReadable}
 use Rattle.types_parse.proofs.parse.FileLemmas.{FollowsFile, file_follows, file_depth_follows}
 use Rattle.types_parse.proofs.parse.FileEnd.{EndsFile, file_ends_follow}
 
-abbrev pub FileReached : Kinds → List Node → List Frame → FilePhase → ℕ → ℕ → Type 0
+abbrev pub FileReached : Kinds → List TypeTreeNode → List OpenConstruct → FilePhase → ℕ → ℕ → Type 0
 FileReached lexemes ns fs phase count position = Reached file_table lexemes (file_shown ns fs phase)
     count position
 
@@ -30,7 +30,7 @@ file_reached_first lexemes = reached_first file_table lexemes (file_shown [] [] 
 
 -- If the code continues, then the table continues.
 goes_on : (s : FileState) (kind : LexemeKind) (field : Option FilePhase) (next : FilePhase)
-    (ns : List Node) (fs : List Frame) (code : FileStep) → field ≡ Some next →
+    (ns : List TypeTreeNode) (fs : List OpenConstruct) (code : FileStep) → field ≡ Some next →
     FileStepIs field ns fs code → FollowsFile (step declarations s kind) code →
     Moved (step declarations) (file_shown ns fs next) kind s
 goes_on s kind field next ns fs code e i f =
@@ -39,13 +39,13 @@ goes_on s kind field next ns fs code e i f =
     record { next = h.0; moved = h.1; shown = h.2 }
 
 -- If the code fails, then the table fails.
-stops_here : (s : FileState) (kind : LexemeKind) (field : Option FilePhase) (ns : List Node)
-    (fs : List Frame) (code : FileStep) → field ≡ None → FileStepIs field ns fs code →
+stops_here : (s : FileState) (kind : LexemeKind) (field : Option FilePhase) (ns : List TypeTreeNode)
+    (fs : List OpenConstruct) (code : FileStep) → field ≡ None → FileStepIs field ns fs code →
     FollowsFile (step declarations s kind) code → step declarations s kind ≡ None
 stops_here s kind field ns fs code e i f = let g = subst (λ x. FileStepIs x ns fs code) e i in
     subst (FollowsFile (step declarations s kind)) g f
 
-module _ {lexemes : Kinds} {ns : List Node} {fs : List Frame} {phase : FilePhase} {count position : ℕ}
+module _ {lexemes : Kinds} {ns : List TypeTreeNode} {fs : List OpenConstruct} {phase : FilePhase} {count position : ℕ}
     (here : FileReached lexemes ns fs phase count position) where
   pub file_readable : IsReadable ns fs phase
   file_readable = (here.state, here.shown)
@@ -65,14 +65,14 @@ module _ {lexemes : Kinds} {ns : List Node} {fs : List Frame} {phase : FilePhase
 
   module _ (kind : LexemeKind) (h : position < length lexemes) (e : take (suc position) lexemes
       ≡ take position lexemes ++ kind ∷ []) where
-    pub file_syntax : (field : Option FilePhase) (all : List Node) (frames : List Frame) → field
+    pub file_syntax : (field : Option FilePhase) (all : List TypeTreeNode) (frames : List OpenConstruct) → field
         ≡ None → FileStepIs field all frames (file_step_code ns fs phase kind) →
         IsRefusedAsSyntax file_kinds file_ends lexemes position
     file_syntax field all frames n i = refused_syntax file_table lexemes here kind h e
         (λ s shown. stops_here s kind field all frames (file_step_code ns fs phase kind) n i
         (file_follows s ns fs phase kind shown))
 
-    module _ (field : Option FilePhase) (next : FilePhase) (all : List Node) (frames : List Frame)
+    module _ (field : Option FilePhase) (next : FilePhase) (all : List TypeTreeNode) (frames : List OpenConstruct)
         (g : field ≡ Some next) (i : FileStepIs field all frames (file_step_code ns fs phase kind))
       where
         moves : (s : FileState) → file_shown ns fs phase s → Moved (step declarations)

@@ -5,13 +5,13 @@ use Rattle.types_parse.specs.grammar.Grammar as trees
 use Rattle.types_spec.specs.types.Ty.{Ty, named, part}
 use Rattle.types_spec.specs.types.Nodes.{type_at, types_of, type_of, type_of_node, AreOrdered}
 use Rattle.types_spec.proofs.types.NodeLemmas.{type_at-more, type_at-last, AreOrdered-push}
-use Rattle.types_spec.specs.declared.types.ty.Node.{Node}
-use Rattle.types_spec.specs.declared.types.ty.Node.TheVariants as nodes
+use Rattle.types_spec.specs.declared.types.ty.TypeTreeNode.{TypeTreeNode}
+use Rattle.types_spec.specs.declared.types.ty.TypeTreeNode.TheVariants as nodes
 use Rattle.types_parse.specs.parse.Written.{type_of_texpr, applied_to}
 use Rattle.types_parse.specs.parse.TypeCode.{parts_nodes, parts_node}
 use Rattle.types_parse.specs.parse.TypeShown.{IsAt, AreAt, types_of_texprs}
 
-pub at_more : {ns : List Node} {n : ℕ} {t : Ty} (extra : List Node) → IsAt ns n t →
+pub at_more : {ns : List TypeTreeNode} {n : ℕ} {t : Ty} (extra : List TypeTreeNode) → IsAt ns n t →
     IsAt (ns ++ extra) n t
 at_more {ns} {n} extra a = record {
   below = omega (arith, a.below, length-append ns extra);
@@ -19,20 +19,20 @@ at_more {ns} {n} extra a = record {
       type_at-more ns extra n a.below ∙ a.is;
 }
 
-pub all_at_more : (ns : List Node) (all : List ℕ) (ts : List Ty) (extra : List Node) →
+pub all_at_more : (ns : List TypeTreeNode) (all : List ℕ) (ts : List Ty) (extra : List TypeTreeNode) →
     AreAt ns all ts → AreAt (ns ++ extra) all ts
 all_at_more ns [] [] extra a = tt
 all_at_more ns (n ∷ all) (t ∷ ts) extra a = (at_more extra a.0, all_at_more ns all ts extra a.1)
 all_at_more ns all ts extra a = absurd a
 
-pub all_at_end : (ns : List Node) {n : ℕ} {t : Ty} (all : List ℕ) (ts : List Ty) → AreAt ns all ts →
+pub all_at_end : (ns : List TypeTreeNode) {n : ℕ} {t : Ty} (all : List ℕ) (ts : List Ty) → AreAt ns all ts →
     IsAt ns n t → AreAt ns (all ++ n ∷ []) (ts ++ t ∷ [])
 all_at_end ns [] [] a b = (b, tt)
 all_at_end ns (m ∷ all) (u ∷ ts) a b = (a.0, all_at_end ns all ts a.1 b)
 all_at_end ns all ts a b = absurd a
 
 -- The appended node.
-pub at_last : (ns : List Node) (node : Node) → IsAt (ns ++ node ∷ []) (length ns)
+pub at_last : (ns : List TypeTreeNode) (node : TypeTreeNode) → IsAt (ns ++ node ∷ []) (length ns)
     (type_of_node (types_of ns) node)
 at_last ns node = record {
   below = omega (arith, length-append ns (node ∷ []));
@@ -40,20 +40,20 @@ at_last ns node = record {
       type_at-last ns node;
 }
 
-pub at_last_as : (ns : List Node) (node : Node) (t : Ty) → type_of_node (types_of ns) node ≡ t →
+pub at_last_as : (ns : List TypeTreeNode) (node : TypeTreeNode) (t : Ty) → type_of_node (types_of ns) node ≡ t →
     IsAt (ns ++ node ∷ []) (length ns) t
 at_last_as ns node t e = subst (IsAt (ns ++ node ∷ []) (length ns)) e (at_last ns node)
 
-pub is_last : (ns : List Node) (node : Node) → suc (length ns) ≡ length (ns ++ node ∷ [])
+pub is_last : (ns : List TypeTreeNode) (node : TypeTreeNode) → suc (length ns) ≡ length (ns ++ node ∷ [])
 is_last ns node = omega (arith, length-append ns (node ∷ []))
 
 -- One more part.
-pub part_last : {ns : List Node} {n m : ℕ} {t u : Ty} → IsAt ns n t → IsAt ns m u →
+pub part_last : {ns : List TypeTreeNode} {n m : ℕ} {t u : Ty} → IsAt ns n t → IsAt ns m u →
     IsAt (ns ++ nodes.Part n m ∷ []) (length ns) (part t u)
 part_last {ns} {n} {m} {t} {u} a b = at_last_as ns (nodes.Part n m) (part t u)
     (ap (λ x. part x (type_at (types_of ns) m)) a.is ∙ ap (λ x. part t x) b.is)
 
-pub part_ordered : {ns : List Node} {n m : ℕ} {t u : Ty} → IsAt ns n t → IsAt ns m u →
+pub part_ordered : {ns : List TypeTreeNode} {n m : ℕ} {t u : Ty} → IsAt ns n t → IsAt ns m u →
     AreOrdered ns → AreOrdered (ns ++ nodes.Part n m ∷ [])
 part_ordered {ns} {n} {m} a b o = AreOrdered-push ns (nodes.Part n m) o (a.below, b.below)
 
@@ -80,14 +80,14 @@ arguments_as name ts u = parts_with-end (named name) (types_of_texprs ts) u ∙ 
     (applied_as name ts)
 
 -- The nodes after these parts are added.
-pub record Added (ns : List Node) (all : List ℕ) (t : Ty) (n : ℕ) : Type 0 where
-  pub extra : List Node
+pub record Added (ns : List TypeTreeNode) (all : List ℕ) (t : Ty) (n : ℕ) : Type 0 where
+  pub extra : List TypeTreeNode
   pub nodes_are : parts_nodes ns n all ≡ ns ++ extra
   pub at : IsAt (parts_nodes ns n all) (parts_node ns n all) t
   pub last : suc (parts_node ns n all) ≡ length (parts_nodes ns n all)
   pub ordered : AreOrdered (parts_nodes ns n all)
 
-pub adds_parts : (all : List ℕ) (us : List Ty) (ns : List Node) (n : ℕ) (t : Ty) → AreAt ns all us →
+pub adds_parts : (all : List ℕ) (us : List Ty) (ns : List TypeTreeNode) (n : ℕ) (t : Ty) → AreAt ns all us →
     IsAt ns n t → suc n ≡ length ns → AreOrdered ns → Added ns all (parts_with t us) n
 adds_parts [] [] ns n t their a l o = record {
   extra = [];
@@ -111,7 +111,7 @@ adds_parts (m ∷ all) (u ∷ us) ns n t their a l o =
 adds_parts all us ns n t their a l o = absurd their
 
 -- The type of the last node.
-pub last_type : (ns : List Node) (n : ℕ) (t : Ty) → IsAt ns n t → suc n ≡ length ns → type_of ns ≡ t
+pub last_type : (ns : List TypeTreeNode) (n : ℕ) (t : Ty) → IsAt ns n t → suc n ≡ length ns → type_of ns ≡ t
 unfolding type_of
 last_type ns n t a l = let e : length ns - 1 ≡ n = omega arith in ap (type_at (types_of ns)) e
     ∙ a.is

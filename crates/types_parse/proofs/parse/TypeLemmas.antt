@@ -1,6 +1,6 @@
 -- The code's step on indices of nodes agrees with the table's step on trees.
 use Rattle.std.proofs.Common.{ℕ, suc, ◌≡◌, ◌∙◌, min, max, Bool, true, false, List, [], ◌∷◌, ◌++◌, length, Option, Some, None, refl, sym, ap, subst, arith}
-use Rattle.types_parse.specs.declared.parse.open.Item.{Item as ItemRead}
+use Rattle.types_parse.specs.declared.parse.open.OpenItem.{OpenItem as ItemRead}
 use Rattle.types_lex.specs.declared.lexeme.LexemeKind.{LexemeKind}
 use Rattle.types_lex.specs.declared.lexeme.LexemeKind.TheVariants as kinds
 use Rattle.types_lex.specs.declared.lexeme.Keyword.TheVariants as keywords
@@ -12,26 +12,26 @@ use Rattle.types_spec.specs.types.Ty.{Ty}
 use Rattle.types_spec.specs.types.Ty as tys
 use Rattle.types_spec.specs.types.Nodes.{type_at, types_of, type_of, AreOrdered}
 use Rattle.types_spec.proofs.types.NodeLemmas.{AreOrdered-push}
-use Rattle.types_spec.specs.declared.types.ty.Node.{Node}
-use Rattle.types_spec.specs.declared.types.ty.Node.TheVariants as nodes
+use Rattle.types_spec.specs.declared.types.ty.TypeTreeNode.{TypeTreeNode}
+use Rattle.types_spec.specs.declared.types.ty.TypeTreeNode.TheVariants as nodes
 use Rattle.types_parse.specs.parse.Written.{type_of_texpr, tuple_of, type_of_app, type_of_items, with_item}
-use Rattle.types_parse.specs.declared.parse.open.Part.{Part}
-use Rattle.types_parse.specs.declared.parse.open.Frame.{Frame}
-use Rattle.types_parse.specs.declared.parse.open.Frame.TheVariants as frames
-use Rattle.types_parse.specs.declared.parse.open.Phase.{Phase}
-use Rattle.types_parse.specs.declared.parse.open.Phase.TheVariants as phases
-use Rattle.types_parse.specs.declared.parse.open.Item.TheVariants as read_items
+use Rattle.types_parse.specs.declared.parse.open.OpenPart.{OpenPart}
+use Rattle.types_parse.specs.declared.parse.open.OpenConstruct.{OpenConstruct}
+use Rattle.types_parse.specs.declared.parse.open.OpenConstruct.TheVariants as frames
+use Rattle.types_parse.specs.declared.parse.open.ParsePhase.{ParsePhase}
+use Rattle.types_parse.specs.declared.parse.open.ParsePhase.TheVariants as phases
+use Rattle.types_parse.specs.declared.parse.open.OpenItem.TheVariants as read_items
 use Rattle.types_parse.specs.parse.TypeCode.{StepCode, goes, ended, stops, deeper, part, begin_item_code, begin_code, item_node, item_depth_code, after_items_code, after_item_code, after_group_code, after_argument_code, close_type_code, after_single_code, after_tuple_code, outermost_code, close_part_code, after_part_code, parts_nodes, parts_node, take_name_code, after_tag_code, step_code, part_depth_code, depth_code}
 use Rattle.types_parse.specs.parse.TypeShown.{IsAt, Has, HasAll, HasLast, types_of_texprs, Bottom, at_type, at_part, is_alone, type_frames, part_frames, item_frames, type_shown}
 use Rattle.types_parse.proofs.parse.NodeLemmas.{at_more, all_at_more, all_at_end, at_last, at_last_as, is_last, part_last, part_ordered, parts_with, arguments_as, Added, adds_parts, last_type}
 
 -- ---- further nodes change nothing
 
-has_more : {ns : List Node} {t : Ty} {depth : ℕ} {r : Part} (extra : List Node) → Has ns t depth r →
+has_more : {ns : List TypeTreeNode} {t : Ty} {depth : ℕ} {r : OpenPart} (extra : List TypeTreeNode) → Has ns t depth r →
     Has (ns ++ extra) t depth r
 has_more extra h = record { at = at_more extra h.at; capped = h.capped }
 
-all_more : {ns : List Node} {ts : List Ty} {depth : ℕ} {all : List ℕ} {d : ℕ} (extra : List Node) →
+all_more : {ns : List TypeTreeNode} {ts : List Ty} {depth : ℕ} {all : List ℕ} {d : ℕ} (extra : List TypeTreeNode) →
     HasAll ns ts depth all d → HasAll (ns ++ extra) ts depth all d
 all_more {ns} {ts} {all = all} extra h = record {
   at = all_at_more ns all ts extra h.at;
@@ -41,7 +41,7 @@ all_more {ns} {ts} {all = all} extra h = record {
 
 module _ {W P : Type 0} (b : Bottom W P) where
   mutual
-    type_frames_more : (h : TypeHole W P) (ns extra : List Node) (fs : List Frame) →
+    type_frames_more : (h : TypeHole W P) (ns extra : List TypeTreeNode) (fs : List OpenConstruct) →
         type_frames b h ns fs → type_frames b h (ns ++ extra) fs
     type_frames_more (whole w) ns extra [] r = r
     type_frames_more (group p) ns extra (frames.Group ∷ fs) r = part_frames_more p ns extra fs r
@@ -51,7 +51,7 @@ module _ {W P : Type 0} (b : Bottom W P) where
         (r.0, item_frames_more h ns extra fs r.1)
     type_frames_more h ns extra fs r = absurd r
 
-    part_frames_more : (p : PartHole W P) (ns extra : List Node) (fs : List Frame) →
+    part_frames_more : (p : PartHole W P) (ns extra : List TypeTreeNode) (fs : List OpenConstruct) →
         part_frames b p ns fs → part_frames b p (ns ++ extra) fs
     part_frames_more (first_part h) ns extra fs r = type_frames_more h ns extra fs r
     part_frames_more (next_part h t) ns extra (frames.Component q ∷ fs) r =
@@ -60,7 +60,7 @@ module _ {W P : Type 0} (b : Bottom W P) where
     part_frames_more (alone q) ns extra [] r = r
     part_frames_more p ns extra fs r = absurd r
 
-    item_frames_more : (h : ItemHole W P) (ns extra : List Node) (fs : List Frame) →
+    item_frames_more : (h : ItemHole W P) (ns extra : List TypeTreeNode) (fs : List OpenConstruct) →
         item_frames b h ns fs → item_frames b h (ns ++ extra) fs
     item_frames_more (first_item p false) ns extra (frames.Opened false n ∷ fs) r =
         (at_more extra r.0, part_frames_more p ns extra fs r.1)
@@ -77,7 +77,7 @@ max_capped : (d e m n : ℕ) → d ≡ min 201 m → e ≡ min 201 n → max d e
 max_capped d e m n h i = omega arith
 
 module _ {W P O : Type 0} (b : Bottom W P) where
-  pub none_outside : (q : O) (ns : List Node) (fs : List Frame) (phase : Phase) →
+  pub none_outside : (q : O) (ns : List TypeTreeNode) (fs : List OpenConstruct) (phase : ParsePhase) →
       type_shown b ns fs phase (outside q) → ⊥
   none_outside q ns fs phases.Due r = r
   none_outside q ns fs (phases.Read a) r = r
@@ -88,26 +88,26 @@ module _ {W P O : Type 0} (b : Bottom W P) where
 
 module _ {W P O Text : Type 0} (o : Outer W P O Text) where
   pub record WholeEnds (w : W) (next : Option (State W P O)) (kind : LexemeKind)
-      (ns : List Node) : Type 0 where
+      (ns : List TypeTreeNode) : Type 0 where
     pub type : Texpr
     pub next_is : next ≡ o.type_step w type kind
     pub type_is : type_of ns ≡ type_of_texpr type
     pub ordered : AreOrdered ns
 
   pub record PartEnds (q : P) (next : Option (State W P O)) (kind : LexemeKind)
-      (ns : List Node) : Type 0 where
+      (ns : List TypeTreeNode) : Type 0 where
     pub type : App
     pub next_is : next ≡ o.part_step q type kind
     pub type_is : type_of ns ≡ type_of_app type
     pub ordered : AreOrdered ns
 
-  abbrev pub EndsAt : Bottom W P → Option (State W P O) → LexemeKind → List Node → Type 0
+  abbrev pub EndsAt : Bottom W P → Option (State W P O) → LexemeKind → List TypeTreeNode → Type 0
   EndsAt (at_type w) next kind ns = WholeEnds w next kind ns
   EndsAt (at_part q) next kind ns = PartEnds q next kind ns
 
 module _ {W P O Text : Type 0} (o : Outer W P O Text) (b : Bottom W P) where
-  pub record Goes (next : Option (State W P O)) (ns : List Node) (fs : List Frame)
-      (phase : Phase) : Type 0 where
+  pub record Goes (next : Option (State W P O)) (ns : List TypeTreeNode) (fs : List OpenConstruct)
+      (phase : ParsePhase) : Type 0 where
     pub state : State W P O
     pub goes_to : next ≡ Some state
     pub shown : type_shown b ns fs phase state
@@ -120,7 +120,7 @@ module _ {W P O Text : Type 0} (o : Outer W P O Text) (b : Bottom W P) where
 
   -- ---- steps
 
-  no_item_here : (h : TypeHole W P) (ns : List Node) (fs : List Frame) (kind : LexemeKind) →
+  no_item_here : (h : TypeHole W P) (ns : List TypeTreeNode) (fs : List OpenConstruct) (kind : LexemeKind) →
       type_frames b h ns fs → Follows None kind (begin_item_code ns fs kind)
   no_item_here (whole w) ns [] kind r = refl
   no_item_here (group p) ns (frames.Group ∷ fs) kind r = refl
@@ -128,7 +128,7 @@ module _ {W P O Text : Type 0} (o : Outer W P O Text) (b : Bottom W P) where
   no_item_here (of_tag h x) ns (frames.TagArgument y ∷ fs) kind r = refl
   no_item_here h ns fs kind r = absurd r
 
-  begin_item_follows : (p : PartHole W P) (ns : List Node) (fs : List Frame) (kind : LexemeKind) →
+  begin_item_follows : (p : PartHole W P) (ns : List TypeTreeNode) (fs : List OpenConstruct) (kind : LexemeKind) →
       AreOrdered ns → part_frames b p ns fs → Follows (begin_item p kind) kind
       (begin_item_code ns fs kind)
   begin_item_follows (first_part h) ns fs kind i r = no_item_here h ns fs kind r
@@ -169,7 +169,7 @@ module _ {W P O Text : Type 0} (o : Outer W P O Text) (b : Bottom W P) where
   begin_item_follows p ns fs kind i r = absurd r
 
   -- A new node is what was read last.
-  reads_new : (p : PartHole W P) (a : App) (ns : List Node) (fs : List Frame) (node : Node)
+  reads_new : (p : PartHole W P) (a : App) (ns : List TypeTreeNode) (fs : List OpenConstruct) (node : TypeTreeNode)
       (d : ℕ) → IsAt (ns ++ node ∷ []) (length ns) (type_of_app a) → d ≡ min 201 (app_depth a) →
       AreOrdered (ns ++ node ∷ []) → part_frames b p ns fs →
       Goes (Some (read p a)) (ns ++ node ∷ []) fs (phases.Read (part (length ns) d))
@@ -183,7 +183,7 @@ module _ {W P O Text : Type 0} (o : Outer W P O Text) (b : Bottom W P) where
     ordered = i;
   }
 
-  pub begin_follows : (p : PartHole W P) (ns : List Node) (fs : List Frame) (kind : LexemeKind) →
+  pub begin_follows : (p : PartHole W P) (ns : List TypeTreeNode) (fs : List OpenConstruct) (kind : LexemeKind) →
       AreOrdered ns → part_frames b p ns fs → Follows (begin p kind) kind (begin_code ns fs kind)
   begin_follows p ns fs (kinds.Variable x) i r = reads_new p (simple (variable x)) ns fs
       (nodes.Variable x) 1 (at_last ns (nodes.Variable x)) refl (AreOrdered-push ns (nodes.Variable x)
@@ -203,8 +203,8 @@ module _ {W P O Text : Type 0} (o : Outer W P O Text) (b : Bottom W P) where
       }
   begin_follows p ns fs kind i r = begin_item_follows p ns fs kind i r
 
-  after_items_follows : (p : PartHole W P) (bar : Bool) (all : Items) (ns : List Node)
-      (fs : List Frame) (q : Part) (kind : LexemeKind) → HasLast ns (type_of_items all)
+  after_items_follows : (p : PartHole W P) (bar : Bool) (all : Items) (ns : List TypeTreeNode)
+      (fs : List OpenConstruct) (q : OpenPart) (kind : LexemeKind) → HasLast ns (type_of_items all)
       (items_depth all) q → AreOrdered ns → part_frames b p ns fs →
       Follows (after_items p bar all kind) kind (after_items_code ns fs q kind)
   after_items_follows p bar all ns fs q (kinds.Symbol symbols.Bar) s i r =
@@ -235,21 +235,21 @@ module _ {W P O Text : Type 0} (o : Outer W P O Text) (b : Bottom W P) where
 
   -- ---- items
 
-  abbrev ItemHas : List Node → Item → ItemRead → Type 0
+  abbrev ItemHas : List TypeTreeNode → Item → ItemRead → Type 0
   ItemHas ns (tag x) (read_items.Tag y) = y ≡ x
   ItemHas ns (tag_of x t) (read_items.TagOf y q) = (y ≡ x) × Has ns (type_of_texpr t)
       (texpr_depth t) q
   ItemHas ns (included a) (read_items.Included q) = Has ns (type_of_app a) (app_depth a) q
   ItemHas ns i q = ⊥
 
-  item_depth_is : (i : Item) (q : ItemRead) (ns : List Node) → ItemHas ns i q → item_depth_code q
+  item_depth_is : (i : Item) (q : ItemRead) (ns : List TypeTreeNode) → ItemHas ns i q → item_depth_code q
       ≡ min 201 (item_depth i)
   item_depth_is (tag x) (read_items.Tag y) ns h = refl
   item_depth_is (tag_of x t) (read_items.TagOf y q) ns h = h.1.capped
   item_depth_is (included a) (read_items.Included q) ns h = h.capped
   item_depth_is i q ns h = absurd h
 
-  item_added : (i : Item) (q : ItemRead) (ns : List Node) (n : ℕ) (t : Ty) → IsAt ns n t →
+  item_added : (i : Item) (q : ItemRead) (ns : List TypeTreeNode) (n : ℕ) (t : Ty) → IsAt ns n t →
       ItemHas ns i q → IsAt (ns ++ item_node n q ∷ []) (length ns) (with_item t i)
   item_added (tag x) (read_items.Tag y) ns n t a h = at_last_as ns (nodes.Tag n y) _
       (ap (λ w. tys.tag w y) a.is ∙ ap (λ z. tys.tag t z) h)
@@ -263,7 +263,7 @@ module _ {W P O Text : Type 0} (o : Outer W P O Text) (b : Bottom W P) where
       h.at.is)
   item_added i q ns n t a h = absurd h
 
-  item_ordered : (i : Item) (q : ItemRead) (ns : List Node) (n : ℕ) (t : Ty) → IsAt ns n t →
+  item_ordered : (i : Item) (q : ItemRead) (ns : List TypeTreeNode) (n : ℕ) (t : Ty) → IsAt ns n t →
       ItemHas ns i q → AreOrdered ns → AreOrdered (ns ++ item_node n q ∷ [])
   item_ordered (tag x) (read_items.Tag y) ns n t a h o = AreOrdered-push ns (nodes.Tag n y) o a.below
   item_ordered (tag_of x u) (read_items.TagOf y q) ns n t a h o =
@@ -272,7 +272,7 @@ module _ {W P O Text : Type 0} (o : Outer W P O Text) (b : Bottom W P) where
       AreOrdered-push ns (nodes.Including n q.node) o (a.below, h.at.below)
   item_ordered i q ns n t a h o = absurd h
 
-  first_follows : (p : PartHole W P) (bar : Bool) (i : Item) (ns : List Node) (fs : List Frame)
+  first_follows : (p : PartHole W P) (bar : Bool) (i : Item) (ns : List TypeTreeNode) (fs : List OpenConstruct)
       (n : ℕ) (q : ItemRead) (kind : LexemeKind) → ItemHas ns i q → IsAt ns n tys.bracket →
       AreOrdered ns → part_frames b p ns fs → Follows (after_items p bar (one i) kind) kind
       (after_items_code (ns ++ item_node n q ∷ []) fs (part (length ns) (item_depth_code q)) kind)
@@ -288,7 +288,7 @@ module _ {W P O Text : Type 0} (o : Outer W P O Text) (b : Bottom W P) where
       })
       (item_ordered i q ns n tys.bracket a s o) (part_frames_more b p ns (item_node n q ∷ []) fs r)
 
-  after_item_follows : (h : ItemHole W P) (i : Item) (ns : List Node) (fs : List Frame)
+  after_item_follows : (h : ItemHole W P) (i : Item) (ns : List TypeTreeNode) (fs : List OpenConstruct)
       (q : ItemRead) (kind : LexemeKind) → ItemHas ns i q → AreOrdered ns → item_frames b h ns fs →
       Follows (after_item h i kind) kind (after_item_code ns fs q kind)
   after_item_follows (first_item p false) i ns (frames.Opened false n ∷ fs) q kind s o r =
@@ -312,7 +312,7 @@ module _ {W P O Text : Type 0} (o : Outer W P O Text) (b : Bottom W P) where
 
   -- ---- types
 
-  close_group_follows : (p : PartHole W P) (t : Texpr) (ns : List Node) (fs : List Frame) (q : Part)
+  close_group_follows : (p : PartHole W P) (t : Texpr) (ns : List TypeTreeNode) (fs : List OpenConstruct) (q : OpenPart)
       (kind : LexemeKind) → HasLast ns (type_of_texpr t) (texpr_depth t) q → AreOrdered ns →
       part_frames b p ns fs → Follows (close_type o (group p) t kind) kind
       (after_group_code ns fs q kind)
@@ -343,8 +343,8 @@ module _ {W P O Text : Type 0} (o : Outer W P O Text) (b : Bottom W P) where
       }
   close_group_follows p t ns fs q kind s i r = refl
 
-  close_argument_follows : (p : PartHole W P) (ts : Texprs) (t : Texpr) (ns : List Node)
-      (fs : List Frame) (all : List ℕ) (d : ℕ) (q : Part) (kind : LexemeKind) →
+  close_argument_follows : (p : PartHole W P) (ts : Texprs) (t : Texpr) (ns : List TypeTreeNode)
+      (fs : List OpenConstruct) (all : List ℕ) (d : ℕ) (q : OpenPart) (kind : LexemeKind) →
       HasAll ns (types_of_texprs ts) (texprs_depth ts) all d → Has ns (type_of_texpr t)
       (texpr_depth t) q → AreOrdered ns → part_frames b p ns fs →
       Follows (close_type o (argument p ts) t kind) kind (after_argument_code ns fs all d q kind)
@@ -378,7 +378,7 @@ module _ {W P O Text : Type 0} (o : Outer W P O Text) (b : Bottom W P) where
       }
   close_argument_follows p ts t ns fs all d q kind v s i r = refl
 
-  close_type_follows : (h : TypeHole W P) (t : Texpr) (ns : List Node) (fs : List Frame) (q : Part)
+  close_type_follows : (h : TypeHole W P) (t : Texpr) (ns : List TypeTreeNode) (fs : List OpenConstruct) (q : OpenPart)
       (kind : LexemeKind) → HasLast ns (type_of_texpr t) (texpr_depth t) q → AreOrdered ns →
       type_frames b h ns fs → Follows (close_type o h t kind) kind (close_type_code ns fs q kind)
   close_type_follows (whole w) t ns [] q kind s i r = (
@@ -399,7 +399,7 @@ module _ {W P O Text : Type 0} (o : Outer W P O Text) (b : Bottom W P) where
       after_item_follows h (tag_of x t) ns fs (read_items.TagOf y q) kind (r.0, s.has) i r.1
   close_type_follows h t ns fs q kind s i r = absurd r
 
-  single_follows : (h : TypeHole W P) (a : App) (ns : List Node) (fs : List Frame) (q : Part)
+  single_follows : (h : TypeHole W P) (a : App) (ns : List TypeTreeNode) (fs : List OpenConstruct) (q : OpenPart)
       (kind : LexemeKind) → HasLast ns (type_of_app a) (app_depth a) q → AreOrdered ns →
       type_frames b h ns fs → Follows (after_type o h (single a) kind) kind
       (after_single_code ns fs q kind)
@@ -419,8 +419,8 @@ module _ {W P O Text : Type 0} (o : Outer W P O Text) (b : Bottom W P) where
   single_follows h a ns fs q kind s i r = close_type_follows h (single a) ns fs q kind
       (record { has = record { at = s.has.at; capped = s.has.capped }; last = s.last }) i r
 
-  tuple_follows : (h : TypeHole W P) (t : Texpr) (a : App) (ns : List Node) (fs : List Frame)
-      (w q : Part) (kind : LexemeKind) → Has ns (tuple_of t) (part_depth t) w →
+  tuple_follows : (h : TypeHole W P) (t : Texpr) (a : App) (ns : List TypeTreeNode) (fs : List OpenConstruct)
+      (w q : OpenPart) (kind : LexemeKind) → Has ns (tuple_of t) (part_depth t) w →
       Has ns (type_of_app a) (app_depth a) q → AreOrdered ns → type_frames b h ns fs →
       Follows (after_type o h (starred t a) kind) kind (after_tuple_code ns fs w q kind)
   tuple_follows h t a ns fs w q (kinds.Symbol symbols.Star) v s i r =
@@ -454,14 +454,14 @@ module _ {W P O Text : Type 0} (o : Outer W P O Text) (b : Bottom W P) where
       (part_ordered v.at s.at i) (type_frames_more b h ns (nodes.Part w.node q.node ∷ []) fs r)
 
   -- An outermost component.
-  type_outermost : (w : W) (a : App) (ns : List Node) (q : Part) (kind : LexemeKind) →
+  type_outermost : (w : W) (a : App) (ns : List TypeTreeNode) (q : OpenPart) (kind : LexemeKind) →
       b ≡ at_type w → HasLast ns (type_of_app a) (app_depth a) q → AreOrdered ns →
       Follows (after_type o (whole w) (single a) kind) kind (outermost_code (is_alone b) ns q kind)
   type_outermost w a ns q kind e s i = subst (λ c. Follows (after_type o (whole w) (single a) kind)
       kind (outermost_code (is_alone c) ns q kind)) (sym e) (single_follows (whole w) a ns [] q kind
       s i e)
 
-  part_outermost : (p : P) (a : App) (ns : List Node) (q : Part) (kind : LexemeKind) →
+  part_outermost : (p : P) (a : App) (ns : List TypeTreeNode) (q : OpenPart) (kind : LexemeKind) →
       b ≡ at_part p → HasLast ns (type_of_app a) (app_depth a) q → AreOrdered ns →
       Follows (o.part_step p a kind) kind (outermost_code (is_alone b) ns q kind)
   part_outermost p a ns q kind e s i =
@@ -475,7 +475,7 @@ module _ {W P O Text : Type 0} (o : Outer W P O Text) (b : Bottom W P) where
       subst (λ c. Follows (o.part_step p a kind) kind (outermost_code (is_alone c) ns q kind))
       (sym e) (subst (λ c. EndsAt o c (o.part_step p a kind) kind ns) (sym e) here, refl)
 
-  close_part_follows : (p : PartHole W P) (a : App) (ns : List Node) (fs : List Frame) (q : Part)
+  close_part_follows : (p : PartHole W P) (a : App) (ns : List TypeTreeNode) (fs : List OpenConstruct) (q : OpenPart)
       (kind : LexemeKind) → HasLast ns (type_of_app a) (app_depth a) q → AreOrdered ns →
       part_frames b p ns fs → Follows (close_part o p a kind) kind
       (close_part_code (is_alone b) ns fs q kind)
@@ -501,7 +501,7 @@ module _ {W P O Text : Type 0} (o : Outer W P O Text) (b : Bottom W P) where
   close_part_follows (alone p) a ns [] q kind s i r = part_outermost p a ns q kind r s i
   close_part_follows p a ns fs q kind s i r = absurd r
 
-  after_part_follows : (p : PartHole W P) (a : App) (ns : List Node) (fs : List Frame) (q : Part)
+  after_part_follows : (p : PartHole W P) (a : App) (ns : List TypeTreeNode) (fs : List OpenConstruct) (q : OpenPart)
       (kind : LexemeKind) → HasLast ns (type_of_app a) (app_depth a) q → AreOrdered ns →
       part_frames b p ns fs → Follows (after_part o p a kind) kind
       (after_part_code (is_alone b) ns fs q kind)
@@ -516,8 +516,8 @@ module _ {W P O Text : Type 0} (o : Outer W P O Text) (b : Bottom W P) where
       (part_frames_more b p ns (nodes.Named x ∷ []) fs r)
   after_part_follows p a ns fs q kind s i r = close_part_follows p a ns fs q kind s i r
 
-  take_name_follows : (p : PartHole W P) (ts : Texprs) (t : Texpr) (ns : List Node)
-      (fs : List Frame) (all : List ℕ) (d : ℕ) (kind : LexemeKind) →
+  take_name_follows : (p : PartHole W P) (ts : Texprs) (t : Texpr) (ns : List TypeTreeNode)
+      (fs : List OpenConstruct) (all : List ℕ) (d : ℕ) (kind : LexemeKind) →
       HasAll ns (types_of_texprs ts ++ type_of_texpr t ∷ []) (max (texprs_depth ts) (texpr_depth t))
       all d → AreOrdered ns → part_frames b p ns fs → Follows (take_name o p ts t kind) kind
       (take_name_code ns fs all d kind)
@@ -549,7 +549,7 @@ module _ {W P O Text : Type 0} (o : Outer W P O Text) (b : Bottom W P) where
       }
   take_name_follows p ts t ns fs all d kind s i r = refl
 
-  after_tag_follows : (h : ItemHole W P) (x : Name) (ns : List Node) (fs : List Frame) (y : Name)
+  after_tag_follows : (h : ItemHole W P) (x : Name) (ns : List TypeTreeNode) (fs : List OpenConstruct) (y : Name)
       (kind : LexemeKind) → y ≡ x → AreOrdered ns → item_frames b h ns fs →
       Follows (after_tag o h x kind) kind (after_tag_code ns fs y kind)
   after_tag_follows h x ns fs y (kinds.Keyword keywords.Of) e i r =
@@ -557,7 +557,7 @@ module _ {W P O Text : Type 0} (o : Outer W P O Text) (b : Bottom W P) where
   after_tag_follows h x ns fs y kind e i r = after_item_follows h (tag x) ns fs (read_items.Tag y)
       kind e i r
 
-  pub step_follows : (s : State W P O) (ns : List Node) (fs : List Frame) (phase : Phase)
+  pub step_follows : (s : State W P O) (ns : List TypeTreeNode) (fs : List OpenConstruct) (phase : ParsePhase)
       (kind : LexemeKind) → AreOrdered ns → type_shown b ns fs phase s →
       Follows (step o s kind) kind (step_code (is_alone b) ns fs phase kind)
   step_follows (due p) ns fs phases.Due kind i r = begin_follows p ns fs kind i r
@@ -572,7 +572,7 @@ module _ {W P O Text : Type 0} (o : Outer W P O Text) (b : Bottom W P) where
 
   -- ---- depths of a state
 
-  part_depth_follows : (p : PartHole W P) (a : App) (ns : List Node) (fs : List Frame) (q : Part) →
+  part_depth_follows : (p : PartHole W P) (a : App) (ns : List TypeTreeNode) (fs : List OpenConstruct) (q : OpenPart) →
       Has ns (type_of_app a) (app_depth a) q → part_frames b p ns fs → part_depth_code fs q
       ≡ min 201 (part_ended p a)
   part_depth_follows (first_part (whole w)) a ns [] q s r = s.capped
@@ -592,7 +592,7 @@ module _ {W P O Text : Type 0} (o : Outer W P O Text) (b : Bottom W P) where
   part_depth_follows (alone p) a ns [] q s r = s.capped
   part_depth_follows p a ns fs q s r = absurd r
 
-  pub depth_follows : (s : State W P O) (ns : List Node) (fs : List Frame) (phase : Phase) →
+  pub depth_follows : (s : State W P O) (ns : List TypeTreeNode) (fs : List OpenConstruct) (phase : ParsePhase) →
       type_shown b ns fs phase s → depth_code fs phase ≡ min 201 (table_ended s)
   depth_follows (due p) ns fs phases.Due r = omega arith
   depth_follows (read p a) ns fs (phases.Read q) r = part_depth_follows p a ns fs q r.0.has r.1

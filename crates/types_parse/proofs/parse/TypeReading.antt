@@ -10,14 +10,14 @@ use Rattle.types_parse.proofs.grammar.AloneTable.{type_table, accepts}
 use Rattle.types_parse.proofs.grammar.ReachedLemmas.{Reached, Moved, reached_first, refused_syntax, refused_end, read_whole, refused_deep, reached_next}
 use Rattle.types_spec.specs.types.Nodes.{type_of, AreOrdered}
 use Rattle.types_spec.proofs.types.NodeLemmas.{AreOrdered-none}
-use Rattle.types_spec.specs.declared.types.ty.Node.{Node}
+use Rattle.types_spec.specs.declared.types.ty.TypeTreeNode.{TypeTreeNode}
 use Rattle.types_parse.specs.parse.Written.{type_of_texpr}
 use Rattle.types_parse.specs.parse.Parsed.{IsTypeOf}
-use Rattle.types_parse.specs.declared.parse.open.Frame.{Frame}
-use Rattle.types_parse.specs.declared.parse.open.Phase.{Phase}
-use Rattle.types_parse.specs.declared.parse.open.Phase.TheVariants as phases
-use Rattle.types_parse.specs.declared.parse.open.Step.{Step}
-use Rattle.types_parse.specs.declared.parse.open.Step.TheVariants as steps
+use Rattle.types_parse.specs.declared.parse.open.OpenConstruct.{OpenConstruct}
+use Rattle.types_parse.specs.declared.parse.open.ParsePhase.{ParsePhase}
+use Rattle.types_parse.specs.declared.parse.open.ParsePhase.TheVariants as phases
+use Rattle.types_parse.specs.declared.parse.open.TypeStep.{TypeStep}
+use Rattle.types_parse.specs.declared.parse.open.TypeStep.TheVariants as steps
 use Rattle.types_parse.specs.parse.TypeCode.{StepCode, step_code, depth_code, whole_code, StepIs}
 use Rattle.types_parse.specs.parse.TypeShown.{Bottom, at_type, type_shown}
 use Rattle.types_parse.proofs.parse.TypeLemmas.{Follows, step_follows, depth_follows}
@@ -27,11 +27,11 @@ abbrev bottom : Bottom End Nowhere
 bottom = at_type end
 
 -- The nodes, frames and phase represent this state.
-pub record IsShown (ns : List Node) (fs : List Frame) (phase : Phase) (s : TypeState) : Type 0 where
+pub record IsShown (ns : List TypeTreeNode) (fs : List OpenConstruct) (phase : ParsePhase) (s : TypeState) : Type 0 where
   pub shown : type_shown (at_type end) ns fs phase s
   pub ordered : AreOrdered ns
 
-abbrev pub TypeReached : Kinds → List Node → List Frame → Phase → ℕ → ℕ → Type 0
+abbrev pub TypeReached : Kinds → List TypeTreeNode → List OpenConstruct → ParsePhase → ℕ → ℕ → Type 0
 TypeReached lexemes ns fs phase count position = Reached type_table lexemes (IsShown ns fs phase) count
     position
 
@@ -40,8 +40,8 @@ type_reached_first lexemes = reached_first type_table lexemes (IsShown [] [] pha
     (record { shown = refl; ordered = AreOrdered-none })
 
 -- If the code continues, then the table continues.
-goes_on : (s : TypeState) (kind : LexemeKind) (field : Step) (next : Phase) (ns : List Node)
-    (fs : List Frame) (code : StepCode) → field ≡ steps.Goes next → StepIs field ns fs code →
+goes_on : (s : TypeState) (kind : LexemeKind) (field : TypeStep) (next : ParsePhase) (ns : List TypeTreeNode)
+    (fs : List OpenConstruct) (code : StepCode) → field ≡ steps.Goes next → StepIs field ns fs code →
     Follows types (at_type end) (step types s kind) kind code →
     Moved (step types) (IsShown ns fs next) kind s
 goes_on s kind field next ns fs code e i f =
@@ -55,8 +55,8 @@ goes_on s kind field next ns fs code e i f =
     }
 
 -- If the code fails, then the table fails.
-stops_here : (s : TypeState) (kind : LexemeKind) (field : Step) (ns : List Node) (fs : List Frame)
-    (code : StepCode) → ((next : Phase) → field ≡ steps.Goes next → ⊥) → StepIs field ns fs code →
+stops_here : (s : TypeState) (kind : LexemeKind) (field : TypeStep) (ns : List TypeTreeNode) (fs : List OpenConstruct)
+    (code : StepCode) → ((next : ParsePhase) → field ≡ steps.Goes next → ⊥) → StepIs field ns fs code →
     Follows types (at_type end) (step types s kind) kind code → step types s kind ≡ None
 stops_here s kind (steps.Goes next) ns fs code n i f = absurd (n next refl)
 stops_here s kind steps.Ended ns fs code n i f = let h =
@@ -71,7 +71,7 @@ none_accepted (read (alone q) a) h = absurd (cc)
 none_accepted (outside q) h = absurd (cc)
 none_accepted s h = refl
 
-module _ {lexemes : Kinds} {ns : List Node} {fs : List Frame} {phase : Phase} {count position : ℕ}
+module _ {lexemes : Kinds} {ns : List TypeTreeNode} {fs : List OpenConstruct} {phase : ParsePhase} {count position : ℕ}
     (here : TypeReached lexemes ns fs phase count position) where
   pub type_end_refused : length lexemes ≤ position → whole_code ns fs phase ≡ None →
       IsRefusedAsSyntax texpr texpr_ends lexemes position
@@ -79,11 +79,11 @@ module _ {lexemes : Kinds} {ns : List Node} {fs : List Frame} {phase : Phase} {c
       (λ s shown. none_accepted s (subst (Ends bottom s) e
       (whole_ends bottom s ns fs phase shown.ordered shown.shown)))
 
-  pub type_written : (all : List Node) → whole_code ns fs phase ≡ Some all → AreOrdered all
+  pub type_written : (all : List TypeTreeNode) → whole_code ns fs phase ≡ Some all → AreOrdered all
   type_written all e = let w = subst (Ends bottom here.state) e (whole_ends bottom here.state ns fs
       phase here.shown.ordered here.shown.shown) in w.ordered
 
-  pub type_is_read : (all : List Node) → length lexemes ≤ position → whole_code ns fs phase
+  pub type_is_read : (all : List TypeTreeNode) → length lexemes ≤ position → whole_code ns fs phase
       ≡ Some all → IsTypeOf lexemes (type_of all)
   type_is_read all h e =
       let found = read_whole type_table lexemes here (λ t. type_of all ≡ type_of_texpr t) h
@@ -99,15 +99,15 @@ module _ {lexemes : Kinds} {ns : List Node} {fs : List Frame} {phase : Phase} {c
         (step types s kind) kind (step_code false ns fs phase kind)
     follows s shown = step_follows types bottom s ns fs phase kind shown.ordered shown.shown
 
-    pub type_syntax : (field : Step) (all : List Node) (frames : List Frame) →
-        ((next : Phase) → field ≡ steps.Goes next → ⊥) →
+    pub type_syntax : (field : TypeStep) (all : List TypeTreeNode) (frames : List OpenConstruct) →
+        ((next : ParsePhase) → field ≡ steps.Goes next → ⊥) →
         StepIs field all frames (step_code false ns fs phase kind) →
         IsRefusedAsSyntax texpr texpr_ends lexemes position
     type_syntax field all frames n i = refused_syntax type_table lexemes here kind h e
         (λ s shown. stops_here s kind field all frames (step_code false ns fs phase kind) n i
         (follows s shown))
 
-    module _ (field : Step) (next : Phase) (all : List Node) (frames : List Frame)
+    module _ (field : TypeStep) (next : ParsePhase) (all : List TypeTreeNode) (frames : List OpenConstruct)
         (g : field ≡ steps.Goes next) (i : StepIs field all frames
         (step_code false ns fs phase kind)) where
       moves : (s : TypeState) → IsShown ns fs phase s → Moved (step types) (IsShown all frames next)

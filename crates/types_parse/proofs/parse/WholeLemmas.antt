@@ -5,14 +5,14 @@ use Rattle.types_parse.specs.grammar.Depths.{app_depth}
 use Rattle.types_parse.specs.grammar.Holes.{PartHole, State, whole, group, argument, of_tag, first_part, next_part, inclusion, alone, first_item, next_item, due, read, name_due, tag_read, outside}
 use Rattle.types_parse.proofs.grammar.HolesLead.{type_read}
 use Rattle.types_spec.specs.types.Nodes.{type_of, AreOrdered}
-use Rattle.types_spec.specs.declared.types.ty.Node.{Node}
-use Rattle.types_spec.specs.declared.types.ty.Node.TheVariants as nodes
+use Rattle.types_spec.specs.declared.types.ty.TypeTreeNode.{TypeTreeNode}
+use Rattle.types_spec.specs.declared.types.ty.TypeTreeNode.TheVariants as nodes
 use Rattle.types_parse.specs.parse.Written.{type_of_texpr, type_of_app}
-use Rattle.types_parse.specs.declared.parse.open.Part.{Part}
-use Rattle.types_parse.specs.declared.parse.open.Frame.{Frame}
-use Rattle.types_parse.specs.declared.parse.open.Frame.TheVariants as frames
-use Rattle.types_parse.specs.declared.parse.open.Phase.{Phase}
-use Rattle.types_parse.specs.declared.parse.open.Phase.TheVariants as phases
+use Rattle.types_parse.specs.declared.parse.open.OpenPart.{OpenPart}
+use Rattle.types_parse.specs.declared.parse.open.OpenConstruct.{OpenConstruct}
+use Rattle.types_parse.specs.declared.parse.open.OpenConstruct.TheVariants as frames
+use Rattle.types_parse.specs.declared.parse.open.ParsePhase.{ParsePhase}
+use Rattle.types_parse.specs.declared.parse.open.ParsePhase.TheVariants as phases
 use Rattle.types_parse.specs.parse.TypeCode.{whole_part_code, whole_code, WholeIs}
 use Rattle.types_parse.specs.parse.TypeShown.{HasLast, Bottom, at_type, at_part, part_frames, type_shown}
 use Rattle.types_parse.proofs.parse.NodeLemmas.{is_last, part_last, part_ordered, last_type}
@@ -27,28 +27,28 @@ module _ {W P O : Type 0} where
   may_end (outside q) = true
   may_end s = false
 
-  pub record IsWhole (w : W) (s : State W P O) (ns : List Node) : Type 0 where
+  pub record IsWhole (w : W) (s : State W P O) (ns : List TypeTreeNode) : Type 0 where
     pub type : Texpr
     pub state_is : s ≡ type_read (whole w) type
     pub type_is : type_of ns ≡ type_of_texpr type
     pub ordered : AreOrdered ns
 
-  pub record IsPart (q : P) (s : State W P O) (ns : List Node) : Type 0 where
+  pub record IsPart (q : P) (s : State W P O) (ns : List TypeTreeNode) : Type 0 where
     pub type : App
     pub state_is : s ≡ read (alone q) type
     pub type_is : type_of ns ≡ type_of_app type
     pub ordered : AreOrdered ns
 
-  abbrev pub IsAllAt : Bottom W P → State W P O → List Node → Type 0
+  abbrev pub IsAllAt : Bottom W P → State W P O → List TypeTreeNode → Type 0
   IsAllAt (at_type w) s ns = IsWhole w s ns
   IsAllAt (at_part q) s ns = IsPart q s ns
 
-  abbrev pub Ends : Bottom W P → State W P O → Option (List Node) → Type 0
+  abbrev pub Ends : Bottom W P → State W P O → Option (List TypeTreeNode) → Type 0
   Ends b s (Some ns) = IsAllAt b s ns
   Ends b s None = may_end s ≡ false
 
 module _ {W P : Type 0} (O : Type 0) (b : Bottom W P) where
-  part_ends : (p : PartHole W P) (a : App) (ns : List Node) (fs : List Frame) (q : Part) →
+  part_ends : (p : PartHole W P) (a : App) (ns : List TypeTreeNode) (fs : List OpenConstruct) (q : OpenPart) →
       HasLast ns (type_of_app a) (app_depth a) q → AreOrdered ns → part_frames b p ns fs →
       Ends {O = O} b (read p a) (whole_part_code ns fs q)
   part_ends (first_part (whole w)) a ns [] q s i r =
@@ -91,7 +91,7 @@ module _ {W P : Type 0} (O : Type 0) (b : Bottom W P) where
   part_ends p a ns fs q s i r = absurd r
 
 module _ {W P O : Type 0} (b : Bottom W P) where
-  pub whole_ends : (s : State W P O) (ns : List Node) (fs : List Frame) (phase : Phase) →
+  pub whole_ends : (s : State W P O) (ns : List TypeTreeNode) (fs : List OpenConstruct) (phase : ParsePhase) →
       AreOrdered ns → type_shown b ns fs phase s → Ends b s (whole_code ns fs phase)
   whole_ends (due p) ns fs phases.Due i r = refl
   whole_ends (read p a) ns fs (phases.Read q) i r = part_ends O b p a ns fs q r.0 i r.1
@@ -102,10 +102,10 @@ module _ {W P O : Type 0} (b : Bottom W P) where
 
 -- ---- the result of the code
 
-pub whole_found : (all : Bool) (ns : List Node) (found : Option (List Node)) →
+pub whole_found : (all : Bool) (ns : List TypeTreeNode) (found : Option (List TypeTreeNode)) →
     WholeIs all ns found → all ≡ true → found ≡ Some ns
 whole_found all ns found h e = subst (λ w. WholeIs w ns found) e h
 
-pub not_found : (all : Bool) (ns : List Node) (found : Option (List Node)) → WholeIs all ns found →
+pub not_found : (all : Bool) (ns : List TypeTreeNode) (found : Option (List TypeTreeNode)) → WholeIs all ns found →
     all ≡ false → found ≡ None
 not_found all ns found h e = subst (λ w. WholeIs w ns found) e h

@@ -109,7 +109,7 @@ pub record FieldTree : Type 0 where
   pub name : Name
   pub type : Texpr
 
--- With or without a semicolon after the last field.
+-- The fields of a record. `closed` is true if a semicolon follows the last field.
 pub record RecordTree : Type 0 where
   pub first : FieldTree
   pub more : List FieldTree
@@ -134,7 +134,7 @@ pub record DeclTree : Type 0 where
   pub name : Name
   pub body : BodyTree
 
--- With or without `;;` after the group.
+-- A group of declarations. `ended` is true if `;;` follows the group.
 pub record GroupTree : Type 0 where
   pub first : DeclTree
   pub more : List DeclTree

@@ -7,7 +7,7 @@ use Rattle.types_lex.specs.declared.lexeme.Keyword.TheVariants as keywords
 use Rattle.types_lex.specs.declared.lexeme.Symbol.TheVariants as symbols
 use Rattle.types_spec.specs.types.Ty.{Ty}
 use Rattle.types_spec.specs.types.Nodes.{type_of}
-use Rattle.types_spec.specs.declared.types.ty.Node.{Node}
+use Rattle.types_spec.specs.declared.types.ty.TypeTreeNode.{TypeTreeNode}
 use Rattle.types_spec.specs.declared.types.decl.Field.{Field}
 use Rattle.types_spec.specs.declared.types.decl.Arguments.{Arguments}
 use Rattle.types_spec.specs.declared.types.decl.Arguments.TheVariants as arguments
@@ -15,10 +15,10 @@ use Rattle.types_spec.specs.declared.types.decl.Constructor.{Constructor}
 use Rattle.types_spec.specs.declared.types.decl.Body.{Body}
 use Rattle.types_spec.specs.declared.types.decl.Body.TheVariants as bodies
 use Rattle.types_spec.specs.declared.types.decl.Decl.{Decl}
-use Rattle.types_parse.specs.declared.parse.open.Frame.{Frame}
-use Rattle.types_parse.specs.declared.parse.open.Phase.TheVariants as phases
-use Rattle.types_parse.specs.declared.parse.open.Step.{Step}
-use Rattle.types_parse.specs.declared.parse.open.Step.TheVariants as steps
+use Rattle.types_parse.specs.declared.parse.open.OpenConstruct.{OpenConstruct}
+use Rattle.types_parse.specs.declared.parse.open.ParsePhase.TheVariants as phases
+use Rattle.types_parse.specs.declared.parse.open.TypeStep.{TypeStep}
+use Rattle.types_parse.specs.declared.parse.open.TypeStep.TheVariants as steps
 use Rattle.types_parse.specs.declared.parse.so_far.Group.{Group}
 use Rattle.types_parse.specs.declared.parse.so_far.Declared.{Declared}
 use Rattle.types_parse.specs.declared.parse.so_far.Constructors.{Constructors}
@@ -34,10 +34,11 @@ use Rattle.types_parse.specs.parse.TypeCode.{depth_code}
 use Rattle.types_parse.specs.parse.TypeCode.{whole_code}
 
 pub data FileStep : Type 0 where
-  file_goes : (nodes : List Node) (frames : List Frame) (phase : FilePhase) → FileStep
+  file_goes : (nodes : List TypeTreeNode) (frames : List OpenConstruct) (phase : FilePhase)
+      → FileStep
   file_stops : FileStep
 
-abbrev pub outside_of : List Node → List Frame → Option FilePhase → FileStep
+abbrev pub outside_of : List TypeTreeNode → List OpenConstruct → Option FilePhase → FileStep
 outside_of ns fs (Some phase) = file_goes ns fs phase
 outside_of ns fs None = file_stops
 
@@ -153,7 +154,8 @@ abbrev pub take_equals_code : Declared → LexemeKind → Option FilePhase
 take_equals_code b (kinds.Symbol symbols.Equals) = Some (files.BodyDue b)
 take_equals_code b kind = None
 
-abbrev pub begin_body_code : List Node → List Frame → Declared → LexemeKind → FileStep
+abbrev pub begin_body_code : List TypeTreeNode → List OpenConstruct → Declared → LexemeKind
+    → FileStep
 begin_body_code ns fs b (kinds.Symbol symbols.OpenBrace) =
     file_goes ns fs (files.FieldDue (fields_code (positions.Body b) []))
 begin_body_code ns fs b (kinds.Symbol symbols.Bar) =
@@ -170,7 +172,8 @@ abbrev pub after_upper_code : Constructors → List ℕ → LexemeKind → Optio
 after_upper_code c x (kinds.Keyword keywords.Of) = Some (files.OfRead c x)
 after_upper_code c x kind = after_constr_code c (constr_code x arguments.Constant) kind
 
-abbrev pub begin_arguments_code : List Node → List Frame → Constructors → List ℕ → LexemeKind →
+abbrev pub begin_arguments_code : List TypeTreeNode → List OpenConstruct → Constructors → List ℕ
+    → LexemeKind →
     FileStep
 begin_arguments_code ns fs c x (kinds.Symbol symbols.OpenBrace) =
     file_goes ns fs (files.FieldDue (fields_code (positions.Inline c x) []))
@@ -197,7 +200,8 @@ take_colon_code f mutable x (kinds.Symbol symbols.Colon) =
     Some (files.InType (arounds.Field f mutable x) phases.Due)
 take_colon_code f mutable x kind = None
 
-abbrev pub file_step_code : List Node → List Frame → FilePhase → LexemeKind → FileStep
+abbrev pub file_step_code : List TypeTreeNode → List OpenConstruct → FilePhase → LexemeKind
+    → FileStep
 file_step_code ns fs (files.FileDue ds) kind = outside_of ns fs (begin_file_code ds kind)
 file_step_code ns fs (files.DeclDue g) kind = outside_of ns fs (begin_decl_code g kind)
 file_step_code ns fs (files.ParamDue g ps) kind = outside_of ns fs (take_param_code g ps kind)
@@ -217,7 +221,7 @@ file_step_code ns fs (files.RecordRead f) kind =
 file_step_code ns fs (files.InType around phase) kind = in_type_code around kind
     (step_code (is_argument around) ns fs phase kind)
 
-abbrev pub file_depth_code : List Frame → FilePhase → ℕ
+abbrev pub file_depth_code : List OpenConstruct → FilePhase → ℕ
 file_depth_code fs (files.InType around phase) = depth_code fs phase
 file_depth_code fs phase = 0
 
@@ -243,28 +247,31 @@ closed_type_code (arounds.Argument c x all) t =
 
 -- ---- the result of a step, unless memory runs out
 
-abbrev pub FileStepIs : Option FilePhase → List Node → List Frame → FileStep → Type 0
+abbrev pub FileStepIs : Option FilePhase → List TypeTreeNode → List OpenConstruct → FileStep
+    → Type 0
 FileStepIs (Some phase) ns fs next = next ≡ file_goes ns fs phase
 FileStepIs None ns fs next = next ≡ file_stops
 
-abbrev pub FileSteps : {E : Type 0} → Result (Option FilePhase) E → List Node → List Frame →
+abbrev pub FileSteps : {E : Type 0} → Result (Option FilePhase) E → List TypeTreeNode
+    → List OpenConstruct →
     FileStep → Type 0
 FileSteps (Ok phase) ns fs next = FileStepIs phase ns fs next
 FileSteps (Err e) ns fs next = ⊤
 
 -- A step of the type parser, in the context of the type.
-abbrev pub after_step : Around → LexemeKind → List Frame → Step → List Node → FileStep
+abbrev pub after_step : Around → LexemeKind → List OpenConstruct → TypeStep → List TypeTreeNode
+    → FileStep
 after_step around kind fs (steps.Goes phase) ns = file_goes ns fs (files.InType around phase)
 after_step around kind fs steps.Ended ns =
     outside_of [] fs (after_type_code around (type_of ns) kind)
 after_step around kind fs steps.Stops ns = file_stops
 
 -- The declarations of a complete file.
-abbrev pub in_type_whole : Around → Option (List Node) → Option (List Decl)
+abbrev pub in_type_whole : Around → Option (List TypeTreeNode) → Option (List Decl)
 in_type_whole around (Some all) = closed_type_code around (type_of all)
 in_type_whole around None = None
 
-abbrev pub file_whole_code : List Node → List Frame → FilePhase → Option (List Decl)
+abbrev pub file_whole_code : List TypeTreeNode → List OpenConstruct → FilePhase → Option (List Decl)
 file_whole_code ns fs (files.FileDue ds) = Some ds
 file_whole_code ns fs (files.UpperRead c x) =
     Some (closed_constr_code c (constr_code x arguments.Constant))

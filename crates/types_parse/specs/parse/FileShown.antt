@@ -35,15 +35,15 @@ use Rattle.types_parse.specs.grammar.File.{
   FileState,
 }
 use Rattle.types_spec.specs.types.Nodes.{AreOrdered}
-use Rattle.types_spec.specs.declared.types.ty.Node.{Node}
+use Rattle.types_spec.specs.declared.types.ty.TypeTreeNode.{TypeTreeNode}
 use Rattle.types_parse.specs.parse.Written.{type_of_app, parameters_of, field_of_tree}
 use Rattle.types_parse.specs.parse.Written.{fields_of_tree}
 use Rattle.types_parse.specs.parse.Written.{constructor_of_tree, declaration_of_tree}
 use Rattle.types_parse.specs.parse.Written.{declarations_of}
-use Rattle.types_parse.specs.declared.parse.open.Frame.{Frame}
-use Rattle.types_parse.specs.declared.parse.open.Phase.{Phase}
-use Rattle.types_parse.specs.declared.parse.open.Step.{Step}
-use Rattle.types_parse.specs.declared.parse.open.Step.TheVariants as steps
+use Rattle.types_parse.specs.declared.parse.open.OpenConstruct.{OpenConstruct}
+use Rattle.types_parse.specs.declared.parse.open.ParsePhase.{ParsePhase}
+use Rattle.types_parse.specs.declared.parse.open.TypeStep.{TypeStep}
+use Rattle.types_parse.specs.declared.parse.open.TypeStep.TheVariants as steps
 use Rattle.types_parse.specs.declared.parse.so_far.Group.{Group}
 use Rattle.types_parse.specs.declared.parse.so_far.Declared.{Declared}
 use Rattle.types_parse.specs.declared.parse.so_far.Constructors.{Constructors}
@@ -116,25 +116,26 @@ phase_of (record_read r t) = files.RecordRead
     (record { position = record_of r; fields = fields_of_tree t })
 
 -- A type is being read, in its context.
-pub record IsInType (ns : List Node) (fs : List Frame) (phase : FilePhase) (s : FileState) : Type 0
+pub record IsInType (ns : List TypeTreeNode) (fs : List OpenConstruct) (phase : FilePhase)
+    (s : FileState) : Type 0
   where
     pub bottom : Bottom TypeOutside PartOutside
     pub around : Around
-    pub inner : Phase
+    pub inner : ParsePhase
     pub phase_is : phase ≡ files.InType around inner
     pub around_is : around ≡ around_of bottom
     pub shown : type_shown bottom ns fs inner s
     pub ordered : AreOrdered ns
 
-abbrev pub file_shown : List Node → List Frame → FilePhase → FileState → Type 0
+abbrev pub file_shown : List TypeTreeNode → List OpenConstruct → FilePhase → FileState → Type 0
 file_shown ns fs phase (outside q) = (ns ≡ []) × (fs ≡ []) × (phase ≡ phase_of q)
 file_shown ns fs phase s = IsInType ns fs phase s
 
 -- The nodes, the frames and the phase represent some state of the table.
-abbrev pub IsReadable : List Node → List Frame → FilePhase → Type 0
+abbrev pub IsReadable : List TypeTreeNode → List OpenConstruct → FilePhase → Type 0
 IsReadable ns fs phase = (s : FileState) × file_shown ns fs phase s
 
 -- If a type ended, its nodes are ordered.
-abbrev pub IfEnded : Step → List Node → Type 0
+abbrev pub IfEnded : TypeStep → List TypeTreeNode → Type 0
 IfEnded steps.Ended ns = AreOrdered ns
 IfEnded step ns = ⊤

@@ -7,11 +7,12 @@ use Rattle.types_parse.specs.grammar.Refusals.{IsText, syntax_at, too_deep_at, I
 use Rattle.types_spec.specs.types.Ty.{Ty}
 use Rattle.types_parse.specs.parse.Written.{type_of_texpr, declarations_of}
 use Rattle.types_spec.specs.declared.types.decl.Decl.{Decl}
-use Rattle.types_parse.specs.declared.parse.refused.Fault.{Fault}
-use Rattle.types_parse.specs.declared.parse.refused.Fault.TheVariants as faults
+use Rattle.types_parse.specs.declared.parse.refused.ParseFault.{ParseFault}
+use Rattle.types_parse.specs.declared.parse.refused.ParseFault.TheVariants as faults
 
 -- The fault is the error that the grammar's reading reports.
-abbrev pub IsFault : {Text : Type 0} → (Text → Kinds) → (Text → List ℕ) → Kinds → Fault → Type 0
+abbrev pub IsFault : {Text : Type 0} → (Text → Kinds) → (Text → List ℕ) → Kinds → ParseFault
+    → Type 0
 IsFault encoded ends lexemes (faults.Syntax k) = IsReading encoded ends lexemes (syntax_at k)
 IsFault encoded ends lexemes (faults.TooDeep k) = IsReading encoded ends lexemes (too_deep_at k)
 IsFault encoded ends lexemes faults.Memory = ⊤

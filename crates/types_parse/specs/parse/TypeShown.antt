@@ -12,39 +12,40 @@ use Rattle.types_parse.specs.grammar.Holes.{first_item}
 use Rattle.types_parse.specs.grammar.Holes.{next_item, due, read, name_due, tag_read}
 use Rattle.types_spec.specs.types.Ty.{Ty, bracket}
 use Rattle.types_spec.specs.types.Nodes.{type_at, types_of}
-use Rattle.types_spec.specs.declared.types.ty.Node.{Node}
+use Rattle.types_spec.specs.declared.types.ty.TypeTreeNode.{TypeTreeNode}
 use Rattle.types_parse.specs.parse.Written.{type_of_texpr, tuple_of, type_of_app, type_of_items}
-use Rattle.types_parse.specs.declared.parse.open.Part.{Part}
-use Rattle.types_parse.specs.declared.parse.open.Frame.{Frame}
-use Rattle.types_parse.specs.declared.parse.open.Frame.TheVariants as frames
-use Rattle.types_parse.specs.declared.parse.open.Phase.{Phase}
-use Rattle.types_parse.specs.declared.parse.open.Phase.TheVariants as phases
+use Rattle.types_parse.specs.declared.parse.open.OpenPart.{OpenPart}
+use Rattle.types_parse.specs.declared.parse.open.OpenConstruct.{OpenConstruct}
+use Rattle.types_parse.specs.declared.parse.open.OpenConstruct.TheVariants as frames
+use Rattle.types_parse.specs.declared.parse.open.ParsePhase.{ParsePhase}
+use Rattle.types_parse.specs.declared.parse.open.ParsePhase.TheVariants as phases
 
 -- ---- indices of nodes
 
 -- Node `n` is this type.
-pub record IsAt (ns : List Node) (n : ℕ) (t : Ty) : Type 0 where
+pub record IsAt (ns : List TypeTreeNode) (n : ℕ) (t : Ty) : Type 0 where
   pub below : n < length ns
   pub is : type_at (types_of ns) n ≡ t
 
 -- These nodes are these types.
-abbrev pub AreAt : List Node → List ℕ → List Ty → Type 0
+abbrev pub AreAt : List TypeTreeNode → List ℕ → List Ty → Type 0
 AreAt ns [] [] = ⊤
 AreAt ns (n ∷ all) (t ∷ ts) = IsAt ns n t × AreAt ns all ts
 AreAt ns all ts = ⊥
 
 -- A type so far, with its depth.
-pub record Has (ns : List Node) (t : Ty) (depth : ℕ) (r : Part) : Type 0 where
+pub record Has (ns : List TypeTreeNode) (t : Ty) (depth : ℕ) (r : OpenPart) : Type 0 where
   pub at : IsAt ns r.node t
   pub capped : r.depth ≡ min 201 depth
 
 -- Arguments so far, with their depth.
-pub record HasAll (ns : List Node) (ts : List Ty) (depth : ℕ) (all : List ℕ) (d : ℕ) : Type 0 where
+pub record HasAll (ns : List TypeTreeNode) (ts : List Ty) (depth : ℕ) (all : List ℕ)
+    (d : ℕ) : Type 0 where
   pub at : AreAt ns all ts
   pub capped : d ≡ min 201 depth
 
 -- What was read last is the last node.
-pub record HasLast (ns : List Node) (t : Ty) (depth : ℕ) (r : Part) : Type 0 where
+pub record HasLast (ns : List TypeTreeNode) (t : Ty) (depth : ℕ) (r : OpenPart) : Type 0 where
   pub has : Has ns t depth r
   pub last : suc r.node ≡ length ns
 
@@ -66,7 +67,7 @@ module _ {W P : Type 0} where
 
   module _ (b : Bottom W P) where
     abbrev mutual
-      pub type_frames : TypeHole W P → List Node → List Frame → Type 0
+      pub type_frames : TypeHole W P → List TypeTreeNode → List OpenConstruct → Type 0
       type_frames (whole w) ns [] = b ≡ at_type w
       type_frames (group p) ns (frames.Group ∷ fs) = part_frames p ns fs
       type_frames (argument p ts) ns (frames.Arguments all d ∷ fs) =
@@ -74,7 +75,7 @@ module _ {W P : Type 0} where
       type_frames (of_tag h x) ns (frames.TagArgument y ∷ fs) = (y ≡ x) × item_frames h ns fs
       type_frames h ns fs = ⊥
 
-      pub part_frames : PartHole W P → List Node → List Frame → Type 0
+      pub part_frames : PartHole W P → List TypeTreeNode → List OpenConstruct → Type 0
       part_frames (first_part h) ns fs = type_frames h ns fs
       part_frames (next_part h t) ns (frames.Component r ∷ fs) =
           Has ns (tuple_of t) (part_depth t) r × type_frames h ns fs
@@ -82,7 +83,7 @@ module _ {W P : Type 0} where
       part_frames (alone q) ns [] = b ≡ at_part q
       part_frames p ns fs = ⊥
 
-      pub item_frames : ItemHole W P → List Node → List Frame → Type 0
+      pub item_frames : ItemHole W P → List TypeTreeNode → List OpenConstruct → Type 0
       item_frames (first_item p false) ns (frames.Opened false n ∷ fs) = IsAt ns n bracket
           × part_frames p ns fs
       item_frames (first_item p true) ns (frames.Opened true n ∷ fs) = IsAt ns n bracket
@@ -92,7 +93,7 @@ module _ {W P : Type 0} where
       item_frames h ns fs = ⊥
 
 module _ {W P O : Type 0} (b : Bottom W P) where
-  abbrev pub type_shown : List Node → List Frame → Phase → State W P O → Type 0
+  abbrev pub type_shown : List TypeTreeNode → List OpenConstruct → ParsePhase → State W P O → Type 0
   type_shown ns fs phases.Due (due p) = part_frames b p ns fs
   type_shown ns fs (phases.Read r) (read p a) = HasLast ns (type_of_app a) (app_depth a) r
       × part_frames b p ns fs

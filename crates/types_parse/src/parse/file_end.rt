@@ -11,13 +11,13 @@ ghost use Rattle.types_parse.specs.parse.FileShown.{IsReadable};
 
 use crate::parse::file_step::with_decl;
 use crate::parse::known::whole;
-use crate::parse::open::Phase;
+use crate::parse::open::ParsePhase;
+use crate::parse::parse_stack::ParseStack;
 use crate::parse::so_far::{Around, Constructors, Declared, Fields, FilePhase, RecordOf};
-use crate::parse::stack::Stack;
 use base_data::model::Memory;
 use base_data::model::list::List;
 use types_spec::types::decl::{Arguments, Body, Constructor, Decl};
-use types_spec::types::ty::{Node, Ty};
+use types_spec::types::ty::{Ty, TypeTreeNode};
 
 /// Returns all declarations, closed with this body.
 fn closed_body(declared: Declared, body: Body) -> Result<List<Decl>, Memory>
@@ -93,10 +93,10 @@ fn closed_type(around: Around, ty: Ty) -> Result<Option<List<Decl>>, Memory>
 /// Returns all declarations, closed with the type that is being read. Returns `None` if the type
 /// cannot end here.
 fn closed_in_type(
-    mut nodes: Vec<Node>,
-    mut frames: Stack,
+    mut nodes: Vec<TypeTreeNode>,
+    mut frames: ParseStack,
     around: Around,
-    phase: Phase,
+    phase: ParsePhase,
 ) -> Result<Option<List<Decl>>, Memory>
     requires { IsReadable nodes.items frames (files.InType around phase) }
     ensures { IfOk result
@@ -118,8 +118,8 @@ fn closed_in_type(
 /// Returns the declarations of the file. Returns `None` if the file cannot end here, which is a
 /// syntax error at its end. Fails only if memory runs out.
 pub fn file_whole(
-    nodes: Vec<Node>,
-    frames: Stack,
+    nodes: Vec<TypeTreeNode>,
+    frames: ParseStack,
     phase: FilePhase,
 ) -> Result<Option<List<Decl>>, Memory>
     requires { IsReadable nodes.items frames phase }

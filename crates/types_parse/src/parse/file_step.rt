@@ -15,7 +15,7 @@ ghost use Rattle.types_parse.specs.parse.FileCode.{close_record_code, begin_fiel
 ghost use Rattle.types_parse.specs.parse.FileCode.{take_field_name_code, take_colon_code};
 
 use crate::parse::names::copied;
-use crate::parse::open::Phase;
+use crate::parse::open::ParsePhase;
 use crate::parse::so_far::{Around, Constructors, Declared, Fields, FilePhase, Group, RecordOf};
 use base_data::model::Memory;
 use base_data::model::list::List;
@@ -157,7 +157,7 @@ fn after_argument(
     match kind {
         LexemeKind::Symbol(Symbol::Star) => Ok(Some(FilePhase::InType(
             Around::Argument(constructors, name, types),
-            Phase::Due,
+            ParsePhase::Due,
         ))),
         _ => after_constr(
             constructors,
@@ -394,7 +394,7 @@ pub fn take_colon(
     match kind {
         LexemeKind::Symbol(Symbol::Colon) => Some(FilePhase::InType(
             Around::Field(fields, mutable, name),
-            Phase::Due,
+            ParsePhase::Due,
         )),
         _ => None,
     }

@@ -9,9 +9,9 @@ ghost use Rattle.types_parse.specs.parse.Parsed.{IsFault, AreDeclarationsOf};
 use crate::parse::file_end::file_whole;
 use crate::parse::in_file::{file_depth, file_step};
 use crate::parse::known::{kind_at, opened};
-use crate::parse::refused::Fault;
+use crate::parse::parse_stack::ParseStack;
+use crate::parse::refused::ParseFault;
 use crate::parse::so_far::FilePhase;
-use crate::parse::stack::Stack;
 use base_data::model::list::List;
 use std::alloc::Global;
 use types_lex::lexeme::Lexeme;
@@ -19,34 +19,34 @@ use types_spec::types::decl::Decl;
 
 /// Parses declarations from the lexemes of a file. The error is a syntax error or a type that is
 /// too deep, each with the index of its lexeme, or out of memory.
-pub fn parse_file(alloc: Global, lexemes: &[Lexeme]) -> Result<List<Decl>, Fault>
+pub fn parse_file(alloc: Global, lexemes: &[Lexeme]) -> Result<List<Decl>, ParseFault>
     ensures declarations { IfOk result (AreDeclarationsOf (kinds_of lexemes.now)) }
     ensures fault { IfErr result (IsFault file_kinds file_ends (kinds_of lexemes.now)) }
 {
     let mut nodes = Vec::new(alloc);
-    let mut frames = Stack::new(alloc);
+    let mut frames = ParseStack::new(alloc);
     let mut phase = FilePhase::FileDue(List::new(alloc));
     let mut brackets: usize = 0;
     let mut position: usize = 0;
     while position < lexemes.len() {
         let kind = kind_at(lexemes, position);
         let Some(next) = file_step(alloc, &mut nodes, &mut frames, phase, kind)? else {
-            return Err(Fault::Syntax(position));
+            return Err(ParseFault::Syntax(position));
         };
         brackets = opened(kind, brackets);
         if brackets > 200 {
             drop(next);
-            return Err(Fault::TooDeep(position));
+            return Err(ParseFault::TooDeep(position));
         }
         if file_depth(&frames, &next) > 200 {
             drop(next);
-            return Err(Fault::TooDeep(position));
+            return Err(ParseFault::TooDeep(position));
         }
         phase = next;
         position += 1;
     }
     match file_whole(nodes, frames, phase)? {
         Some(decls) => Ok(decls),
-        None => Err(Fault::Syntax(position)),
+        None => Err(ParseFault::Syntax(position)),
     }
 }

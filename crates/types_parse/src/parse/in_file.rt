@@ -1,7 +1,7 @@
 //! One step of the parser on a lexeme of a file.
 
 ghost use Rattle.std.specs.Prelude.{List as Seq, ◌≡◌, Option, Some, None, Result, Ok, Err};
-ghost use Rattle.types_parse.specs.declared.parse.open.Frame.{Frame as AFrame};
+ghost use Rattle.types_parse.specs.declared.parse.open.OpenConstruct.{OpenConstruct as AFrame};
 ghost use Rattle.types_parse.specs.parse.TypeCode.{begin_code, step_code};
 ghost use Rattle.types_parse.specs.declared.parse.so_far.FilePhase.TheVariants as files;
 ghost use Rattle.types_parse.specs.parse.FileCode.{is_argument, in_type_code, begin_body_code};
@@ -16,23 +16,23 @@ use crate::parse::file_step::{
 };
 use crate::parse::known::depth;
 use crate::parse::names::copied;
-use crate::parse::open::{Phase, Step};
+use crate::parse::open::{ParsePhase, TypeStep};
+use crate::parse::parse_stack::ParseStack;
 use crate::parse::so_far::{Around, Constructors, Declared, Fields, FilePhase, RecordOf};
-use crate::parse::stack::Stack;
 use crate::parse::type_step::{begin, step};
 use base_data::model::Memory;
 use base_data::model::list::List;
 use std::alloc::Global;
 use std::mem;
 use types_lex::lexeme::{LexemeKind, Symbol};
-use types_spec::types::ty::{Node, Ty};
+use types_spec::types::ty::{Ty, TypeTreeNode};
 
 /// Returns the phase of the file after a step of the type parser, or `None` on a syntax error.
 fn after_type_step(
     alloc: Global,
-    nodes: &mut Vec<Node>,
+    nodes: &mut Vec<TypeTreeNode>,
     around: Around,
-    step: Step,
+    step: TypeStep,
     kind: &LexemeKind,
 ) -> Result<Option<FilePhase>, Memory>
     requires { IfEnded step nodes.old.items }
@@ -40,12 +40,12 @@ fn after_type_step(
         → FileSteps result nodes.new.items fs (after_step around kind.now fs step nodes.old.items) }
 {
     match step {
-        Step::Goes(phase) => Ok(Some(FilePhase::InType(around, phase))),
-        Step::Ended => {
+        TypeStep::Goes(phase) => Ok(Some(FilePhase::InType(around, phase))),
+        TypeStep::Ended => {
             let ty = Ty::of(mem::replace(nodes, Vec::new(alloc)));
             after_type(around, ty, kind)
         }
-        Step::Stops => {
+        TypeStep::Stops => {
             drop(around);
             Ok(None)
         }
@@ -55,8 +55,8 @@ fn after_type_step(
 /// Parses the first lexeme of a type. Returns `None` on a syntax error.
 fn begin_type(
     alloc: Global,
-    nodes: &mut Vec<Node>,
-    frames: &mut Stack,
+    nodes: &mut Vec<TypeTreeNode>,
+    frames: &mut ParseStack,
     around: Around,
     kind: &LexemeKind,
 ) -> Result<Option<FilePhase>, Memory>
@@ -82,10 +82,10 @@ fn is_argument(around: &Around) -> bool
 /// Parses one lexeme while a type is open. Returns `None` on a syntax error.
 fn in_type(
     alloc: Global,
-    nodes: &mut Vec<Node>,
-    frames: &mut Stack,
+    nodes: &mut Vec<TypeTreeNode>,
+    frames: &mut ParseStack,
     around: Around,
-    phase: Phase,
+    phase: ParsePhase,
     kind: &LexemeKind,
 ) -> Result<Option<FilePhase>, Memory>
     requires { IsReadable nodes.old.items frames.old (files.InType around phase) }
@@ -105,8 +105,8 @@ fn in_type(
 /// Parses the first lexeme of a declaration's body. Returns `None` on a syntax error.
 fn begin_body(
     alloc: Global,
-    nodes: &mut Vec<Node>,
-    frames: &mut Stack,
+    nodes: &mut Vec<TypeTreeNode>,
+    frames: &mut ParseStack,
     declared: Declared,
     kind: &LexemeKind,
 ) -> Result<Option<FilePhase>, Memory>
@@ -136,8 +136,8 @@ fn begin_body(
 /// Parses the first lexeme of a constructor's arguments. Returns `None` on a syntax error.
 fn begin_arguments(
     alloc: Global,
-    nodes: &mut Vec<Node>,
-    frames: &mut Stack,
+    nodes: &mut Vec<TypeTreeNode>,
+    frames: &mut ParseStack,
     constructors: Constructors,
     name: List<u8>,
     kind: &LexemeKind,
@@ -164,8 +164,8 @@ fn begin_arguments(
 /// this lexeme.
 pub fn file_step(
     alloc: Global,
-    nodes: &mut Vec<Node>,
-    frames: &mut Stack,
+    nodes: &mut Vec<TypeTreeNode>,
+    frames: &mut ParseStack,
     phase: FilePhase,
     kind: &LexemeKind,
 ) -> Result<Option<FilePhase>, Memory>
@@ -201,7 +201,7 @@ pub fn file_step(
 
 /// Returns the depth of the deepest type that ends at the last lexeme. Depths above 200 are
 /// returned as 201.
-pub fn file_depth(frames: &Stack, phase: &FilePhase) -> usize
+pub fn file_depth(frames: &ParseStack, phase: &FilePhase) -> usize
     ensures { result ≡ file_depth_code frames.now phase.now }
 {
     match phase {

@@ -5,12 +5,12 @@ ghost use Rattle.types_parse.specs.grammar.Lexemes.{kinds_of};
 ghost use Rattle.types_parse.specs.grammar.Refusals.{opened};
 ghost use Rattle.types_parse.specs.parse.TypeCode.{part_depth_code, depth_code, whole_code, Finds};
 
-use crate::parse::open::{Frame, Part, Phase};
-use crate::parse::stack::Stack;
+use crate::parse::open::{OpenConstruct, OpenPart, ParsePhase};
+use crate::parse::parse_stack::ParseStack;
 use crate::parse::type_step::{add, deeper, deepest};
 use base_data::model::Memory;
 use types_lex::lexeme::{Lexeme, LexemeKind, Symbol};
-use types_spec::types::ty::Node;
+use types_spec::types::ty::TypeTreeNode;
 
 /// Returns the kind of the lexeme with this index.
 pub fn kind_at(lexemes: &[Lexeme], position: usize) -> &LexemeKind
@@ -37,38 +37,42 @@ pub fn opened(kind: &LexemeKind, brackets: usize) -> usize
 }
 
 /// Returns the depth of the deepest type that ends with this component.
-fn part_depth(frames: &Stack, component: &Part) -> usize
+fn part_depth(frames: &ParseStack, component: &OpenPart) -> usize
     ensures { result ≡ part_depth_code frames.now component.now }
 {
     match frames.top() {
-        Some(Frame::Component(tuple)) => deeper(deepest(tuple.depth, component.depth)),
+        Some(OpenConstruct::Component(tuple)) => deeper(deepest(tuple.depth, component.depth)),
         _ => component.depth,
     }
 }
 
 /// Returns the depth of the deepest type that ends at the last lexeme. Depths above 200 are
 /// returned as 201.
-pub fn depth(frames: &Stack, phase: &Phase) -> usize
+pub fn depth(frames: &ParseStack, phase: &ParsePhase) -> usize
     ensures { result ≡ depth_code frames.now phase.now }
 {
     match phase {
-        Phase::Read(component) => part_depth(frames, component),
+        ParsePhase::Read(component) => part_depth(frames, component),
         _ => 0,
     }
 }
 
 /// Returns true if every construct is closed. Then the last node is the complete type.
-pub fn whole(nodes: &mut Vec<Node>, frames: &mut Stack, phase: Phase) -> Result<bool, Memory>
+pub fn whole(
+    nodes: &mut Vec<TypeTreeNode>,
+    frames: &mut ParseStack,
+    phase: ParsePhase,
+) -> Result<bool, Memory>
     ensures { Finds result nodes.new.items (whole_code nodes.old.items frames.old phase) }
 {
-    let Phase::Read(component) = phase else {
+    let ParsePhase::Read(component) = phase else {
         return Ok(false);
     };
     match frames.pop() {
         None => Ok(true),
-        Some(Frame::Component(tuple)) => match frames.pop() {
+        Some(OpenConstruct::Component(tuple)) => match frames.pop() {
             None => {
-                add(nodes, Node::Part(tuple.node, component.node))?;
+                add(nodes, TypeTreeNode::Part(tuple.node, component.node))?;
                 Ok(true)
             }
             Some(_) => Ok(false),

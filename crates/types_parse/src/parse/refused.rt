@@ -2,14 +2,14 @@
 
 ghost use Rattle.std.specs.Prelude.{◌≡◌};
 ghost use Rattle.types_parse.specs.parse.Parsed.{byte_of};
-ghost use Rattle.types_parse.specs.declared.parse.refused.Fault.TheVariants as faults;
+ghost use Rattle.types_parse.specs.declared.parse.refused.ParseFault.TheVariants as faults;
 
 use base_data::model::Memory;
 use types_lex::lexeme::Lexeme;
 
 /// An error of a parser, with the index of the lexeme where it is.
 #[derive(Clone, Copy)]
-pub enum Fault {
+pub enum ParseFault {
     /// Syntax error: the index of the first lexeme at which no text of the grammar continues. If
     /// the lexemes end too early, the number of lexemes.
     Syntax(usize),
@@ -20,11 +20,11 @@ pub enum Fault {
     Memory,
 }
 
-impl From<Memory> for Fault {
+impl From<Memory> for ParseFault {
     ghost from_gives = { λ _ e. e ≡ faults.Memory };
 
-    fn from(_e: Memory) -> Fault {
-        Fault::Memory
+    fn from(_e: Memory) -> ParseFault {
+        ParseFault::Memory
     }
 }
 

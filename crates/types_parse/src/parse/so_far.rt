@@ -1,6 +1,6 @@
 //! The state of the parser while declarations are read.
 
-use crate::parse::open::Phase;
+use crate::parse::open::ParsePhase;
 use base_data::model::list::List;
 use types_spec::types::decl::{Constructor, Decl, Field};
 use types_spec::types::ty::Ty;
@@ -67,5 +67,5 @@ pub enum FilePhase {
     MutableRead(Fields),
     FieldNamed(Fields, bool, List<u8>),
     RecordRead(Fields),
-    InType(Around, Phase),
+    InType(Around, ParsePhase),
 }

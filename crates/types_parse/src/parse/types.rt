@@ -7,9 +7,9 @@ ghost use Rattle.types_parse.specs.grammar.Lexemes.{kinds_of};
 ghost use Rattle.types_parse.specs.parse.Parsed.{IsFault, IsTypeOf};
 
 use crate::parse::known::{depth, kind_at, opened, whole};
-use crate::parse::open::{Phase, Step};
-use crate::parse::refused::Fault;
-use crate::parse::stack::Stack;
+use crate::parse::open::{ParsePhase, TypeStep};
+use crate::parse::parse_stack::ParseStack;
+use crate::parse::refused::ParseFault;
 use crate::parse::type_step::step;
 use std::alloc::Global;
 use types_lex::lexeme::Lexeme;
@@ -17,26 +17,26 @@ use types_spec::types::ty::Ty;
 
 /// Parses a type from its lexemes. The error is a syntax error or a type that is too deep, each
 /// with the index of its lexeme, or out of memory.
-pub fn parse_type(alloc: Global, lexemes: &[Lexeme]) -> Result<Ty, Fault>
+pub fn parse_type(alloc: Global, lexemes: &[Lexeme]) -> Result<Ty, ParseFault>
     ensures ty { IfOk result (IsTypeOf (kinds_of lexemes.now)) }
     ensures fault { IfErr result (IsFault texpr texpr_ends (kinds_of lexemes.now)) }
 {
     let mut nodes = Vec::new(alloc);
-    let mut frames = Stack::new(alloc);
-    let mut phase = Phase::Due;
+    let mut frames = ParseStack::new(alloc);
+    let mut phase = ParsePhase::Due;
     let mut brackets: usize = 0;
     let mut position: usize = 0;
     while position < lexemes.len() {
         let kind = kind_at(lexemes, position);
-        let Step::Goes(next) = step(alloc, false, &mut nodes, &mut frames, phase, kind)? else {
-            return Err(Fault::Syntax(position));
+        let TypeStep::Goes(next) = step(alloc, false, &mut nodes, &mut frames, phase, kind)? else {
+            return Err(ParseFault::Syntax(position));
         };
         brackets = opened(kind, brackets);
         if brackets > 200 {
-            return Err(Fault::TooDeep(position));
+            return Err(ParseFault::TooDeep(position));
         }
         if depth(&frames, &next) > 200 {
-            return Err(Fault::TooDeep(position));
+            return Err(ParseFault::TooDeep(position));
         }
         phase = next;
         position += 1;
@@ -44,6 +44,6 @@ pub fn parse_type(alloc: Global, lexemes: &[Lexeme]) -> Result<Ty, Fault>
     if whole(&mut nodes, &mut frames, phase)? {
         Ok(Ty::of(nodes))
     } else {
-        Err(Fault::Syntax(position))
+        Err(ParseFault::Syntax(position))
     }
 }

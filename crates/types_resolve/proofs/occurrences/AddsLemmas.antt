@@ -11,7 +11,7 @@ use Rattle.types_spec.specs.types.Ty.{Ty}
 use Rattle.types_spec.specs.types.Occurrence.{Placed, PlacedItem, Occurrence, use_of, variable_at, bracket_of}
 use Rattle.types_spec.specs.types.Scope.{written_tag}
 use Rattle.types_resolve.specs.declared.scope.site.Site.{Site}
-use Rattle.types_resolve.specs.declared.scope.site.Use.{Use}
+use Rattle.types_resolve.specs.declared.scope.site.TypeUse.{TypeUse}
 use Rattle.types_resolve.specs.occurrences.Facts.{some_grow}
 use Rattle.types_resolve.specs.occurrences.Adds.{as_use, as_variable, as_row, Adds}
 
@@ -140,7 +140,7 @@ Adds-variable old new position name is =
     })
 
 pub Adds-use :
-    (old new : Site) (u : Use) (arguments : List Ty) → new ≡ record old { uses = old.uses ++ u ∷ [] }
+    (old new : Site) (u : TypeUse) (arguments : List Ty) → new ≡ record old { uses = old.uses ++ u ∷ [] }
     → u.arguments ≡ length arguments → u.grows ≡ some_grow arguments
     → Adds old new [] [] (use_of u.position u.name arguments u.in_tag ∷ [])
 Adds-use old new u arguments is counted grows =

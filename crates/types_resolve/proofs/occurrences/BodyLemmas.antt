@@ -12,7 +12,7 @@ use Rattle.types_resolve.specs.scope.Sites.{IsSite}
 use Rattle.types_resolve.specs.occurrences.Counted.{in_type}
 use Rattle.types_resolve.specs.occurrences.CountedFile.{along, field_count, names_of_fields, in_field, constructor_count}
 use Rattle.types_resolve.specs.occurrences.CountedFile.{records_in, in_body, body_count, parameters_in, decl_count, counted_positions}
-use Rattle.types_resolve.specs.declared.occurrences.found.Found.{Found}
+use Rattle.types_resolve.specs.declared.occurrences.found.FoundOccurrences.{FoundOccurrences}
 use Rattle.types_resolve.specs.scope.Brackets.{AreBrackets}
 use Rattle.types_resolve.specs.occurrences.Adds.{Adds}
 use Rattle.types_resolve.specs.occurrences.Found.{AddsFound}
@@ -21,13 +21,13 @@ use Rattle.types_resolve.proofs.occurrences.FoundLemmas.{AddsFound-then, AddsFou
 use Rattle.types_resolve.proofs.occurrences.SiteLemmas.{nothing, IsSite-added}
 
 -- The additions of a body with the row of its constructors.
-abbrev pub AddsBody : List ℕ → Body → Found → Found → Type 0
+abbrev pub AddsBody : List ℕ → Body → FoundOccurrences → FoundOccurrences → Type 0
 AddsBody ms body a b =
     AddsFound a b (records_in ms body ++ names_in ms body ∷ []) (carrying_body ms body) (in_body ms body)
 
 module _ (ms : List ℕ) (body : Body) where
   pub adds_abbreviation :
-      (t : Ty) (a b c : Found) (row : List Placed) → body ≡ bodies.Abbreviation t
+      (t : Ty) (a b c : FoundOccurrences) (row : List Placed) → body ≡ bodies.Abbreviation t
       → AddsFound a b [] [] (in_type ms false t) → row ≡ [] → c ≡ record b { site = record b.site { rows = b.site.rows ++ row ∷ [] } }
       → AddsBody ms body a c
   adds_abbreviation t a b c row is adds empty write = subst (λ (x : Body). AddsBody ms x a c) (sym is)
@@ -35,7 +35,7 @@ module _ (ms : List ℕ) (body : Body) where
       (then_row a b c [] [] (in_type ms false t) row adds write))
 
   pub adds_record :
-      (fields : List Field) (a b c : Found) (row : List Placed) → body ≡ bodies.Record fields
+      (fields : List Field) (a b c : FoundOccurrences) (row : List Placed) → body ≡ bodies.Record fields
       → AddsFound a b (names_of_fields ms fields ∷ []) [] (along field_count in_field ms fields) → row ≡ []
       → c ≡ record b { site = record b.site { rows = b.site.rows ++ row ∷ [] } } → AddsBody ms body a c
   adds_record fields a b c row is adds empty write = subst (λ (x : Body). AddsBody ms x a c) (sym is)
@@ -43,7 +43,7 @@ module _ (ms : List ℕ) (body : Body) where
       (then_row a b c (names_of_fields ms fields ∷ []) [] (along field_count in_field ms fields) row adds write))
 
   pub adds_variant :
-      (all : List Constructor) (a b : Found) → body ≡ bodies.Variant all
+      (all : List Constructor) (a b : FoundOccurrences) → body ≡ bodies.Variant all
       → AddsFound a b (along constructor_count records_of ms all ++ constructor_names ms all ∷ [])
       (along constructor_count carrying_of ms all) (along constructor_count occurrences_of ms all)
       → AddsBody ms body a b
@@ -60,7 +60,7 @@ module _ (ms name body : List ℕ) (d : Decl) (count : ℕ) (counted : count ≡
       ∙ drop-drop (body_count d.body) (length d.parameters + 1) ms
 
   -- The result of a declaration, from the empty result.
-  module _ (start first found : Found) (row : List Placed) (empty : start ≡ record { site = nothing; brackets = [] })
+  module _ (start first found : FoundOccurrences) (row : List Placed) (empty : start ≡ record { site = nothing; brackets = [] })
       (row_is : row ≡ parameters_in ms d.parameters)
       (write : first ≡ record start { site = record start.site { rows = start.site.rows ++ row ∷ [] } })
       (adds : AddsBody body d.body first found) where
@@ -82,11 +82,11 @@ module _ (ms name body : List ℕ) (d : Decl) (count : ℕ) (counted : count ≡
 
     pub decl_known : IsSite found.site (counted_positions ms d)
     decl_known = IsSite-added found.site (counted_positions ms d)
-        (subst (λ (f : Found). Adds f.site found.site
+        (subst (λ (f : FoundOccurrences). Adds f.site found.site
         (parameters_in ms d.parameters ∷ (records_in behind d.body ++ names_in behind d.body ∷ []))
         (carrying_body behind d.body) (in_body behind d.body)) empty added.site)
 
     pub decl_brackets : AreBrackets found.brackets (in_body behind d.body)
     decl_brackets = AreBrackets-added start found
         (parameters_in ms d.parameters ∷ (records_in behind d.body ++ names_in behind d.body ∷ []))
-        (carrying_body behind d.body) (in_body behind d.body) (ap (λ (f : Found). f.brackets) empty) added
+        (carrying_body behind d.body) (in_body behind d.body) (ap (λ (f : FoundOccurrences). f.brackets) empty) added

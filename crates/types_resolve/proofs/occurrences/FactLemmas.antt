@@ -8,8 +8,8 @@ use Rattle.std.proofs.lemmas.Option.{slice_get_read, get_or_from_slice_get}
 use Rattle.types_spec.specs.types.Ty.{Ty, variable, named, tuple, bracket, part, tag, tag_of, including, parts}
 use Rattle.types_spec.specs.types.Occurrence.{PlacedItem}
 use Rattle.types_spec.specs.types.Nodes.{type_at, types_of, type_of_node, IsBelow, AreOrdered}
-use Rattle.types_spec.specs.declared.types.ty.Node.{Node}
-use Rattle.types_spec.specs.declared.types.ty.Node.TheVariants as nodes
+use Rattle.types_spec.specs.declared.types.ty.TypeTreeNode.{TypeTreeNode}
+use Rattle.types_spec.specs.declared.types.ty.TypeTreeNode.TheVariants as nodes
 use Rattle.types_spec.proofs.types.NodeLemmas.{types_of-at}
 use Rattle.types_resolve.specs.occurrences.Counted.{inner_count, own_count, begins}
 use Rattle.types_resolve.specs.declared.occurrences.fact.Facts.{Facts}
@@ -87,7 +87,7 @@ capped_sum : (a b c d : ℕ) → a ≡ capped c → b ≡ capped d → capped (a
 capped_sum a b c d e f = omega arith
 
 node_facts :
-    (types : List Ty) (n : ℕ) (facts : List Facts) (node : Node) → n < 18446744073709551616
+    (types : List Ty) (n : ℕ) (facts : List Facts) (node : TypeTreeNode) → n < 18446744073709551616
     → AreFacts types n facts → IsBelow n node → type_at types n ≡ type_of_node types node
     → IsFacts types n (type_of_node types node) (facts_of facts node)
 node_facts types n facts (nodes.Variable x) small are below at =
@@ -151,7 +151,7 @@ node_facts types n facts (nodes.Including w a) small are below at =
 
 -- The invariant after one more iteration of the loop over the nodes.
 pub facts_more :
-    (nodes : List Node) (i : ℕ) (node : Node) (facts next : List Facts) → length nodes < 18446744073709551616
+    (nodes : List TypeTreeNode) (i : ℕ) (node : TypeTreeNode) (facts next : List Facts) → length nodes < 18446744073709551616
     → AreOrdered nodes → i < length nodes → node ≡ get_or nodes i node
     → AreFacts (types_of nodes) i facts → next ≡ facts ++ facts_of facts node ∷ []
     → AreFacts (types_of nodes) (i + 1) next

@@ -9,7 +9,7 @@ use Rattle.types_spec.specs.types.Occurrence.{Placed, PlacedItem, Occurrence}
 use Rattle.types_resolve.specs.declared.scope.site.Site.{Site}
 use Rattle.types_resolve.specs.declared.scope.brackets.BracketItem.{BracketItem}
 use Rattle.types_resolve.specs.declared.scope.brackets.TypeBrackets.{TypeBrackets}
-use Rattle.types_resolve.specs.declared.occurrences.found.Found.{Found}
+use Rattle.types_resolve.specs.declared.occurrences.found.FoundOccurrences.{FoundOccurrences}
 use Rattle.types_resolve.specs.occurrences.Adds.{Adds}
 use Rattle.types_resolve.specs.scope.Brackets.{as_bracket, brackets_among, brackets_known, type_known, all_known, IsOrdered, AreBrackets}
 use Rattle.types_resolve.specs.occurrences.Found.{AddsFound}
@@ -32,7 +32,7 @@ known_next old new whole left first rest is more so_far =
 
 -- ---- results
 
-pub AddsFound-none : (found : Found) → AddsFound found found [] [] []
+pub AddsFound-none : (found : FoundOccurrences) → AddsFound found found [] [] []
 AddsFound-none found = record {
   site = Adds-none found.site;
   ordered = λ h. h;
@@ -40,7 +40,7 @@ AddsFound-none found = record {
 }
 
 pub AddsFound-then :
-    (a b c : Found) (rows rows' : List (List Placed)) (carrying carrying' : List ℕ) (all all' : List Occurrence)
+    (a b c : FoundOccurrences) (rows rows' : List (List Placed)) (carrying carrying' : List ℕ) (all all' : List Occurrence)
     → AddsFound a b rows carrying all → AddsFound b c rows' carrying' all'
     → AddsFound a c (rows ++ rows') (carrying ++ carrying') (all ++ all')
 AddsFound-then a b c rows rows' carrying carrying' all all' first second = record {
@@ -54,7 +54,7 @@ AddsFound-then a b c rows rows' carrying carrying' all all' first second = recor
 
 -- An addition to the site only.
 site_alone :
-    (old : Found) (site : Site) (rows : List (List Placed)) (carrying : List ℕ) → Adds old.site site rows carrying []
+    (old : FoundOccurrences) (site : Site) (rows : List (List Placed)) (carrying : List ℕ) → Adds old.site site rows carrying []
     → AddsFound old (record old { site = site }) rows carrying []
 site_alone old site rows carrying adds = record {
   site = adds;
@@ -63,27 +63,27 @@ site_alone old site rows carrying adds = record {
 }
 
 pub AddsFound-row :
-    (old new : Found) (row : List Placed)
+    (old new : FoundOccurrences) (row : List Placed)
     → new ≡ record old { site = record old.site { rows = old.site.rows ++ row ∷ [] } }
     → AddsFound old new (row ∷ []) [] []
 AddsFound-row old new row is =
     let site : Site = record old.site { rows = old.site.rows ++ row ∷ [] } in
-    subst (λ (f : Found). AddsFound old f (row ∷ []) [] []) (sym is)
+    subst (λ (f : FoundOccurrences). AddsFound old f (row ∷ []) [] []) (sym is)
     (site_alone old site (row ∷ []) [] (Adds-row old.site site row (λ i. site)))
 
 AddsFound-carrying :
-    (old new : Found) (carrying : List ℕ)
+    (old new : FoundOccurrences) (carrying : List ℕ)
     → new ≡ record old { site = record old.site { carrying = old.site.carrying ++ carrying } }
     → AddsFound old new [] carrying []
 AddsFound-carrying old new carrying is =
     let site : Site = record old.site { carrying = old.site.carrying ++ carrying } in
-    subst (λ (f : Found). AddsFound old f [] carrying []) (sym is)
+    subst (λ (f : FoundOccurrences). AddsFound old f [] carrying []) (sym is)
     (site_alone old site [] carrying (Adds-carrying old.site site carrying (λ i. site)))
 
 -- ---- consecutive additions
 
 pub then_row :
-    (a b c : Found) (rows : List (List Placed)) (carrying : List ℕ) (all : List Occurrence) (row : List Placed)
+    (a b c : FoundOccurrences) (rows : List (List Placed)) (carrying : List ℕ) (all : List Occurrence) (row : List Placed)
     → AddsFound a b rows carrying all
     → c ≡ record b { site = record b.site { rows = b.site.rows ++ row ∷ [] } }
     → AddsFound a c (rows ++ row ∷ []) carrying all
@@ -93,7 +93,7 @@ then_row a b c rows carrying all row adds is =
     (AddsFound-then a b c rows (row ∷ []) carrying [] all [] adds (AddsFound-row b c row is)))
 
 pub carrying_then :
-    (a b c : Found) (rows : List (List Placed)) (carrying : List ℕ) (all : List Occurrence)
+    (a b c : FoundOccurrences) (rows : List (List Placed)) (carrying : List ℕ) (all : List Occurrence)
     → b ≡ record a { site = record a.site { carrying = a.site.carrying ++ carrying } }
     → AddsFound b c rows [] all → AddsFound a c rows carrying all
 carrying_then a b c rows carrying all is adds =
@@ -108,7 +108,7 @@ known_more old t =
     flat_map-append type_known old (t ∷ []) ∙ ap (λ l. all_known old ++ l) (append-nil (type_known t))
 
 pub AddsFound-type :
-    (old new : Found) (types : List Ty) (brackets : List (List BracketItem)) (all : List Occurrence)
+    (old new : FoundOccurrences) (types : List Ty) (brackets : List (List BracketItem)) (all : List Occurrence)
     → Adds old.site new.site [] [] all → brackets_known types brackets ≡ brackets_among all
     → (All IsOrdered old.brackets → All IsOrdered new.brackets)
     → all_known new.brackets ≡ all_known old.brackets ++ brackets_known types brackets
@@ -119,7 +119,7 @@ AddsFound-type old new types brackets all adds same ordered known =
 -- ---- additions to the empty result
 
 pub AreBrackets-added :
-    (old new : Found) (rows : List (List Placed)) (carrying : List ℕ) (all : List Occurrence)
+    (old new : FoundOccurrences) (rows : List (List Placed)) (carrying : List ℕ) (all : List Occurrence)
     → old.brackets ≡ [] → AddsFound old new rows carrying all → AreBrackets new.brackets all
 AreBrackets-added old new rows carrying all none adds = record {
   ordered = adds.ordered (subst (All IsOrdered) (sym none) (All-nil IsOrdered));

@@ -9,8 +9,8 @@ use Rattle.std.proofs.lemmas.Bool.{cases_lt}
 use Rattle.std.proofs.lemmas.Option.{same_Some, none-some, get_or_from_slice_get}
 use Rattle.base_data.proofs.model.Options.{slice_get_there}
 use Rattle.types_spec.specs.types.Ty.{Ty, tuple, bracket, tag, tag_of, including}
-use Rattle.types_spec.specs.declared.types.ty.Node.{Node}
-use Rattle.types_spec.specs.declared.types.ty.Node.TheVariants as nodes
+use Rattle.types_spec.specs.declared.types.ty.TypeTreeNode.{TypeTreeNode}
+use Rattle.types_spec.specs.declared.types.ty.TypeTreeNode.TheVariants as nodes
 use Rattle.types_spec.specs.types.Nodes.{type_at, types_of, type_of_node, IsBelow, AreOrdered}
 use Rattle.types_spec.specs.types.Occurrence.{Placed, PlacedItem}
 use Rattle.types_spec.specs.types.Scope.{written_tag}
@@ -27,7 +27,7 @@ use Rattle.types_resolve.proofs.occurrences.WalkLemmas.{position_of, type_at-nod
 
 -- The items of a bracket are the last one and those without it.
 items_more :
-    (types : List Ty) (ms : List ℕ) (n : ℕ) (node : Node) (w : ℕ) → without_item node ≡ Some w
+    (types : List Ty) (ms : List ℕ) (n : ℕ) (node : TypeTreeNode) (w : ℕ) → without_item node ≡ Some w
     → type_at types n ≡ type_of_node types node
     → items_in ms (type_at types n)
     ≡ items_in ms (type_at types w) ++ (slice_index ms (inner_count (type_at types w)), item_of (type_at types n)) ∷ []
@@ -50,7 +50,7 @@ items_more types ms n (nodes.Including v u) w is at =
     ++ (slice_index ms (inner_count (type_at types m)), including bracket (type_at types u)) ∷ []) (same_Some v w is))
 
 items_none :
-    (types : List Ty) (ms : List ℕ) (node : Node) → without_item node ≡ None
+    (types : List Ty) (ms : List ℕ) (node : TypeTreeNode) → without_item node ≡ None
     → items_in ms (type_of_node types node) ≡ []
 items_none types ms (nodes.Variable x) is = refl
 items_none types ms (nodes.Named x) is = refl
@@ -63,14 +63,14 @@ items_none types ms (nodes.Including v u) is = absurd (none-some v (sym is))
 
 -- No item is left.
 pub items_end :
-    (types : List Ty) (ms : List ℕ) (n : ℕ) (node : Node) (items : List BracketItem) (whole : List PlacedItem)
+    (types : List Ty) (ms : List ℕ) (n : ℕ) (node : TypeTreeNode) (items : List BracketItem) (whole : List PlacedItem)
     → without_item node ≡ None → type_at types n ≡ type_of_node types node
     → items_in ms (type_at types n) ++ items_known types (reverse items) ≡ whole
     → items_known types (reverse items) ≡ whole
 items_end types ms n node items whole is at so_far =
     sym (ap (λ l. l ++ items_known types (reverse items)) (ap (items_in ms) at ∙ items_none types ms node is)) ∙ so_far
 
-item_below : (n w : ℕ) (node : Node) → without_item node ≡ Some w → IsBelow n node → w < n
+item_below : (n w : ℕ) (node : TypeTreeNode) → without_item node ≡ Some w → IsBelow n node → w < n
 item_below n w (nodes.Variable x) is below = absurd (none-some w is)
 item_below n w (nodes.Named x) is below = absurd (none-some w is)
 item_below n w nodes.Tuple is below = absurd (none-some w is)
@@ -81,9 +81,9 @@ item_below n w (nodes.TagOf v x a) is below = subst (λ m. m < n) (same_Some v w
 item_below n w (nodes.Including v u) is below = subst (λ m. m < n) (same_Some v w is) below.0
 
 -- The invariant after one more iteration of the loop over the items.
-module _ (all : List Node) (ordered : AreOrdered all) (facts : List Facts)
+module _ (all : List TypeTreeNode) (ordered : AreOrdered all) (facts : List Facts)
     (are : AreFacts (types_of all) (length all) facts) (ms : List ℕ) (small : length ms < 18446744073709551616)
-    (first n w : ℕ) (node : Node) (below : n < length all) (read : node ≡ get_or all n node)
+    (first n w : ℕ) (node : TypeTreeNode) (below : n < length all) (read : node ≡ get_or all n node)
     (is : without_item node ≡ Some w) where
   pub items_fall : w < n
   items_fall = item_below n w node is (node_below all n node ordered below read)
@@ -112,7 +112,7 @@ module _ (all : List Node) (ordered : AreOrdered all) (facts : List Facts)
 -- ---- the tags of items
 
 tag_of_node :
-    (types : List Ty) (position : ℕ) (node : Node)
+    (types : List Ty) (position : ℕ) (node : TypeTreeNode)
     → filter_map written_tag ((position, item_of (type_of_node types node)) ∷ []) ≡ tag_at position node
 tag_of_node types position (nodes.Variable x) = refl
 tag_of_node types position (nodes.Named x) = refl
@@ -125,10 +125,10 @@ tag_of_node types position (nodes.Including w u) = refl
 
 -- The tag of an item is that of its node.
 tag_known :
-    (all : List Node) (i : BracketItem) → AreOrdered all
+    (all : List TypeTreeNode) (i : BracketItem) → AreOrdered all
     → filter_map written_tag (item_known (types_of all) i ∷ []) ≡ tag_there all i
 tag_known all i ordered = by (slice_get all i.node) refl where
-  by : (found : Option Node) → slice_get all i.node ≡ found
+  by : (found : Option TypeTreeNode) → slice_get all i.node ≡ found
       → filter_map written_tag (item_known (types_of all) i ∷ []) ≡ tag_there all i
   by (Some node) is =
       let at : type_at (types_of all) i.node ≡ type_of_node (types_of all) node =
@@ -144,7 +144,7 @@ tag_known all i ordered = by (slice_get all i.node) refl where
 
 -- The invariant after one more iteration of the loop over the items.
 pub tags_turn :
-    (all : List Node) (items : List BracketItem) (k : ℕ) (e : BracketItem) (row next whole : List Placed)
+    (all : List TypeTreeNode) (items : List BracketItem) (k : ℕ) (e : BracketItem) (row next whole : List Placed)
     → AreOrdered all → k < length items → next ≡ row ++ tag_there all (get_or items k e)
     → row ++ filter_map written_tag (items_known (types_of all) (drop k items)) ≡ whole
     → next ++ filter_map written_tag (items_known (types_of all) (drop (k + 1) items)) ≡ whole

@@ -3,7 +3,7 @@ use Rattle.std.proofs.Common.{ℕ, ◌+◌, ◌<◌, ◌≤◌, ◌≡◌, ◌�
 use Rattle.std.proofs.Common.{refl, sym, ap, subst, append_assoc}
 use Rattle.std.proofs.lemmas.List.{append-nil, drop-drop, drop_more, drop_all}
 use Rattle.types_spec.specs.types.Occurrence.{Placed, Occurrence}
-use Rattle.types_resolve.specs.declared.occurrences.found.Found.{Found}
+use Rattle.types_resolve.specs.declared.occurrences.found.FoundOccurrences.{FoundOccurrences}
 use Rattle.types_resolve.specs.occurrences.CountedFile.{along, count_all}
 use Rattle.types_resolve.specs.occurrences.Found.{AddsFound}
 use Rattle.types_resolve.proofs.occurrences.FoundLemmas.{AddsFound-none, AddsFound-then}
@@ -23,10 +23,10 @@ along_none count ms (x ∷ xs) = along_none count (drop (count x) ms) xs
 -- From the current result, the remaining elements give the result that all elements give from the
 -- start, and the remaining marks are those after all elements.
 pub record Follows {X : Type 0} (count : X → ℕ) (rows : List ℕ → X → List (List Placed))
-    (carrying : List ℕ → X → List ℕ) (seen : List ℕ → X → List Occurrence) (start : Found) (ms : List ℕ)
-    (all : List X) (found : Found) (rest : List ℕ) (left : List X) : Type 0 where
+    (carrying : List ℕ → X → List ℕ) (seen : List ℕ → X → List Occurrence) (start : FoundOccurrences) (ms : List ℕ)
+    (all : List X) (found : FoundOccurrences) (rest : List ℕ) (left : List X) : Type 0 where
   pub adds :
-      (last : Found)
+      (last : FoundOccurrences)
       → AddsFound found last (along count rows rest left) (along count carrying rest left) (along count seen rest left)
       → AddsFound start last (along count rows ms all) (along count carrying ms all) (along count seen ms all)
   pub rest_is : drop (count_all count left) rest ≡ drop (count_all count all) ms
@@ -70,10 +70,10 @@ RowFollows-end count name ms all row rest i past follows = RowFollows-last count
     (subst (RowFollows count name ms all row rest) (drop_all i all past) follows)
 
 module _ {X : Type 0} (count : X → ℕ) (rows : List ℕ → X → List (List Placed))
-    (carrying : List ℕ → X → List ℕ) (seen : List ℕ → X → List Occurrence) (start : Found) (ms : List ℕ)
+    (carrying : List ℕ → X → List ℕ) (seen : List ℕ → X → List Occurrence) (start : FoundOccurrences) (ms : List ℕ)
     (all : List X) where
   pub Follows-next :
-      (found found' : Found) (rest rest' : List ℕ) (x : X) (left : List X)
+      (found found' : FoundOccurrences) (rest rest' : List ℕ) (x : X) (left : List X)
       → Follows count rows carrying seen start ms all found rest (x ∷ left)
       → AddsFound found found' (rows rest x) (carrying rest x) (seen rest x) → rest' ≡ drop (count x) rest
       → Follows count rows carrying seen start ms all found' rest' left
@@ -87,12 +87,12 @@ module _ {X : Type 0} (count : X → ℕ) (rows : List ℕ → X → List (List 
       })
 
   pub Follows-last :
-      (found : Found) (rest : List ℕ) → Follows count rows carrying seen start ms all found rest []
+      (found : FoundOccurrences) (rest : List ℕ) → Follows count rows carrying seen start ms all found rest []
       → AddsFound start found (along count rows ms all) (along count carrying ms all) (along count seen ms all)
   Follows-last found rest follows = follows.adds found (AddsFound-none found)
 
   pub Follows-step :
-      (found found' : Found) (rest rest' : List ℕ) (x : X) (i : ℕ) → i < length all → x ≡ get_or all i x
+      (found found' : FoundOccurrences) (rest rest' : List ℕ) (x : X) (i : ℕ) → i < length all → x ≡ get_or all i x
       → Follows count rows carrying seen start ms all found rest (drop i all)
       → AddsFound found found' (rows rest x) (carrying rest x) (seen rest x) → rest' ≡ drop (count x) rest
       → Follows count rows carrying seen start ms all found' rest' (drop (i + 1) all)
@@ -101,7 +101,7 @@ module _ {X : Type 0} (count : X → ℕ) (rows : List ℕ → X → List (List 
       (subst (Follows count rows carrying seen start ms all found rest) (left_is all i x below read) follows) step is
 
   pub Follows-end :
-      (found : Found) (rest : List ℕ) (i : ℕ) → length all ≤ i
+      (found : FoundOccurrences) (rest : List ℕ) (i : ℕ) → length all ≤ i
       → Follows count rows carrying seen start ms all found rest (drop i all)
       → AddsFound start found (along count rows ms all) (along count carrying ms all) (along count seen ms all)
   Follows-end found rest i past follows = Follows-last found rest
@@ -109,8 +109,8 @@ module _ {X : Type 0} (count : X → ℕ) (rows : List ℕ → X → List (List 
 
 -- The invariant without rows and without lexemes of constructors.
 pub Follows-plain :
-    {X : Type 0} (count : X → ℕ) (seen : List ℕ → X → List Occurrence) (start : Found) (ms : List ℕ)
-    (all : List X) (found : Found) (rest : List ℕ) (i : ℕ) → length all ≤ i
+    {X : Type 0} (count : X → ℕ) (seen : List ℕ → X → List Occurrence) (start : FoundOccurrences) (ms : List ℕ)
+    (all : List X) (found : FoundOccurrences) (rest : List ℕ) (i : ℕ) → length all ≤ i
     → Follows count (λ at x. []) (λ at x. []) seen start ms all found rest (drop i all)
     → AddsFound start found [] [] (along count seen ms all)
 Follows-plain count seen start ms all found rest i past follows =

@@ -5,14 +5,14 @@ use Rattle.std.specs.Prelude.{slice_index}
 use Rattle.std.specs.List.{filter_map}
 use Rattle.std.proofs.lemmas.List.{append-nil}
 use Rattle.types_spec.specs.types.Ty.{Ty, parts}
-use Rattle.types_spec.specs.declared.types.ty.Node.{Node}
-use Rattle.types_spec.specs.declared.types.ty.Node.TheVariants as nodes
+use Rattle.types_spec.specs.declared.types.ty.TypeTreeNode.{TypeTreeNode}
+use Rattle.types_spec.specs.declared.types.ty.TypeTreeNode.TheVariants as nodes
 use Rattle.types_spec.specs.types.Nodes.{type_at, types_of, type_of_node, AreOrdered}
 use Rattle.types_spec.specs.types.Occurrence.{PlacedItem, Occurrence, use_of, variable_at}
 use Rattle.types_spec.specs.types.Scope.{written_tag}
 use Rattle.types_resolve.specs.occurrences.Counted.{inner_count, items_in, begins, own}
 use Rattle.types_resolve.specs.declared.occurrences.fact.Facts.{Facts}
-use Rattle.types_resolve.specs.declared.occurrences.walk.Task.{Task}
+use Rattle.types_resolve.specs.declared.occurrences.walk.WalkTask.{WalkTask}
 use Rattle.types_resolve.specs.scope.Brackets.{brackets_among}
 use Rattle.types_resolve.specs.occurrences.Facts.{capped, fact_at, AreFacts, IsLeaf}
 use Rattle.types_resolve.specs.occurrences.Walk.{task_own}
@@ -24,7 +24,7 @@ use Rattle.types_resolve.proofs.occurrences.WalkLemmas.{position_of, type_at-nod
 -- ---- the beginning of a type
 
 module _ (types : List Ty) (n : ℕ) (facts : List Facts) (are : AreFacts types n facts) (ms : List ℕ)
-    (small : length ms < 18446744073709551616) (task : Task) (below : task.node < n) where
+    (small : length ms < 18446744073709551616) (task : WalkTask) (below : task.node < n) where
   abbrev type : Ty
   type = type_at types task.node
 
@@ -45,7 +45,7 @@ module _ (types : List Ty) (n : ℕ) (facts : List Facts) (are : AreFacts types 
 
   -- The node with which the type begins determines the occurrence.
   pub own_known :
-      (node : Node) (position : ℕ) → task.whole ≡ true → type_at types known.base ≡ type_of_node types node
+      (node : TypeTreeNode) (position : ℕ) → task.whole ≡ true → type_at types known.base ≡ type_of_node types node
       → position ≡ slice_index ms (capped (task.first + known.inner))
       → task_own types ms task
       ≡ begins position task.in_tag (parts type) (items_in (drop task.first ms) type) (type_of_node types node)
@@ -59,10 +59,10 @@ module _ (types : List Ty) (n : ℕ) (facts : List Facts) (are : AreFacts types 
 
 -- ---- the additions for it
 
-module _ (all : List Node) (ordered : AreOrdered all) (facts : List Facts)
+module _ (all : List TypeTreeNode) (ordered : AreOrdered all) (facts : List Facts)
     (are : AreFacts (types_of all) (length all) facts) (ms : List ℕ) (small : length ms < 18446744073709551616)
-    (task : Task) (below : task.node < length all) (known : Facts) (known_is : known ≡ fact_at facts task.node)
-    (node : Node) (read : node ≡ get_or all known.base node) (whole : task.whole ≡ true)
+    (task : WalkTask) (below : task.node < length all) (known : Facts) (known_is : known ≡ fact_at facts task.node)
+    (node : TypeTreeNode) (read : node ≡ get_or all known.base node) (whole : task.whole ≡ true)
     (position : ℕ) (position_is : position ≡ slice_index ms (capped (task.first + known.inner))) (old new : Site) where
   abbrev types : List Ty
   types = types_of all
@@ -78,7 +78,7 @@ module _ (all : List Node) (ordered : AreOrdered all) (facts : List Facts)
       ∙ type_at-node all known.base node ordered (omega arith) read
 
   reported :
-      (other : Node) → node ≡ other
+      (other : TypeTreeNode) → node ≡ other
       → shown ≡ begins position task.in_tag (parts (type_at types task.node)) (items_in (drop task.first ms) (type_at types task.node))
       (type_of_node types other)
   reported other is = own_known types (length all) facts are ms small task below other position whole
@@ -150,10 +150,10 @@ module _ (all : List Node) (ordered : AreOrdered all) (facts : List Facts)
 
   module _ (no_variable : (x : List ℕ) → node ≡ nodes.Variable x → ⊥)
       (no_name : (x : List ℕ) → node ≡ nodes.Named x → ⊥) (no_bracket : node ≡ nodes.Bracket → ⊥) where
-    leaf : (other : Node) → node ≡ other → IsLeaf (type_of_node types other)
+    leaf : (other : TypeTreeNode) → node ≡ other → IsLeaf (type_of_node types other)
     leaf other is = subst IsLeaf (base_is ∙ ap (type_of_node types) is) ((are.are task.node below).leaf_there)
 
-    empty : (other : Node) → node ≡ other → shown ≡ []
+    empty : (other : TypeTreeNode) → node ≡ other → shown ≡ []
     empty (nodes.Variable x) is = absurd (no_variable x is)
     empty (nodes.Named x) is = absurd (no_name x is)
     empty nodes.Tuple is = reported nodes.Tuple is

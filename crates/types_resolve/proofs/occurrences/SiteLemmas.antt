@@ -12,7 +12,7 @@ use Rattle.types_spec.specs.types.Occurrence.{Placed, PlacedItem, Occurrence, us
 use Rattle.types_spec.specs.types.Scope.{HoldsVariable, written_tag}
 use Rattle.types_spec.proofs.types.ListLemmas.{Contains-filter_mapped, filter_mapped_is}
 use Rattle.types_resolve.specs.declared.scope.site.Site.{Site}
-use Rattle.types_resolve.specs.declared.scope.site.Use.{Use}
+use Rattle.types_resolve.specs.declared.scope.site.TypeUse.{TypeUse}
 use Rattle.types_resolve.specs.scope.Sites.{Grow, HasArguments, IsTagRow, AreUses, IsSite, IsTypeSite}
 use Rattle.types_resolve.specs.occurrences.Facts.{holds, is_alone, some_grow}
 use Rattle.types_resolve.specs.occurrences.Adds.{as_use, as_variable, as_row, Adds}
@@ -72,7 +72,7 @@ some_grow_is (t ∷ ts) =
 -- ---- occurrences
 
 use_shown :
-    (o : Occurrence) (u : Use) → as_use o ≡ Some u
+    (o : Occurrence) (u : TypeUse) → as_use o ≡ Some u
     → (arguments : List Ty) × HasArguments u arguments × (o ≡ use_of u.position u.name arguments u.in_tag)
 use_shown (use_of k name arguments in_tag) u is =
     let same = same_Some (record {
@@ -84,10 +84,10 @@ use_shown (use_of k name arguments in_tag) u is =
     }) u is in (
       arguments,
       record {
-        counted = sym (ap (λ (v : Use). v.arguments) same);
-        grow = subst (λ b. IsTrue b ↔ Grow arguments) (ap (λ (v : Use). v.grows) same) (some_grow_is arguments);
+        counted = sym (ap (λ (v : TypeUse). v.arguments) same);
+        grow = subst (λ b. IsTrue b ↔ Grow arguments) (ap (λ (v : TypeUse). v.grows) same) (some_grow_is arguments);
       },
-      ap (λ (v : Use). use_of v.position v.name arguments v.in_tag) same,
+      ap (λ (v : TypeUse). use_of v.position v.name arguments v.in_tag) same,
     )
 use_shown (variable_at k name) u is = absurd (none-some u is)
 use_shown (bracket_of items) u is = absurd (none-some u is)
@@ -106,15 +106,15 @@ row_shown (use_of k x arguments in_tag) row is = absurd (none-some row is)
 row_shown (variable_at k x) row is = absurd (none-some row is)
 row_shown (bracket_of items) row is = (items, refl, sym (same_Some (filter_map written_tag items) row is))
 
-uses_are : (uses : List Use) (all : List Occurrence) → uses ≡ filter_map as_use all → AreUses uses all
+uses_are : (uses : List TypeUse) (all : List Occurrence) → uses ≡ filter_map as_use all → AreUses uses all
 uses_are uses all is = record {
   occur = λ u among.
-      let found = filter_mapped_is as_use all u (subst (λ (l : List Use). Contains l u) is among) in
+      let found = filter_mapped_is as_use all u (subst (λ (l : List TypeUse). Contains l u) is among) in
       let shown = use_shown found.0 u found.2 in
       (shown.0, shown.1, subst (Contains all) shown.2 found.1);
   all = λ position name arguments in_tag among. (
     record { position = position; name = name; arguments = length arguments; grows = some_grow arguments; in_tag = in_tag },
-    subst (λ (l : List Use). Contains l (record {
+    subst (λ (l : List TypeUse). Contains l (record {
       position = position;
       name = name;
       arguments = length arguments;

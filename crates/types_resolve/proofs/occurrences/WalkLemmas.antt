@@ -6,13 +6,13 @@ use Rattle.std.proofs.lemmas.Bool.{cases_lt}
 use Rattle.std.proofs.lemmas.List.{append-nil, drop_all, drop-drop, get_or-drop, get_or_past, nil_from_length}
 use Rattle.std.proofs.lemmas.Option.{slice_get_read, get_or_from_slice_get}
 use Rattle.types_spec.specs.types.Ty.{Ty, tuple}
-use Rattle.types_spec.specs.declared.types.ty.Node.{Node}
-use Rattle.types_spec.specs.declared.types.ty.Node.TheVariants as nodes
+use Rattle.types_spec.specs.declared.types.ty.TypeTreeNode.{TypeTreeNode}
+use Rattle.types_spec.specs.declared.types.ty.TypeTreeNode.TheVariants as nodes
 use Rattle.types_spec.specs.types.Nodes.{type_at, types_of, type_of, type_of_node, IsBelow, AreOrdered}
 use Rattle.types_spec.proofs.types.NodeLemmas.{types_of-at}
 use Rattle.types_resolve.specs.occurrences.Counted.{inner_count, inner, own}
 use Rattle.types_resolve.specs.declared.occurrences.fact.Facts.{Facts}
-use Rattle.types_resolve.specs.declared.occurrences.walk.Task.{Task}
+use Rattle.types_resolve.specs.declared.occurrences.walk.WalkTask.{WalkTask}
 use Rattle.types_resolve.specs.occurrences.Facts.{capped, fact_at, AreFacts}
 use Rattle.types_resolve.specs.occurrences.Walk.{inner_task, whole_task, behind, tasks_of, weight, task_own, task_inner}
 use Rattle.types_resolve.specs.occurrences.Walk.{task_seen, stack_seen, stack_weight, AreBelow}
@@ -58,31 +58,31 @@ behind_tag first inside n ms small is =
 -- ---- the type of a node
 
 pub type_at-node :
-    (all : List Node) (i : ℕ) (node : Node) → AreOrdered all → i < length all → node ≡ get_or all i node
+    (all : List TypeTreeNode) (i : ℕ) (node : TypeTreeNode) → AreOrdered all → i < length all → node ≡ get_or all i node
     → type_at (types_of all) i ≡ type_of_node (types_of all) node
 type_at-node all i node ordered below read =
     get_or_from_slice_get (types_of all) i (type_of_node (types_of all) node) tuple
     (types_of-at all i node ordered (slice_get_read all (length all) i node refl below read))
 
 pub node_below :
-    (all : List Node) (i : ℕ) (node : Node) → AreOrdered all → i < length all → node ≡ get_or all i node
+    (all : List TypeTreeNode) (i : ℕ) (node : TypeTreeNode) → AreOrdered all → i < length all → node ≡ get_or all i node
     → IsBelow i node
 node_below all i node ordered below read =
     ordered i node (slice_get_read all (length all) i node refl below read)
 
 -- A list without nodes denotes the empty tuple.
-pub no_nodes : (all : List Node) (t : Ty) → length all ≡ 0 → type_of all ≡ t → t ≡ tuple
+pub no_nodes : (all : List TypeTreeNode) (t : Ty) → length all ≡ 0 → type_of all ≡ t → t ≡ tuple
 unfolding type_of types_of
 no_nodes all t none is = sym is ∙ ap (λ l. type_of l) (nil_from_length all none)
 
-pub last_type : (all : List Node) (t : Ty) → type_of all ≡ t → type_at (types_of all) (length all - 1) ≡ t
+pub last_type : (all : List TypeTreeNode) (t : Ty) → type_of all ≡ t → type_at (types_of all) (length all - 1) ≡ t
 unfolding type_of
 last_type all t is = is
 
 -- ---- one task at a time
 
 stack_seen-append :
-    (types : List Ty) (ms : List ℕ) (xs ys : List Task)
+    (types : List Ty) (ms : List ℕ) (xs ys : List WalkTask)
     → stack_seen types ms (xs ++ ys) ≡ stack_seen types ms ys ++ stack_seen types ms xs
 stack_seen-append types ms [] ys = sym (append-nil (stack_seen types ms ys))
 stack_seen-append types ms (x ∷ xs) ys =
@@ -90,29 +90,29 @@ stack_seen-append types ms (x ∷ xs) ys =
     ∙ append_assoc (stack_seen types ms ys) (stack_seen types ms xs) (task_seen types ms x)
 
 stack_weight-append :
-    (types : List Ty) (xs ys : List Task)
+    (types : List Ty) (xs ys : List WalkTask)
     → stack_weight types (xs ++ ys) ≡ stack_weight types xs + stack_weight types ys
 stack_weight-append types [] ys = omega arith
 stack_weight-append types (x ∷ xs) ys =
     let e : stack_weight types (xs ++ ys) ≡ stack_weight types xs + stack_weight types ys =
     stack_weight-append types xs ys in omega arith
 
-AreBelow-append : (n : ℕ) (xs ys : List Task) → AreBelow n xs → AreBelow n ys → AreBelow n (xs ++ ys)
+AreBelow-append : (n : ℕ) (xs ys : List WalkTask) → AreBelow n xs → AreBelow n ys → AreBelow n (xs ++ ys)
 AreBelow-append n [] ys first second = second
 AreBelow-append n (x ∷ xs) ys first second = (first.0, AreBelow-append n xs ys first.1 second)
 
-AreBelow-prefix : (n : ℕ) (xs ys : List Task) → AreBelow n (xs ++ ys) → AreBelow n xs
+AreBelow-prefix : (n : ℕ) (xs ys : List WalkTask) → AreBelow n (xs ++ ys) → AreBelow n xs
 AreBelow-prefix n [] ys below = tt
 AreBelow-prefix n (x ∷ xs) ys below = (below.0, AreBelow-prefix n xs ys below.1)
 
-AreBelow-back : (n : ℕ) (xs ys : List Task) → AreBelow n (xs ++ ys) → AreBelow n ys
+AreBelow-back : (n : ℕ) (xs ys : List WalkTask) → AreBelow n (xs ++ ys) → AreBelow n ys
 AreBelow-back n [] ys below = below
 AreBelow-back n (x ∷ xs) ys below = AreBelow-back n xs ys below.1
 
 -- ---- the tasks of a node
 
 module _ (types : List Ty) (facts : List Facts) (n : ℕ) (are : AreFacts types n facts) (ms : List ℕ)
-    (small : length ms < 18446744073709551616) (task : Task) where
+    (small : length ms < 18446744073709551616) (task : WalkTask) where
   abbrev from : List ℕ
   from = drop task.first ms
 
@@ -125,7 +125,7 @@ module _ (types : List Ty) (facts : List Facts) (n : ℕ) (are : AreFacts types 
       ++ (own l in_tag (type_at types a) ++ inner l in_tag (type_at types a))) is
 
   parts_seen :
-      (node : Node) → IsBelow task.node node → task.node < n
+      (node : TypeTreeNode) → IsBelow task.node node → task.node < n
       → stack_seen types ms (tasks_of facts task node) ≡ inner from task.in_tag (type_of_node types node)
   parts_seen (nodes.Variable x) below within = refl
   parts_seen (nodes.Named x) below within = refl
@@ -146,7 +146,7 @@ module _ (types : List Ty) (facts : List Facts) (n : ℕ) (are : AreFacts types 
       (behind_tag task.first (fact_at facts w).inner (inner_count (type_at types w)) ms small known)
 
 parts_weight :
-    (types : List Ty) (facts : List Facts) (task : Task) (node : Node)
+    (types : List Ty) (facts : List Facts) (task : WalkTask) (node : TypeTreeNode)
     → stack_weight types (tasks_of facts task node) < weight (type_of_node types node)
 parts_weight types facts task (nodes.Variable x) = omega arith
 parts_weight types facts task (nodes.Named x) = omega arith
@@ -158,7 +158,7 @@ parts_weight types facts task (nodes.TagOf w x a) = omega arith
 parts_weight types facts task (nodes.Including w u) = omega arith
 
 parts_below :
-    (facts : List Facts) (n : ℕ) (task : Task) (node : Node) → IsBelow task.node node → task.node < n
+    (facts : List Facts) (n : ℕ) (task : WalkTask) (node : TypeTreeNode) → IsBelow task.node node → task.node < n
     → AreBelow n (tasks_of facts task node)
 parts_below facts n task (nodes.Variable x) below within = tt
 parts_below facts n task (nodes.Named x) below within = tt
@@ -176,21 +176,21 @@ parts_below facts n task (nodes.Including w u) below within =
 
 -- The node of the task that was popped exists.
 pub popped_below :
-    (n : ℕ) (tasks kept : List Task) (task : Task) → tasks ≡ kept ++ task ∷ [] → AreBelow n tasks
+    (n : ℕ) (tasks kept : List WalkTask) (task : WalkTask) → tasks ≡ kept ++ task ∷ [] → AreBelow n tasks
     → task.node < n
 popped_below n tasks kept task popped below =
     (AreBelow-back n kept (task ∷ []) (subst (AreBelow n) popped below)).0
 
 -- No task is left.
 pub none_left :
-    (tasks kept : List Task) (n : ℕ) → tasks ≡ kept ++ [] → kept ≡ take (n - 1) tasks → n ≡ 0 → tasks ≡ []
+    (tasks kept : List WalkTask) (n : ℕ) → tasks ≡ kept ++ [] → kept ≡ take (n - 1) tasks → n ≡ 0 → tasks ≡ []
 none_left tasks kept n popped rest none =
     let e : n - 1 ≡ 0 = omega arith in
     popped ∙ ap (λ l. l ++ []) (rest ∙ ap (λ m. take m tasks) e)
 
-module _ (nodes : List Node) (ordered : AreOrdered nodes) (facts : List Facts)
-    (are : AreFacts (types_of nodes) (length nodes) facts) (task : Task) (node : Node)
-    (read : node ≡ get_or nodes task.node node) (tasks kept next : List Task) (popped : tasks ≡ kept ++ task ∷ [])
+module _ (nodes : List TypeTreeNode) (ordered : AreOrdered nodes) (facts : List Facts)
+    (are : AreFacts (types_of nodes) (length nodes) facts) (task : WalkTask) (node : TypeTreeNode)
+    (read : node ≡ get_or nodes task.node node) (tasks kept next : List WalkTask) (popped : tasks ≡ kept ++ task ∷ [])
     (pushed : next ≡ kept ++ tasks_of facts task node) (below : AreBelow (length nodes) tasks) where
   abbrev types : List Ty
   types = types_of nodes

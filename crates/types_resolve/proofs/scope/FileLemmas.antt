@@ -19,7 +19,7 @@ use Rattle.types_spec.specs.types.Occurrence.{Placed, use_of, DeclPositions}
 use Rattle.types_spec.specs.types.Scope.{twice, unknown_name, arity, irregular, IsSecond, HoldsVariable}
 use Rattle.types_spec.specs.types.Scope.{written_tag, IsUnseen, decls_of}
 use Rattle.types_spec.specs.types.Scope.{declared_names, NamesBreak, BreaksInDecl, BreaksInFile, BreaksInType}
-use Rattle.types_resolve.specs.declared.scope.site.Use.{Use}
+use Rattle.types_resolve.specs.declared.scope.site.TypeUse.{TypeUse}
 use Rattle.types_resolve.specs.declared.scope.site.Site.{Site}
 use Rattle.types_resolve.specs.declared.scope.site.TypeSite.{TypeSite}
 use Rattle.types_resolve.specs.declared.scope.rule.NameRule.{NameRule}
@@ -55,9 +55,9 @@ other_arity (Some m) arguments count is = (
 )
 
 uses_break :
-    (decls : List Decl) (uses : List Use) (occurrences : List Occurrence) → AreUses uses occurrences
+    (decls : List Decl) (uses : List TypeUse) (occurrences : List Occurrence) → AreUses uses occurrences
     → (rule : UseRule) (Breaks : List ℕ → List Ty → Type 0) (group : Option ℕ)
-    → ((u : Use) (arguments : List Ty) → HasArguments u arguments
+    → ((u : TypeUse) (arguments : List Ty) → HasArguments u arguments
     → BreaksUse rule decls group u ↔ Breaks u.name arguments)
     → (k : ℕ)
     → UsesBreak rule decls group uses k

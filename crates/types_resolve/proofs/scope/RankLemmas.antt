@@ -9,8 +9,8 @@ use Rattle.std.proofs.lemmas.Option.{same_Some, slice_get_within}
 use Rattle.std.proofs.lemmas.List.Elements.{All-contains}
 use Rattle.std.proofs.lemmas.List.Sums.{AllPass-from_list_all}
 use Rattle.base_data.proofs.model.Options.{same_or_not}
-use Rattle.types_resolve.specs.declared.scope.ranks.Mark.{Mark}
-use Rattle.types_resolve.specs.declared.scope.ranks.Mark.TheVariants as marks
+use Rattle.types_resolve.specs.declared.scope.ranks.VisitState.{VisitState}
+use Rattle.types_resolve.specs.declared.scope.ranks.VisitState.TheVariants as marks
 use Rattle.types_resolve.specs.scope.Graph.{Graph, IsEdge, IsPath, IsOnCycle}
 use Rattle.types_resolve.specs.scope.Ranks.{HasRank, AreRanks, RanksBelow, is_rank, is_ranked}
 use Rattle.types_resolve.proofs.scope.GraphLemmas.{slice_get-set_same, slice_get-set_other}
@@ -19,7 +19,7 @@ use Rattle.types_resolve.proofs.scope.GraphLemmas.{slice_get-set_same, slice_get
 
 -- Ranks decrease along each path.
 falls :
-    (graph : Graph) (all : List Mark) → AreRanks graph all → (i rank : ℕ) (between : List ℕ) (j : ℕ)
+    (graph : Graph) (all : List VisitState) → AreRanks graph all → (i rank : ℕ) (between : List ℕ) (j : ℕ)
     → HasRank all i rank → IsPath graph i between j
     → (lower : ℕ) × HasRank all j lower × (lower < rank)
 falls graph all ranks i rank [] j has edge = ranks.fall i rank j has edge
@@ -34,7 +34,7 @@ same_rank : (r s : ℕ) → marks.Ranked r ≡ marks.Ranked s → r ≡ s
 same_rank r s e = cc
 
 pub ranked-off_cycle :
-    (graph : Graph) (all : List Mark) → AreRanks graph all → (i rank : ℕ) → HasRank all i rank
+    (graph : Graph) (all : List VisitState) → AreRanks graph all → (i rank : ℕ) → HasRank all i rank
     → ¬ IsOnCycle graph i
 ranked-off_cycle graph all ranks i rank has (between, path) =
     let last = falls graph all ranks i rank between i has path in
@@ -45,20 +45,20 @@ ranked-off_cycle graph all ranks i rank has (between, path) =
 
 -- ---- a mark that changes
 
-rank_in : (o : Option Mark) → is_rank o ≡ true → (rank : ℕ) × (o ≡ Some (marks.Ranked rank))
+rank_in : (o : Option VisitState) → is_rank o ≡ true → (rank : ℕ) × (o ≡ Some (marks.Ranked rank))
 rank_in None has_rank = absurd (false≢true has_rank)
 rank_in (Some marks.New) has_rank = absurd (false≢true has_rank)
 rank_in (Some marks.Opened) has_rank = absurd (false≢true has_rank)
 rank_in (Some (marks.Ranked rank)) has_rank = (rank, refl)
 
-pub rank_of : (all : List Mark) (i : ℕ) → is_ranked all i ≡ true → (rank : ℕ) × HasRank all i rank
+pub rank_of : (all : List VisitState) (i : ℕ) → is_ranked all i ≡ true → (rank : ℕ) × HasRank all i rank
 rank_of all i has_rank = rank_in (slice_get all i) has_rank
 
-unranked : (all : List Mark) (i rank : ℕ) → is_ranked all i ≡ false → ¬ HasRank all i rank
+unranked : (all : List VisitState) (i rank : ℕ) → is_ranked all i ≡ false → ¬ HasRank all i rank
 unranked all i rank has_none has = false≢true (sym has_none ∙ ap is_rank has)
 
 -- The mark of a node without a rank changes.
-module _ (all : List Mark) (i : ℕ) (mark : Mark) (unranked_before : is_ranked all i ≡ false) where
+module _ (all : List VisitState) (i : ℕ) (mark : VisitState) (unranked_before : is_ranked all i ≡ false) where
   still_ranked : (j rank : ℕ) → HasRank all j rank → HasRank (slice_set all i mark) j rank
   still_ranked j rank has =
       slice_get-set_other all i j mark
@@ -133,7 +133,7 @@ module _ (all : List Mark) (i : ℕ) (mark : Mark) (unranked_before : is_ranked 
       (ranked_before j given has)
 
 pub all_ranked :
-    (all : List Mark) (nodes : List ℕ) → list_all (λ i. is_ranked all i) nodes ≡ true → (j : ℕ)
+    (all : List VisitState) (nodes : List ℕ) → list_all (λ i. is_ranked all i) nodes ≡ true → (j : ℕ)
     → Contains nodes j → is_ranked all j ≡ true
 all_ranked all nodes has_rank j among = All-contains (λ i. is_ranked all i ≡ true) nodes j
     (AllPass-from_list_all (λ i. is_ranked all i) nodes has_rank) among

@@ -4,10 +4,10 @@ use Rattle.std.specs.List.{filter_map}
 use Rattle.types_spec.specs.types.Occurrence.{Placed, Occurrence, use_of, variable_at, bracket_of}
 use Rattle.types_spec.specs.types.Scope.{written_tag}
 use Rattle.types_resolve.specs.declared.scope.site.Site.{Site}
-use Rattle.types_resolve.specs.declared.scope.site.Use.{Use}
+use Rattle.types_resolve.specs.declared.scope.site.TypeUse.{TypeUse}
 use Rattle.types_resolve.specs.occurrences.Facts.{some_grow}
 
-abbrev pub as_use : Occurrence → Option Use
+abbrev pub as_use : Occurrence → Option TypeUse
 as_use (use_of k name arguments in_tag) = Some (record {
   position = k;
   name = name;

@@ -6,8 +6,8 @@ use Rattle.types_spec.specs.types.Ty.{Ty, variable, named, tuple, bracket, part,
 use Rattle.types_spec.specs.types.Ty.{including}
 use Rattle.types_spec.specs.types.Ty.{parts}
 use Rattle.types_spec.specs.types.Nodes.{type_at}
-use Rattle.types_spec.specs.declared.types.ty.Node.{Node}
-use Rattle.types_spec.specs.declared.types.ty.Node.TheVariants as nodes
+use Rattle.types_spec.specs.declared.types.ty.TypeTreeNode.{TypeTreeNode}
+use Rattle.types_spec.specs.declared.types.ty.TypeTreeNode.TheVariants as nodes
 use Rattle.types_spec.specs.types.Occurrence.{PlacedItem}
 use Rattle.types_resolve.specs.occurrences.Counted.{own_count, inner_count, begins}
 use Rattle.types_resolve.specs.declared.occurrences.fact.Facts.{Facts}
@@ -73,7 +73,7 @@ whole f inner arguments grows holds =
 abbrev pub total_of : Facts → ℕ
 total_of g = capped (g.inner + g.own)
 
-abbrev pub facts_of : List Facts → Node → Facts
+abbrev pub facts_of : List Facts → TypeTreeNode → Facts
 facts_of facts (nodes.Variable x) = leaf 1 true (length facts)
 facts_of facts (nodes.Named x) = leaf 1 false (length facts)
 facts_of facts nodes.Tuple = leaf 0 false (length facts)

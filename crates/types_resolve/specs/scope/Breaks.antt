@@ -6,7 +6,7 @@ use Rattle.types_spec.specs.types.Declarations.{arity_of, declaration_of, predec
 use Rattle.types_spec.specs.types.Occurrence.{Placed}
 use Rattle.types_spec.specs.types.Scope.{Rule, IsSecond, twice, unknown_name, arity}
 use Rattle.types_spec.specs.types.Scope.{unbound_variable, cyclic, irregular, too_many_constructors}
-use Rattle.types_resolve.specs.declared.scope.site.Use.{Use}
+use Rattle.types_resolve.specs.declared.scope.site.TypeUse.{TypeUse}
 use Rattle.types_resolve.specs.declared.scope.site.Site.{Site}
 use Rattle.types_resolve.specs.declared.scope.site.TypeSite.{TypeSite}
 use Rattle.types_resolve.specs.declared.scope.rule.NameRule.{NameRule}
@@ -36,16 +36,16 @@ IsOther (Some n) arguments = n ≢ arguments
 
 -- A use breaks a rule. The use is in a declaration of this group, or in the text of a type if there
 -- is no group.
-abbrev pub BreaksUse : UseRule → List Decl → Option ℕ → Use → Type 0
+abbrev pub BreaksUse : UseRule → List Decl → Option ℕ → TypeUse → Type 0
 BreaksUse use_rules.UnknownName decls group u =
     (predeclared u.name ≡ None) × Later (declaration_of decls u.name) group
 BreaksUse use_rules.Arity decls group u = IsOther (arity_of decls u.name) u.arguments
 BreaksUse use_rules.Irregular decls group u =
     IsTrue u.grows × OfGroup (declaration_of decls u.name) group
 
-abbrev pub UsesBreak : UseRule → List Decl → Option ℕ → List Use → ℕ → Type 0
+abbrev pub UsesBreak : UseRule → List Decl → Option ℕ → List TypeUse → ℕ → Type 0
 UsesBreak rule decls group uses k =
-    (u : Use) × Contains uses u × ((u.position ≡ k) × BreaksUse rule decls group u)
+    (u : TypeUse) × Contains uses u × ((u.position ≡ k) × BreaksUse rule decls group u)
 
 -- The name at lexeme k is predeclared.
 abbrev pub IsPredeclaredAt : List Placed → ℕ → Type 0

@@ -3,10 +3,10 @@ use Rattle.std.specs.Prelude.{ℕ, ◌<◌, ◌≡◌, ◌≢◌, List, Option, 
 use Rattle.std.specs.Prelude.{unwrap_or, if◌then◌else◌}
 use Rattle.std.specs.Str.{bytes_eq}
 use Rattle.indexmap.specs.IndexMap.{get_by}
-use Rattle.types_resolve.specs.declared.scope.table.Table.{Table}
+use Rattle.types_resolve.specs.declared.scope.name_table.NameTable.{NameTable}
 
 -- The number of this name, if the table has the name.
-abbrev pub number_of : Table → List ℕ → Option ℕ
+abbrev pub number_of : NameTable → List ℕ → Option ℕ
 number_of table name = get_by (λ k. bytes_eq name k.now) table.entries
 
 -- The numbers after adding a name, which keeps its number if it has one.

@@ -9,7 +9,7 @@ use Rattle.types_spec.specs.types.Occurrence.{Occurrence}
 use Rattle.types_spec.specs.types.Occurrence.{Placed, PlacedItem, use_of, variable_at}
 use Rattle.types_spec.specs.types.Occurrence.{bracket_of, DeclPositions}
 use Rattle.types_spec.specs.types.Scope.{HoldsVariable, written_tag, decls_of, declared_names}
-use Rattle.types_resolve.specs.declared.scope.site.Use.{Use}
+use Rattle.types_resolve.specs.declared.scope.site.TypeUse.{TypeUse}
 use Rattle.types_resolve.specs.declared.scope.site.Site.{Site}
 use Rattle.types_resolve.specs.declared.scope.site.TypeSite.{TypeSite}
 
@@ -18,7 +18,7 @@ abbrev pub Grow : List Ty → Type 0
 Grow arguments = (t : Ty) × Contains arguments t × HoldsVariable t × (¬ IsVariable t)
 
 -- A use with these arguments.
-pub record HasArguments (u : Use) (arguments : List Ty) : Type 0 where
+pub record HasArguments (u : TypeUse) (arguments : List Ty) : Type 0 where
   pub counted : u.arguments ≡ length arguments
   pub grow : IsTrue u.grows ↔ Grow arguments
 
@@ -36,15 +36,15 @@ IsRow d row =
     ⊎ IsTagRow d.occurrences row
 
 -- The uses of names among occurrences.
-pub record AreUses (uses : List Use) (occurrences : List Occurrence) : Type 0 where
+pub record AreUses (uses : List TypeUse) (occurrences : List Occurrence) : Type 0 where
   pub occur :
-      (u : Use) → Contains uses u
+      (u : TypeUse) → Contains uses u
       → (arguments : List Ty) × HasArguments u arguments
       × Contains occurrences (use_of u.position u.name arguments u.in_tag)
   pub all :
       (position : ℕ) (name : List ℕ) (arguments : List Ty) (in_tag : Bool)
       → Contains occurrences (use_of position name arguments in_tag)
-      → (u : Use) × Contains uses u × HasArguments u arguments
+      → (u : TypeUse) × Contains uses u × HasArguments u arguments
       × (u.position ≡ position) × (u.name ≡ name) × (u.in_tag ≡ in_tag)
 
 -- What the code collects from a declaration.

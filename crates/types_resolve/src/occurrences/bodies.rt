@@ -14,7 +14,7 @@ ghost use Rattle.types_resolve.specs.occurrences.Bodies.{constructor_names, reco
 ghost use Rattle.types_resolve.specs.occurrences.Bodies.{carrying_of, occurrences_of};
 ghost use Rattle.types_resolve.specs.occurrences.Bodies.{names_in, carrying_body};
 
-use crate::occurrences::found::{Found, write_carrying, write_names};
+use crate::occurrences::found::{FoundOccurrences, write_carrying, write_names};
 use crate::occurrences::mark::{placed, skip};
 use crate::occurrences::walk::write_type;
 use base_data::model::Memory;
@@ -26,7 +26,7 @@ use types_spec::types::ty::Ty;
 /// Adds the occurrences in a list of types.
 fn write_types<'m, 'a>(
     alloc: Global,
-    found: &mut Found<'a>,
+    found: &mut FoundOccurrences<'a>,
     marks: &'m [usize],
     types: &'a [Ty],
 ) -> Result<&'m [usize], Memory>
@@ -46,7 +46,7 @@ fn write_types<'m, 'a>(
 /// Adds the occurrences in the fields of a record, and the row of the field names.
 fn write_fields<'m, 'a>(
     alloc: Global,
-    found: &mut Found<'a>,
+    found: &mut FoundOccurrences<'a>,
     marks: &'m [usize],
     fields: &'a [Field],
 ) -> Result<&'m [usize], Memory>
@@ -69,7 +69,7 @@ fn write_fields<'m, 'a>(
 /// Adds the occurrences in the arguments of a constructor.
 fn write_arguments<'m, 'a>(
     alloc: Global,
-    found: &mut Found<'a>,
+    found: &mut FoundOccurrences<'a>,
     marks: &'m [usize],
     arguments: &'a Arguments,
 ) -> Result<&'m [usize], Memory>
@@ -88,7 +88,7 @@ fn write_arguments<'m, 'a>(
 /// Adds the occurrences in a constructor.
 fn write_constructor<'m, 'a>(
     alloc: Global,
-    found: &mut Found<'a>,
+    found: &mut FoundOccurrences<'a>,
     marks: &'m [usize],
     constructor: &'a Constructor,
 ) -> Result<&'m [usize], Memory>
@@ -106,7 +106,7 @@ fn write_constructor<'m, 'a>(
 /// remaining marks.
 fn write_constructors<'m, 'a>(
     alloc: Global,
-    found: &mut Found<'a>,
+    found: &mut FoundOccurrences<'a>,
     marks: &'m [usize],
     constructors: &'a [Constructor],
 ) -> Result<&'m [usize], Memory>
@@ -132,7 +132,7 @@ fn write_constructors<'m, 'a>(
 /// Adds the occurrences in a body, and the row of its constructor names.
 pub fn write_body<'m, 'a>(
     alloc: Global,
-    found: &mut Found<'a>,
+    found: &mut FoundOccurrences<'a>,
     marks: &'m [usize],
     body: &'a Body,
 ) -> Result<&'m [usize], Memory>

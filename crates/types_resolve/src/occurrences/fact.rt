@@ -7,7 +7,7 @@ ghost use Rattle.types_resolve.specs.occurrences.Facts.{AreFacts};
 
 use base_data::model::Memory;
 use std::alloc::Global;
-use types_spec::types::ty::Node;
+use types_spec::types::ty::TypeTreeNode;
 
 /// The number of marks of a node's type, and properties of its parts.
 #[derive(Clone, Copy)]
@@ -98,14 +98,14 @@ pub fn total(g: Facts) -> usize
 }
 
 /// Returns the facts of the next node.
-fn facts_of(facts: &[Facts], node: &Node) -> Facts
+fn facts_of(facts: &[Facts], node: &TypeTreeNode) -> Facts
     ensures { result ≡ facts_of facts.now node.now }
 {
     match node {
-        Node::Variable(_) => leaf(1, true, facts.len()),
-        Node::Named(_) => leaf(1, false, facts.len()),
-        Node::Tuple | Node::Bracket => leaf(0, false, facts.len()),
-        Node::Part(w, a) => {
+        TypeTreeNode::Variable(_) => leaf(1, true, facts.len()),
+        TypeTreeNode::Named(_) => leaf(1, false, facts.len()),
+        TypeTreeNode::Tuple | TypeTreeNode::Bracket => leaf(0, false, facts.len()),
+        TypeTreeNode::Part(w, a) => {
             let f = fact_at(facts, *w);
             let g = fact_at(facts, *a);
             let grows = either(f.grows, but_not(g.holds, g.alone));
@@ -118,17 +118,17 @@ fn facts_of(facts: &[Facts], node: &Node) -> Facts
                 either(f.holds, g.holds),
             )
         }
-        Node::Tag(w, _) => {
+        TypeTreeNode::Tag(w, _) => {
             let f = fact_at(facts, *w);
             whole(f, f.inner.saturating_add(1), 0, false, f.holds)
         }
-        Node::TagOf(w, _, a) => {
+        TypeTreeNode::TagOf(w, _, a) => {
             let f = fact_at(facts, *w);
             let g = fact_at(facts, *a);
             let inner = f.inner.saturating_add(1).saturating_add(total(g));
             whole(f, inner, 0, false, either(f.holds, g.holds))
         }
-        Node::Including(w, u) => {
+        TypeTreeNode::Including(w, u) => {
             let f = fact_at(facts, *w);
             let g = fact_at(facts, *u);
             let inner = f.inner.saturating_add(1).saturating_add(total(g));
@@ -138,7 +138,7 @@ fn facts_of(facts: &[Facts], node: &Node) -> Facts
 }
 
 /// Returns the facts of all nodes.
-pub fn all_facts(alloc: Global, nodes: &[Node]) -> Result<Vec<Facts>, Memory>
+pub fn all_facts(alloc: Global, nodes: &[TypeTreeNode]) -> Result<Vec<Facts>, Memory>
     requires { AreOrdered nodes.now }
     ensures { IfOk result (λ v. AreFacts (types_of nodes.now) (length nodes.now) v.items) }
 {

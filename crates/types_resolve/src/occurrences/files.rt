@@ -8,9 +8,9 @@ ghost use Rattle.types_resolve.specs.scope.Brackets.{AreBrackets, AreFileBracket
 ghost use Rattle.types_resolve.specs.scope.Sites.{IsSite, AreSites};
 
 use crate::occurrences::bodies::write_body;
-use crate::occurrences::found::{Found, nothing, write_names};
+use crate::occurrences::found::{FoundOccurrences, nothing, write_names};
 use crate::occurrences::mark::{placed, skip};
-use crate::scope::{Placed, Site, TypeBrackets};
+use crate::scope::{LocatedName, Site, TypeBrackets};
 use base_data::model::Memory;
 use base_data::model::list::List;
 use std::alloc::Global;
@@ -20,7 +20,7 @@ use types_spec::types::decl::Decl;
 #[derive(Drop)]
 pub struct FileSites<'a> {
     /// The declared names.
-    pub names: List<Placed>,
+    pub names: List<LocatedName>,
     pub sites: List<Site>,
     /// The brackets of each declaration, type by type.
     pub brackets: List<List<TypeBrackets<'a>>>,
@@ -31,7 +31,7 @@ fn parameters_row(
     alloc: Global,
     marks: &[usize],
     parameters: &[List<u8>],
-) -> Result<List<Placed>, Memory>
+) -> Result<List<LocatedName>, Memory>
     ensures { IfOk result (λ row. row ≡ parameters_in marks.now parameters.now) }
 {
     let mut rest = marks;
@@ -48,7 +48,7 @@ fn decl_found<'m, 'a>(
     alloc: Global,
     marks: &'m [usize],
     decl: &'a Decl,
-) -> Result<(Found<'a>, &'m [usize]), Memory>
+) -> Result<(FoundOccurrences<'a>, &'m [usize]), Memory>
     ensures site { IfOk result
         (λ found. IsSite found.0.site (counted_positions marks.now decl.now)) }
     ensures brackets { IfOk result
@@ -85,7 +85,7 @@ pub fn file_sites<'a>(
         let name = skip(rest, decl.parameters.len());
         names.push(placed(alloc, name, &decl.name)?)?;
         let (found, left) = decl_found(alloc, rest, decl)?;
-        let Found {
+        let FoundOccurrences {
             site,
             brackets: inside,
         } = found;

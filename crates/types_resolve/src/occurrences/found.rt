@@ -6,16 +6,16 @@ ghost use Rattle.types_spec.specs.types.Nodes.{types_of, AreOrdered};
 ghost use Rattle.types_resolve.specs.scope.Brackets.{brackets_known, all_known, IsOrdered};
 
 use crate::occurrences::mark::{none, position_at, write_row};
-use crate::scope::{BracketItem, Placed, Site, TypeBrackets};
+use crate::scope::{BracketItem, LocatedName, Site, TypeBrackets};
 use base_data::model::Memory;
 use base_data::model::list::List;
 use std::alloc::Global;
 use types_spec::types::decl::Arguments;
-use types_spec::types::ty::Node;
+use types_spec::types::ty::TypeTreeNode;
 
 /// The occurrences found so far.
 #[derive(Drop)]
-pub struct Found<'a> {
+pub struct FoundOccurrences<'a> {
     /// The data for the rules on names.
     pub site: Site,
     /// The brackets, type by type.
@@ -23,21 +23,24 @@ pub struct Found<'a> {
 }
 
 /// Returns the empty result.
-pub fn nothing<'a>(alloc: Global) -> Found<'a>
+pub fn nothing<'a>(alloc: Global) -> FoundOccurrences<'a>
     ensures { result
         ≡ record {
           site = record { rows = []; carrying = []; uses = []; variables = [] };
           brackets = [];
         } }
 {
-    Found {
+    FoundOccurrences {
         site: none(alloc),
         brackets: List::new(alloc),
     }
 }
 
 /// Appends a row of names that must be distinct.
-pub fn write_names<'a>(found: &mut Found<'a>, row: List<Placed>) -> Result<(), Memory>
+pub fn write_names<'a>(
+    found: &mut FoundOccurrences<'a>,
+    row: List<LocatedName>,
+) -> Result<(), Memory>
     ensures { OnOk result
         (found.new
         ≡ record found.old
@@ -48,7 +51,7 @@ pub fn write_names<'a>(found: &mut Found<'a>, row: List<Placed>) -> Result<(), M
 
 /// Appends the lexeme of a constructor, if the constructor has arguments.
 pub fn write_carrying<'a>(
-    found: &mut Found<'a>,
+    found: &mut FoundOccurrences<'a>,
     marks: &[usize],
     arguments: &Arguments,
 ) -> Result<(), Memory>
@@ -69,8 +72,8 @@ pub fn write_carrying<'a>(
 
 /// Appends the brackets of a type, if there are any.
 pub fn write_brackets<'a>(
-    found: &mut Found<'a>,
-    nodes: &'a [Node],
+    found: &mut FoundOccurrences<'a>,
+    nodes: &'a [TypeTreeNode],
     brackets: List<List<BracketItem>>,
 ) -> Result<(), Memory>
     requires { AreOrdered nodes.now }

@@ -13,14 +13,15 @@ use crate::scope::BracketItem;
 use base_data::model::Memory;
 use base_data::model::list::List;
 use std::alloc::Global;
-use types_spec::types::ty::Node;
+use types_spec::types::ty::TypeTreeNode;
 
 /// Returns the node of the bracket without its last item, if there is an item.
-fn without_item(node: &Node) -> Option<usize>
+fn without_item(node: &TypeTreeNode) -> Option<usize>
     ensures { result ≡ without_item node.now }
 {
     match node {
-        Node::Tag(w, _) | Node::TagOf(w, _, _) | Node::Including(w, _) => Some(*w),
+        TypeTreeNode::Tag(w, _) | TypeTreeNode::TagOf(w, _, _) | TypeTreeNode::Including(w, _) =>
+            Some(*w),
         _ => None,
     }
 }
@@ -47,7 +48,7 @@ fn write_item(items: &mut Vec<BracketItem>, position: usize, node: usize) -> Res
 /// Returns the items of a node's bracket. The marks of its parts begin with the mark `first`.
 pub fn items_of(
     alloc: Global,
-    nodes: &[Node],
+    nodes: &[TypeTreeNode],
     facts: &[Facts],
     marks: &[usize],
     node: usize,

@@ -3,7 +3,7 @@
 ghost use Rattle.std.specs.Prelude.{◌≡◌, ◌∷◌, ◌++◌, [], IfOk, OnOk, drop, slice_index};
 ghost use Rattle.types_resolve.specs.occurrences.CountedFile.{placed};
 
-use crate::scope::{Placed, Site};
+use crate::scope::{LocatedName, Site};
 use base_data::model::Memory;
 use base_data::model::list::List;
 use std::alloc::Global;
@@ -33,14 +33,14 @@ pub fn copied(alloc: Global, name: &List<u8>) -> Result<List<u8>, Memory>
 }
 
 /// Returns a name at the first of these marks.
-pub fn placed(alloc: Global, marks: &[usize], name: &List<u8>) -> Result<Placed, Memory>
+pub fn placed(alloc: Global, marks: &[usize], name: &List<u8>) -> Result<LocatedName, Memory>
     ensures { IfOk result (λ p. p ≡ placed marks.now name.now) }
 {
-    Ok(Placed::new(position_at(marks, 0), copied(alloc, name)?))
+    Ok(LocatedName::new(position_at(marks, 0), copied(alloc, name)?))
 }
 
 /// Appends a row of names that must be distinct.
-pub fn write_row(site: &mut Site, row: List<Placed>) -> Result<(), Memory>
+pub fn write_row(site: &mut Site, row: List<LocatedName>) -> Result<(), Memory>
     ensures { OnOk result (site.new ≡ record site.old { rows = site.old.rows ++ row ∷ [] }) }
 {
     site.rows.push(row)

@@ -14,12 +14,12 @@ use crate::occurrences::fact::{Facts, fact_at};
 use crate::occurrences::items::items_of;
 use crate::occurrences::mark::{copied, position_at, write_row};
 use crate::occurrences::row::row_of;
-use crate::occurrences::walk::Task;
-use crate::scope::{BracketItem, Placed, Site, Use};
+use crate::occurrences::walk::WalkTask;
+use crate::scope::{BracketItem, LocatedName, Site, TypeUse};
 use base_data::model::Memory;
 use base_data::model::list::List;
 use std::alloc::Global;
-use types_spec::types::ty::Node;
+use types_spec::types::ty::TypeTreeNode;
 
 /// Appends a variable.
 fn write_variable(
@@ -33,11 +33,11 @@ fn write_variable(
         ≡ record site.old { variables = site.old.variables ++ (position, name.now) ∷ [] }) }
 {
     site.variables
-        .push(Placed::new(position, copied(alloc, name)?))
+        .push(LocatedName::new(position, copied(alloc, name)?))
 }
 
 /// Appends a use of a type name.
-fn write_use(site: &mut Site, used: Use) -> Result<(), Memory>
+fn write_use(site: &mut Site, used: TypeUse) -> Result<(), Memory>
     ensures { OnOk result (site.new ≡ record site.old { uses = site.old.uses ++ used ∷ [] }) }
 {
     site.uses.push(used)
@@ -48,10 +48,10 @@ fn write_bracket(
     alloc: Global,
     site: &mut Site,
     brackets: &mut List<List<BracketItem>>,
-    nodes: &[Node],
+    nodes: &[TypeTreeNode],
     facts: &[Facts],
     marks: &[usize],
-    task: Task,
+    task: WalkTask,
 ) -> Result<(), Memory>
     requires ordered { AreOrdered nodes.now }
     requires facts { AreFacts (types_of nodes.now) (length nodes.now) facts.now }
@@ -81,10 +81,10 @@ pub fn write_own(
     alloc: Global,
     site: &mut Site,
     brackets: &mut List<List<BracketItem>>,
-    nodes: &[Node],
+    nodes: &[TypeTreeNode],
     facts: &[Facts],
     marks: &[usize],
-    task: Task,
+    task: WalkTask,
 ) -> Result<(), Memory>
     requires ordered { AreOrdered nodes.now }
     requires facts { AreFacts (types_of nodes.now) (length nodes.now) facts.now }
@@ -102,9 +102,9 @@ pub fn write_own(
     let known = fact_at(facts, task.node);
     let position = position_at(marks, task.first.saturating_add(known.inner));
     match &nodes[known.base] {
-        Node::Variable(x) => write_variable(alloc, site, position, x),
-        Node::Named(x) => {
-            let used = Use {
+        TypeTreeNode::Variable(x) => write_variable(alloc, site, position, x),
+        TypeTreeNode::Named(x) => {
+            let used = TypeUse {
                 position,
                 name: copied(alloc, x)?,
                 arguments: known.arguments,
@@ -113,7 +113,7 @@ pub fn write_own(
             };
             write_use(site, used)
         }
-        Node::Bracket => write_bracket(alloc, site, brackets, nodes, facts, marks, task),
+        TypeTreeNode::Bracket => write_bracket(alloc, site, brackets, nodes, facts, marks, task),
         _ => Ok(()),
     }
 }

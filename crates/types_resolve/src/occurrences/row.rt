@@ -8,24 +8,24 @@ ghost use Rattle.types_resolve.specs.scope.Brackets.{items_known};
 ghost use Rattle.types_resolve.specs.occurrences.BracketItems.{tag_at, tag_there};
 
 use crate::occurrences::mark::copied;
-use crate::scope::{BracketItem, Placed};
+use crate::scope::{BracketItem, LocatedName};
 use base_data::model::Memory;
 use base_data::model::list::List;
 use std::alloc::Global;
-use types_spec::types::ty::Node;
+use types_spec::types::ty::TypeTreeNode;
 
 /// Appends the tag of a node, if the node adds a tag.
 fn write_tag(
     alloc: Global,
-    row: &mut List<Placed>,
+    row: &mut List<LocatedName>,
     position: usize,
-    node: &Node,
+    node: &TypeTreeNode,
 ) -> Result<(), Memory>
     ensures { OnOk result (row.new ≡ row.old ++ tag_at position node.now) }
 {
     match node {
-        Node::Tag(_, x) | Node::TagOf(_, x, _) => {
-            row.push(Placed::new(position, copied(alloc, x)?))
+        TypeTreeNode::Tag(_, x) | TypeTreeNode::TagOf(_, x, _) => {
+            row.push(LocatedName::new(position, copied(alloc, x)?))
         }
         _ => Ok(()),
     }
@@ -34,8 +34,8 @@ fn write_tag(
 /// Appends the tag of an item, if the item is a tag.
 fn write_written(
     alloc: Global,
-    row: &mut List<Placed>,
-    nodes: &[Node],
+    row: &mut List<LocatedName>,
+    nodes: &[TypeTreeNode],
     item: &BracketItem,
 ) -> Result<(), Memory>
     ensures { OnOk result (row.new ≡ row.old ++ tag_there nodes.now item.now) }
@@ -47,7 +47,11 @@ fn write_written(
 }
 
 /// Returns the tags among these items of a bracket.
-pub fn row_of(alloc: Global, nodes: &[Node], items: &[BracketItem]) -> Result<List<Placed>, Memory>
+pub fn row_of(
+    alloc: Global,
+    nodes: &[TypeTreeNode],
+    items: &[BracketItem],
+) -> Result<List<LocatedName>, Memory>
     requires { AreOrdered nodes.now }
     ensures { IfOk result
         (λ row. row ≡ filter_map written_tag (items_known (types_of nodes.now) items.now)) }

@@ -5,7 +5,7 @@ ghost use Rattle.types_resolve.specs.occurrences.Counted.{in_type};
 ghost use Rattle.types_resolve.specs.scope.Sites.{IsTypeSite};
 ghost use Rattle.types_resolve.specs.scope.Brackets.{AreBrackets};
 
-use crate::occurrences::found::{Found, nothing};
+use crate::occurrences::found::{FoundOccurrences, nothing};
 use crate::occurrences::walk::write_type;
 use crate::scope::{Site, TypeBrackets, TypeSite};
 use base_data::model::Memory;
@@ -28,7 +28,7 @@ pub fn type_site<'a>(alloc: Global, marks: &[usize], ty: &'a Ty) -> Result<TypeF
 {
     let mut found = nothing(alloc);
     write_type(alloc, &mut found, marks, ty)?;
-    let Found { site, brackets } = found;
+    let FoundOccurrences { site, brackets } = found;
     let Site { rows, uses, .. } = site;
     Ok(TypeFound {
         site: TypeSite { rows, uses },

@@ -11,19 +11,19 @@ ghost use Rattle.types_resolve.specs.occurrences.Found.{AddsFound};
 ghost use Rattle.types_resolve.specs.occurrences.Walk.{behind, tasks_of, task_seen};
 
 use crate::occurrences::fact::{Facts, all_facts, fact_at, total};
-use crate::occurrences::found::{Found, write_brackets};
+use crate::occurrences::found::{FoundOccurrences, write_brackets};
 use crate::occurrences::mark::skip;
 use crate::occurrences::own::write_own;
 use crate::scope::{BracketItem, Site};
 use base_data::model::Memory;
 use base_data::model::list::List;
 use std::alloc::Global;
-use types_spec::types::ty::{Node, Ty};
+use types_spec::types::ty::{Ty, TypeTreeNode};
 
 /// A node to visit: with the occurrence with which it begins if `whole` is true, otherwise its
 /// parts only.
 #[derive(Clone, Copy)]
-pub struct Task {
+pub struct WalkTask {
     pub node: usize,
     /// The index of its first mark.
     pub first: usize,
@@ -32,7 +32,12 @@ pub struct Task {
 }
 
 /// Pushes the task of a part, and below it the task of the whole that the part extends.
-fn push_both(tasks: &mut Vec<Task>, task: Task, w: usize, part: Task) -> Result<(), Memory>
+fn push_both(
+    tasks: &mut Vec<WalkTask>,
+    task: WalkTask,
+    w: usize,
+    part: WalkTask,
+) -> Result<(), Memory>
     ensures { OnOk result
         (tasks.new.items
         ≡ tasks.old.items ++ part
@@ -40,7 +45,7 @@ fn push_both(tasks: &mut Vec<Task>, task: Task, w: usize, part: Task) -> Result<
         ∷ []) }
 {
     tasks.push(part)?;
-    tasks.push(Task {
+    tasks.push(WalkTask {
         node: w,
         first: task.first,
         in_tag: task.in_tag,
@@ -50,19 +55,24 @@ fn push_both(tasks: &mut Vec<Task>, task: Task, w: usize, part: Task) -> Result<
 }
 
 /// Returns the index of the first mark after those of the parts of node `w`.
-fn behind(facts: &[Facts], task: Task, w: usize) -> usize
+fn behind(facts: &[Facts], task: WalkTask, w: usize) -> usize
     ensures { result ≡ behind facts.now task w }
 {
     task.first.saturating_add(fact_at(facts, w).inner)
 }
 
 /// Pushes the tasks of a node's parts.
-fn push_parts(tasks: &mut Vec<Task>, facts: &[Facts], task: Task, node: &Node) -> Result<(), Memory>
+fn push_parts(
+    tasks: &mut Vec<WalkTask>,
+    facts: &[Facts],
+    task: WalkTask,
+    node: &TypeTreeNode,
+) -> Result<(), Memory>
     ensures { OnOk result (tasks.new.items ≡ tasks.old.items ++ tasks_of facts.now task node.now) }
 {
     match node {
-        Node::Part(w, a) => {
-            let part = Task {
+        TypeTreeNode::Part(w, a) => {
+            let part = WalkTask {
                 node: *a,
                 first: behind(facts, task, *w),
                 in_tag: task.in_tag,
@@ -70,9 +80,9 @@ fn push_parts(tasks: &mut Vec<Task>, facts: &[Facts], task: Task, node: &Node) -
             };
             push_both(tasks, task, *w, part)
         }
-        Node::Including(w, u) => {
+        TypeTreeNode::Including(w, u) => {
             let first = behind(facts, task, *w).saturating_add(1);
-            let part = Task {
+            let part = WalkTask {
                 node: *u,
                 first,
                 in_tag: task.in_tag,
@@ -80,8 +90,8 @@ fn push_parts(tasks: &mut Vec<Task>, facts: &[Facts], task: Task, node: &Node) -
             };
             push_both(tasks, task, *w, part)
         }
-        Node::TagOf(w, _, a) => {
-            let part = Task {
+        TypeTreeNode::TagOf(w, _, a) => {
+            let part = WalkTask {
                 node: *a,
                 first: behind(facts, task, *w).saturating_add(1),
                 in_tag: true,
@@ -89,8 +99,8 @@ fn push_parts(tasks: &mut Vec<Task>, facts: &[Facts], task: Task, node: &Node) -
             };
             push_both(tasks, task, *w, part)
         }
-        Node::Tag(w, _) => {
-            let inner = Task {
+        TypeTreeNode::Tag(w, _) => {
+            let inner = WalkTask {
                 node: *w,
                 first: task.first,
                 in_tag: task.in_tag,
@@ -107,10 +117,10 @@ fn walk(
     alloc: Global,
     site: &mut Site,
     brackets: &mut List<List<BracketItem>>,
-    nodes: &[Node],
+    nodes: &[TypeTreeNode],
     facts: &[Facts],
     marks: &[usize],
-    top: Task,
+    top: WalkTask,
 ) -> Result<(), Memory>
     requires ordered { AreOrdered nodes.now }
     requires facts { AreFacts (types_of nodes.now) (length nodes.now) facts.now }
@@ -134,7 +144,7 @@ fn walk(
 /// Adds the occurrences in a type, whose marks are the first of these. Returns the remaining marks.
 pub fn write_type<'m, 'a>(
     alloc: Global,
-    found: &mut Found<'a>,
+    found: &mut FoundOccurrences<'a>,
     marks: &'m [usize],
     ty: &'a Ty,
 ) -> Result<&'m [usize], Memory>
@@ -147,7 +157,7 @@ pub fn write_type<'m, 'a>(
         return Ok(marks);
     }
     let facts = all_facts(alloc, nodes)?;
-    let top = Task {
+    let top = WalkTask {
         node: nodes.len() - 1,
         first: 0,
         in_tag: false,

@@ -1,7 +1,7 @@
 //! The brackets (polymorphic variant types) of a type, by node.
 
 use base_data::model::list::List;
-use types_spec::types::ty::Node;
+use types_spec::types::ty::TypeTreeNode;
 
 /// An item of a bracket. Its node is the bracket that ends with this item.
 #[derive(Clone, Copy)]
@@ -15,7 +15,7 @@ pub struct BracketItem {
 #[derive(Drop)]
 pub struct TypeBrackets<'a> {
     /// Nodes of the type.
-    pub nodes: &'a [Node],
+    pub nodes: &'a [TypeTreeNode],
     /// Items of each bracket.
     pub brackets: List<List<BracketItem>>,
 }

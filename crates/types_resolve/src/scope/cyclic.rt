@@ -11,9 +11,9 @@ ghost use Rattle.types_resolve.specs.scope.Sites.{AreSites};
 
 use crate::scope::environment::Environment;
 use crate::scope::least::{earliest, position_if};
-use crate::scope::ranks::{Mark, is_ranked, ranks};
+use crate::scope::ranks::{VisitState, is_ranked, ranks};
 use crate::scope::search::is_on_cycle;
-use crate::scope::site::{Placed, Site};
+use crate::scope::site::{LocatedName, Site};
 use crate::scope::steps::step_graph;
 use base_data::model::Memory;
 use base_data::model::list::List;
@@ -33,7 +33,7 @@ fn comes_before(position: usize, best: Option<usize>) -> bool
 fn comes_back(
     alloc: Global,
     graph: &[List<usize>],
-    marks: &[Mark],
+    marks: &[VisitState],
     node: usize,
 ) -> Result<bool, Memory>
     requires node { node < length graph.now }
@@ -52,7 +52,7 @@ fn comes_back(
 fn least_cyclic_name(
     alloc: Global,
     graph: &[List<usize>],
-    names: &[Placed],
+    names: &[LocatedName],
 ) -> Result<Option<usize>, Memory>
     requires { length graph.now ≡ length names.now }
     ensures { IfOk result (IsLeast (IsCyclicName graph.now names.now)) }
@@ -73,7 +73,7 @@ fn least_cyclic_name(
 pub fn least_cyclic(
     alloc: Global,
     decls: &Environment<'_>,
-    names: &[Placed],
+    names: &[LocatedName],
     sites: &[Site],
 ) -> Result<Option<usize>, Memory>
     ghost all: { List DeclPositions }

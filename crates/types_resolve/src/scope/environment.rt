@@ -5,7 +5,7 @@ ghost use Rattle.types_spec.specs.types.Declarations.{declaration_of};
 ghost use Rattle.types_resolve.specs.scope.Breaks.{names_of_decls};
 ghost use Rattle.types_resolve.specs.scope.Names.{number_of, ArePositions, IsPosition};
 
-use crate::scope::table::{Table, add, empty, find};
+use crate::scope::name_table::{NameTable, add, empty, find};
 use base_data::model::Memory;
 use std::alloc::Global;
 use std::marker::Model;
@@ -16,7 +16,7 @@ use types_spec::types::decl::Decl;
 #[derive(Drop)]
 pub struct Environment<'a> {
     decls: &'a [Decl],
-    positions: Table<'a>,
+    positions: NameTable<'a>,
 }
 
 impl<'a> Model for Environment<'a> {
@@ -39,7 +39,7 @@ impl<'a> Model for Environment<'a> {
 }
 
 /// Builds the table of the first index of each declared name.
-fn positions_of<'a>(alloc: Global, decls: &'a [Decl]) -> Result<Table<'a>, Memory>
+fn positions_of<'a>(alloc: Global, decls: &'a [Decl]) -> Result<NameTable<'a>, Memory>
     ensures { IfOk result
         (λ t. ArePositions (names_of_decls decls.now) (length decls.now) (number_of t)) }
 {

@@ -9,7 +9,7 @@ ghost use Rattle.types_resolve.specs.scope.Sites.{AreSites, IsTypeSite};
 
 use crate::scope::environment::Environment;
 use crate::scope::rule::NameRule;
-use crate::scope::site::{Placed, Site, TypeSite};
+use crate::scope::site::{LocatedName, Site, TypeSite};
 use crate::scope::sites::{least_break, least_break_in_type};
 use base_data::model::Memory;
 use std::alloc::Global;
@@ -43,7 +43,7 @@ fn rule_at(i: usize) -> NameRule
 pub fn first_break(
     alloc: Global,
     decls: &[Decl],
-    names: &[Placed],
+    names: &[LocatedName],
     sites: &[Site],
 ) -> Result<Option<Broken>, Memory>
     ghost all: { List DeclPositions }
@@ -58,7 +58,7 @@ pub fn first_break(
 fn first_of_file(
     alloc: Global,
     decls: &Environment<'_>,
-    names: &[Placed],
+    names: &[LocatedName],
     sites: &[Site],
 ) -> Result<Option<Broken>, Memory>
     ghost all: { List DeclPositions }

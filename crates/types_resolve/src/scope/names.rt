@@ -7,12 +7,12 @@ ghost use Rattle.types_resolve.specs.scope.Least.{IsLeast};
 use crate::scope::least::{earliest, position_if};
 use crate::scope::predeclared::predeclared_arity;
 use crate::scope::seconds::least_second;
-use crate::scope::site::Placed;
+use crate::scope::site::LocatedName;
 use base_data::model::Memory;
 use std::alloc::Global;
 
 /// Returns the least lexeme of a name that is predeclared.
-fn least_predeclared(names: &[Placed]) -> Option<usize>
+fn least_predeclared(names: &[LocatedName]) -> Option<usize>
     ensures { IsLeast (IsPredeclaredAt names.now) result }
 {
     let mut best = None;
@@ -25,7 +25,7 @@ fn least_predeclared(names: &[Placed]) -> Option<usize>
 }
 
 /// Returns the least lexeme of a name that is declared earlier too, or that is predeclared.
-pub fn least_name_twice(alloc: Global, names: &[Placed]) -> Result<Option<usize>, Memory>
+pub fn least_name_twice(alloc: Global, names: &[LocatedName]) -> Result<Option<usize>, Memory>
     ensures { IfOk result (IsLeast (NamesTwice names.now)) }
 {
     let second = least_second(alloc, names)?;

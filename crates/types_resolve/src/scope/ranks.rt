@@ -11,7 +11,7 @@ use std::alloc::Global;
 
 /// The state of a node.
 #[derive(Clone, Copy)]
-pub enum Mark {
+pub enum VisitState {
     New,
     /// Its successors were pushed onto the stack.
     Opened,
@@ -20,34 +20,34 @@ pub enum Mark {
 }
 
 /// Returns true if a node has a rank.
-pub fn is_ranked(marks: &[Mark], node: usize) -> bool
+pub fn is_ranked(marks: &[VisitState], node: usize) -> bool
     ensures { result ≡ is_ranked marks.now node }
 {
     match marks.get(node) {
-        Some(Mark::Ranked(_)) => true,
+        Some(VisitState::Ranked(_)) => true,
         _ => false,
     }
 }
 
 /// Returns true if each of these nodes has a rank.
-fn are_ranked(marks: &[Mark], nodes: &[usize]) -> bool
+fn are_ranked(marks: &[VisitState], nodes: &[usize]) -> bool
     ensures { result ≡ list_all (λ i. is_ranked marks.now i) nodes.now }
 {
     nodes.iter().all(|node| is_ranked(marks, *node))
 }
 
 /// Returns true if a node is new.
-fn is_new(marks: &[Mark], node: usize) -> bool
+fn is_new(marks: &[VisitState], node: usize) -> bool
     ensures { IsTrue result ↔ IsNew marks.now node }
 {
     match marks.get(node) {
-        Some(Mark::New) => true,
+        Some(VisitState::New) => true,
         _ => false,
     }
 }
 
 /// Pushes those of these nodes that are new onto the stack.
-fn push_new(marks: &[Mark], nodes: &[usize], stack: &mut Vec<usize>) -> Result<(), Memory> {
+fn push_new(marks: &[VisitState], nodes: &[usize], stack: &mut Vec<usize>) -> Result<(), Memory> {
     for node in nodes {
         if is_new(marks, *node) {
             stack.push(*node)?;
@@ -58,7 +58,7 @@ fn push_new(marks: &[Mark], nodes: &[usize], stack: &mut Vec<usize>) -> Result<(
 
 /// Ranks the node if all its successors have ranks. Otherwise opens the node if it is new. Returns
 /// true if the node was opened.
-fn rank_or_open(graph: &[List<usize>], node: usize, turn: usize, marks: &mut [Mark]) -> bool
+fn rank_or_open(graph: &[List<usize>], node: usize, turn: usize, marks: &mut [VisitState]) -> bool
     requires node { node < length graph.now }
     requires ranks { AreRanks graph.now marks.old }
     requires below { RanksBelow marks.old turn }
@@ -69,11 +69,11 @@ fn rank_or_open(graph: &[List<usize>], node: usize, turn: usize, marks: &mut [Ma
         return false;
     }
     if are_ranked(marks, successors(graph, node)) {
-        marks[node] = Mark::Ranked(turn);
+        marks[node] = VisitState::Ranked(turn);
         return false;
     }
     if is_new(marks, node) {
-        marks[node] = Mark::Opened;
+        marks[node] = VisitState::Opened;
         return true;
     }
     false
@@ -85,7 +85,7 @@ fn visit(
     graph: &[List<usize>],
     node: usize,
     turn: usize,
-    marks: &mut [Mark],
+    marks: &mut [VisitState],
     stack: &mut Vec<usize>,
 ) -> Result<(), Memory>
     requires ranks { AreRanks graph.now marks.old }
@@ -101,10 +101,10 @@ fn visit(
 }
 
 /// Ranks all nodes from which no edges lead to a cycle, in one traversal of the graph.
-pub fn ranks(alloc: Global, graph: &[List<usize>]) -> Result<Vec<Mark>, Memory>
+pub fn ranks(alloc: Global, graph: &[List<usize>]) -> Result<Vec<VisitState>, Memory>
     ensures { IfOk result (λ marks. AreRanks graph.now marks.items) }
 {
-    let mut marks = vec![in alloc; Mark::New; graph.len()]?;
+    let mut marks = vec![in alloc; VisitState::New; graph.len()]?;
     let mut stack: Vec<usize> = (0..graph.len()).collect(alloc)?;
     for turn in 0..usize::MAX {
         match stack.pop() {

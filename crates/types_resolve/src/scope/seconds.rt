@@ -6,14 +6,14 @@ ghost use Rattle.types_spec.specs.types.Scope.{IsSecond};
 ghost use Rattle.types_resolve.specs.scope.Least.{IsLeast};
 
 use crate::scope::least::{earliest, position_if};
-use crate::scope::site::Placed;
-use crate::scope::table::{add, empty};
+use crate::scope::name_table::{add, empty};
+use crate::scope::site::LocatedName;
 use base_data::model::Memory;
 use base_data::model::list::List;
 use std::alloc::Global;
 
 /// Returns the least lexeme of a name that also occurs earlier in the list.
-pub fn least_second(alloc: Global, row: &[Placed]) -> Result<Option<usize>, Memory>
+pub fn least_second(alloc: Global, row: &[LocatedName]) -> Result<Option<usize>, Memory>
     ensures { IfOk result (IsLeast (IsSecond row.now)) }
 {
     let mut table = empty(alloc);
@@ -28,7 +28,10 @@ pub fn least_second(alloc: Global, row: &[Placed]) -> Result<Option<usize>, Memo
 
 /// Returns the least lexeme of a name that also occurs earlier in the same list, over several
 /// lists.
-pub fn least_second_of_rows(alloc: Global, rows: &[List<Placed>]) -> Result<Option<usize>, Memory>
+pub fn least_second_of_rows(
+    alloc: Global,
+    rows: &[List<LocatedName>],
+) -> Result<Option<usize>, Memory>
     ensures { IfOk result
         (IsLeast (λ k. (row : List PlacedName) × Contains rows.now row × IsSecond row k)) }
 {

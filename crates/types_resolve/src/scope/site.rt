@@ -7,12 +7,12 @@ use std::marker::Model;
 
 /// A name in a text, with the index of its lexeme.
 #[derive(Drop)]
-pub struct Placed {
+pub struct LocatedName {
     position: usize,
     name: List<u8>,
 }
 
-impl Model for Placed {
+impl Model for LocatedName {
     ghost use Rattle.std.specs.Prelude.{ℕ, List as Seq};
 
     ghost Value = { ℕ × Seq ℕ };
@@ -20,12 +20,12 @@ impl Model for Placed {
     ghost view = { λ p. (p.position, p.name) };
 }
 
-impl Placed {
+impl LocatedName {
     /// Makes a name at a lexeme.
-    pub fn new(position: usize, name: List<u8>) -> Placed
+    pub fn new(position: usize, name: List<u8>) -> LocatedName
         ensures { result ≡ (position, name) }
     {
-        Placed { position, name }
+        LocatedName { position, name }
     }
 
     /// Returns the index of the lexeme.
@@ -45,7 +45,7 @@ impl Placed {
 
 /// A use of a type name, with what the rules require of its arguments.
 #[derive(Drop)]
-pub struct Use {
+pub struct TypeUse {
     pub position: usize,
     pub name: List<u8>,
     /// Number of arguments.
@@ -61,17 +61,17 @@ pub struct Use {
 pub struct Site {
     /// Lists of names that must be distinct: the parameters, the constructors, the fields of each
     /// record, and the tags that each bracket writes.
-    pub rows: List<List<Placed>>,
+    pub rows: List<List<LocatedName>>,
     /// Lexemes of the constructors with arguments.
     pub carrying: List<usize>,
-    pub uses: List<Use>,
-    pub variables: List<Placed>,
+    pub uses: List<TypeUse>,
+    pub variables: List<LocatedName>,
 }
 
 /// The occurrences of names in the text of a type.
 #[derive(Drop)]
 pub struct TypeSite {
     /// The tags that each bracket writes.
-    pub rows: List<List<Placed>>,
-    pub uses: List<Use>,
+    pub rows: List<List<LocatedName>>,
+    pub uses: List<TypeUse>,
 }

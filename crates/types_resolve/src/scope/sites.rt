@@ -14,7 +14,7 @@ use crate::scope::least::earliest;
 use crate::scope::names::least_name_twice;
 use crate::scope::rule::{NameRule, UseRule};
 use crate::scope::seconds::least_second_of_rows;
-use crate::scope::site::{Placed, Site, TypeSite};
+use crate::scope::site::{LocatedName, Site, TypeSite};
 use crate::scope::uses::least_use;
 use crate::scope::variables::least_unbound;
 use base_data::model::Memory;
@@ -98,7 +98,7 @@ pub fn least_in_sites(
 pub fn least_in_names(
     alloc: Global,
     rule: NameRule,
-    names: &[Placed],
+    names: &[LocatedName],
 ) -> Result<Option<usize>, Memory>
     ensures { IfOk result (IsLeast (NameBreaks rule names.now)) }
 {
@@ -113,7 +113,7 @@ pub fn least_break(
     alloc: Global,
     rule: NameRule,
     decls: &Environment<'_>,
-    names: &[Placed],
+    names: &[LocatedName],
     sites: &[Site],
 ) -> Result<Option<usize>, Memory>
     ghost all: { List DeclPositions }

@@ -5,7 +5,7 @@ ghost use Rattle.types_spec.specs.types.Declarations.{abbreviated};
 ghost use Rattle.types_resolve.specs.scope.Steps.{HasStep, IsStepGraph, IsStepTo, LeadsTo};
 
 use crate::scope::environment::Environment;
-use crate::scope::site::{Site, Use};
+use crate::scope::site::{Site, TypeUse};
 use base_data::model::Memory;
 use base_data::model::list::List;
 use std::alloc::Global;
@@ -22,14 +22,14 @@ fn is_abbreviation(decl: &Decl) -> bool
 }
 
 /// Returns true if a use of the name of `other` is a step from a declaration of this group.
-fn is_step(group: usize, usage: &Use, other: &Decl) -> bool
+fn is_step(group: usize, usage: &TypeUse, other: &Decl) -> bool
     ensures { IsTrue result ↔ IsStepTo group usage.now other.now }
 {
     !usage.in_tag && other.group == group && is_abbreviation(other)
 }
 
 /// Returns the index of the declaration to which a use is a step.
-fn step(decls: &Environment<'_>, group: usize, usage: &Use) -> Option<usize>
+fn step(decls: &Environment<'_>, group: usize, usage: &TypeUse) -> Option<usize>
     ensures { (j : ℕ) → (result ≡ Some j) ↔ LeadsTo decls.now group usage.now j }
 {
     match decls.position(usage.name.as_slice()) {

@@ -9,7 +9,7 @@ use crate::scope::environment::Environment;
 use crate::scope::least::{earliest, position_if};
 use crate::scope::predeclared::predeclared_arity;
 use crate::scope::rule::UseRule;
-use crate::scope::site::Use;
+use crate::scope::site::TypeUse;
 use types_spec::types::decl::Decl;
 
 /// Returns the number of arguments of a name.
@@ -58,7 +58,7 @@ fn is_other(arity: Option<usize>, arguments: usize) -> bool
 
 /// Returns true if a use breaks the rule. The use is in a declaration of `group`, or in the text of
 /// a type if `group` is `None`.
-fn breaks(rule: UseRule, decls: &Environment<'_>, group: Option<usize>, usage: &Use) -> bool
+fn breaks(rule: UseRule, decls: &Environment<'_>, group: Option<usize>, usage: &TypeUse) -> bool
     ensures { IsTrue result ↔ BreaksUse rule decls.now group usage.now }
 {
     let name = usage.name.as_slice();
@@ -75,7 +75,7 @@ pub fn least_use(
     rule: UseRule,
     decls: &Environment<'_>,
     group: Option<usize>,
-    uses: &[Use],
+    uses: &[TypeUse],
 ) -> Option<usize>
     ensures { IsLeast (UsesBreak rule decls.now group uses.now) result }
 {

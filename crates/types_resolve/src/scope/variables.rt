@@ -6,14 +6,14 @@ ghost use Rattle.types_resolve.specs.scope.Least.{IsLeast};
 ghost use Rattle.types_resolve.specs.scope.Names.{number_of, ArePositions};
 
 use crate::scope::least::{earliest, position_if};
-use crate::scope::site::Placed;
-use crate::scope::table::{Table, add, empty, find};
+use crate::scope::name_table::{NameTable, add, empty, find};
+use crate::scope::site::LocatedName;
 use base_data::model::Memory;
 use base_data::model::list::List;
 use std::alloc::Global;
 
 /// Builds the table of the first index of each parameter.
-fn table_of<'a>(alloc: Global, parameters: &'a [List<u8>]) -> Result<Table<'a>, Memory>
+fn table_of<'a>(alloc: Global, parameters: &'a [List<u8>]) -> Result<NameTable<'a>, Memory>
     ensures { IfOk result (λ t. ArePositions parameters.now (length parameters.now) (number_of t)) }
 {
     let mut table = empty(alloc);
@@ -27,7 +27,7 @@ fn table_of<'a>(alloc: Global, parameters: &'a [List<u8>]) -> Result<Table<'a>, 
 pub fn least_unbound(
     alloc: Global,
     parameters: &[List<u8>],
-    variables: &[Placed],
+    variables: &[LocatedName],
 ) -> Result<Option<usize>, Memory>
     ensures { IfOk result (IsLeast (VariablesBreak parameters.now variables.now)) }
 {

@@ -9,25 +9,25 @@ use Rattle.std.proofs.lemmas.Option.{none-some, same_Some, slice_get_within}
 use Rattle.base_data.proofs.model.Lists.{slice_get-last}
 use Rattle.base_data.proofs.model.Options.{same_or_not}
 use Rattle.types_spec.specs.types.Ty.{Ty, part, tag, tag_of, including}
-use Rattle.types_spec.specs.declared.types.ty.Node.{Node}
-use Rattle.types_spec.specs.declared.types.ty.Node.TheVariants as nodes
+use Rattle.types_spec.specs.declared.types.ty.TypeTreeNode.{TypeTreeNode}
+use Rattle.types_spec.specs.declared.types.ty.TypeTreeNode.TheVariants as nodes
 use Rattle.types_spec.specs.types.Nodes.{type_at, type_of_node, types_of, type_of, IsBelow, AreOrdered}
 
-abbrev grown : List Ty → List Node → List Ty
+abbrev grown : List Ty → List TypeTreeNode → List Ty
 grown types all = fold (λ ts node. ts ++ type_of_node ts node ∷ []) types all
 
-grown_append : (types : List Ty) (all more : List Node) → grown types (all ++ more) ≡ grown
+grown_append : (types : List Ty) (all more : List TypeTreeNode) → grown types (all ++ more) ≡ grown
     (grown types all) more
 grown_append types [] more = refl
 grown_append types (node ∷ all) more = grown_append (types ++ type_of_node types node ∷ []) all more
 
 pub types_of-push :
-    (all : List Node) (node : Node) → types_of (all ++ node ∷ []) ≡ types_of all ++ type_of_node
+    (all : List TypeTreeNode) (node : TypeTreeNode) → types_of (all ++ node ∷ []) ≡ types_of all ++ type_of_node
     (types_of all) node ∷ []
 unfolding types_of
 types_of-push all node = grown_append [] all (node ∷ [])
 
-grown_length : (types : List Ty) (all : List Node) → length (grown types all) ≡ length types +
+grown_length : (types : List Ty) (all : List TypeTreeNode) → length (grown types all) ≡ length types +
     length all
 grown_length types [] = omega arith
 grown_length types (node ∷ all) =
@@ -38,7 +38,7 @@ grown_length types (node ∷ all) =
           (type_of_node types node),
     )
 
-pub types_of-length : (all : List Node) → length (types_of all) ≡ length all
+pub types_of-length : (all : List TypeTreeNode) → length (types_of all) ≡ length all
 unfolding types_of
 types_of-length all =
     let none : 0 + length all ≡ length all = omega arith in grown_length [] all ∙ none
@@ -48,7 +48,7 @@ with_none [] = refl
 with_none (t ∷ types) = ap (λ ts. t ∷ ts) (with_none types)
 
 -- Further nodes only append types.
-grown_keeps : (types : List Ty) (all : List Node) → (added : List Ty)
+grown_keeps : (types : List Ty) (all : List TypeTreeNode) → (added : List Ty)
     × (grown types all ≡ types ++ added)
 grown_keeps types [] = ([], sym (with_none types))
 grown_keeps types (node ∷ all) =
@@ -75,7 +75,7 @@ at_end [] t more = refl
 at_end (u ∷ types) t more = at_end types t more
 
 -- A node that refers to earlier types denotes the same type after more are appended.
-pub node_kept : (types added : List Ty) (node : Node) → IsBelow (length types) node
+pub node_kept : (types added : List Ty) (node : TypeTreeNode) → IsBelow (length types) node
     → type_of_node (types ++ added) node ≡ type_of_node types node
 node_kept types added (nodes.Variable x) below = refl
 node_kept types added (nodes.Named n) below = refl
@@ -93,7 +93,7 @@ node_kept types added (nodes.Including whole included) below =
     ap (λ w. including w (type_at (types ++ added) included)) (at_kept types added whole below.0)
     ∙ ap (λ a. including (type_at types whole) a) (at_kept types added included below.1)
 
-grown_at : (types : List Ty) (all : List Node) (i : ℕ) (node : Node) → slice_get all i ≡ Some node
+grown_at : (types : List Ty) (all : List TypeTreeNode) (i : ℕ) (node : TypeTreeNode) → slice_get all i ≡ Some node
     → IsBelow (length types + i) node → slice_get (grown types all) (length types + i) ≡ Some
     (type_of_node (grown types all) node)
 grown_at types [] i node is below = absurd (none-some node is)
@@ -120,7 +120,7 @@ grown_at types (first ∷ all) (suc i) node is below =
 
 -- The type at an index is that of the node at the index.
 pub types_of-at :
-    (all : List Node) (i : ℕ) (node : Node) → AreOrdered all → slice_get all i ≡ Some node
+    (all : List TypeTreeNode) (i : ℕ) (node : TypeTreeNode) → AreOrdered all → slice_get all i ≡ Some node
     → slice_get (types_of all) i ≡ Some (type_of_node (types_of all) node)
 unfolding types_of
 types_of-at all i node ordered is =
@@ -130,11 +130,11 @@ types_of-at all i node ordered is =
 
 -- ---- one more node
 
-length-node : (all : List Node) (node : Node) → length (all ++ node ∷ []) ≡ suc (length all)
+length-node : (all : List TypeTreeNode) (node : TypeTreeNode) → length (all ++ node ∷ []) ≡ suc (length all)
 length-node [] node = refl
 length-node (first ∷ all) node = ap suc (length-node all node)
 
-get-before : (all more : List Node) (i : ℕ) → i < length all → slice_get (all ++ more) i ≡ slice_get
+get-before : (all more : List TypeTreeNode) (i : ℕ) → i < length all → slice_get (all ++ more) i ≡ slice_get
     all i
 get-before [] more i below = absurd (omega arith)
 get-before (first ∷ all) more zero below = refl
@@ -146,7 +146,7 @@ AreOrdered-none (suc i) node is = absurd (none-some node is)
 
 -- If a node refers to earlier nodes only, then appending it keeps the order.
 pub AreOrdered-push :
-    (all : List Node) (node : Node) → AreOrdered all → IsBelow (length all) node
+    (all : List TypeTreeNode) (node : TypeTreeNode) → AreOrdered all → IsBelow (length all) node
     → AreOrdered (all ++ node ∷ [])
 AreOrdered-push all node ordered below i other is = ⊎_elim
     (λ last. let same = same_Some node other (sym (slice_get-last all node)
@@ -166,7 +166,7 @@ AreOrdered-push all node ordered below i other is = ⊎_elim
 
 -- Further nodes change no type.
 pub type_at-more :
-    (all more : List Node) (i : ℕ) → i < length all
+    (all more : List TypeTreeNode) (i : ℕ) → i < length all
     → type_at (types_of (all ++ more)) i ≡ type_at (types_of all) i
 unfolding types_of
 type_at-more all more i below =
@@ -176,7 +176,7 @@ type_at-more all more i below =
 
 -- The type of an appended node.
 pub type_at-last :
-    (all : List Node) (node : Node)
+    (all : List TypeTreeNode) (node : TypeTreeNode)
     → type_at (types_of (all ++ node ∷ [])) (length all) ≡ type_of_node (types_of all) node
 type_at-last all node =
     subst (λ n. type_at (types_of (all ++ node ∷ [])) n ≡ type_of_node (types_of all) node)
@@ -186,7 +186,7 @@ type_at-last all node =
 
 -- The type of a list of nodes is that of the last node.
 pub type_of-push :
-    (all : List Node) (node : Node) → type_of (all ++ node ∷ []) ≡ type_of_node (types_of all) node
+    (all : List TypeTreeNode) (node : TypeTreeNode) → type_of (all ++ node ∷ []) ≡ type_of_node (types_of all) node
 unfolding type_of
 type_of-push all node =
     let last : length (all ++ node ∷ []) - 1 ≡ length (types_of all) =
@@ -199,7 +199,7 @@ type_of-push all node =
 
 -- The types of the first nodes are the first types.
 pub types_of-take :
-    (n : ℕ) (all : List Node) → n ≤ length all → types_of (take n all) ≡ take n (types_of all)
+    (n : ℕ) (all : List TypeTreeNode) → n ≤ length all → types_of (take n all) ≡ take n (types_of all)
 unfolding types_of
 types_of-take n all within =
     let prefix = types_of (take n all) in
@@ -221,5 +221,5 @@ from_prefix (suc n) (y ∷ xs) zero x is = is
 from_prefix (suc n) (y ∷ xs) (suc i) x is = from_prefix n xs i x is
 
 -- The first nodes refer to earlier nodes only.
-pub AreOrdered-take : (n : ℕ) (all : List Node) → AreOrdered all → AreOrdered (take n all)
+pub AreOrdered-take : (n : ℕ) (all : List TypeTreeNode) → AreOrdered all → AreOrdered (take n all)
 AreOrdered-take n all ordered i node is = ordered i node (from_prefix n all i node is)

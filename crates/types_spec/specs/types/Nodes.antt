@@ -3,15 +3,15 @@ use Rattle.std.specs.Prelude.{ℕ, ◌<◌, ◌-◌, ◌≡◌, List, [], ◌∷
 use Rattle.std.specs.Prelude.{slice_index_or}
 use Rattle.types_spec.specs.types.Ty.{Ty, variable, named, tuple, bracket, part, tag, tag_of}
 use Rattle.types_spec.specs.types.Ty.{including}
-use Rattle.types_spec.specs.declared.types.ty.Node.{Node}
-use Rattle.types_spec.specs.declared.types.ty.Node.TheVariants as nodes
+use Rattle.types_spec.specs.declared.types.ty.TypeTreeNode.{TypeTreeNode}
+use Rattle.types_spec.specs.declared.types.ty.TypeTreeNode.TheVariants as nodes
 
 -- The type with this index.
 abbrev pub type_at : List Ty → ℕ → Ty
 type_at types i = slice_index_or types i tuple
 
 -- The type that a node denotes, given the types of the earlier nodes.
-abbrev pub type_of_node : List Ty → Node → Ty
+abbrev pub type_of_node : List Ty → TypeTreeNode → Ty
 type_of_node types (nodes.Variable name) = variable name
 type_of_node types (nodes.Named name) = named name
 type_of_node types nodes.Tuple = tuple
@@ -24,14 +24,14 @@ type_of_node types (nodes.Including whole included) =
     including (type_at types whole) (type_at types included)
 
 -- The type of each node.
-unfoldable pub types_of : List Node → List Ty
+unfoldable pub types_of : List TypeTreeNode → List Ty
 types_of all = fold (λ types node. types ++ type_of_node types node ∷ []) [] all
 
 -- The type of the last node.
-unfoldable pub type_of : List Node → Ty
+unfoldable pub type_of : List TypeTreeNode → Ty
 type_of all = type_at (types_of all) (length all - 1)
 
-abbrev pub IsBelow : ℕ → Node → Type 0
+abbrev pub IsBelow : ℕ → TypeTreeNode → Type 0
 IsBelow n (nodes.Part whole added) = (whole < n) × (added < n)
 IsBelow n (nodes.Tag whole name) = whole < n
 IsBelow n (nodes.TagOf whole name argument) = (whole < n) × (argument < n)
@@ -39,5 +39,5 @@ IsBelow n (nodes.Including whole included) = (whole < n) × (included < n)
 IsBelow n node = Unit {0}
 
 -- Each node refers to earlier nodes only.
-abbrev pub AreOrdered : List Node → Type 0
-AreOrdered all = (i : ℕ) (node : Node) → slice_get all i ≡ Some node → IsBelow i node
+abbrev pub AreOrdered : List TypeTreeNode → Type 0
+AreOrdered all = (i : ℕ) (node : TypeTreeNode) → slice_get all i ≡ Some node → IsBelow i node

@@ -9,7 +9,7 @@ use std::marker::Model;
 /// A node: a variable, a name, a tuple or a bracket of tags; or an earlier node extended by one
 /// part. A node refers to an earlier node by the earlier node's index in the list.
 #[derive(Drop)]
-pub enum Node {
+pub enum TypeTreeNode {
     /// A variable, without its quote.
     Variable(List<u8>),
     Named(List<u8>),
@@ -29,7 +29,7 @@ pub enum Node {
 /// model is the tree of the last node.
 #[derive(Drop)]
 pub struct Ty {
-    nodes: Vec<Node>,
+    nodes: Vec<TypeTreeNode>,
 }
 
 impl Model for Ty {
@@ -49,7 +49,7 @@ impl Model for Ty {
 
 impl Ty {
     /// Returns the type of the last of these nodes.
-    pub fn of(nodes: Vec<Node>) -> Ty
+    pub fn of(nodes: Vec<TypeTreeNode>) -> Ty
         requires { AreOrdered nodes.items }
         ensures { result ≡ type_of nodes.items }
     {
@@ -58,7 +58,7 @@ impl Ty {
 
     /// Returns the nodes. Each node refers to earlier nodes only, and the tree of the last node is
     /// the type.
-    pub fn nodes(&self) -> &[Node]
+    pub fn nodes(&self) -> &[TypeTreeNode]
         ensures ordered { AreOrdered result.now }
         ensures last { type_of result.now ≡ self.now }
     {

@@ -11,7 +11,7 @@ use Rattle.types_spec.specs.types.Table.{head_at}
 use Rattle.types_spec.specs.types.Classes.{AreTogether, PartsBelow, IsStable}
 use Rattle.types_theory.proofs.equality.AgreeLemmas.{HeadsAgree-more}
 use Rattle.types_theory.proofs.equality.ClassLemmas.{stable_is_equal}
-use Rattle.types_table.specs.declared.partition.form.Form.{Form}
+use Rattle.types_table.specs.declared.partition.head_form.HeadForm.{HeadForm}
 use Rattle.types_table.specs.declared.partition.inspect.Inspection.{Inspection}
 use Rattle.types_table.specs.partition.Form.{AreForms}
 use Rattle.types_table.specs.partition.Users.{AreUsers}
@@ -23,7 +23,7 @@ use Rattle.types_table.proofs.partition.TurnLemmas.{AllZip-at, agree_at, keeps_n
 
 -- ---- the end
 
-ended_same : (all : List (HeadOf ℕ)) (forms : List Form) (class : List ℕ) → AreForms all forms
+ended_same : (all : List (HeadOf ℕ)) (forms : List HeadForm) (class : List ℕ) → AreForms all forms
     → PartsBelow (length all) (head_at all) → IsParted forms class → IsStable (length all) (head_at all) (slice_index class)
 ended_same all forms class are parts parted i j together =
     let many : length all ≡ length class = AllZip-length _ all forms are.are ∙ sym parted.many in
@@ -40,7 +40,7 @@ ended_same all forms class are parts parted i j together =
     })
     (agree_at all forms are (slice_index class) i j two.0 (subst (IsSignatureOf forms (slice_index class) i) signature one.2) two.2)
 
-pub ended : (all : List (HeadOf ℕ)) (forms : List Form) (class : List ℕ) → AreForms all forms
+pub ended : (all : List (HeadOf ℕ)) (forms : List HeadForm) (class : List ℕ) → AreForms all forms
     → PartsBelow (length all) (head_at all) → IsParted forms class → AreClasses all class
 ended all forms class are parts parted = record {
   many = sym many;
@@ -62,7 +62,7 @@ ended all forms class are parts parted = record {
   at i below = slice_get-get_or class i 0 (subst (λ n. i < n) many below)
 
 -- If `todo` is empty, then each number has the signature of its class.
-pub none_waits : (forms : List Form) (class : List ℕ) (signatures members waiting : List (Vec ℕ)) (todo : List ℕ)
+pub none_waits : (forms : List HeadForm) (class : List ℕ) (signatures members waiting : List (Vec ℕ)) (todo : List ℕ)
     → IsUnderWay forms class signatures members waiting todo → todo ≡ [] → KeepsEqual forms class → IsParted forms class
 none_waits forms class signatures members waiting todo under none keeps = record {
   many = under.many;
@@ -92,7 +92,7 @@ below_more old new n all is i below = subst (λ l. Contains l i) (sym is) (⊎_e
       less : (i ≡ n → ⊥) → i < n + 1 → i < n
       less apart under = omega arith
 
-pub started : (forms : List Form) (class : List ℕ) (signatures members waiting : List (Vec ℕ)) (todo : List ℕ)
+pub started : (forms : List HeadForm) (class : List ℕ) (signatures members waiting : List (Vec ℕ)) (todo : List ℕ)
     (v m w : Vec ℕ) → length class ≡ length forms → ((i : ℕ) → slice_index class i ≡ 0) → signatures ≡ v ∷ []
     → members ≡ m ∷ [] → waiting ≡ w ∷ [] → ((i : ℕ) → i < length forms → Contains m.items i)
     → ((i : ℕ) → i < length forms → Contains w.items i) → todo ≡ 0 ∷ []
@@ -127,20 +127,20 @@ started forms class signatures members waiting todo v m w many zeros is is_membe
       zero_in : (d : ℕ) → Contains (0 ∷ []) d → d < 1
       zero_in d among = ⊎_elim (λ here. omega arith) (λ later. absurd (Contains-none d later)) (Contains-cases 0 [] d among)
 
-pub one_class : (forms : List Form) (class : List ℕ) → ((i : ℕ) → slice_index class i ≡ 0) → KeepsEqual forms class
+pub one_class : (forms : List HeadForm) (class : List ℕ) → ((i : ℕ) → slice_index class i ≡ 0) → KeepsEqual forms class
 one_class forms class zeros all are parts i j below below' equal = record {
   first = below;
   second = below';
   same = zeros i ∙ sym (zeros j);
 }
 
-pub keeps_then : (forms : List Form) (old new : List ℕ) → KeepsEqual forms old → PartsNoEqual forms old new
+pub keeps_then : (forms : List HeadForm) (old new : List ℕ) → KeepsEqual forms old → PartsNoEqual forms old new
     → KeepsEqual forms new
 keeps_then forms old new keeps parts all are below = parts all are below (keeps all are below)
 
 -- ---- a class is taken and split
 
-pub opened : (forms : List Form) (class : List ℕ) (signatures members waiting new : List (Vec ℕ)) (todo taken : List ℕ) (c : ℕ)
+pub opened : (forms : List HeadForm) (class : List ℕ) (signatures members waiting new : List (Vec ℕ)) (todo taken : List ℕ) (c : ℕ)
     → IsUnderWay forms class signatures members waiting (todo ++ c ∷ []) → IsTaken waiting c taken new
     → IsOpen forms class signatures members new todo taken c
 opened forms class signatures members waiting new todo taken c under is = record {
@@ -161,7 +161,7 @@ opened forms class signatures members waiting new todo taken c under is = record
   };
 }
 
-pub open_members : (forms : List Form) (class : List ℕ) (signatures members now waiting : List (Vec ℕ)) (todo taken : List ℕ) (c : ℕ)
+pub open_members : (forms : List HeadForm) (class : List ℕ) (signatures members now waiting : List (Vec ℕ)) (todo taken : List ℕ) (c : ℕ)
     → KeepsMembers class members now → IsOpen forms class signatures members waiting todo taken c
     → IsOpen forms class signatures now waiting todo taken c
 open_members forms class signatures members now waiting todo taken c keeps was = record {
@@ -176,7 +176,7 @@ open_members forms class signatures members now waiting todo taken c keeps was =
   ready = was.ready;
 }
 
-pub open_same : (forms : List Form) (class class' : List ℕ) (signatures signatures' members waiting waiting' : List (Vec ℕ))
+pub open_same : (forms : List HeadForm) (class class' : List ℕ) (signatures signatures' members waiting waiting' : List (Vec ℕ))
     (todo todo' taken : List ℕ) (c : ℕ) → class' ≡ class → signatures' ≡ signatures → waiting' ≡ waiting → todo' ≡ todo
     → IsOpen forms class signatures members waiting todo taken c → IsOpen forms class' signatures' members waiting' todo' taken c
 open_same forms class class' signatures signatures' members waiting waiting' todo todo' taken c one two three four was =
@@ -185,7 +185,7 @@ open_same forms class class' signatures signatures' members waiting waiting' tod
     (subst (λ l. IsOpen forms class signatures members l todo' taken c) (sym three)
     (subst (λ l. IsOpen forms class signatures members waiting l taken c) (sym four) was)))
 
-module _ (forms : List Form) (class : List ℕ) (parted : ℕ) (inspect : Inspection) (is_inspection : IsInspection forms class parted inspect) where
+module _ (forms : List HeadForm) (class : List ℕ) (parted : ℕ) (inspect : Inspection) (is_inspection : IsInspection forms class parted inspect) where
   pub inspected_in : All (λ i. i < length class) inspect.inspected.items
   inspected_in k d below = (is_inspection.is (get_or inspect.inspected.items k d) (Contains-get_or inspect.inspected.items k d below)).0
 
@@ -200,7 +200,7 @@ module _ (forms : List Form) (class : List ℕ) (parted : ℕ) (inspect : Inspec
       is_inspection.signed at_inspected at_position in
       slice_get_within inspect.found (get_or inspect.positions.items k d) s.0 s.1
 
-module _ (forms : List Form) (users : List (Vec ℕ)) (o w : List ℕ) (signatures signatures' members rooms members' waiting waits waiting' : List (Vec ℕ))
+module _ (forms : List HeadForm) (users : List (Vec ℕ)) (o w : List ℕ) (signatures signatures' members rooms members' waiting waits waiting' : List (Vec ℕ))
     (todo todo' waited : List ℕ) (c : ℕ) (inspect : Inspection) (numbers : List ℕ)
     (open' : IsOpen forms o signatures members waiting todo waited c) (is_inspection : IsInspection forms o c inspect)
     (named : AreNamed inspect.found c inspect.kept numbers signatures signatures')
@@ -237,7 +237,7 @@ ready_rooms waiting new todo many ready more longer = record {
   within = λ d among. omega (arith, ready.within d among, more.many);
 }
 
-pub settled_as : (forms : List Form) (o o' : List ℕ) (signatures signatures' : List (Vec ℕ)) (waited : List ℕ) (c : ℕ) → o' ≡ o
+pub settled_as : (forms : List HeadForm) (o o' : List ℕ) (signatures signatures' : List (Vec ℕ)) (waited : List ℕ) (c : ℕ) → o' ≡ o
     → signatures' ≡ signatures
     → ((i : ℕ) → i < length o → slice_index o i ≡ c → Contains waited i
     ⊎ ((s : List ℕ) × SignatureAt signatures c s × IsSignatureOf forms (slice_index o) i s))

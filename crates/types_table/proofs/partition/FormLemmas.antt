@@ -7,8 +7,8 @@ use Rattle.types_spec.specs.declared.types.head.HeadOf.{HeadOf}
 use Rattle.types_spec.specs.declared.types.head.HeadOf.TheVariants as heads
 use Rattle.types_table.specs.store.Held.{Adds, Grows}
 use Rattle.types_table.proofs.store.HeldLemmas.{there_kept}
-use Rattle.types_table.specs.declared.partition.form.TagForm.{TagForm}
-use Rattle.types_table.specs.declared.partition.form.Form.{Form}
+use Rattle.types_table.specs.declared.partition.head_form.TagForm.{TagForm}
+use Rattle.types_table.specs.declared.partition.head_form.HeadForm.{HeadForm}
 use Rattle.types_table.specs.partition.Form.{IsTagForm, AreTagForms, IsNamed, IsForm}
 use Rattle.base_data.proofs.model.Lists.{AllZip-push}
 
@@ -38,11 +38,11 @@ module _ {old new : List (List ℕ)} (grown : Grows old new) where
       → AreTagForms new tags forms
   tag_forms_grown tags forms = AllZip-more (IsTagForm old) (IsTagForm new) tag_form_grown tags forms
 
-  named_grown : (kind : ℕ) (name parts : List ℕ) (form : Form) → IsNamed old kind name parts form
+  named_grown : (kind : ℕ) (name parts : List ℕ) (form : HeadForm) → IsNamed old kind name parts form
       → IsNamed new kind name parts form
   named_grown kind name parts form is = (is.0, there_kept old new is.0 name grown is.1, is.2)
 
-  pub form_grown : (head : HeadOf ℕ) (form : Form) → IsForm old head form → IsForm new head form
+  pub form_grown : (head : HeadOf ℕ) (form : HeadForm) → IsForm old head form → IsForm new head form
   form_grown (heads.Variable name) form is = named_grown 0 name [] form is
   form_grown (heads.Predeclared base parts) form is = is
   form_grown (heads.Datatype name parts) form is = named_grown 2 name parts form is
@@ -51,7 +51,7 @@ module _ {old new : List (List ℕ)} (grown : Grows old new) where
       record { label = is.label; parts = is.parts; tags = tag_forms_grown tags form.tags is.tags }
   form_grown heads.Absent form is = is
 
-  pub forms_grown : (all : List (HeadOf ℕ)) (forms : List Form) → AllZip (IsForm old) all forms
+  pub forms_grown : (all : List (HeadOf ℕ)) (forms : List HeadForm) → AllZip (IsForm old) all forms
       → AllZip (IsForm new) all forms
   forms_grown all forms = AllZip-more (IsForm old) (IsForm new) form_grown all forms
 

@@ -6,7 +6,7 @@ use Rattle.std.proofs.lemmas.List.Elements.{Contains-get_or}
 use Rattle.std.proofs.lemmas.Option.{same_Some, slice_get_within}
 use Rattle.types_table.specs.store.Held.{AreDistinct, Grows}
 use Rattle.types_table.proofs.store.HeldLemmas.{there_kept}
-use Rattle.types_table.specs.declared.partition.form.Form.{Form}
+use Rattle.types_table.specs.declared.partition.head_form.HeadForm.{HeadForm}
 use Rattle.types_table.specs.declared.partition.inspect.Inspection.{Inspection}
 use Rattle.types_table.specs.partition.Lists.{IsOfClass}
 use Rattle.types_table.specs.partition.Refinement.{IsSignatureOf, SignatureAt, SignedAt, AreSigned, IsInspection}
@@ -17,14 +17,14 @@ pub inspect_within : (numbers class : List ℕ) (wanted : ℕ) (inspected : List
 inspect_within numbers class wanted inspected n of many k d below =
     subst (λ m. get_or inspected k d < m) many (of.is (get_or inspected k d) (Contains-get_or inspected k d below)).0
 
-pub signed_grown : (forms : List Form) (class : List ℕ) (found new : List (List ℕ)) (inspected positions : List ℕ)
+pub signed_grown : (forms : List HeadForm) (class : List ℕ) (found new : List (List ℕ)) (inspected positions : List ℕ)
     → Grows found new → AreSigned forms (slice_index class) found inspected positions
     → AreSigned forms (slice_index class) new inspected positions
 signed_grown forms class found new inspected positions grown =
     AllZip-more (SignedAt forms (slice_index class) found) (SignedAt forms (slice_index class) new)
     (λ j p at_p. (at_p.0, there_kept found new p at_p.0 grown at_p.1, at_p.2)) inspected positions
 
-module _ (forms : List Form) (class : List ℕ) (wanted : ℕ) (numbers : List ℕ) (inspect : Inspection)
+module _ (forms : List HeadForm) (class : List ℕ) (wanted : ℕ) (numbers : List ℕ) (inspect : Inspection)
     (of : IsOfClass numbers class wanted inspect.inspected.items)
     (signed : AreSigned forms (slice_index class) inspect.found inspect.inspected.items inspect.positions.items)
     (distinct : AreDistinct inspect.found) where

@@ -13,8 +13,8 @@ use Rattle.base_data.proofs.model.Lists.{slice_get-append_left, slice_get-set_ot
 use Rattle.types_spec.specs.types.Reached.{listed_if}
 use Rattle.types_table.specs.store.Held.{AreDistinct, Adds, Grows}
 use Rattle.types_table.proofs.store.HeldLemmas.{there_kept, Grows-then}
-use Rattle.types_table.specs.declared.partition.form.TagForm.{TagForm}
-use Rattle.types_table.specs.declared.partition.form.Form.{Form}
+use Rattle.types_table.specs.declared.partition.head_form.TagForm.{TagForm}
+use Rattle.types_table.specs.declared.partition.head_form.HeadForm.{HeadForm}
 use Rattle.types_table.specs.partition.Lists.{Has, Keeps, IsWritten}
 use Rattle.types_table.specs.partition.Users.{parts_in}
 use Rattle.types_table.specs.partition.Signature.{IsSignature}
@@ -51,13 +51,13 @@ arguments_next parts tags i d within =
     ∙ ap (λ l. arguments (take i tags) ++ l) (append-nil (listed_if (get_or tags i d).argument)))
     ∙ sym (append_assoc parts (arguments (take i tags)) (listed_if (get_or tags i d).argument))
 
-pub users_more : (forms : List Form) (i : ℕ) (form : Form) (now new : List (Vec ℕ)) → UsersSoFar forms i now
+pub users_more : (forms : List HeadForm) (i : ℕ) (form : HeadForm) (now new : List (Vec ℕ)) → UsersSoFar forms i now
     → slice_get forms i ≡ Some form → Keeps now new
     → ((k : ℕ) → Contains (parts_in form) k → k < length now → Has new k i) → UsersSoFar forms (i + 1) new
 users_more forms i form now new held is keeps added = record {
   many = keeps.many ∙ held.many;
   has = λ j k other below at_j among under. ⊎_elim
-      (λ here. subst (Has new k) (sym here) (added k (subst (λ (f : Form). Contains (parts_in f) k)
+      (λ here. subst (Has new k) (sym here) (added k (subst (λ (f : HeadForm). Contains (parts_in f) k)
       (same_Some other form (sym at_j ∙ ap (slice_get forms) here ∙ is)) among)
       (subst (λ n. k < n) (sym held.many) under)))
       (λ before. keeps.kept k j (held.has j k other (less before below) at_j among under))
@@ -124,8 +124,8 @@ user_marks_more old now new todo todo' class users left inspected i within held 
 
 -- ---- moves
 
-pub signed_more : (forms : List Form) (class : List ℕ) (old now new : List (List ℕ)) (inspected positions positions' : List ℕ)
-    (i position : ℕ) (form : Form) (signature : List ℕ) → i < length inspected
+pub signed_more : (forms : List HeadForm) (class : List ℕ) (old now new : List (List ℕ)) (inspected positions positions' : List ℕ)
+    (i position : ℕ) (form : HeadForm) (signature : List ℕ) → i < length inspected
     → SignedSoFar forms class old now (take i inspected) positions → slice_get forms (get_or inspected i 0) ≡ Some form
     → IsSignature (slice_index class) form signature → Adds now new signature position → AreDistinct new → positions' ≡ positions ++ position ∷ []
     → SignedSoFar forms class old new (take (i + 1) inspected) positions'

@@ -6,8 +6,8 @@ use Rattle.std.specs.List.{AllZip}
 use Rattle.types_spec.specs.declared.types.head.TagOf.{TagOf}
 use Rattle.types_spec.specs.declared.types.head.HeadOf.{HeadOf}
 use Rattle.types_table.specs.store.Held.{AreDistinct, Grows}
-use Rattle.types_table.specs.declared.partition.form.TagForm.{TagForm}
-use Rattle.types_table.specs.declared.partition.form.Form.{Form}
+use Rattle.types_table.specs.declared.partition.head_form.TagForm.{TagForm}
+use Rattle.types_table.specs.declared.partition.head_form.HeadForm.{HeadForm}
 use Rattle.types_table.specs.partition.Form.{AreTagForms, IsForm}
 use Rattle.types_table.specs.partition.Lists.{Has, Keeps}
 use Rattle.types_table.specs.partition.Users.{parts_in}
@@ -20,7 +20,7 @@ pub record TagsSoFar (old names : List (List ℕ)) (tags : List (TagOf ℕ)) (fo
   pub are : AreTagForms names tags forms
 
 -- The heads so far have forms.
-pub record FormsSoFar (names : List (List ℕ)) (all : List (HeadOf ℕ)) (forms : List Form) : Type 0 where
+pub record FormsSoFar (names : List (List ℕ)) (all : List (HeadOf ℕ)) (forms : List HeadForm) : Type 0 where
   pub distinct : AreDistinct names
   pub are : AllZip (IsForm names) all forms
 
@@ -30,10 +30,10 @@ pub record UsesSoFar (old now : List (Vec ℕ)) (parts : List ℕ) (user : ℕ) 
   pub has : (k : ℕ) → Contains parts k → k < length old → Has now k user
 
 -- The forms so far are registered as users of their parts.
-pub record UsersSoFar (forms : List Form) (below : ℕ) (users : List (Vec ℕ)) : Type 0 where
+pub record UsersSoFar (forms : List HeadForm) (below : ℕ) (users : List (Vec ℕ)) : Type 0 where
   pub many : length users ≡ length forms
   pub has :
-      (i k : ℕ) (form : Form) → i < below → slice_get forms i ≡ Some form → Contains (parts_in form) k
+      (i k : ℕ) (form : HeadForm) → i < below → slice_get forms i ≡ Some form → Contains (parts_in form) k
       → k < length forms → Has users k i
 
 -- The numbers so far are pending.
@@ -50,7 +50,7 @@ pub record UserMarksSoFar (old now : List (Vec ℕ)) (todo class : List ℕ) (us
   pub marked : MarksUsers class users left inspected now
 
 -- The numbers so far have indices of signatures.
-pub record SignedSoFar (forms : List Form) (class : List ℕ) (old found : List (List ℕ)) (inspected positions : List ℕ)
+pub record SignedSoFar (forms : List HeadForm) (class : List ℕ) (old found : List (List ℕ)) (inspected positions : List ℕ)
     : Type 0 where
   pub grown : Grows old found
   pub distinct : AreDistinct found

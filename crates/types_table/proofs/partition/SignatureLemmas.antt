@@ -12,8 +12,8 @@ use Rattle.types_spec.specs.declared.types.head.HeadOf.{HeadOf}
 use Rattle.types_spec.specs.declared.types.head.HeadOf.TheVariants as heads
 use Rattle.types_spec.specs.types.Equal.{Pairwise, ArgumentsAgree, TagsAgree, SameTags, HeadsAgree}
 use Rattle.types_table.specs.store.Held.{AreDistinct}
-use Rattle.types_table.specs.declared.partition.form.TagForm.{TagForm}
-use Rattle.types_table.specs.declared.partition.form.Form.{Form}
+use Rattle.types_table.specs.declared.partition.head_form.TagForm.{TagForm}
+use Rattle.types_table.specs.declared.partition.head_form.HeadForm.{HeadForm}
 use Rattle.types_table.specs.declared.partition.signature.TheConstants.{WIDTH}
 use Rattle.types_table.specs.partition.Form.{code_of, IsTagForm, AreTagForms, IsPlain, IsTagged, IsForm}
 use Rattle.types_table.specs.partition.Signature.{IsSetOf, offset, IsCode, AreCodes, IsSignature}
@@ -210,7 +210,7 @@ module _ (names : List (List ℕ)) (distinct : AreDistinct names) (class : ℕ �
   none_set codes (x ∷ set) none once =
       absurd (Contains-none x (subst (λ l. Contains l x) none (once.back x (Contains-first x set))))
 
-  known_plain : (says ts : List ℕ) (form : Form) (s : List ℕ) → IsPlain says ts form → IsSignature class form s
+  known_plain : (says ts : List ℕ) (form : HeadForm) (s : List ℕ) → IsPlain says ts form → IsSignature class form s
       → s ≡ says ++ map class ts
   known_plain says ts form s plain signature =
       let none : signature.set ≡ [] = none_set signature.codes signature.set
@@ -218,12 +218,12 @@ module _ (names : List (List ℕ)) (distinct : AreDistinct names) (class : ℕ �
       signature.is ∙ ap (λ l. (form.label ++ map class form.parts) ++ l) none ∙ append-nil (form.label ++ map class form.parts)
       ∙ ap (λ l. l ++ map class form.parts) plain.label ∙ ap (λ l. says ++ map class l) plain.parts
 
-  known_tagged : (tags : List (TagOf ℕ)) (form : Form) (s : List ℕ) → IsTagged names tags form
+  known_tagged : (tags : List (TagOf ℕ)) (form : HeadForm) (s : List ℕ) → IsTagged names tags form
       → (signature : IsSignature class form s) → s ≡ 4 ∷ signature.set
   known_tagged tags form s tagged signature = signature.is ∙ ap (λ l. (l ++ map class form.parts) ++ signature.set) tagged.label
       ∙ ap (λ l. ((4 ∷ []) ++ map class l) ++ signature.set) tagged.parts
 
-  known : (head : HeadOf ℕ) (form : Form) (s : List ℕ) → IsForm names head form → IsSignature class form s → Known head s
+  known : (head : HeadOf ℕ) (form : HeadForm) (s : List ℕ) → IsForm names head form → IsSignature class form s → Known head s
   known (heads.Variable name) form s is signature = (is.0, is.1, known_plain (0 ∷ is.0 ∷ []) [] form s is.2 signature)
   known (heads.Predeclared base ts) form s is signature = known_plain (1 ∷ code_of base ∷ []) ts form s is signature
   known (heads.Datatype name ts) form s is signature = (is.0, is.1, known_plain (2 ∷ is.0 ∷ []) ts form s is.2 signature)
@@ -297,13 +297,13 @@ module _ (names : List (List ℕ)) (distinct : AreDistinct names) (class : ℕ �
   from_heads head other s t agree one two = absurd agree
 
   -- If two heads have the same signature, then they agree.
-  pub agree_from_signature : (head other : HeadOf ℕ) (form form' : Form) (s : List ℕ) → IsForm names head form
+  pub agree_from_signature : (head other : HeadOf ℕ) (form form' : HeadForm) (s : List ℕ) → IsForm names head form
       → IsForm names other form' → IsSignature class form s → IsSignature class form' s → HeadsAgree Same head other
   agree_from_signature head other form form' s is is' one two =
       heads_from head other s (known head form s is one) (known other form' s is' two)
 
   -- If two heads agree, then they have the same signature.
-  pub signature_from_agree : (head other : HeadOf ℕ) (form form' : Form) (s t : List ℕ) → IsForm names head form
+  pub signature_from_agree : (head other : HeadOf ℕ) (form form' : HeadForm) (s t : List ℕ) → IsForm names head form
       → IsForm names other form' → IsSignature class form s → IsSignature class form' t → HeadsAgree Same head other → s ≡ t
   signature_from_agree head other form form' s t is is' one two agree =
       from_heads head other s t agree (known head form s is one) (known other form' t is' two)

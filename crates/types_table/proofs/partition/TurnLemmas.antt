@@ -15,8 +15,8 @@ use Rattle.types_spec.specs.types.Reached.{listed_if}
 use Rattle.types_spec.specs.types.Classes.{AreTogether, PartsBelow, KeepsTogether}
 use Rattle.types_theory.proofs.equality.AgreeLemmas.{HeadsAgree-more}
 use Rattle.types_theory.proofs.equality.ClassLemmas.{split_keeps}
-use Rattle.types_table.specs.declared.partition.form.TagForm.{TagForm}
-use Rattle.types_table.specs.declared.partition.form.Form.{Form}
+use Rattle.types_table.specs.declared.partition.head_form.TagForm.{TagForm}
+use Rattle.types_table.specs.declared.partition.head_form.HeadForm.{HeadForm}
 use Rattle.types_table.specs.declared.partition.inspect.Inspection.{Inspection}
 use Rattle.types_table.specs.declared.partition.signature.TheConstants.{WIDTH}
 use Rattle.types_table.specs.partition.Form.{IsForm, AreForms}
@@ -48,7 +48,7 @@ AllZip-among P Q (a ∷ xs) (b ∷ ys) more all = (
 
 -- ---- heads by their forms
 
-pub form_at : (names : List (List ℕ)) (all : List (HeadOf ℕ)) (forms : List Form) (i : ℕ) (form : Form)
+pub form_at : (names : List (List ℕ)) (all : List (HeadOf ℕ)) (forms : List HeadForm) (i : ℕ) (form : HeadForm)
     → AllZip (IsForm names) all forms → slice_get forms i ≡ Some form → IsForm names (head_at all i) form
 form_at names [] [] i form are at_i = cc
 form_at names [] (f ∷ forms) i form are at_i = absurd are
@@ -56,7 +56,7 @@ form_at names (h ∷ all) [] i form are at_i = absurd are
 form_at names (h ∷ all) (f ∷ forms) zero form are at_i = subst (IsForm names h) (same_Some f form at_i) are.0
 form_at names (h ∷ all) (f ∷ forms) (suc i) form are at_i = form_at names all forms i form are.1 at_i
 
-module _ (all : List (HeadOf ℕ)) (forms : List Form) (are : AreForms all forms) (class : ℕ → ℕ) where
+module _ (all : List (HeadOf ℕ)) (forms : List HeadForm) (are : AreForms all forms) (class : ℕ → ℕ) where
   pub agree_at : (i j : ℕ) (s : List ℕ) → IsSignatureOf forms class i s → IsSignatureOf forms class j s
       → HeadsAgree (λ a b. class a ≡ class b) (head_at all i) (head_at all j)
   agree_at i j s one two = agree_from_signature are.names are.distinct class (head_at all i) (head_at all j) one.0 two.0 s
@@ -94,7 +94,7 @@ module _ (old new : ℕ → ℕ) where
   offset_unchanged None same = refl
   offset_unchanged (Some k) same = ap (λ n. n + 1) (same k (Contains-first k []))
 
-  pub signature_unchanged : (form : Form) (s : List ℕ) → Unchanged (parts_in form) → IsSignature old form s → IsSignature new form s
+  pub signature_unchanged : (form : HeadForm) (s : List ℕ) → Unchanged (parts_in form) → IsSignature old form s → IsSignature new form s
   signature_unchanged form s same signature = record {
     codes = signature.codes;
     are = AllZip-among (IsCode old) (IsCode new) form.tags signature.codes
@@ -120,7 +120,7 @@ module _ (old new : ℕ → ℕ) where
 
 -- ---- the turn
 
-module _ (forms : List Form) (o w : List ℕ) (c : ℕ) (inspect : Inspection) (numbers : List ℕ) (old new : List (Vec ℕ))
+module _ (forms : List HeadForm) (o w : List ℕ) (c : ℕ) (inspect : Inspection) (numbers : List ℕ) (old new : List (Vec ℕ))
     (is_inspection : IsInspection forms o c inspect) (named : AreNamed inspect.found c inspect.kept numbers old new)
     (moved : AreMoved inspect.inspected.items inspect.positions.items numbers (length inspect.inspected.items) o w) where
   -- The new class of the number is the class of its signature.
@@ -200,7 +200,7 @@ module _ (forms : List Form) (o w : List ℕ) (c : ℕ) (inspect : Inspection) (
     pub settled_new : (i : ℕ) → i < length o → Has now (slice_index w i) i
         ⊎ ((s : List ℕ) × SignatureAt new (slice_index w i) s × IsSignatureOf forms (slice_index w) i s)
     settled_new i below = ⊎_elim by_change by_none (any_changed (slice_index o) (slice_index w) (parts_in form.0)) where
-      form : (f : Form) × (slice_get forms i ≡ Some f)
+      form : (f : HeadForm) × (slice_get forms i ≡ Some f)
       form = slice_get_there forms i (subst (λ n. i < n) many below)
 
       by_change : (k : ℕ) × Contains (parts_in form.0) k × (slice_index w k ≢ slice_index o k)
@@ -233,7 +233,7 @@ module _ (forms : List Form) (o w : List ℕ) (c : ℕ) (inspect : Inspection) (
               signature.0,
               signature.1,
               signature_unchanged (slice_index o) (slice_index w) signature.0 s
-                  (subst (λ (f : Form). (k : ℕ) → Contains (parts_in f) k → slice_index w k ≡ slice_index o k)
+                  (subst (λ (f : HeadForm). (k : ℕ) → Contains (parts_in f) k → slice_index w k ≡ slice_index o k)
                   (same_Some form.0 signature.0 (sym form.1 ∙ signature.1)) same) signature.2,
             )
 

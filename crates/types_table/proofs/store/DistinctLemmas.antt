@@ -6,19 +6,19 @@ use Rattle.base_data.proofs.model.Options.{slice_get_there}
 use Rattle.types_spec.specs.types.Ty.{Ty, variable, named, tuple, bracket, part, tag, tag_of, including}
 use Rattle.types_spec.specs.types.Nodes.{type_at, type_of_node, IsBelow}
 use Rattle.types_spec.proofs.types.NodeLemmas.{types_of-at}
-use Rattle.types_table.specs.declared.store.node.Node.{Node}
-use Rattle.types_table.specs.declared.store.node.Node.TheVariants as nodes
+use Rattle.types_table.specs.declared.store.stored_node.StoredNode.{StoredNode}
+use Rattle.types_table.specs.declared.store.stored_node.StoredNode.TheVariants as nodes
 use Rattle.types_table.specs.store.Held.{AreDistinct}
 use Rattle.types_table.specs.store.View.{name_at, encoded, types_in, IsNamedBelow, IsStore}
 use Rattle.types_table.proofs.store.HeldLemmas.{get-map}
 use Rattle.types_table.proofs.store.StoreLemmas.{types_in-length}
 
-module _ (names : List (List ℕ)) (all : List Node) (store : IsStore names all) where
+module _ (names : List (List ℕ)) (all : List StoredNode) (store : IsStore names all) where
   abbrev types : List Ty
   types = types_in names all
 
   -- The node represents the type.
-  abbrev Says : Node → Ty → Type 0
+  abbrev Says : StoredNode → Ty → Type 0
   Says (nodes.Variable n) (variable x) = name_at names n ≡ x
   Says (nodes.Named n) (named x) = name_at names n ≡ x
   Says nodes.Tuple tuple = Unit {0}
@@ -31,7 +31,7 @@ module _ (names : List (List ℕ)) (all : List Node) (store : IsStore names all)
       (type_at types whole ≡ t) × (type_at types included ≡ u)
   Says node t = ⊥
 
-  says : (node : Node) → Says node (type_of_node types (encoded names node))
+  says : (node : StoredNode) → Says node (type_of_node types (encoded names node))
   says (nodes.Variable n) = refl
   says (nodes.Named n) = refl
   says nodes.Tuple = tt
@@ -42,7 +42,7 @@ module _ (names : List (List ℕ)) (all : List Node) (store : IsStore names all)
   says (nodes.Including whole included) = (refl, refl)
 
   record IsAt (i : ℕ) (t : Ty) : Type 0 where
-    node : Node
+    node : StoredNode
     at : slice_get all i ≡ Some node
     is : Says node t
     known : IsNamedBelow (length names) node
@@ -52,57 +52,57 @@ module _ (names : List (List ℕ)) (all : List Node) (store : IsStore names all)
   is_at i t there =
       let within : i < length all = omega (arith, slice_get_within types i t there, types_in-length names all) in
       let found = slice_get_there all i within in
-      let spelt = get-map (encoded names) all i found.0 found.1 in
-      let stands = types_of-at (map (encoded names) all) i (encoded names found.0) store.ordered spelt in
+      let is_named = get-map (encoded names) all i found.0 found.1 in
+      let stands = types_of-at (map (encoded names) all) i (encoded names found.0) store.ordered is_named in
       record {
         node = found.0;
         at = found.1;
         is = subst (Says found.0) (same_Some (type_of_node types (encoded names found.0)) t (sym stands ∙ there)) (says found.0);
         known = store.named i found.0 found.1;
-        below = store.ordered i (encoded names found.0) spelt;
+        below = store.ordered i (encoded names found.0) is_named;
       }
 
-  is_variable : (x : List ℕ) (node : Node) → Says node (variable x) → (n : ℕ) × (node ≡ nodes.Variable n) × (name_at names n ≡ x)
+  is_variable : (x : List ℕ) (node : StoredNode) → Says node (variable x) → (n : ℕ) × (node ≡ nodes.Variable n) × (name_at names n ≡ x)
   is_variable x (nodes.Variable n) is = (n, refl, is)
   is_variable x other is = absurd is
 
-  is_named : (x : List ℕ) (node : Node) → Says node (named x) → (n : ℕ) × (node ≡ nodes.Named n) × (name_at names n ≡ x)
+  is_named : (x : List ℕ) (node : StoredNode) → Says node (named x) → (n : ℕ) × (node ≡ nodes.Named n) × (name_at names n ≡ x)
   is_named x (nodes.Named n) is = (n, refl, is)
   is_named x other is = absurd is
 
-  is_tuple : (node : Node) → Says node tuple → node ≡ nodes.Tuple
+  is_tuple : (node : StoredNode) → Says node tuple → node ≡ nodes.Tuple
   is_tuple nodes.Tuple is = refl
   is_tuple other is = absurd is
 
-  is_bracket : (node : Node) → Says node bracket → node ≡ nodes.Bracket
+  is_bracket : (node : StoredNode) → Says node bracket → node ≡ nodes.Bracket
   is_bracket nodes.Bracket is = refl
   is_bracket other is = absurd is
 
   is_part :
-      (t u : Ty) (node : Node) → Says node (part t u)
+      (t u : Ty) (node : StoredNode) → Says node (part t u)
       → (w a : ℕ) × (node ≡ nodes.Part w a) × (type_at types w ≡ t) × (type_at types a ≡ u)
   is_part t u (nodes.Part w a) is = (w, a, refl, is.0, is.1)
   is_part t u other is = absurd is
 
   is_tag :
-      (t : Ty) (x : List ℕ) (node : Node) → Says node (tag t x)
+      (t : Ty) (x : List ℕ) (node : StoredNode) → Says node (tag t x)
       → (w n : ℕ) × (node ≡ nodes.Tag w n) × (type_at types w ≡ t) × (name_at names n ≡ x)
   is_tag t x (nodes.Tag w n) is = (w, n, refl, is.0, is.1)
   is_tag t x other is = absurd is
 
   is_tag_of :
-      (t : Ty) (x : List ℕ) (u : Ty) (node : Node) → Says node (tag_of t x u)
+      (t : Ty) (x : List ℕ) (u : Ty) (node : StoredNode) → Says node (tag_of t x u)
       → (w n a : ℕ) × (node ≡ nodes.TagOf w n a) × (type_at types w ≡ t) × (name_at names n ≡ x) × (type_at types a ≡ u)
   is_tag_of t x u (nodes.TagOf w n a) is = (w, n, a, refl, is.0, is.1, is.2)
   is_tag_of t x u other is = absurd is
 
   is_including :
-      (t u : Ty) (node : Node) → Says node (including t u)
+      (t u : Ty) (node : StoredNode) → Says node (including t u)
       → (w a : ℕ) × (node ≡ nodes.Including w a) × (type_at types w ≡ t) × (type_at types a ≡ u)
   is_including t u (nodes.Including w a) is = (w, a, refl, is.0, is.1)
   is_including t u other is = absurd is
 
-  one_node : (i j : ℕ) (a b : Node) → slice_get all i ≡ Some a → slice_get all j ≡ Some b → a ≡ b → i ≡ j
+  one_node : (i j : ℕ) (a b : StoredNode) → slice_get all i ≡ Some a → slice_get all j ≡ Some b → a ≡ b → i ≡ j
   one_node i j a b at_i at_j same = store.own_nodes i j b (at_i ∙ ap Some same) at_j
 
   one_name :
@@ -112,7 +112,7 @@ module _ (names : List (List ℕ)) (all : List Node) (store : IsStore names all)
       store.own_names n m x (slice_get-get_or names n [] first ∙ ap Some is)
       (slice_get-get_or names m [] second ∙ ap Some other)
 
-  child : (i : ℕ) (node : Node) (w : ℕ) (t : Ty) → slice_get all i ≡ Some node → w < i → type_at types w ≡ t → IsAt w t
+  child : (i : ℕ) (node : StoredNode) (w : ℕ) (t : Ty) → slice_get all i ≡ Some node → w < i → type_at types w ≡ t → IsAt w t
   child i node w t at below is =
       let within : w < length types = omega (arith, slice_get_within all i node at, types_in-length names all) in
       is_at w t (slice_get-get_or types w tuple within ∙ ap Some is)

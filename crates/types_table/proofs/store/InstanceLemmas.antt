@@ -9,8 +9,8 @@ use Rattle.std.proofs.lemmas.Option.{none-some, same_Some, slice_get_within, get
 use Rattle.base_data.proofs.model.Options.{slice_get_there}
 use Rattle.types_table.proofs.store.HeldLemmas.{get-map, Grows-held}
 use Rattle.types_spec.specs.types.Ty.{Ty, variable, named, tuple, bracket, part, tag, tag_of, including, instance, argument_for}
-use Rattle.types_spec.specs.declared.types.ty.Node.{Node}
-use Rattle.types_spec.specs.declared.types.ty.Node.TheVariants as nodes
+use Rattle.types_spec.specs.declared.types.ty.TypeTreeNode.{TypeTreeNode}
+use Rattle.types_spec.specs.declared.types.ty.TypeTreeNode.TheVariants as nodes
 use Rattle.types_spec.specs.types.Nodes.{type_at, type_of_node, types_of, type_of}
 use Rattle.types_spec.proofs.types.NodeLemmas.{types_of-push, types_of-length, at_kept}
 use Rattle.types_table.specs.store.Held.{Holds, Grows}
@@ -50,7 +50,7 @@ type_at-instance value (t ∷ types) zero = refl
 type_at-instance value (t ∷ types) (suc i) = type_at-instance value types i
 
 node_instance :
-    (value : List ℕ → Ty) (types : List Ty) (node : Node)
+    (value : List ℕ → Ty) (types : List Ty) (node : TypeTreeNode)
     → instance_of_node value (map (instance value) types) node ≡ instance value (type_of_node types node)
 node_instance value types (nodes.Variable name) = refl
 node_instance value types (nodes.Named name) = refl
@@ -67,7 +67,7 @@ node_instance value types (nodes.Including whole included) =
 -- ---- the loop over the nodes
 
 pub AreInstances-none :
-    (old : List Ty) (value : List ℕ → Ty) (all : List Node) → AreInstances old old value all 0 []
+    (old : List Ty) (value : List ℕ → Ty) (all : List TypeTreeNode) → AreInstances old old value all 0 []
 unfolding types_of
 AreInstances-none old value all = record {
   grown = record { added = []; kept = sym (append-nil old) };
@@ -76,19 +76,19 @@ AreInstances-none old value all = record {
 }
 
 take-more :
-    (all : List Node) (k : ℕ) (node : Node) → slice_get all k ≡ Some node
+    (all : List TypeTreeNode) (k : ℕ) (node : TypeTreeNode) → slice_get all k ≡ Some node
     → take (suc k) all ≡ take k all ++ node ∷ []
 take-more [] k node is = absurd (none-some node is)
 take-more (first ∷ all) zero node is = ap (λ n. n ∷ []) (same_Some first node is)
 take-more (first ∷ all) (suc k) node is = ap (λ ns. first ∷ ns) (take-more all k node is)
 
-module _ (old types : List Ty) (value : List ℕ → Ty) (all : List Node) (k : ℕ) (numbers : List ℕ) (so_far : AreInstances old types value all k numbers) where
+module _ (old types : List Ty) (value : List ℕ → Ty) (all : List TypeTreeNode) (k : ℕ) (numbers : List ℕ) (so_far : AreInstances old types value all k numbers) where
   pub AreInstances-many : k ≤ length all → length numbers ≡ k
   AreInstances-many within =
       sym (length-map numbers (type_at types)) ∙ ap length so_far.are ∙ length-map (types_of (take k all)) (instance value)
       ∙ types_of-length (take k all) ∙ length-take-le k all within
 
-  module _ (node : Node) (is : slice_get all k ≡ Some node) (new : List Ty) (i : ℕ)
+  module _ (node : TypeTreeNode) (is : slice_get all k ≡ Some node) (new : List Ty) (i : ℕ)
       (held : Holds types new (instance_of_node value (map (type_at types) numbers) node) i) where
     there : type_at new i ≡ instance value (type_of_node (types_of (take k all)) node)
     there =
@@ -107,14 +107,14 @@ module _ (old types : List Ty) (value : List ℕ → Ty) (all : List Node) (k : 
     }
 
 -- The same step if the node's instance was made in an extended store.
-module _ (old types : List Ty) (parameters : List (List ℕ)) (arguments : List ℕ) (all : List Node) (k : ℕ) (numbers : List ℕ)
+module _ (old types : List Ty) (parameters : List (List ℕ)) (arguments : List ℕ) (all : List TypeTreeNode) (k : ℕ) (numbers : List ℕ)
     (so_far : AreInstances old types (argument_at old parameters arguments) all k numbers)
     (among : All (λ i. i < length old) arguments) where
   argument_at-kept : argument_at types parameters arguments ≡ argument_at old parameters arguments
   argument_at-kept =
       ap (argument_for parameters) (types_at-kept old types so_far.grown.added arguments so_far.grown.kept among)
 
-  module _ (node : Node) (borrowed : List ℕ) (same : borrowed ≡ numbers) (new : List Ty) (i : ℕ)
+  module _ (node : TypeTreeNode) (borrowed : List ℕ) (same : borrowed ≡ numbers) (new : List Ty) (i : ℕ)
       (held : Holds types new (instance_of_node (argument_at types parameters arguments) (map (type_at types) borrowed) node) i) where
     here : Holds types new (instance_of_node (argument_at old parameters arguments) (map (type_at types) numbers) node) i
     here = subst (λ t. Holds types new t i)
@@ -133,7 +133,7 @@ module _ (old types : List Ty) (parameters : List (List ℕ)) (arguments : List 
 
 -- ---- the last number
 
-type_of-some : (all : List Node) → type_of all ≡ type_at (types_of all) (length all - 1)
+type_of-some : (all : List TypeTreeNode) → type_of all ≡ type_at (types_of all) (length all - 1)
 unfolding type_of
 type_of-some all = refl
 
@@ -141,7 +141,7 @@ type_of-none : type_of [] ≡ tuple
 unfolding type_of types_of
 type_of-none = refl
 
-module _ (old types : List Ty) (value : List ℕ → Ty) (all : List Node) (numbers : List ℕ) (whole : AreInstances old types value all (length all) numbers) where
+module _ (old types : List Ty) (value : List ℕ → Ty) (all : List TypeTreeNode) (numbers : List ℕ) (whole : AreInstances old types value all (length all) numbers) where
   many : length numbers ≡ length all
   many = AreInstances-many old types value all (length all) numbers whole (omega arith)
 
@@ -166,7 +166,7 @@ module _ (old types : List Ty) (value : List ℕ → Ty) (all : List Node) (numb
   pub no_instance :
       slice_get numbers (length numbers - 1) ≡ None → instance value (type_of all) ≡ tuple
   no_instance none = by all refl where
-    by : (ns : List Node) → all ≡ ns → instance value (type_of all) ≡ tuple
+    by : (ns : List TypeTreeNode) → all ≡ ns → instance value (type_of all) ≡ tuple
     by [] e = ap (instance value) (ap type_of e ∙ type_of-none)
     by (n ∷ ns) e =
         let within : length numbers - 1 < length numbers = omega (arith, many, ap length e) in
@@ -238,7 +238,7 @@ instances_themselves value same [] = refl
 instances_themselves value same (t ∷ ts) = λ k. instance_itself value same t k ∷ instances_themselves value same ts k
 
 pub each_there :
-    (old types : List Ty) (value : List ℕ → Ty) (all : List Node) (numbers : List ℕ)
+    (old types : List Ty) (value : List ℕ → Ty) (all : List TypeTreeNode) (numbers : List ℕ)
     → ((x : List ℕ) → value x ≡ variable x) → AreInstances old types value all (length all) numbers
     → HoldsEach old types (types_of all) numbers
 each_there old types value all numbers same are = record {

@@ -4,11 +4,11 @@ use Rattle.std.specs.Prelude.{slice_get}
 use Rattle.std.proofs.lemmas.List.{map-append, length-map, append-nil, take-map}
 use Rattle.std.proofs.lemmas.Option.{none-some, same_Some, slice_get_within, get_or_from_slice_get}
 use Rattle.types_spec.specs.types.Ty.{Ty}
-use Rattle.types_spec.specs.declared.types.ty.Node.TheVariants as written
+use Rattle.types_spec.specs.declared.types.ty.TypeTreeNode.TheVariants as written
 use Rattle.types_spec.specs.types.Nodes.{type_of_node, types_of, IsBelow, AreOrdered}
 use Rattle.types_spec.proofs.types.NodeLemmas.{types_of-push, types_of-length, types_of-at, node_kept, AreOrdered-push, AreOrdered-take, types_of-take, from_prefix}
-use Rattle.types_table.specs.declared.store.node.Node.{Node}
-use Rattle.types_table.specs.declared.store.node.Node.TheVariants as nodes
+use Rattle.types_table.specs.declared.store.stored_node.StoredNode.{StoredNode}
+use Rattle.types_table.specs.declared.store.stored_node.StoredNode.TheVariants as nodes
 use Rattle.types_table.specs.store.Held.{AreDistinct, Adds, Holds}
 use Rattle.types_table.specs.store.View.{name_at, encoded, types_in, IsNamedBelow, IsStore}
 use Rattle.types_table.proofs.store.HeldLemmas.{get-map}
@@ -17,7 +17,7 @@ pub types_in-none : types_in [] [] ≡ []
 unfolding types_of
 types_in-none = refl
 
-pub types_in-length : (names : List (List ℕ)) (all : List Node) → length (types_in names all) ≡ length all
+pub types_in-length : (names : List (List ℕ)) (all : List StoredNode) → length (types_in names all) ≡ length all
 types_in-length names all = types_of-length (map (encoded names) all) ∙ length-map all (encoded names)
 
 -- ---- one more name
@@ -28,7 +28,7 @@ name_kept (name ∷ names) added zero below = refl
 name_kept (name ∷ names) added (suc n) below = name_kept names added n (omega arith)
 
 encoded_kept :
-    (names added : List (List ℕ)) (node : Node) → IsNamedBelow (length names) node
+    (names added : List (List ℕ)) (node : StoredNode) → IsNamedBelow (length names) node
     → encoded (names ++ added) node ≡ encoded names node
 encoded_kept names added (nodes.Variable n) below = ap written.Variable (name_kept names added n below)
 encoded_kept names added (nodes.Named n) below = ap written.Named (name_kept names added n below)
@@ -40,7 +40,7 @@ encoded_kept names added (nodes.TagOf whole n argument) below =
     ap (λ x. written.TagOf whole x argument) (name_kept names added n below)
 encoded_kept names added (nodes.Including whole included) below = refl
 
-named_more : (n m : ℕ) → n < suc m → (node : Node) → IsNamedBelow n node → IsNamedBelow m node
+named_more : (n m : ℕ) → n < suc m → (node : StoredNode) → IsNamedBelow n node → IsNamedBelow m node
 named_more n m more (nodes.Variable k) below = omega arith
 named_more n m more (nodes.Named k) below = omega arith
 named_more n m more nodes.Tuple below = tt
@@ -58,7 +58,7 @@ map_same f g (x ∷ xs) same =
     ap (λ y. y ∷ map f xs) (same 0 x refl) ∙ ap (λ ys. g x ∷ ys) (map_same f g xs (λ i. same (suc i)))
 
 -- The new names extend the old names.
-module _ (names new added : List (List ℕ)) (all : List Node) (kept : new ≡ names ++ added) (store : IsStore names all) where
+module _ (names new added : List (List ℕ)) (all : List StoredNode) (kept : new ≡ names ++ added) (store : IsStore names all) where
   encoded_same : map (encoded new) all ≡ map (encoded names) all
   encoded_same =
       ap (λ (ns : List (List ℕ)). map (encoded ns) all) kept
@@ -84,7 +84,7 @@ added_by old new x i adds = ⊎_elim
 
 -- ---- one more node
 
-module _ (names : List (List ℕ)) (all new : List Node) (node : Node) (i : ℕ) (store : IsStore names all)
+module _ (names : List (List ℕ)) (all new : List StoredNode) (node : StoredNode) (i : ℕ) (store : IsStore names all)
     (adds : Adds all new node i) (distinct : AreDistinct new) (known : IsNamedBelow (length names) node)
     (below : IsBelow (length (types_in names all)) (encoded names node)) where
   grown_map : (new ≡ all ++ node ∷ []) → map (encoded names) new ≡ map (encoded names) all ++ encoded names node ∷ []
@@ -98,13 +98,13 @@ module _ (names : List (List ℕ)) (all new : List Node) (node : Node) (i : ℕ)
       (subst (λ n. IsBelow n (encoded names node)) (types_of-length (map (encoded names) all)) below)))
       adds.grown
 
-  named_new : (k : ℕ) (other : Node) → slice_get new k ≡ Some other → IsNamedBelow (length names) other
+  named_new : (k : ℕ) (other : StoredNode) → slice_get new k ≡ Some other → IsNamedBelow (length names) other
   named_new k other is = ⊎_elim
       (λ same. store.named k other (sym (ap (λ ns. slice_get ns k) same) ∙ is))
       (λ more. at_push all k (sym (ap (λ ns. slice_get ns k) more) ∙ is) (λ at. store.named k other at))
       adds.grown where
         at_push :
-            (ns : List Node) (j : ℕ) → slice_get (ns ++ node ∷ []) j ≡ Some other
+            (ns : List StoredNode) (j : ℕ) → slice_get (ns ++ node ∷ []) j ≡ Some other
             → (slice_get ns j ≡ Some other → IsNamedBelow (length names) other)
             → IsNamedBelow (length names) other
         at_push [] zero at before = subst (IsNamedBelow (length names)) (same_Some node other at) known
@@ -161,7 +161,7 @@ module _ {E : Type 0} (names new : List (List ℕ)) (name : List ℕ) (r : Resul
     by (Err e) none = tt
 
 -- A call that adds a node, or fails and adds nothing.
-module _ {E : Type 0} (names : List (List ℕ)) (all new : List Node) (node : Node) (r : Result ℕ E) (ok : IfOk r (Adds all new node)) (err : OnErr r (new ≡ all))
+module _ {E : Type 0} (names : List (List ℕ)) (all new : List StoredNode) (node : StoredNode) (r : Result ℕ E) (ok : IfOk r (Adds all new node)) (err : OnErr r (new ≡ all))
     (store : IsStore names all) (distinct : AreDistinct new) (known : IsNamedBelow (length names) node)
     (below : IsBelow (length (types_in names all)) (encoded names node)) where
   pub store_after : IsStore names new
@@ -178,7 +178,7 @@ module _ {E : Type 0} (names : List (List ℕ)) (all new : List Node) (node : No
 
 -- The type with a number is the type of its node.
 pub node_at :
-    (names : List (List ℕ)) (all : List Node) (i : ℕ) (node : Node) → IsStore names all
+    (names : List (List ℕ)) (all : List StoredNode) (i : ℕ) (node : StoredNode) → IsStore names all
     → slice_get all i ≡ Some node
     → slice_get (types_in names all) i ≡ Some (type_of_node (types_in names all) (encoded names node))
 node_at names all i node store is =
@@ -187,13 +187,13 @@ node_at names all i node store is =
 -- ---- the first nodes
 
 pub types_in-take :
-    (n : ℕ) (names : List (List ℕ)) (all : List Node) → n ≤ length all
+    (n : ℕ) (names : List (List ℕ)) (all : List StoredNode) → n ≤ length all
     → types_in names (take n all) ≡ take n (types_in names all)
 types_in-take n names all within =
     let many : n ≤ length (map (encoded names) all) = omega (arith, length-map all (encoded names)) in
     ap types_of (sym (take-map (encoded names) n all)) ∙ types_of-take n (map (encoded names) all) many
 
-pub store_take : (n : ℕ) (names : List (List ℕ)) (all : List Node) → IsStore names all → IsStore names (take n all)
+pub store_take : (n : ℕ) (names : List (List ℕ)) (all : List StoredNode) → IsStore names all → IsStore names (take n all)
 store_take n names all store = record {
   ordered = subst AreOrdered (take-map (encoded names) n all) (AreOrdered-take n (map (encoded names) all) store.ordered);
   named = λ i node is. store.named i node (from_prefix n all i node is);

@@ -5,17 +5,17 @@ use Rattle.std.proofs.Math.Seq.{take-suc}
 use Rattle.std.proofs.lemmas.List.{length-take-le, take-append-drop}
 use Rattle.std.proofs.lemmas.Option.{slice_get_within, get_or_from_slice_get}
 use Rattle.types_spec.specs.types.Ty.{Ty, tuple}
-use Rattle.types_spec.specs.declared.types.ty.Node.{Node}
+use Rattle.types_spec.specs.declared.types.ty.TypeTreeNode.{TypeTreeNode}
 use Rattle.types_spec.specs.types.Nodes.{type_at, type_of_node, types_of, type_of, IsBelow, AreOrdered}
 use Rattle.types_spec.proofs.types.NodeLemmas.{types_of-push, types_of-length, type_of-push, node_kept, AreOrdered-push}
 
 -- The nodes are ordered, and their types are the first `k` types.
-pub record AreFirst (types : List Ty) (k : ℕ) (nodes : List Node) : Type 0 where
+pub record AreFirst (types : List Ty) (k : ℕ) (nodes : List TypeTreeNode) : Type 0 where
   pub ordered : AreOrdered nodes
   pub are : types_of nodes ≡ take k types
 
-module _ (types : List Ty) (k : ℕ) (nodes : List Node) (first : AreFirst types k nodes)
-    (node : Node) (is : slice_get types k ≡ Some (type_of_node types node)) (below : IsBelow k node) where
+module _ (types : List Ty) (k : ℕ) (nodes : List TypeTreeNode) (first : AreFirst types k nodes)
+    (node : TypeTreeNode) (is : slice_get types k ≡ Some (type_of_node types node)) (below : IsBelow k node) where
   within : k < length types
   within = slice_get_within types k (type_of_node types node) is
 

@@ -7,8 +7,8 @@ use Rattle.std.proofs.lemmas.Option.{none-some, get_or_from_slice_get}
 use Rattle.types_spec.specs.types.Ty.{Ty, variable, named, tuple, bracket}
 use Rattle.types_spec.specs.types.Nodes.{type_at, type_of_node}
 use Rattle.types_spec.specs.types.TypeText.{word, product, brackets, is_product}
-use Rattle.types_table.specs.declared.store.node.TypeNode.{TypeNode}
-use Rattle.types_table.specs.declared.store.node.TypeNode.TheVariants as borrowed
+use Rattle.types_table.specs.declared.store.stored_node.TypeNode.{TypeNode}
+use Rattle.types_table.specs.declared.store.stored_node.TypeNode.TheVariants as borrowed
 use Rattle.types_table.specs.store.Borrowed.{written_of}
 use Rattle.types_table.specs.declared.type_table.waiting.Waiting.{Waiting}
 use Rattle.types_table.specs.type_table.Texts.{whole_of, stem, is_tuple, added_text, text_of_waiting, waiting_text, IsWritten}

@@ -7,8 +7,8 @@ use Rattle.types_spec.specs.declared.types.head.TagOf.{TagOf}
 use Rattle.types_spec.specs.declared.types.head.HeadOf.{HeadOf}
 use Rattle.types_spec.specs.declared.types.head.HeadOf.TheVariants as heads
 use Rattle.types_table.specs.store.Held.{AreDistinct}
-use Rattle.types_table.specs.declared.partition.form.TagForm.{TagForm}
-use Rattle.types_table.specs.declared.partition.form.Form.{Form}
+use Rattle.types_table.specs.declared.partition.head_form.TagForm.{TagForm}
+use Rattle.types_table.specs.declared.partition.head_form.HeadForm.{HeadForm}
 
 abbrev pub code_of : Predeclared → ℕ
 code_of bases.Int = 0
@@ -37,25 +37,25 @@ abbrev pub AreTagForms : List (List ℕ) → List (TagOf ℕ) → List TagForm �
 AreTagForms names = AllZip (IsTagForm names)
 
 -- The form has this label, these parts and no tags.
-pub record IsPlain (says ts : List ℕ) (form : Form) : Type 0 where
+pub record IsPlain (says ts : List ℕ) (form : HeadForm) : Type 0 where
   pub label : form.label ≡ says
   pub parts : form.parts ≡ ts
   pub tags : form.tags ≡ []
 
 -- The label of the form is the kind and a number for the name; the form has these parts and no
 -- tags.
-abbrev pub IsNamed : List (List ℕ) → ℕ → List ℕ → List ℕ → Form → Type 0
+abbrev pub IsNamed : List (List ℕ) → ℕ → List ℕ → List ℕ → HeadForm → Type 0
 IsNamed names kind name parts form =
     (number : ℕ) × (slice_get names number ≡ Some name) × IsPlain (kind ∷ number ∷ []) parts form
 
 -- The form has only these tags.
-pub record IsTagged (names : List (List ℕ)) (all : List (TagOf ℕ)) (form : Form) : Type 0 where
+pub record IsTagged (names : List (List ℕ)) (all : List (TagOf ℕ)) (form : HeadForm) : Type 0 where
   pub label : form.label ≡ 4 ∷ []
   pub parts : form.parts ≡ []
   pub tags : AreTagForms names all form.tags
 
 -- The form of a head. `names` maps the numbers to names.
-abbrev pub IsForm : List (List ℕ) → HeadOf ℕ → Form → Type 0
+abbrev pub IsForm : List (List ℕ) → HeadOf ℕ → HeadForm → Type 0
 IsForm names (heads.Variable name) form = IsNamed names 0 name [] form
 IsForm names (heads.Predeclared base parts) form = IsPlain (1 ∷ code_of base ∷ []) parts form
 IsForm names (heads.Datatype name parts) form = IsNamed names 2 name parts form
@@ -64,7 +64,7 @@ IsForm names (heads.Variants tags) form = IsTagged names tags form
 IsForm names heads.Absent form = IsPlain (5 ∷ []) [] form
 
 -- These are the forms of the heads, in order. All use the same numbering of names.
-pub record AreForms (all : List (HeadOf ℕ)) (forms : List Form) : Type 0 where
+pub record AreForms (all : List (HeadOf ℕ)) (forms : List HeadForm) : Type 0 where
   pub names : List (List ℕ)
   pub distinct : AreDistinct names
   pub are : AllZip (IsForm names) all forms

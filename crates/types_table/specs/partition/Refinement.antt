@@ -9,7 +9,7 @@ use Rattle.types_spec.specs.types.Classes.{PartsBelow, KeepsTogether}
 use Rattle.types_table.specs.partition.Form.{AreForms}
 use Rattle.types_table.specs.store.Held.{AreDistinct, Grows}
 use Rattle.types_table.specs.declared.partition.inspect.Inspection.{Inspection}
-use Rattle.types_table.specs.declared.partition.form.Form.{Form}
+use Rattle.types_table.specs.declared.partition.head_form.HeadForm.{HeadForm}
 use Rattle.types_table.specs.partition.Lists.{Has}
 use Rattle.types_table.specs.partition.Signature.{IsSignature}
 
@@ -29,21 +29,21 @@ MarksUsers class users left inspected waiting =
 -- ---- signatures
 
 -- The signature of number `i` is `s`.
-abbrev pub IsSignatureOf : List Form → (ℕ → ℕ) → ℕ → List ℕ → Type 0
+abbrev pub IsSignatureOf : List HeadForm → (ℕ → ℕ) → ℕ → List ℕ → Type 0
 IsSignatureOf forms class i s =
-    (form : Form) × (slice_get forms i ≡ Some form) × IsSignature class form s
+    (form : HeadForm) × (slice_get forms i ≡ Some form) × IsSignature class form s
 
 -- The signature of class `d` is `s`.
 abbrev pub SignatureAt : List (Vec ℕ) → ℕ → List ℕ → Type 0
 SignatureAt signatures d s = (v : Vec ℕ) × (slice_get signatures d ≡ Some v) × (v.items ≡ s)
 
 -- The signature at index `p` is the signature of number `i`.
-abbrev pub SignedAt : List Form → (ℕ → ℕ) → List (List ℕ) → ℕ → ℕ → Type 0
+abbrev pub SignedAt : List HeadForm → (ℕ → ℕ) → List (List ℕ) → ℕ → ℕ → Type 0
 SignedAt forms class found i p =
     (s : List ℕ) × (slice_get found p ≡ Some s) × IsSignatureOf forms class i s
 
 -- Each number is paired with the index of its signature.
-abbrev pub AreSigned : List Form → (ℕ → ℕ) → List (List ℕ) → List ℕ → List ℕ → Type 0
+abbrev pub AreSigned : List HeadForm → (ℕ → ℕ) → List (List ℕ) → List ℕ → List ℕ → Type 0
 AreSigned forms class found = AllZip (SignedAt forms class found)
 
 -- Each index has a class with its signature. The kept index has the class that is split. The others
@@ -100,7 +100,7 @@ HasMembers class left inspected members =
 
 -- Inspected numbers of the class with the indices of their signatures. The members that are not
 -- inspected have the kept signature.
-pub record IsInspection (forms : List Form) (class : List ℕ) (wanted : ℕ)
+pub record IsInspection (forms : List HeadForm) (class : List ℕ) (wanted : ℕ)
     (inspect : Inspection) : Type 0 where
   pub is : (i : ℕ) → Contains inspect.inspected.items i
       → (i < length class) × (slice_index class i ≡ wanted)
@@ -116,7 +116,7 @@ pub record IsInspection (forms : List Form) (class : List ℕ) (wanted : ℕ)
 -- ---- the state of the refinement
 
 -- The invariant between turns. Each number is pending or has the signature of its class.
-pub record IsUnderWay (forms : List Form) (class : List ℕ)
+pub record IsUnderWay (forms : List HeadForm) (class : List ℕ)
     (signatures members waiting : List (Vec ℕ))
     (todo : List ℕ)
     : Type 0 where
@@ -133,7 +133,8 @@ pub record IsUnderWay (forms : List Form) (class : List ℕ)
 
 -- The same invariant, except for the members of the class that is being split. They were pending or
 -- have the signature of the class.
-pub record IsOpen (forms : List Form) (class : List ℕ) (signatures members waiting : List (Vec ℕ))
+pub record IsOpen (forms : List HeadForm) (class : List ℕ)
+    (signatures members waiting : List (Vec ℕ))
     (todo waited : List ℕ)
     (parted : ℕ) : Type 0 where
   pub many : length class ≡ length forms
@@ -154,7 +155,7 @@ pub record IsOpen (forms : List Form) (class : List ℕ) (signatures members wai
   pub ready : IsReady waiting todo
 
 -- No two equal numbers are separated.
-abbrev pub PartsNoEqual : List Form → List ℕ → List ℕ → Type 0
+abbrev pub PartsNoEqual : List HeadForm → List ℕ → List ℕ → Type 0
 PartsNoEqual forms old new =
     (all : List (HeadOf ℕ)) → AreForms all forms → PartsBelow (length all) (head_at all)
     → KeepsTogether (length all) (head_at all) (slice_index old)

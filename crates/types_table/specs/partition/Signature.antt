@@ -2,8 +2,8 @@
 use Rattle.std.specs.Prelude.{ℕ, ◌≡◌, ◌+◌, ◌*◌, ◌<◌, List, ◌++◌, Option, Some, None, map, Contains}
 use Rattle.std.specs.List.{AllZip}
 use Rattle.std.specs.List.Sorted.{IsStrictlyIncreasing}
-use Rattle.types_table.specs.declared.partition.form.TagForm.{TagForm}
-use Rattle.types_table.specs.declared.partition.form.Form.{Form}
+use Rattle.types_table.specs.declared.partition.head_form.TagForm.{TagForm}
+use Rattle.types_table.specs.declared.partition.head_form.HeadForm.{HeadForm}
 use Rattle.types_table.specs.declared.partition.signature.TheConstants.{WIDTH}
 
 -- `set` contains exactly the numbers of the first list, in strictly increasing order.
@@ -26,7 +26,7 @@ abbrev pub AreCodes : (ℕ → ℕ) → List TagForm → List ℕ → Type 0
 AreCodes class = AllZip (IsCode class)
 
 -- The signature: the label, the classes of the parts, and the set of the codes of the tags.
-pub record IsSignature (class : ℕ → ℕ) (form : Form) (signature : List ℕ) : Type 0 where
+pub record IsSignature (class : ℕ → ℕ) (form : HeadForm) (signature : List ℕ) : Type 0 where
   pub codes : List ℕ
   pub are : AreCodes class form.tags codes
   pub set : List ℕ

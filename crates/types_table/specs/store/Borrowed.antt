@@ -1,8 +1,8 @@
 -- Converts a node as callers read it (`TypeNode`) to a node of a type (`Node`).
-use Rattle.types_spec.specs.declared.types.ty.Node.{Node as Written}
-use Rattle.types_spec.specs.declared.types.ty.Node.TheVariants as written
-use Rattle.types_table.specs.declared.store.node.TypeNode.{TypeNode}
-use Rattle.types_table.specs.declared.store.node.TypeNode.TheVariants as borrowed
+use Rattle.types_spec.specs.declared.types.ty.TypeTreeNode.{TypeTreeNode as Written}
+use Rattle.types_spec.specs.declared.types.ty.TypeTreeNode.TheVariants as written
+use Rattle.types_table.specs.declared.store.stored_node.TypeNode.{TypeNode}
+use Rattle.types_table.specs.declared.store.stored_node.TypeNode.TheVariants as borrowed
 
 abbrev pub written_of : TypeNode → Written
 written_of (borrowed.Variable name) = written.Variable name.now

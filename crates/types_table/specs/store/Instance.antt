@@ -1,13 +1,13 @@
 -- Instances of types, computed node by node.
 use Rattle.std.specs.Prelude.{ℕ, ◌<◌, ◌≡◌, List, Option, Some, None, All, length, map, take}
 use Rattle.types_spec.specs.types.Ty.{Ty, variable, argument_for, instance}
-use Rattle.types_spec.specs.declared.types.ty.Node.{Node}
-use Rattle.types_spec.specs.declared.types.ty.Node.TheVariants as nodes
+use Rattle.types_spec.specs.declared.types.ty.TypeTreeNode.{TypeTreeNode}
+use Rattle.types_spec.specs.declared.types.ty.TypeTreeNode.TheVariants as nodes
 use Rattle.types_spec.specs.types.Nodes.{type_at, types_of, type_of_node}
 use Rattle.types_table.specs.store.Held.{Grows}
 
 -- The type of a node over the given types, with `value` applied to a variable.
-abbrev pub instance_of_node : (List ℕ → Ty) → List Ty → Node → Ty
+abbrev pub instance_of_node : (List ℕ → Ty) → List Ty → TypeTreeNode → Ty
 instance_of_node value types (nodes.Variable name) = value name
 instance_of_node value types node = type_of_node types node
 
@@ -21,7 +21,8 @@ type_or_variable types name (Some number) = type_at types number
 type_or_variable types name None = variable name
 
 -- `numbers` are the numbers of the instances of the first `k` nodes, and `types` extends `old`.
-pub record AreInstances (old types : List Ty) (value : List ℕ → Ty) (all : List Node) (k : ℕ)
+pub record AreInstances (old types : List Ty) (value : List ℕ → Ty) (all : List TypeTreeNode)
+    (k : ℕ)
     (numbers : List ℕ) : Type 0 where
   pub grown : Grows old types
   pub below : All (λ i. i < length types) numbers

@@ -7,7 +7,7 @@ ghost use Rattle.types_table.specs.partition.Users.{AreUsers};
 ghost use Rattle.types_table.specs.partition.Start.{IsUnderWayAt, IsParted};
 ghost use Rattle.types_table.specs.partition.Found.{AreClasses};
 
-use crate::partition::form::{Form, forms_of};
+use crate::partition::head_form::{HeadForm, forms_of};
 use crate::partition::refinement::{Refinement, turn};
 use crate::partition::users::users_of;
 use base_data::model::Memory;
@@ -27,7 +27,7 @@ pub fn classes(alloc: Global, all: &[HeadOf<usize>]) -> Result<Vec<usize>, Memor
 }
 
 /// Refines the classes until no number is pending.
-fn parted(alloc: Global, forms: &[Form], users: &[Vec<usize>]) -> Result<Vec<usize>, Memory>
+fn parted(alloc: Global, forms: &[HeadForm], users: &[Vec<usize>]) -> Result<Vec<usize>, Memory>
     requires { AreUsers forms.now users.now }
     ensures { IfOk result (λ class. IsParted forms.now class.items) }
 {
@@ -59,7 +59,7 @@ fn class_of(refinement: Refinement) -> Vec<usize>
 }
 
 /// Creates a single class that contains all numbers, all of them pending.
-fn start(alloc: Global, forms: &[Form]) -> Result<Refinement, Memory>
+fn start(alloc: Global, forms: &[HeadForm]) -> Result<Refinement, Memory>
     ensures under_way { IfOk result (IsUnderWayAt forms.now) }
     ensures zero { IfOk result (λ p. (i : ℕ) → slice_index p.class.items i ≡ 0) }
 {

@@ -5,7 +5,7 @@ ghost use Rattle.std.specs.Prelude.{Contains};
 ghost use Rattle.types_table.specs.store.Held.{AreDistinct, Grows};
 ghost use Rattle.types_table.specs.partition.Refinement.{IsInspection, SignatureAt, IsSignatureOf};
 
-use crate::partition::form::Form;
+use crate::partition::head_form::HeadForm;
 use crate::partition::lists::of_class;
 use crate::partition::moves::positions_of;
 use crate::partition::signatures::Signatures;
@@ -26,7 +26,7 @@ pub struct Inspection {
 /// keeps the class number.
 pub fn inspect_at_few(
     alloc: Global,
-    forms: &[Form],
+    forms: &[HeadForm],
     class: &[usize],
     signatures: &[Vec<usize>],
     waiting: &[usize],
@@ -56,7 +56,7 @@ pub fn inspect_at_few(
 /// Inspects all members. The most frequent signature keeps the class number.
 pub fn inspect_at_all(
     alloc: Global,
-    forms: &[Form],
+    forms: &[HeadForm],
     class: &[usize],
     signatures: &[Vec<usize>],
     members: &[usize],

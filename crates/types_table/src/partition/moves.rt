@@ -8,7 +8,7 @@ ghost use Rattle.types_table.specs.partition.Lists.{Has, Keeps};
 ghost use Rattle.types_table.specs.partition.Refinement.{AreSigned, AreNamed, NamedSoFar, AreMoved};
 ghost use Rattle.types_table.specs.partition.Refinement.{HasMembers};
 
-use crate::partition::form::Form;
+use crate::partition::head_form::HeadForm;
 use crate::partition::lists::write;
 use crate::partition::signature::{class_at, signature_of};
 use crate::partition::signatures::Signatures;
@@ -18,7 +18,7 @@ use std::alloc::Global;
 /// Returns the index of each member's signature, and adds the signatures to `found`.
 pub fn positions_of(
     alloc: Global,
-    forms: &[Form],
+    forms: &[HeadForm],
     class: &[usize],
     inspected: &[usize],
     found: &mut Signatures,

@@ -6,7 +6,7 @@ ghost use Rattle.types_table.specs.partition.Users.{AreUsers};
 ghost use Rattle.types_table.specs.partition.Refinement.{IsInspection, IsUnderWay, PartsNoEqual};
 ghost use Rattle.types_table.specs.partition.Start.{IsUnderWayAt, IsOpenAt};
 
-use crate::partition::form::Form;
+use crate::partition::head_form::HeadForm;
 use crate::partition::inspect::{Inspection, inspect_at_all, inspect_at_few};
 use crate::partition::lists::{make_rooms, shorten, taken};
 use crate::partition::moves::{add_members, move_all, name_positions};
@@ -37,7 +37,7 @@ pub struct Refinement {
 /// member, or at most two, and one for each part of their heads.
 pub fn turn(
     alloc: Global,
-    forms: &[Form],
+    forms: &[HeadForm],
     users: &[Vec<usize>],
     refinement: &mut Refinement,
     class: usize,
@@ -94,7 +94,7 @@ fn waits_few(refinement: &Refinement, waited: &[usize], parted: usize) -> bool {
 /// Splits a class.
 fn part(
     alloc: Global,
-    forms: &[Form],
+    forms: &[HeadForm],
     users: &[Vec<usize>],
     refinement: &mut Refinement,
     waited: &[usize],
@@ -143,7 +143,7 @@ fn part(
 /// all members. In the first case the other members are the majority.
 fn inspect_at(
     alloc: Global,
-    forms: &[Form],
+    forms: &[HeadForm],
     refinement: &Refinement,
     waited: &[usize],
     parted: usize,

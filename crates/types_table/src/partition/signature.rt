@@ -3,7 +3,7 @@
 ghost use Rattle.std.specs.Prelude.{◌≡◌, ◌++◌, map, slice_index, IfOk, OnOk};
 ghost use Rattle.types_table.specs.partition.Signature.{IsSignature, AreCodes, IsCode};
 
-use crate::partition::form::{Form, TagForm};
+use crate::partition::head_form::{HeadForm, TagForm};
 use crate::partition::set::as_set;
 use base_data::model::Memory;
 use std::alloc::Global;
@@ -23,7 +23,7 @@ pub fn class_at(class: &[usize], number: usize) -> usize
 
 /// Returns the signature of a head: its label, the classes of its parts, and the codes of its tags
 /// as a set.
-pub fn signature_of(alloc: Global, class: &[usize], form: &Form) -> Result<Vec<usize>, Memory>
+pub fn signature_of(alloc: Global, class: &[usize], form: &HeadForm) -> Result<Vec<usize>, Memory>
     ensures { IfOk result (λ s. IsSignature (slice_index class.now) form.now s.items) }
 {
     let mut codes = codes_of(alloc, class, form.tags.as_slice())?;

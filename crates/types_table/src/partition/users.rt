@@ -5,13 +5,13 @@ ghost use Rattle.types_spec.specs.types.Reached.{listed_if};
 ghost use Rattle.types_table.specs.partition.Users.{AreUsers, parts_in};
 ghost use Rattle.types_table.specs.partition.Lists.{Keeps, Has};
 
-use crate::partition::form::Form;
+use crate::partition::head_form::HeadForm;
 use crate::partition::lists::{make_rooms, write};
 use base_data::model::Memory;
 use std::alloc::Global;
 
 /// Returns the users of each number.
-pub fn users_of(alloc: Global, forms: &[Form]) -> Result<Vec<Vec<usize>>, Memory>
+pub fn users_of(alloc: Global, forms: &[HeadForm]) -> Result<Vec<Vec<usize>>, Memory>
     ensures { IfOk result (λ users. AreUsers forms.now users.items) }
 {
     let mut users = Vec::new(alloc);
@@ -23,7 +23,7 @@ pub fn users_of(alloc: Global, forms: &[Form]) -> Result<Vec<Vec<usize>>, Memory
 }
 
 /// Adds `user` to the users of each part of a form.
-fn add_user(users: &mut Vec<Vec<usize>>, form: &Form, user: usize) -> Result<(), Memory>
+fn add_user(users: &mut Vec<Vec<usize>>, form: &HeadForm, user: usize) -> Result<(), Memory>
     ensures keeps { OnOk result (Keeps users.old.items users.new.items) }
     ensures added { OnOk result
         ((k : ℕ) → Contains (parts_in form.now) k → k < length users.old.items

@@ -8,13 +8,13 @@ ghost use Rattle.types_table.specs.store.Held.{Grows, Holds};
 ghost use Rattle.types_table.specs.store.Instance.{instance_of_node, argument_at, type_or_variable};
 ghost use Rattle.types_table.specs.store.Instance.{AreInstances, HoldsEach};
 
-use crate::store::types::Types;
+use crate::store::type_store::TypeStore;
 use base_data::model::Memory;
 use base_data::model::list::List;
 use std::alloc::Global;
-use types_spec::types::ty::{Node, Ty};
+use types_spec::types::ty::{Ty, TypeTreeNode};
 
-impl Types {
+impl TypeStore {
     /// Returns the number of the instance of `t` in which each parameter is replaced by its
     /// argument, and adds it if needed. Variables that are not parameters stay as they are. Takes
     /// one step for each node of the type, and for each variable one step for each parameter before
@@ -44,7 +44,7 @@ impl Types {
 
     /// Returns the number of the type of each node, and adds the types that are missing. On
     /// `Memory` the store is unchanged.
-    pub fn add_nodes(&mut self, alloc: Global, nodes: &[Node]) -> Result<Vec<usize>, Memory>
+    pub fn add_nodes(&mut self, alloc: Global, nodes: &[TypeTreeNode]) -> Result<Vec<usize>, Memory>
         requires { AreOrdered nodes.now }
         ensures ok { IfOk result
             (λ numbers. HoldsEach self.old self.new (types_of nodes.now) numbers.items) }
@@ -74,9 +74,9 @@ ghost use Rattle.types_spec.specs.types.Nodes.{type_of};
 
 /// Adds the instances of these nodes. Returns the number of the last one.
 fn grow(
-    types: &mut Types,
+    types: &mut TypeStore,
     alloc: Global,
-    nodes: &[Node],
+    nodes: &[TypeTreeNode],
     parameters: &[List<u8>],
     arguments: &[usize],
 ) -> Result<usize, Memory>
@@ -98,9 +98,9 @@ fn grow(
 
 /// Adds the instances of these nodes. Returns their numbers.
 fn numbers_of(
-    types: &mut Types,
+    types: &mut TypeStore,
     alloc: Global,
-    nodes: &[Node],
+    nodes: &[TypeTreeNode],
     parameters: &[List<u8>],
     arguments: &[usize],
 ) -> Result<Vec<usize>, Memory>
@@ -122,8 +122,8 @@ fn numbers_of(
 
 /// Adds the instance of one node. Its parts are the instances of earlier nodes.
 fn add_node(
-    types: &mut Types,
-    node: &Node,
+    types: &mut TypeStore,
+    node: &TypeTreeNode,
     numbers: &[usize],
     parameters: &[List<u8>],
     arguments: &[usize],
@@ -138,19 +138,19 @@ fn add_node(
     ensures err { OnErr result (types.new ≡ types.old) }
 {
     match node {
-        Node::Variable(name) => match argument(parameters, arguments, name.as_slice()) {
+        TypeTreeNode::Variable(name) => match argument(parameters, arguments, name.as_slice()) {
             Some(number) => Ok(number),
             None => types.add_variable(name.as_slice()),
         },
-        Node::Named(name) => types.add_named(name.as_slice()),
-        Node::Tuple => types.add_tuple(),
-        Node::Bracket => types.add_bracket(),
-        Node::Part(whole, added) => types.add_part(numbers[*whole], numbers[*added]),
-        Node::Tag(whole, name) => types.add_tag(numbers[*whole], name.as_slice()),
-        Node::TagOf(whole, name, argument) => {
+        TypeTreeNode::Named(name) => types.add_named(name.as_slice()),
+        TypeTreeNode::Tuple => types.add_tuple(),
+        TypeTreeNode::Bracket => types.add_bracket(),
+        TypeTreeNode::Part(whole, added) => types.add_part(numbers[*whole], numbers[*added]),
+        TypeTreeNode::Tag(whole, name) => types.add_tag(numbers[*whole], name.as_slice()),
+        TypeTreeNode::TagOf(whole, name, argument) => {
             types.add_tag_of(numbers[*whole], name.as_slice(), numbers[*argument])
         }
-        Node::Including(whole, included) => {
+        TypeTreeNode::Including(whole, included) => {
             types.add_including(numbers[*whole], numbers[*included])
         }
     }

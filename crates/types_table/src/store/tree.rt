@@ -4,14 +4,14 @@ ghost use Rattle.std.specs.Prelude.{◌≡◌, ◌<◌, length, IfOk};
 ghost use Rattle.types_spec.specs.types.Nodes.{type_at};
 ghost use Rattle.types_table.specs.store.Borrowed.{written_of};
 
-use crate::store::node::TypeNode;
-use crate::store::types::Types;
+use crate::store::stored_node::TypeNode;
+use crate::store::type_store::TypeStore;
 use base_data::model::Memory;
 use base_data::model::list::List;
 use std::alloc::Global;
-use types_spec::types::ty::{Node, Ty};
+use types_spec::types::ty::{Ty, TypeTreeNode};
 
-impl Types {
+impl TypeStore {
     /// Returns the type with this number as a separate tree. Takes one step for each number up to
     /// `number`.
     pub fn tree(&self, alloc: Global, number: usize) -> Result<Ty, Memory>
@@ -30,20 +30,20 @@ impl Types {
 }
 
 /// Returns a copy of the node that owns its name.
-fn written(alloc: Global, node: TypeNode<'_>) -> Result<Node, Memory>
+fn written(alloc: Global, node: TypeNode<'_>) -> Result<TypeTreeNode, Memory>
     ensures { IfOk result (λ n. n ≡ written_of node.entry) }
 {
     match node {
-        TypeNode::Variable(name) => Ok(Node::Variable(text(alloc, name)?)),
-        TypeNode::Named(name) => Ok(Node::Named(text(alloc, name)?)),
-        TypeNode::Tuple => Ok(Node::Tuple),
-        TypeNode::Bracket => Ok(Node::Bracket),
-        TypeNode::Part(whole, added) => Ok(Node::Part(whole, added)),
-        TypeNode::Tag(whole, name) => Ok(Node::Tag(whole, text(alloc, name)?)),
+        TypeNode::Variable(name) => Ok(TypeTreeNode::Variable(text(alloc, name)?)),
+        TypeNode::Named(name) => Ok(TypeTreeNode::Named(text(alloc, name)?)),
+        TypeNode::Tuple => Ok(TypeTreeNode::Tuple),
+        TypeNode::Bracket => Ok(TypeTreeNode::Bracket),
+        TypeNode::Part(whole, added) => Ok(TypeTreeNode::Part(whole, added)),
+        TypeNode::Tag(whole, name) => Ok(TypeTreeNode::Tag(whole, text(alloc, name)?)),
         TypeNode::TagOf(whole, name, argument) => {
-            Ok(Node::TagOf(whole, text(alloc, name)?, argument))
+            Ok(TypeTreeNode::TagOf(whole, text(alloc, name)?, argument))
         }
-        TypeNode::Including(whole, included) => Ok(Node::Including(whole, included)),
+        TypeNode::Including(whole, included) => Ok(TypeTreeNode::Including(whole, included)),
     }
 }
 

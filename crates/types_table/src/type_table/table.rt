@@ -3,7 +3,7 @@
 ghost use Rattle.std.specs.Prelude.{◌≡◌, ◌<◌, length, Some, slice_get, IfOk, IfSome};
 ghost use Rattle.types_spec.specs.types.TypeText.{type_text};
 
-use crate::store::Types;
+use crate::store::TypeStore;
 use crate::type_table::tabled::Tabled;
 use crate::type_table::text::text_in;
 use base_data::model::Memory;
@@ -79,7 +79,7 @@ impl TypeTable {
 
     /// Returns the store that holds the types.
     #[inline(always)]
-    pub fn store(&self) -> &Types
+    pub fn store(&self) -> &TypeStore
         ensures { result.now ≡ self.now.store }
     {
         &self.of.store

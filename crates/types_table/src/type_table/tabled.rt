@@ -1,6 +1,6 @@
 //! The contents of a table of types.
 
-use crate::store::Types;
+use crate::store::TypeStore;
 use base_data::model::list::List;
 use types_spec::types::names::Names;
 use types_spec::types::shape::ShapeOf;
@@ -10,7 +10,7 @@ use types_spec::types::shape::ShapeOf;
 #[derive(Drop)]
 pub struct Tabled {
     /// The store that holds the types.
-    pub store: Types,
+    pub store: TypeStore,
     /// The number of each type in the store.
     pub stored: List<usize>,
     /// The shape of each type. Its parts are numbers of this table.

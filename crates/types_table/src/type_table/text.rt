@@ -7,14 +7,14 @@ ghost use Rattle.types_table.specs.type_table.Texts.{is_tuple, in_parentheses, a
 ghost use Rattle.types_table.specs.type_table.Texts.{arguments_text};
 ghost use Rattle.types_table.specs.type_table.Texts.{text_of_waiting, IsWithin, IsWritten};
 
-use crate::store::{TypeNode, Types};
+use crate::store::{TypeNode, TypeStore};
 use crate::type_table::waiting::{Waiting, before_part, push_parts, stem_of, wait};
 use base_data::model::Memory;
 use base_data::model::list::List;
 use std::alloc::Global;
 
 /// Returns the text of a type of a store.
-pub(crate) fn text_in(alloc: Global, types: &Types, number: usize) -> Result<List<u8>, Memory>
+pub(crate) fn text_in(alloc: Global, types: &TypeStore, number: usize) -> Result<List<u8>, Memory>
     requires { number < length types.now }
     ensures { IfOk result (λ text. text ≡ type_text (type_at types.now number)) }
 {
@@ -35,7 +35,7 @@ pub(crate) fn text_in(alloc: Global, types: &Types, number: usize) -> Result<Lis
 fn write_next<'a>(
     text: &mut Vec<u8>,
     waiting: &mut Vec<Waiting<'a>>,
-    types: &'a Types,
+    types: &'a TypeStore,
     next: Waiting<'a>,
 ) -> Result<(), Memory>
     requires next { IsWithin types.now next }
@@ -55,7 +55,7 @@ fn write_next<'a>(
 fn write_added<'a>(
     text: &mut Vec<u8>,
     waiting: &mut Vec<Waiting<'a>>,
-    types: &'a Types,
+    types: &'a TypeStore,
     number: usize,
     asked: bool,
 ) -> Result<(), Memory>
@@ -83,7 +83,7 @@ fn write_added<'a>(
 fn write_part<'a>(
     text: &mut Vec<u8>,
     waiting: &mut Vec<Waiting<'a>>,
-    types: &'a Types,
+    types: &'a TypeStore,
     number: usize,
     asked: bool,
 ) -> Result<(), Memory>
@@ -105,7 +105,7 @@ fn write_part<'a>(
 }
 
 /// Returns true if a type is a tuple.
-fn is_tuple(types: &Types, number: usize) -> bool
+fn is_tuple(types: &TypeStore, number: usize) -> bool
     requires { number < length types.now }
     ensures { result ≡ is_tuple (type_at types.now number) }
 {
@@ -119,7 +119,7 @@ fn is_tuple(types: &Types, number: usize) -> bool
 fn write_type<'a>(
     text: &mut Vec<u8>,
     waiting: &mut Vec<Waiting<'a>>,
-    types: &'a Types,
+    types: &'a TypeStore,
     number: usize,
 ) -> Result<(), Memory>
     requires number { number < length types.now }
@@ -153,7 +153,7 @@ fn write_type<'a>(
 fn write_arguments<'a>(
     text: &mut Vec<u8>,
     waiting: &mut Vec<Waiting<'a>>,
-    types: &'a Types,
+    types: &'a TypeStore,
     number: usize,
 ) -> Result<(), Memory>
     requires number { number < length types.now }

@@ -7,7 +7,7 @@ ghost use Rattle.types_spec.specs.types.Nodes.{type_at};
 ghost use Rattle.types_table.specs.type_table.Texts.{whole_of, stem, parts_text, text_of_waiting};
 ghost use Rattle.types_table.specs.type_table.Texts.{waiting_text, IsWithin};
 
-use crate::store::{TypeNode, Types};
+use crate::store::{TypeNode, TypeStore};
 use base_data::model::Memory;
 
 /// A waiting item: bytes, or the last part of the type with this number. If the flag is set, a
@@ -35,7 +35,7 @@ pub(crate) fn wait<'a>(waiting: &mut Vec<Waiting<'a>>, next: Waiting<'a>) -> Res
 /// Pushes the parts of a type, with the bytes `between` between any two of them.
 pub(crate) fn push_parts<'a>(
     waiting: &mut Vec<Waiting<'a>>,
-    types: &Types,
+    types: &TypeStore,
     number: usize,
     between: &'static [u8],
     asked: bool,
@@ -60,7 +60,7 @@ pub(crate) fn push_parts<'a>(
 }
 
 /// Returns the number of the type's stem: the type without any of its parts.
-pub(crate) fn stem_of(types: &Types, number: usize) -> usize
+pub(crate) fn stem_of(types: &TypeStore, number: usize) -> usize
     requires { number < length types.now }
     ensures below { result < length types.now }
     ensures same { stem (type_at types.now result) ≡ stem (type_at types.now number) }
@@ -74,7 +74,7 @@ pub(crate) fn stem_of(types: &Types, number: usize) -> usize
 }
 
 /// Returns the number of the type without its last part, or `None` if it has no parts.
-pub(crate) fn before_part(types: &Types, number: usize) -> Option<usize>
+pub(crate) fn before_part(types: &TypeStore, number: usize) -> Option<usize>
     requires { number < length types.now }
     ensures is { option_map (type_at types.now) result ≡ whole_of (type_at types.now number) }
     ensures below { IfSome result (λ i. i < number) }

@@ -12,22 +12,22 @@ use Rattle.std.proofs.lemmas.Option.{same_Some, slice_get_within, slice_get_read
 use Rattle.types_spec.specs.declared.types.head.TagOf.{TagOf}
 use Rattle.types_resolve.specs.scope.Least.{IsLeast, earliest, position_if}
 use Rattle.types_resolve.proofs.scope.LeastLemmas.{Before, least_same, least_if, least_more}
-use Rattle.types_wellformed.specs.declared.brackets.item.Item.{Item}
-use Rattle.types_wellformed.specs.declared.brackets.spellings.Collision.{Collision}
+use Rattle.types_wellformed.specs.declared.brackets.tag_item.TagItem.{TagItem}
+use Rattle.types_wellformed.specs.declared.brackets.tag_names.Collision.{Collision}
 use Rattle.types_wellformed.specs.brackets.Collisions.{position_of, IsCollision, IsLeastCollision}
 use Rattle.types_wellformed.specs.brackets.Items.{ConflictsIn, CollideIn, CollidesIn, HaveOneHash}
 use Rattle.types_wellformed.specs.brackets.Sightings.{Reports}
 use Rattle.types_wellformed.specs.brackets.Tables.{ArgumentTable, arguments_at, HasArgument, AreArguments}
-use Rattle.types_wellformed.specs.brackets.Tables.{SomeConflicts, EncodingTable, spellings_at, HasEncoding}
-use Rattle.types_wellformed.specs.brackets.Tables.{AreSpellings, AreColliding}
+use Rattle.types_wellformed.specs.brackets.Tables.{SomeConflicts, EncodingTable, tag_names_at, HasEncoding}
+use Rattle.types_wellformed.specs.brackets.Tables.{AreTagNames, AreColliding}
 
 -- ---- the tags contributed so far
 
-module _ (items : List Item) where
+module _ (items : List TagItem) where
   -- One of the first `n` items contributes this tag.
   abbrev pub Brought : ℕ → TagOf ℕ → Type 0
   Brought n tag =
-      (m : ℕ) × (m < n) × (item : Item) × (slice_get items m ≡ Some item) × Contains item.tags tag
+      (m : ℕ) × (m < n) × (item : TagItem) × (slice_get items m ≡ Some item) × Contains item.tags tag
 
   -- These are the tags that the first `n` items contribute.
   pub record AreBrought (n : ℕ) (seen : List (TagOf ℕ)) : Type 0 where
@@ -41,7 +41,7 @@ module _ (items : List Item) where
   }
 
   brought_later :
-      (n : ℕ) (item : Item) (seen : List (TagOf ℕ)) (tag : TagOf ℕ)
+      (n : ℕ) (item : TagItem) (seen : List (TagOf ℕ)) (tag : TagOf ℕ)
       → slice_get items n ≡ Some item → AreBrought n seen
       → Contains seen tag ⊎ Contains item.tags tag → Brought (n + 1) tag
   brought_later n item seen tag is brought = ⊎_elim
@@ -50,18 +50,18 @@ module _ (items : List Item) where
       (λ new. (n, omega arith, item, is, new))
 
   seen_later :
-      (n : ℕ) (item : Item) (seen : List (TagOf ℕ)) (tag : TagOf ℕ)
+      (n : ℕ) (item : TagItem) (seen : List (TagOf ℕ)) (tag : TagOf ℕ)
       → slice_get items n ≡ Some item → AreBrought n seen → (b : Brought (n + 1) tag)
       → (b.0 < n) ⊎ (n ≤ b.0) → Contains (seen ++ item.tags) tag
   seen_later n item seen tag is brought b = ⊎_elim
       (λ less. Contains-append_left seen item.tags tag (brought.all tag (b.0, less, b.2, b.3, b.4)))
       (λ more. let below : b.0 < n + 1 = b.1 in
       let e : b.0 ≡ n = omega arith in
-      Contains-append_right seen item.tags tag (subst (λ (x : Item). Contains x.tags tag)
+      Contains-append_right seen item.tags tag (subst (λ (x : TagItem). Contains x.tags tag)
       (same_Some b.2 item (sym (subst (λ j. slice_get items j ≡ Some b.2) e b.3) ∙ is)) b.4))
 
   pub brought_more :
-      (n : ℕ) (item : Item) (seen : List (TagOf ℕ)) → slice_get items n ≡ Some item
+      (n : ℕ) (item : TagItem) (seen : List (TagOf ℕ)) → slice_get items n ≡ Some item
       → AreBrought n seen → AreBrought (n + 1) (seen ++ item.tags)
   brought_more n item seen is brought = record {
     there = λ tag both. brought_later n item seen tag is brought
@@ -75,12 +75,12 @@ module _ (items : List Item) where
   -- argument.
   abbrev pub ConflictAt : ℕ → ℕ → Type 0
   ConflictAt j k =
-      (item : Item) × (slice_get items j ≡ Some item) × (item.position ≡ k)
+      (item : TagItem) × (slice_get items j ≡ Some item) × (item.position ≡ k)
       × (tag : TagOf ℕ) × Contains item.tags tag × (argument : Option ℕ)
       × Brought j (record { name = tag.name; argument = argument }) × (argument ≢ tag.argument)
 
   conflict_at :
-      (j : ℕ) (item : Item) (seen : List (TagOf ℕ)) (test : Bool) → slice_get items j ≡ Some item
+      (j : ℕ) (item : TagItem) (seen : List (TagOf ℕ)) (test : Bool) → slice_get items j ≡ Some item
       → AreBrought j seen → IsTrue test ↔ SomeConflicts seen item.tags
       → IsLeast (ConflictAt j) (position_if test item.position)
   conflict_at j item seen test is brought says =
@@ -98,10 +98,10 @@ module _ (items : List Item) where
         conflict.2.2,
       ))
       (λ k at. let same : item ≡ at.0 = same_Some item at.0 (sym is ∙ at.1) in (
-        ap (λ (x : Item). x.position) same ∙ at.2,
+        ap (λ (x : TagItem). x.position) same ∙ at.2,
         (
           at.3,
-          subst (λ (x : Item). Contains x.tags at.3) (sym same) at.4,
+          subst (λ (x : TagItem). Contains x.tags at.3) (sym same) at.4,
           (at.5, brought.all (record { name = at.3.name; argument = at.5 }) at.6, at.7),
         ),
       ))
@@ -126,7 +126,7 @@ module _ (items : List Item) where
   }
 
   pub more_conflicts :
-      (n : ℕ) (item : Item) (table later : ArgumentTable) (best : Option ℕ) (test : Bool)
+      (n : ℕ) (item : TagItem) (table later : ArgumentTable) (best : Option ℕ) (test : Bool)
       (found next : Option ℕ) → n < length items → item ≡ get_or items n item
       → AreConflictsBefore n table best
       → ((seen : List (TagOf ℕ)) → AreArguments seen table → IsTrue test ↔ SomeConflicts seen item.tags)
@@ -202,7 +202,7 @@ module _ (items : List Item) where
   -- contributes a tag with the other name.
   abbrev pub CollisionAt : ℕ → ℕ → List ℕ → List ℕ → Type 0
   CollisionAt j k one_name other_name =
-      (item : Item) × (slice_get items j ≡ Some item) × (item.position ≡ k)
+      (item : TagItem) × (slice_get items j ≡ Some item) × (item.position ≡ k)
       × (one other : TagOf ℕ) × Brought (j + 1) one × Contains item.tags other
       × HaveOneHash one other one_name other_name
 
@@ -210,19 +210,19 @@ module _ (items : List Item) where
   SomeCollisionAt j k = (one other : List ℕ) × CollisionAt j k one other
 
   -- The collision found at an item.
-  abbrev pub Finds : List (TagOf ℕ) → Item → Option Collision → Type 0
+  abbrev pub Finds : List (TagOf ℕ) → TagItem → Option Collision → Type 0
   Finds seen item found =
       MatchOption found ((one other : List ℕ) → ¬ AreColliding seen item.tags one other)
       (λ c. (c.position ≡ item.position) × AreColliding seen item.tags c.one.now c.other.now)
 
   collision_at :
-      (j : ℕ) (item : Item) (seen : List (TagOf ℕ)) (found : Option Collision)
+      (j : ℕ) (item : TagItem) (seen : List (TagOf ℕ)) (found : Option Collision)
       → slice_get items j ≡ Some item → AreBrought (j + 1) seen → Finds seen item found
       → IsLeast (SomeCollisionAt j) (position_of found)
   collision_at j item seen None is brought none = λ k at.
       let a = at.2 in
       let same : item ≡ a.0 = same_Some item a.0 (sym is ∙ a.1) in
-      none at.0 at.1 (a.3, a.4, brought.all a.3 a.5, subst (λ (x : Item). Contains x.tags a.4) (sym same) a.6, a.7)
+      none at.0 at.1 (a.3, a.4, brought.all a.3 a.5, subst (λ (x : TagItem). Contains x.tags a.4) (sym same) a.6, a.7)
   collision_at j item seen (Some c) is brought finds = (
     (
       c.one.now,
@@ -240,7 +240,7 @@ module _ (items : List Item) where
     ),
     λ k less at. let a = at.2 in
         let same : item ≡ a.0 = same_Some item a.0 (sym is ∙ a.1) in
-        let e : c.position ≡ k = finds.0 ∙ ap (λ (x : Item). x.position) same ∙ a.2 in absurd (omega arith),
+        let e : c.position ≡ k = finds.0 ∙ ap (λ (x : TagItem). x.position) same ∙ a.2 in absurd (omega arith),
   )
 
   in_items :
@@ -265,7 +265,7 @@ module _ (items : List Item) where
       )
 
   names_at :
-      (j : ℕ) (item : Item) (seen : List (TagOf ℕ)) (found : Option Collision)
+      (j : ℕ) (item : TagItem) (seen : List (TagOf ℕ)) (found : Option Collision)
       → slice_get items j ≡ Some item → AreBrought (j + 1) seen → Finds seen item found
       → IfSome found (IsCollision items)
   names_at j item seen None is brought finds = tt
@@ -286,12 +286,12 @@ module _ (items : List Item) where
       : Type 0 where
     pub seen : List (TagOf ℕ)
     pub brought : AreBrought n seen
-    pub reports : AreSpellings seen table
+    pub reports : AreTagNames seen table
     pub least : IsLeast (Before SomeCollisionAt n) (position_of best)
     pub names : IfSome best (IsCollision items)
 
   pub no_collisions :
-      (table : EncodingTable) → ((h : ℤ) → spellings_at table h ≡ None)
+      (table : EncodingTable) → ((h : ℤ) → tag_names_at table h ≡ None)
       → AreCollisionsBefore 0 table None
   no_collisions table empty = record {
     seen = [];
@@ -303,10 +303,10 @@ module _ (items : List Item) where
   }
 
   pub more_collisions :
-      (n : ℕ) (item : Item) (table later : EncodingTable) (best found next : Option Collision)
+      (n : ℕ) (item : TagItem) (table later : EncodingTable) (best found next : Option Collision)
       → n < length items → item ≡ get_or items n item → AreCollisionsBefore n table best
-      → ((seen : List (TagOf ℕ)) → AreSpellings seen table → AreSpellings (seen ++ item.tags) later)
-      → ((seen : List (TagOf ℕ)) → AreSpellings seen later → Finds seen item found)
+      → ((seen : List (TagOf ℕ)) → AreTagNames seen table → AreTagNames (seen ++ item.tags) later)
+      → ((seen : List (TagOf ℕ)) → AreTagNames seen later → Finds seen item found)
       → position_of next ≡ earliest (position_of best) (position_of found)
       → (next ≡ best) ⊎ (next ≡ found) → AreCollisionsBefore (n + 1) later next
   more_collisions n item table later best found next below read before added says is either =

@@ -26,7 +26,7 @@ use Rattle.types_spec.specs.declared.types.head.TagOf.{TagOf}
 use Rattle.types_wellformed.specs.brackets.Sightings.{with_value, other_value}
 use Rattle.types_wellformed.specs.brackets.Tables.{ArgumentTable, arguments_at, HasArgument, AreArguments}
 use Rattle.types_wellformed.specs.brackets.Tables.{ConflictsWith, SomeConflicts}
-use Rattle.types_wellformed.specs.brackets.Tables.{EncodingTable, spellings_at, HasEncoding, AreSpellings}
+use Rattle.types_wellformed.specs.brackets.Tables.{EncodingTable, tag_names_at, HasEncoding, AreTagNames}
 use Rattle.types_wellformed.specs.brackets.Tables.{AreColliding}
 use Rattle.types_wellformed.proofs.brackets.SightingLemmas.{reports_added, other_says}
 
@@ -135,19 +135,19 @@ some_conflict seen tags i tag (Some a) below read says there =
 
 -- ---- names
 
-pub spellings_added :
+pub tag_names_added :
     (seen : List (TagOf ℕ)) (tag : TagOf ℕ) (before after : EncodingTable) (text : Bor (List ℕ))
     (h : ℤ) → text.now ≡ tag.name → h ≡ tag_hash text.now
-    → ((q : ℤ) → spellings_at after q ≡ cond (is_eq (int_cmp h q))
-    (Some (with_value (λ (a b : Bor (List ℕ)). bytes_eq a.now b.now) (spellings_at before h) text))
-    (spellings_at before q))
-    → AreSpellings seen before → AreSpellings (seen ++ tag ∷ []) after
-spellings_added seen tag before after text h is hashed added reports =
+    → ((q : ℤ) → tag_names_at after q ≡ cond (is_eq (int_cmp h q))
+    (Some (with_value (λ (a b : Bor (List ℕ)). bytes_eq a.now b.now) (tag_names_at before h) text))
+    (tag_names_at before q))
+    → AreTagNames seen before → AreTagNames (seen ++ tag ∷ []) after
+tag_names_added seen tag before after text h is hashed added reports =
     reports_added (λ (v : Bor (List ℕ)). v.now) (λ (a b : Bor (List ℕ)). bytes_eq a.now b.now)
     (λ a b. bytes_eq-Decides a.now b.now)
     h (λ q. is_eq (int_cmp h q)) (hash_is h)
     (HasEncoding seen) (HasEncoding (seen ++ tag ∷ [])) text
-    (spellings_at before) (spellings_at after) reports added
+    (tag_names_at before) (tag_names_at after) reports added
     (λ q n some. (some.0, Contains-append_left seen (tag ∷ []) some.0 some.1, some.2, some.3))
     (λ q n next. ⊎_elim (λ old. inl (next.0, old, next.2, next.3))
     (λ e. let named : text.now ≡ n = is ∙ ap (λ (t : TagOf ℕ). t.name) e ∙ next.2 in
@@ -158,15 +158,15 @@ spellings_added seen tag before after text h is hashed added reports =
 pub encoding_says :
     (seen : List (TagOf ℕ)) (table : EncodingTable) (text : Bor (List ℕ)) (h : ℤ)
     (found : Option (Bor (List ℕ)))
-    → found ≡ other_value (λ (a b : Bor (List ℕ)). bytes_eq a.now b.now) (spellings_at table h) text
-    → AreSpellings seen table
+    → found ≡ other_value (λ (a b : Bor (List ℕ)). bytes_eq a.now b.now) (tag_names_at table h) text
+    → AreTagNames seen table
     → MatchOption found ((n : List ℕ) → HasEncoding seen h n → n ≡ text.now)
     (λ v. HasEncoding seen h v.now × (v.now ≢ text.now))
 encoding_says seen table text h found found_is reports =
     subst (λ o. MatchOption o ((n : List ℕ) → HasEncoding seen h n → n ≡ text.now)
     (λ v. HasEncoding seen h v.now × (v.now ≢ text.now))) (sym found_is)
     (other_says (λ (v : Bor (List ℕ)). v.now) (λ (a b : Bor (List ℕ)). bytes_eq a.now b.now)
-    (λ a b. bytes_eq-Decides a.now b.now) (HasEncoding seen h) text (spellings_at table h) (reports h))
+    (λ a b. bytes_eq-Decides a.now b.now) (HasEncoding seen h) text (tag_names_at table h) (reports h))
 
 -- If the first `i` tags have no collision and the hash of the next one has no other name, then the
 -- first `i` + 1 tags have none.

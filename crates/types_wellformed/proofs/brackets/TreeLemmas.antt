@@ -14,8 +14,8 @@ use Rattle.types_spec.specs.types.Scope.{tags_of_item, HasTags, ConflictsAt, Has
 use Rattle.types_spec.specs.types.Table.{tag_with_part}
 use Rattle.types_resolve.specs.scope.Least.{IsLeast}
 use Rattle.types_resolve.proofs.scope.LeastLemmas.{least_same}
-use Rattle.types_wellformed.specs.declared.brackets.item.Item.{Item}
-use Rattle.types_wellformed.specs.declared.brackets.spellings.Collision.{Collision}
+use Rattle.types_wellformed.specs.declared.brackets.tag_item.TagItem.{TagItem}
+use Rattle.types_wellformed.specs.declared.brackets.tag_names.Collision.{Collision}
 use Rattle.types_wellformed.specs.brackets.Collisions.{position_of, IsCollision, IsLeastCollision}
 use Rattle.types_wellformed.specs.brackets.Items.{Brings, ConflictsIn, CollideIn, CollidesIn, HaveOneHash}
 use Rattle.types_wellformed.specs.brackets.Trees.{typed_item, written_item, AreItems, NamesHashAt}
@@ -109,7 +109,7 @@ module _ (types : List Ty) where
 
   -- ---- items
 
-  module _ (decls : List Decl) (items : List Item) (all : List PlacedItem) (are : AreItems types decls items all) where
+  module _ (decls : List Decl) (items : List TagItem) (all : List PlacedItem) (are : AreItems types decls items all) where
     -- If tags are contributed by number, then tags of the text are contributed.
     to_written :
         (k i j : ℕ) (one other : TagOf ℕ) → Brings items k i j one other

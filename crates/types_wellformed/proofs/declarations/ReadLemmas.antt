@@ -9,8 +9,8 @@ use Rattle.types_spec.specs.types.Scope.{Rule, IsFirst}
 use Rattle.types_spec.specs.declared.types.decl.Decl.{Decl}
 use Rattle.types_parse.specs.grammar.Grammar.{Kinds, FileTree, file_kinds, Texpr, texpr}
 use Rattle.types_parse.specs.grammar.Refusals.{IsText, text_read, syntax_at, too_deep_at}
-use Rattle.types_parse.specs.declared.parse.refused.Fault.{Fault}
-use Rattle.types_parse.specs.declared.parse.refused.Fault.TheVariants as parser
+use Rattle.types_parse.specs.declared.parse.refused.ParseFault.{ParseFault}
+use Rattle.types_parse.specs.declared.parse.refused.ParseFault.TheVariants as parser
 use Rattle.types_parse.specs.grammar.Lexemes.{kinds_of}
 use Rattle.types_parse.specs.parse.Parsed.{byte_of, IsFault}
 use Rattle.types_parse.specs.parse.Written.{declarations_of, type_of_texpr}
@@ -40,7 +40,7 @@ module _ {Tree : Type 0} (encoded : Tree → Kinds) (ends : Tree → List ℕ) (
 
   module _ (lexemes : List Lexeme) (lexes : Lexes text lexemes) where
     pub grammar_refuses :
-        (fault : Fault) → IsFault encoded ends (kinds_of lexemes) fault
+        (fault : ParseFault) → IsFault encoded ends (kinds_of lexemes) fault
         → IsRefused (IsAnswer encoded ends Breaks text) (parsed lexemes (length text) fault)
     grammar_refuses (parser.Syntax k) is = (Ok lexemes, lexes, (syntax_at k, is, refl))
     grammar_refuses (parser.TooDeep k) is = (Ok lexemes, lexes, (too_deep_at k, is, refl))

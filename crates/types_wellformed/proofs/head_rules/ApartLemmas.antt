@@ -20,12 +20,12 @@ use Rattle.types_spec.specs.types.Head.{has_tag, with_tags, tags_in, bare_tag, c
 use Rattle.types_spec.specs.types.Table.{tag_with_part}
 use Rattle.std.specs.Borrow.{Bor}
 use Rattle.base_data.proofs.model.Lists.{slice_get-last, AllByRecursion-append, AllByRecursion-filter, AllByRecursion-Contains}
-use Rattle.types_table.specs.declared.store.node.TypeNode.{TypeNode}
-use Rattle.types_table.specs.declared.store.node.TypeNode.TheVariants as borrowed
+use Rattle.types_table.specs.declared.store.stored_node.TypeNode.{TypeNode}
+use Rattle.types_table.specs.declared.store.stored_node.TypeNode.TheVariants as borrowed
 use Rattle.types_table.specs.store.Held.{Grows}
 use Rattle.types_table.specs.store.Borrowed.{written_of}
 use Rattle.types_table.proofs.store.HeldLemmas.{Grows-none, there_kept}
-use Rattle.types_wellformed.specs.declared.brackets.item.Item.{Item}
+use Rattle.types_wellformed.specs.declared.brackets.tag_item.TagItem.{TagItem}
 use Rattle.types_wellformed.specs.brackets.Items.{Brings}
 use Rattle.types_wellformed.specs.head_rules.Apart.{is_closed, ReportsClosed, EachTag, alone, IsListed, AreListed, HasBody, NoneConflict, AreApart, StandApart}
 
@@ -187,7 +187,7 @@ argument_same types a b t u same at_a at_b = all_same t u (sym at_a ∙ ap (opti
     all_same (Some t) None e = absurd (none-some (Some t) (sym e))
     all_same (Some t) (Some u) e = same_Some (Some t) (Some u) e
 
-module _ (types : List Ty) (items : List Item) (none : NoneConflict items) where
+module _ (types : List Ty) (items : List TagItem) (none : NoneConflict items) where
   brings : (i j : ℕ) (one other : TagOf ℕ) → slice_get items i ≡ Some (alone one) → slice_get items j ≡ Some (alone other) → Brings items 0 i j one other
   brings i j one other at_i at_j = record {
     first = alone one;
@@ -201,7 +201,7 @@ module _ (types : List Ty) (items : List Item) (none : NoneConflict items) where
 
   same_alone : (one other : TagOf ℕ) → alone one ≡ alone other → one ≡ other
   same_alone one other e =
-      let tags : one ∷ [] ≡ other ∷ [] = ap (λ (i : Item). i.tags) e in
+      let tags : one ∷ [] ≡ other ∷ [] = ap (λ (i : TagItem). i.tags) e in
       cc
 
   same_position : (i j : ℕ) (one other : TagOf ℕ) → slice_get items i ≡ Some (alone one) → slice_get items j ≡ Some (alone other) → i ≡ j → one ≡ other
@@ -268,7 +268,7 @@ module _ (types : List Ty) (items : List Item) (none : NoneConflict items) where
 
 -- ---- all types
 
-module _ (decls : List Decl) (types : List Ty) (items : List Item) where
+module _ (decls : List Decl) (types : List Ty) (items : List TagItem) where
   pub all_apart : All (HasBody types) decls → AreListed types items (length types) → NoneConflict items → StandApart decls types
   all_apart bodies each none i j one other in_i in_j among_i among_j =
       listed_apart types items none one other (bring i in_i one among_i) (bring j in_j other among_j)
@@ -298,7 +298,7 @@ pub known_true : (types : List Ty) (known : List Bool) (n : ℕ) → ReportsClos
 known_true types known n reports below read =
     sym (get_or_from_slice_get known n (is_closed (type_at types n)) false (reports n below)) ∙ read
 
-listed_kept : (types : List Ty) (old new : List Item) → Grows old new → (x : TagOf Ty) → IsListed types old x → IsListed types new x
+listed_kept : (types : List Ty) (old new : List TagItem) → Grows old new → (x : TagOf Ty) → IsListed types old x → IsListed types new x
 listed_kept types old new grown x p = record {
   index = p.index;
   number = p.number;
@@ -307,7 +307,7 @@ listed_kept types old new grown x p = record {
   closed = p.closed;
 }
 
-listed_next : (types : List Ty) (old new : List Item) (n : ℕ) → Grows old new → AreListed types old n → EachTag (IsListed types new) (type_at types n) → AreListed types new (n + 1)
+listed_next : (types : List Ty) (old new : List TagItem) (n : ℕ) → Grows old new → AreListed types old n → EachTag (IsListed types new) (type_at types n) → AreListed types new (n + 1)
 listed_next types old new n grown each here j below = ⊎_elim
     (λ same. subst (λ k. EachTag (IsListed types new) (type_at types k)) (sym same) here)
     (λ apart. ⊎_elim
@@ -317,10 +317,10 @@ listed_next types old new n grown each here j below = ⊎_elim
     (cases_order j n)
 
 -- If the node of a type is not a tag, then the list of tags stays the same.
-other_next : (types : List Ty) (items : List Item) (n : ℕ) → AreListed types items n → EachTag (IsListed types items) (type_at types n) → AreListed types items (n + 1)
+other_next : (types : List Ty) (items : List TagItem) (n : ℕ) → AreListed types items n → EachTag (IsListed types items) (type_at types n) → AreListed types items (n + 1)
 other_next types items n each here = listed_next types items items n (Grows-none items) each here
 
-pub other_listed : (types : List Ty) (items : List Item) (n : ℕ) (node : TypeNode) → slice_get types n ≡ Some (type_of_node types (written_of node)) → IsBelow n (written_of node)
+pub other_listed : (types : List Ty) (items : List TagItem) (n : ℕ) (node : TypeNode) → slice_get types n ≡ Some (type_of_node types (written_of node)) → IsBelow n (written_of node)
     → ((w : ℕ) (x : Bor (List ℕ)) → node ≡ borrowed.Tag w x → ⊥) → ((w : ℕ) (x : Bor (List ℕ)) (a : ℕ) → node ≡ borrowed.TagOf w x a → ⊥)
     → AreListed types items n → AreListed types items (n + 1)
 other_listed types items n node is below no_tag no_tag_of each =
@@ -337,7 +337,7 @@ other_listed types items n node is below no_tag no_tag_of each =
     by (borrowed.TagOf w x a) low no_tag no_tag_of = absurd (no_tag_of w x a refl)
     by (borrowed.Including w u) low no_tag no_tag_of = (each w low.0, each u low.1)
 
-last_listed : (types : List Ty) (old new : List Item) (x : TagOf Ty) (number : TagOf ℕ) → new ≡ old ++ alone number ∷ []
+last_listed : (types : List Ty) (old new : List TagItem) (x : TagOf Ty) (number : TagOf ℕ) → new ≡ old ++ alone number ∷ []
     → tag_with_part (slice_get types) number ≡ tag_with_part (λ (t : Ty). Some t) x → IfSome x.argument (λ a. is_closed a ≡ true) → IsListed types new x
 last_listed types old new x number is same closed = record {
   index = length old;
@@ -347,7 +347,7 @@ last_listed types old new x number is same closed = record {
   closed = closed;
 }
 
-pub tag_listed : (types : List Ty) (old new : List Item) (n w : ℕ) (name : List ℕ) → slice_get types n ≡ Some (tag (type_at types w) name) → w < n
+pub tag_listed : (types : List Ty) (old new : List TagItem) (n w : ℕ) (name : List ℕ) → slice_get types n ≡ Some (tag (type_at types w) name) → w < n
     → new ≡ old ++ alone (record { name = name; argument = None }) ∷ [] → AreListed types old n → AreListed types new (n + 1)
 tag_listed types old new n w name at below is each =
     let grown = push_grows old new (alone (record { name = name; argument = None })) is in
@@ -357,7 +357,7 @@ tag_listed types old new n w name at below is each =
       last_listed types old new (bare_tag name) (record { name = name; argument = None }) is refl tt,
     ))
 
-pub tag_of_listed : (types : List Ty) (old new : List Item) (n w a : ℕ) (name : List ℕ) → slice_get types n ≡ Some (tag_of (type_at types w) name (type_at types a)) → w < n → a < length types
+pub tag_of_listed : (types : List Ty) (old new : List TagItem) (n w a : ℕ) (name : List ℕ) → slice_get types n ≡ Some (tag_of (type_at types w) name (type_at types a)) → w < n → a < length types
     → new ≡ old ++ alone (record { name = name; argument = Some a }) ∷ [] → is_closed (type_at types a) ≡ true → AreListed types old n → AreListed types new (n + 1)
 tag_of_listed types old new n w a name at below inside is closed each =
     let grown = push_grows old new (alone (record { name = name; argument = Some a })) is in

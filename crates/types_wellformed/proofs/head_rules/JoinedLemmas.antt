@@ -15,8 +15,8 @@ use Rattle.types_resolve.specs.scope.Least.{IsLeast}
 use Rattle.types_resolve.proofs.scope.LeastLemmas.{least_same}
 use Rattle.types_table.specs.store.Held.{Grows}
 use Rattle.types_table.proofs.store.HeldLemmas.{there_kept}
-use Rattle.types_wellformed.specs.declared.brackets.item.Item.{Item}
-use Rattle.types_wellformed.specs.declared.brackets.spellings.Collision.{Collision}
+use Rattle.types_wellformed.specs.declared.brackets.tag_item.TagItem.{TagItem}
+use Rattle.types_wellformed.specs.declared.brackets.tag_names.Collision.{Collision}
 use Rattle.types_wellformed.specs.brackets.Items.{ConflictsIn}
 use Rattle.types_wellformed.specs.declared.head_rules.broken.HeadBreak.{HeadBreak}
 use Rattle.types_wellformed.specs.declared.head_rules.broken.HeadBreak.TheVariants as breaks
@@ -32,7 +32,7 @@ use Rattle.types_build.proofs.representation.NearerLemmas.{type_kept}
 
 -- ---- tags
 
-module _ (tagged : List (List Item)) where
+module _ (tagged : List (List TagItem)) where
   -- No rule other than those on tags is broken.
   before_conflict : (other : Rule) → 7 ≤ turn other → turn other < 8 → (j : ℕ) → ¬ TagsBreak tagged other j
   before_conflict = of_late (λ r. turn r < 8 → (j : ℕ) → ¬ TagsBreak tagged r j)
@@ -86,7 +86,7 @@ module _ (decls : List Decl) (types : List Ty) (brackets : List (List NumberedIt
       (variant_least (Some position) least) (λ other late before. absurd (omega arith)) tt
 
   pub tags_first :
-      (now new : List Ty) (tagged : List (List Item)) (found : Option HeadBreak) → Grows types now
+      (now new : List Ty) (tagged : List (List TagItem)) (found : Option HeadBreak) → Grows types now
       → AreAllWithin types brackets → IsLeast (SomeBreaks brackets (ItemsInclude decls types)) None
       → AreTagged new decls tagged (brackets_at now brackets)
       → IsFirstOfHeads (TagsBreak tagged) (CollideAmong tagged) found

@@ -3,16 +3,16 @@ use Rattle.std.proofs.Common.{ℕ, ◌<◌, ◌≤◌, ◌+◌, ◌≡◌, ◌�
 use Rattle.std.specs.Prelude.{Contains, All, IfSome}
 use Rattle.std.proofs.lemmas.List.{map-append, take_more, take_all}
 use Rattle.std.proofs.lemmas.List.Elements.{All-push, All-contains}
-use Rattle.types_wellformed.specs.declared.brackets.item.Item.{Item}
-use Rattle.types_wellformed.specs.declared.brackets.spellings.Collision.{Collision}
+use Rattle.types_wellformed.specs.declared.brackets.tag_item.TagItem.{TagItem}
+use Rattle.types_wellformed.specs.declared.brackets.tag_names.Collision.{Collision}
 use Rattle.types_wellformed.specs.brackets.Collisions.{IsCollision}
 use Rattle.types_wellformed.specs.head_rules.Rules.{CollideAmong}
 
 -- ---- tags with the same hash
 
-module _ (brackets : List (List Item)) where
+module _ (brackets : List (List TagItem)) where
   names_among :
-      (items : List Item) (found : Option Collision) → Contains brackets items → IfSome found (IsCollision items)
+      (items : List TagItem) (found : Option Collision) → Contains brackets items → IfSome found (IsCollision items)
       → IfSome found (λ c. CollideAmong brackets c.position c.one.now c.other.now)
   names_among items None among names = tt
   names_among items (Some c) among names = (items, among, names)
@@ -22,7 +22,7 @@ module _ (brackets : List (List Item)) where
 
   -- The invariant after one more iteration of the loop over brackets.
   pub more_names :
-      (i : ℕ) (items : List Item) (best found next : Option Collision) → i < length brackets
+      (i : ℕ) (items : List TagItem) (best found next : Option Collision) → i < length brackets
       → items ≡ get_or brackets i items → (next ≡ best) ⊎ (next ≡ found) → AreNamedAmong best
       → IfSome found (IsCollision items) → AreNamedAmong next
   more_names i items best found next below read either so_far here = ⊎_elim

@@ -8,8 +8,8 @@ use Rattle.std.proofs.lemmas.Option.{get_or_from_slice_get}
 use Rattle.std.proofs.lemmas.Option.{slice_get-get_or, slice_get_read}
 use Rattle.std.proofs.lemmas.Result.{IfOk-weaker}
 use Rattle.types_spec.specs.types.Ty.{Ty, tuple, bracket, tag, tag_of, including}
-use Rattle.types_spec.specs.declared.types.ty.Node.{Node}
-use Rattle.types_spec.specs.declared.types.ty.Node.TheVariants as nodes
+use Rattle.types_spec.specs.declared.types.ty.TypeTreeNode.{TypeTreeNode}
+use Rattle.types_spec.specs.declared.types.ty.TypeTreeNode.TheVariants as nodes
 use Rattle.types_spec.specs.types.Nodes.{type_at, types_of, type_of_node, IsBelow, AreOrdered}
 use Rattle.types_spec.specs.types.Occurrence.{PlacedItem}
 use Rattle.types_spec.proofs.types.NodeLemmas.{types_of-length, types_of-at}
@@ -95,7 +95,7 @@ brackets_turn types new tree out next brackets k inside e items all grown below 
 
 -- ---- the item that a node adds
 
-module _ (types : List Ty) (all : List Node) (ordered : AreOrdered all) (numbers : List ℕ)
+module _ (types : List Ty) (all : List TypeTreeNode) (ordered : AreOrdered all) (numbers : List ℕ)
     (has : HasNumbers types (types_of all) numbers) where
   many : length numbers ≡ length all
   many = numbers_many types (types_of all) numbers has ∙ types_of-length all
@@ -111,7 +111,7 @@ module _ (types : List Ty) (all : List Node) (ordered : AreOrdered all) (numbers
       number_there types (types_of all) numbers i (get_or numbers i 0) has
       (slice_get-get_or numbers i 0 (number_below i below))
 
-  module _ (n : ℕ) (node : Node) (below : n < length all) (read : node ≡ get_or all n node) where
+  module _ (n : ℕ) (node : TypeTreeNode) (below : n < length all) (read : node ≡ get_or all n node) where
     there : slice_get all n ≡ Some node
     there = slice_get_read all (length all) n node refl below read
 
@@ -119,11 +119,11 @@ module _ (types : List Ty) (all : List Node) (ordered : AreOrdered all) (numbers
     at = get_or_from_slice_get (types_of all) n (type_of_node (types_of all) node) tuple
         (types_of-at all n node ordered there)
 
-    part_below : (other : Node) → node ≡ other → IsBelow n other
+    part_below : (other : TypeTreeNode) → node ≡ other → IsBelow n other
     part_below other is = subst (IsBelow n) is (ordered n node there)
 
     item_is :
-        (other : Node) → node ≡ other
+        (other : TypeTreeNode) → node ≡ other
         → item_of (type_at (types_of all) n) ≡ item_of (type_of_node (types_of all) other)
     item_is other is = ap item_of (at ∙ ap (type_of_node (types_of all)) is)
 
@@ -157,7 +157,7 @@ module _ (types : List Ty) (all : List Node) (ordered : AreOrdered all) (numbers
     other_item no_tag no_tag_of no_including =
         slice_get-get_or types (get_or numbers n 0) tuple (entry_below n below)
         ∙ ap Some (entry_is n below ∙ itself node refl) where
-          itself : (other : Node) → node ≡ other → type_at (types_of all) n ≡ item_of (type_at (types_of all) n)
+          itself : (other : TypeTreeNode) → node ≡ other → type_at (types_of all) n ≡ item_of (type_at (types_of all) n)
           itself (nodes.Variable x) is = at ∙ ap (type_of_node (types_of all)) is ∙ sym (item_is (nodes.Variable x) is)
           itself (nodes.Named x) is = at ∙ ap (type_of_node (types_of all)) is ∙ sym (item_is (nodes.Named x) is)
           itself nodes.Tuple is = at ∙ ap (type_of_node (types_of all)) is ∙ sym (item_is nodes.Tuple is)
@@ -168,7 +168,7 @@ module _ (types : List Ty) (all : List Node) (ordered : AreOrdered all) (numbers
           itself (nodes.Including w u) is = absurd (no_including w u is)
 
 -- If the node does not exist, then there is no item.
-pub none_item : (all : List Node) (n : ℕ) → length all ≤ n → tuple ≡ item_of (type_at (types_of all) n)
+pub none_item : (all : List TypeTreeNode) (n : ℕ) → length all ≤ n → tuple ≡ item_of (type_at (types_of all) n)
 none_item all n past =
     let long = types_of-length all in
     let at : type_at (types_of all) n ≡ tuple = get_or_past (types_of all) n tuple (omega arith) in

@@ -15,7 +15,7 @@ use Rattle.types_spec.specs.types.Scope.{Rule, turn, not_variant, tag_clash, has
 use Rattle.types_spec.specs.types.Table.{tag_with_part, head_with_parts}
 use Rattle.types_table.specs.store.Held.{Grows}
 use Rattle.types_table.proofs.store.HeldLemmas.{there_kept}
-use Rattle.types_wellformed.specs.declared.brackets.item.Item.{Item}
+use Rattle.types_wellformed.specs.declared.brackets.tag_item.TagItem.{TagItem}
 use Rattle.types_wellformed.specs.brackets.Trees.{typed_item, written_item, AreItems}
 use Rattle.types_wellformed.proofs.brackets.TreeLemmas.{in_both, conflict_written, conflict_numbered, hash_written, hash_numbered, names_written}
 use Rattle.types_wellformed.specs.declared.head_rules.item.NumberedItem.{NumberedItem}
@@ -94,7 +94,7 @@ map_kept {X} {Y} {Z} f g h kept (x ∷ xs) (y ∷ ys) same =
     ap (λ z. z ∷ map g xs) (kept x y first) ∙ ap (λ zs. h y ∷ zs) (map_kept f g h kept xs ys rest)
 
 pub item_kept :
-    (old new : List Ty) → Grows old new → (decls : List Decl) (item : Item) (written : PlacedItem)
+    (old new : List Ty) → Grows old new → (decls : List Decl) (item : TagItem) (written : PlacedItem)
     → typed_item old item ≡ written_item decls written → typed_item new item ≡ written_item decls written
 item_kept old new grown decls item written is =
     ap (λ (tags : List (TagOf (Option Ty))). (item.position, tags))
@@ -105,14 +105,14 @@ item_kept old new grown decls item written is =
     (ap (λ (p : ℕ × List (TagOf (Option Ty))). p.0) is)
 
 pub items_of_kept :
-    (old new : List Ty) → Grows old new → (decls : List Decl) (items : List Item) (written : List PlacedItem)
+    (old new : List Ty) → Grows old new → (decls : List Decl) (items : List TagItem) (written : List PlacedItem)
     → map (typed_item old) items ≡ map (written_item decls) written
     → map (typed_item new) items ≡ map (written_item decls) written
 items_of_kept old new grown decls items written is =
     map_kept (typed_item old) (typed_item new) (written_item decls) (item_kept old new grown decls) items written is
 
 pub tagged_kept :
-    (old new : List Ty) → Grows old new → (decls : List Decl) (tagged : List (List Item))
+    (old new : List Ty) → Grows old new → (decls : List Decl) (tagged : List (List TagItem))
     (written : List (List PlacedItem))
     → map (map (typed_item old)) tagged ≡ map (map (written_item decls)) written
     → map (map (typed_item new)) tagged ≡ map (map (written_item decls)) written
@@ -124,7 +124,7 @@ tagged_kept old new grown decls tagged written is =
 
 pub more_tagged :
     (decls : List Decl) (old now new : List Ty) (items : List NumberedItem) (k : ℕ) (e : NumberedItem)
-    (out next : List Item) (item : Item) → Grows old now → Grows now new → AreWithin old items → k < length items
+    (out next : List TagItem) (item : TagItem) → Grows old now → Grows now new → AreWithin old items → k < length items
     → next ≡ out ++ item ∷ [] → item.position ≡ (get_or items k e).position
     → map (tag_with_part (slice_get new)) item.tags
     ≡ map (tag_with_part (λ (u : Ty). Some u)) (tags_in (head decls (type_at now (get_or items k e).number)))
@@ -142,7 +142,7 @@ more_tagged decls old now new items k e out next item grown more within below ne
 
 pub more_brackets :
     (decls : List Decl) (old now new : List Ty) (brackets : List (List NumberedItem)) (k : ℕ)
-    (items : List NumberedItem) (out next : List (List Item)) (tagged : List Item) → Grows old now → Grows now new
+    (items : List NumberedItem) (out next : List (List TagItem)) (tagged : List TagItem) → Grows old now → Grows now new
     → AreAllWithin old brackets → k < length brackets → items ≡ get_or brackets k items
     → next ≡ out ++ tagged ∷ [] → map (typed_item new) tagged ≡ map (written_item decls) (items_at now items)
     → map (map (typed_item now)) out ≡ map (map (written_item decls)) (brackets_at old (take k brackets))
@@ -156,11 +156,11 @@ more_brackets decls old now new brackets k items out next tagged grown more with
 
 -- ---- rules
 
-module _ (types : List Ty) (decls : List Decl) (tagged : List (List Item)) (all : List (List PlacedItem))
+module _ (types : List Ty) (decls : List Decl) (tagged : List (List TagItem)) (all : List (List PlacedItem))
     (are : AreTagged types decls tagged all) where
   -- The bracket of the text for numbered items.
   written_for :
-      (items : List Item) → Contains tagged items
+      (items : List TagItem) → Contains tagged items
       → (placed : List PlacedItem) × Contains all placed × AreItems types decls items placed
   written_for items among =
       let found = in_both (map (typed_item types)) (map (written_item decls)) tagged all items are.same among in
@@ -169,7 +169,7 @@ module _ (types : List Ty) (decls : List Decl) (tagged : List (List Item)) (all 
   -- The numbered items for a bracket of the text.
   numbered_for :
       (placed : List PlacedItem) → Contains all placed
-      → (items : List Item) × Contains tagged items × AreItems types decls items placed
+      → (items : List TagItem) × Contains tagged items × AreItems types decls items placed
   numbered_for placed among =
       let found = in_both (map (written_item decls)) (map (typed_item types)) all tagged placed (sym are.same) among in
       (found.0, found.1, record { distinct = are.distinct; same = found.2 })

@@ -12,8 +12,8 @@ use Rattle.types_spec.specs.types.Occurrence.{PlacedItem}
 use Rattle.types_spec.specs.types.Scope.{not_variant}
 use Rattle.types_resolve.specs.scope.Least.{IsLeast, earliest, position_if}
 use Rattle.types_resolve.proofs.scope.LeastLemmas.{Before, AtItem, more_tested, least_same}
-use Rattle.types_table.specs.declared.store.node.TypeNode.{TypeNode}
-use Rattle.types_table.specs.declared.store.node.TypeNode.TheVariants as borrowed
+use Rattle.types_table.specs.declared.store.stored_node.TypeNode.{TypeNode}
+use Rattle.types_table.specs.declared.store.stored_node.TypeNode.TheVariants as borrowed
 use Rattle.types_table.specs.store.Held.{Grows}
 use Rattle.types_table.specs.store.Borrowed.{written_of}
 use Rattle.types_wellformed.specs.declared.head_rules.item.NumberedItem.{NumberedItem}

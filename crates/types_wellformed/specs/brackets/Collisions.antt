@@ -1,19 +1,19 @@
 -- The lexemes and the names of tags that have the same hash.
 use Rattle.std.specs.Prelude.{ℕ, List, Option, IfSome, option_map}
 use Rattle.types_resolve.specs.scope.Least.{IsLeast}
-use Rattle.types_wellformed.specs.declared.brackets.item.Item.{Item}
-use Rattle.types_wellformed.specs.declared.brackets.spellings.Collision.{Collision}
+use Rattle.types_wellformed.specs.declared.brackets.tag_item.TagItem.{TagItem}
+use Rattle.types_wellformed.specs.declared.brackets.tag_names.Collision.{Collision}
 use Rattle.types_wellformed.specs.brackets.Items.{CollideIn, CollidesIn}
 
 abbrev pub position_of : Option Collision → Option ℕ
 position_of found = option_map (λ (c : Collision). c.position) found
 
 -- Two tags with these names have the same hash, at this lexeme.
-abbrev pub IsCollision : List Item → Collision → Type 0
+abbrev pub IsCollision : List TagItem → Collision → Type 0
 IsCollision items c = CollideIn items c.position c.one.now c.other.now
 
 -- If `found` is `None`, then no two tags have the same hash. Otherwise its tags do, and no tags do
 -- at a lesser lexeme.
-pub record IsLeastCollision (items : List Item) (found : Option Collision) : Type 0 where
+pub record IsLeastCollision (items : List TagItem) (found : Option Collision) : Type 0 where
   pub least : IsLeast (CollidesIn items) (position_of found)
   pub names : IfSome found (IsCollision items)

@@ -2,12 +2,12 @@
 use Rattle.std.specs.Prelude.{ℕ, ◌<◌, ◌≤◌, ◌≡◌, ◌≢◌, List, Some, slice_get, Contains}
 use Rattle.types_spec.specs.tag_hash.TagHash.{tag_hash}
 use Rattle.types_spec.specs.declared.types.head.TagOf.{TagOf}
-use Rattle.types_wellformed.specs.declared.brackets.item.Item.{Item}
+use Rattle.types_wellformed.specs.declared.brackets.tag_item.TagItem.{TagItem}
 
 -- Item `i` contributes the tag `one`, and item `j`, at lexeme `k`, contributes the tag `other`.
-pub record Brings (items : List Item) (k i j : ℕ) (one other : TagOf ℕ) : Type 0 where
-  pub first : Item
-  pub second : Item
+pub record Brings (items : List TagItem) (k i j : ℕ) (one other : TagOf ℕ) : Type 0 where
+  pub first : TagItem
+  pub second : TagItem
   pub first_is : slice_get items i ≡ Some first
   pub second_is : slice_get items j ≡ Some second
   pub placed : second.position ≡ k
@@ -15,7 +15,7 @@ pub record Brings (items : List Item) (k i j : ℕ) (one other : TagOf ℕ) : Ty
   pub other_there : Contains second.tags other
 
 -- An item at lexeme `k` contributes a tag that an earlier item contributes with another argument.
-abbrev pub ConflictsIn : List Item → ℕ → Type 0
+abbrev pub ConflictsIn : List TagItem → ℕ → Type 0
 ConflictsIn items k =
     (i j : ℕ) × (one other : TagOf ℕ) × Brings items k i j one other
     × (i < j) × (one.name ≡ other.name) × (one.argument ≢ other.argument)
@@ -30,11 +30,11 @@ pub record HaveOneHash {T : Type 0} (one other : TagOf T) (one_name other_name :
 
 -- An item at lexeme `k` contributes the tag `other`. The same item or an earlier one contributes
 -- the tag `one`, which has the same hash.
-abbrev pub CollideIn : List Item → ℕ → List ℕ → List ℕ → Type 0
+abbrev pub CollideIn : List TagItem → ℕ → List ℕ → List ℕ → Type 0
 CollideIn items k one_name other_name =
     (i j : ℕ) × (one other : TagOf ℕ) × Brings items k i j one other
     × (i ≤ j) × HaveOneHash one other one_name other_name
 
 -- There are two tags with the same hash at lexeme `k`.
-abbrev pub CollidesIn : List Item → ℕ → Type 0
+abbrev pub CollidesIn : List TagItem → ℕ → Type 0
 CollidesIn items k = (one other : List ℕ) × CollideIn items k one other

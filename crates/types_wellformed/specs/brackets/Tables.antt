@@ -43,8 +43,8 @@ SomeConflicts first second = (tag : TagOf ℕ) × Contains second tag × Conflic
 abbrev pub EncodingTable : Type 0
 EncodingTable = Sightings ℤ (Bor (List ℕ))
 
-abbrev pub spellings_at : EncodingTable → ℤ → Option (Sighting (Bor (List ℕ)))
-spellings_at table hash = get_by (int_cmp hash) table.entries
+abbrev pub tag_names_at : EncodingTable → ℤ → Option (Sighting (Bor (List ℕ)))
+tag_names_at table hash = get_by (int_cmp hash) table.entries
 
 -- One of the tags has this hash and this name.
 abbrev pub HasEncoding : List (TagOf ℕ) → ℤ → List ℕ → Type 0
@@ -52,10 +52,10 @@ HasEncoding tags hash name =
     (tag : TagOf ℕ) × Contains tags tag × (tag.name ≡ name) × (tag_hash name ≡ hash)
 
 -- The table describes the names of these tags.
-abbrev pub AreSpellings : List (TagOf ℕ) → EncodingTable → Type 0
-AreSpellings tags table =
+abbrev pub AreTagNames : List (TagOf ℕ) → EncodingTable → Type 0
+AreTagNames tags table =
     (hash : ℤ)
-    → Reports (λ (text : Bor (List ℕ)). text.now) (HasEncoding tags hash) (spellings_at table hash)
+    → Reports (λ (text : Bor (List ℕ)). text.now) (HasEncoding tags hash) (tag_names_at table hash)
 
 -- One of the first tags and one of the second ones have these names and the same hash.
 abbrev pub AreColliding : List (TagOf ℕ) → List (TagOf ℕ) → List ℕ → List ℕ → Type 0

@@ -8,15 +8,15 @@ use Rattle.types_spec.specs.types.Reached.{AreDistinct}
 use Rattle.types_spec.specs.types.Scope.{tags_of_item, HasTags, ConflictsAt, HashesAt}
 use Rattle.types_spec.specs.types.Table.{tag_with_part}
 use Rattle.types_resolve.specs.scope.Least.{IsLeast}
-use Rattle.types_wellformed.specs.declared.brackets.item.Item.{Item}
-use Rattle.types_wellformed.specs.declared.brackets.spellings.Collision.{Collision}
+use Rattle.types_wellformed.specs.declared.brackets.tag_item.TagItem.{TagItem}
+use Rattle.types_wellformed.specs.declared.brackets.tag_names.Collision.{Collision}
 use Rattle.types_wellformed.specs.brackets.Collisions.{position_of}
 use Rattle.types_wellformed.specs.brackets.Items.{HaveOneHash}
 
 -- ---- items by numbers
 
 -- The lexeme and the tags of an item, with the type of each argument's number.
-abbrev pub typed_item : List Ty → Item → ℕ × List (TagOf (Option Ty))
+abbrev pub typed_item : List Ty → TagItem → ℕ × List (TagOf (Option Ty))
 typed_item types item = (item.position, map (tag_with_part (slice_get types)) item.tags)
 
 -- The lexeme of an item of the text, and the tags that it contributes.
@@ -25,7 +25,7 @@ written_item decls item = (item.0, map (tag_with_part Some) (tags_of_item decls 
 
 -- The items represent those of the text: each has the same lexeme and the same tags, with the
 -- numbers of the arguments among distinct types.
-pub record AreItems (types : List Ty) (decls : List Decl) (items : List Item)
+pub record AreItems (types : List Ty) (decls : List Decl) (items : List TagItem)
     (all : List PlacedItem)
     : Type 0 where
   pub distinct : AreDistinct types
@@ -40,14 +40,14 @@ NamesHashAt decls items k one_name other_name =
     × (i ≤ j) × HaveOneHash one other one_name other_name
 
 -- The least conflict in every list of items that these items represent.
-abbrev pub IsLeastConflictOf : List Item → Option ℕ → Type 0
+abbrev pub IsLeastConflictOf : List TagItem → Option ℕ → Type 0
 IsLeastConflictOf items best =
     (types : List Ty) (decls : List Decl) (all : List PlacedItem) → AreItems types decls items all
     → IsLeast (ConflictsAt decls all) best
 
 -- The least lexeme with equal hashes in every list of items that these items represent, and two
 -- names there.
-pub record IsLeastHashOf (items : List Item) (found : Option Collision) : Type 0 where
+pub record IsLeastHashOf (items : List TagItem) (found : Option Collision) : Type 0 where
   pub least :
       (types : List Ty) (decls : List Decl) (all : List PlacedItem) → AreItems types decls items all
       → IsLeast (HashesAt decls all) (position_of found)

@@ -9,8 +9,8 @@ use Rattle.types_spec.specs.types.Scope as scope
 use Rattle.types_parse.specs.grammar.Grammar.{Kinds, file_kinds, texpr}
 use Rattle.types_parse.specs.grammar.Depths.{file_ends, texpr_ends}
 use Rattle.types_parse.specs.grammar.Refusals.{IsText}
-use Rattle.types_parse.specs.declared.parse.refused.Fault.{Fault}
-use Rattle.types_parse.specs.declared.parse.refused.Fault.TheVariants as parser
+use Rattle.types_parse.specs.declared.parse.refused.ParseFault.{ParseFault}
+use Rattle.types_parse.specs.declared.parse.refused.ParseFault.TheVariants as parser
 use Rattle.types_parse.specs.grammar.Lexemes.{kinds_of}
 use Rattle.types_parse.specs.parse.Parsed.{byte_of}
 use Rattle.types_resolve.specs.occurrences.InFile.{file_positions}
@@ -31,7 +31,7 @@ abbrev pub lexed : LexFault → DeclFault
 lexed lexer.Memory = faults.Memory
 lexed fault = faults.Lex fault
 
-abbrev pub parsed : List Lexeme → ℕ → Fault → DeclFault
+abbrev pub parsed : List Lexeme → ℕ → ParseFault → DeclFault
 parsed lexemes end (parser.Syntax k) = faults.Syntax (byte_of lexemes end k)
 parsed lexemes end (parser.TooDeep k) = faults.TooDeep (byte_of lexemes end k)
 parsed lexemes end parser.Memory = faults.Memory

@@ -12,7 +12,7 @@ use Rattle.types_spec.specs.types.Declarations.{abbreviated}
 use Rattle.types_spec.specs.types.Head.{bare_tag, carrying_tag}
 use Rattle.types_spec.specs.types.Scope.{tags_of_item}
 use Rattle.types_spec.specs.types.Table.{tag_with_part}
-use Rattle.types_wellformed.specs.declared.brackets.item.Item.{Item}
+use Rattle.types_wellformed.specs.declared.brackets.tag_item.TagItem.{TagItem}
 use Rattle.types_wellformed.specs.brackets.Items.{ConflictsIn, CollidesIn}
 
 -- ---- types without variables
@@ -27,7 +27,8 @@ is_closed (tag whole x) = is_closed whole
 is_closed (tag_of whole x argument) = is_closed whole && is_closed argument
 is_closed (including whole included) = is_closed whole && is_closed included
 
--- The list has, for each of the first types, whether it contains no variable.
+-- Entry `j` of the list is true if type `j` contains no variable, and false otherwise. The list may
+-- be shorter than the list of types.
 abbrev pub ReportsClosed : List Ty → List Bool → Type 0
 ReportsClosed types known =
     (j : ℕ) → j < length known → slice_get known j ≡ Some (is_closed (type_at types j))
@@ -46,12 +47,12 @@ EachTag P (tag_of whole x argument) = EachTag P whole × P (carrying_tag x argum
 EachTag P (including whole included) = EachTag P whole × EachTag P included
 
 -- An item with this tag only.
-abbrev pub alone : TagOf ℕ → Item
+abbrev pub alone : TagOf ℕ → TagItem
 alone number = record { position = 0; tags = number ∷ [] }
 
 -- The tag contains no variable, and there is an item with this tag only, with the number of its
 -- argument.
-pub record IsListed (types : List Ty) (items : List Item) (tag : TagOf Ty) : Type 0 where
+pub record IsListed (types : List Ty) (items : List TagItem) (tag : TagOf Ty) : Type 0 where
   pub index : ℕ
   pub number : TagOf ℕ
   pub there : slice_get items index ≡ Some (alone number)
@@ -59,7 +60,7 @@ pub record IsListed (types : List Ty) (items : List Item) (tag : TagOf Ty) : Typ
   pub closed : IfSome tag.argument (λ a. is_closed a ≡ true)
 
 -- The tags of the first types are listed.
-abbrev pub AreListed : List Ty → List Item → ℕ → Type 0
+abbrev pub AreListed : List Ty → List TagItem → ℕ → Type 0
 AreListed types items count =
     (j : ℕ) → j < count → EachTag (IsListed types items) (type_at types j)
 
@@ -71,7 +72,7 @@ HasBody types decl =
 -- ---- tags without conflicts
 
 -- No two of these items conflict.
-pub record NoneConflict (items : List Item) : Type 0 where
+pub record NoneConflict (items : List TagItem) : Type 0 where
   pub arguments : (k : ℕ) → ¬ ConflictsIn items k
   pub hashes : (k : ℕ) → ¬ CollidesIn items k
 

@@ -15,8 +15,8 @@ use Rattle.types_spec.specs.types.Reached.{AreDistinct}
 use Rattle.types_spec.specs.types.Scope.{Rule, not_variant, tag_clash, hash_clash}
 use Rattle.types_spec.specs.types.Scope.{ConflictsAt, HashesAt, IsFlatThroughGroup}
 use Rattle.types_resolve.specs.scope.Least.{IsLeast}
-use Rattle.types_wellformed.specs.declared.brackets.item.Item.{Item}
-use Rattle.types_wellformed.specs.declared.brackets.spellings.Collision.{Collision}
+use Rattle.types_wellformed.specs.declared.brackets.tag_item.TagItem.{TagItem}
+use Rattle.types_wellformed.specs.declared.brackets.tag_names.Collision.{Collision}
 use Rattle.types_wellformed.specs.brackets.Collisions.{position_of}
 use Rattle.types_wellformed.specs.brackets.Items.{ConflictsIn, CollideIn, CollidesIn}
 use Rattle.types_wellformed.specs.brackets.Trees.{typed_item, written_item, NamesHashAt}
@@ -72,24 +72,25 @@ ItemsInclude decls types items k = SomeBreaks items (IncludesOtherAt decls types
 -- The tags of these items are those of the items of the text, with the number of each argument
 -- among distinct types.
 pub record AreTagged
-    (types : List Ty) (decls : List Decl) (tagged : List (List Item)) (all : List (List PlacedItem))
+    (types : List Ty) (decls : List Decl) (tagged : List (List TagItem))
+    (all : List (List PlacedItem))
     : Type 0 where
   pub distinct : AreDistinct types
   pub same : map (map (typed_item types)) tagged ≡ map (map (written_item decls)) all
 
 -- Two tags with these names have the same hash in some bracket.
-abbrev pub CollideAmong : List (List Item) → ℕ → List ℕ → List ℕ → Type 0
+abbrev pub CollideAmong : List (List TagItem) → ℕ → List ℕ → List ℕ → Type 0
 CollideAmong tagged k one other =
-    (items : List Item) × Contains tagged items × CollideIn items k one other
+    (items : List TagItem) × Contains tagged items × CollideIn items k one other
 
 -- If `found` is `None`, then no two tags of a bracket have the same hash. Otherwise its tags do,
 -- and no tags do at a lesser lexeme.
-pub record IsLeastAmong (tagged : List (List Item)) (found : Option Collision) : Type 0 where
+pub record IsLeastAmong (tagged : List (List TagItem)) (found : Option Collision) : Type 0 where
   pub least : IsLeast (SomeBreaks tagged CollidesIn) (position_of found)
   pub names : IfSome found (λ c. CollideAmong tagged c.position c.one.now c.other.now)
 
 -- A bracket of numbered items breaks a rule on tags at lexeme `k`.
-abbrev pub TagsBreak : List (List Item) → Rule → ℕ → Type 0
+abbrev pub TagsBreak : List (List TagItem) → Rule → ℕ → Type 0
 TagsBreak tagged tag_clash k = SomeBreaks tagged ConflictsIn k
 TagsBreak tagged hash_clash k = SomeBreaks tagged CollidesIn k
 TagsBreak tagged rule k = ⊥

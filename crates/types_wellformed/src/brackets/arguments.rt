@@ -7,8 +7,8 @@ ghost use Rattle.types_wellformed.specs.brackets.Items.{ConflictsIn};
 ghost use Rattle.types_wellformed.specs.brackets.Tables.{AreArguments, SomeConflicts};
 ghost use Rattle.types_wellformed.specs.brackets.Trees.{IsLeastConflictOf};
 
-use crate::brackets::item::Item;
 use crate::brackets::sightings::{Sightings, add, empty, other};
+use crate::brackets::tag_item::TagItem;
 use base_data::model::Memory;
 use std::alloc::Global;
 use types_resolve::scope::{earliest, position_if};
@@ -44,7 +44,7 @@ fn conflicts<'a>(table: &Sightings<&'a [u8], Option<usize>>, tags: &'a [TagOf<us
 
 /// Returns the least lexeme of an item with a tag that an earlier item has with another argument.
 /// Returns `None` if there is no such item. The items may have their lexemes in any order.
-pub fn least_conflict(alloc: Global, items: &[Item]) -> Result<Option<usize>, Memory>
+pub fn least_conflict(alloc: Global, items: &[TagItem]) -> Result<Option<usize>, Memory>
     ensures least { IfOk result (IsLeast (ConflictsIn items.now)) }
 
     // The result holds for every list of items of type expressions that these items represent by

@@ -9,7 +9,7 @@ use crate::head_rules::HeadBreak;
 use base_data::model::Memory;
 use base_data::model::list::List;
 use types_lex::lexeme::{LexFault, Lexeme};
-use types_parse::parse::{Fault, byte_of};
+use types_parse::parse::{ParseFault, byte_of};
 use types_resolve::scope::{Broken, NameRule};
 
 /// The reason why a text is refused. A number is the offset in bytes at which the refused lexeme
@@ -30,12 +30,12 @@ pub enum DeclFault {
     UnknownName(usize),
     /// A type name with a wrong number of arguments.
     Arity(usize),
-    /// A variable in a file that is not a parameter.
+    /// A variable in a declaration that is not a parameter of the declaration.
     UnboundVar(usize),
     /// The declared name of an abbreviation that expands to itself outside tag arguments.
     Cyclic(usize),
-    /// A type name that is used in its own group with an argument that contains a variable without
-    /// being one.
+    /// A type name that is used in its own group of declarations. One of its arguments contains a
+    /// variable but is not a variable, as in `type 'a t = Nil | Cons of 'a list t`.
     Irregular(usize),
     /// The 245th constructor with arguments of a declaration.
     TooManyConstructors(usize),
@@ -71,13 +71,13 @@ pub fn lex_fault(fault: LexFault) -> DeclFault
 }
 
 /// Returns the fault for lexemes that the grammar refuses, in a text of `end` bytes.
-pub fn parse_fault(fault: Fault, lexemes: &[Lexeme], end: usize) -> DeclFault
+pub fn parse_fault(fault: ParseFault, lexemes: &[Lexeme], end: usize) -> DeclFault
     ensures { result ≡ parsed lexemes.now end fault }
 {
     match fault {
-        Fault::Syntax(k) => DeclFault::Syntax(byte_of(lexemes, end, k)),
-        Fault::TooDeep(k) => DeclFault::TooDeep(byte_of(lexemes, end, k)),
-        Fault::Memory => DeclFault::Memory,
+        ParseFault::Syntax(k) => DeclFault::Syntax(byte_of(lexemes, end, k)),
+        ParseFault::TooDeep(k) => DeclFault::TooDeep(byte_of(lexemes, end, k)),
+        ParseFault::Memory => DeclFault::Memory,
     }
 }
 

@@ -16,7 +16,7 @@ use base_data::model::Memory;
 use base_data::model::list::List;
 use std::alloc::Global;
 use types_resolve::occurrences::{FileSites, TypeFound, file_sites, type_site};
-use types_resolve::scope::{Placed, TypeBrackets};
+use types_resolve::scope::{LocatedName, TypeBrackets};
 use types_spec::types::decl::Decl;
 use types_spec::types::ty::Ty;
 
@@ -25,7 +25,7 @@ fn first_of_file(
     alloc: Global,
     _marks: &[usize],
     decls: &[Decl],
-    names: &[Placed],
+    names: &[LocatedName],
     brackets: &[List<TypeBrackets<'_>>],
 ) -> Result<Option<HeadBreak>, Memory>
     ghost all: { Seq DeclPositions }

@@ -11,7 +11,7 @@ ghost use Rattle.types_resolve.specs.scope.Sites.{AreSites, IsTypeSite};
 use base_data::model::Memory;
 use std::alloc::Global;
 use types_resolve::occurrences::{FileSites, TypeFound, file_sites, type_site};
-use types_resolve::scope::{Broken, Placed, Site, TypeSite, first_break, first_break_in_type};
+use types_resolve::scope::{Broken, LocatedName, Site, TypeSite, first_break, first_break_in_type};
 use types_spec::types::decl::Decl;
 use types_spec::types::ty::Ty;
 
@@ -20,7 +20,7 @@ fn first_of_sites(
     alloc: Global,
     _marks: &[usize],
     decls: &[Decl],
-    names: &[Placed],
+    names: &[LocatedName],
     sites: &[Site],
 ) -> Result<Option<Broken>, Memory>
     ghost all: { List DeclPositions }

@@ -8,7 +8,7 @@ ghost use Rattle.types_wellformed.specs.declarations.Text.{IsTextOf, lexer_text 
 ghost use Rattle.types_wellformed.specs.declarations.Text.{placed_text as text_at};
 
 use crate::declarations::fault::DeclFault;
-use base_data::lines::Positions;
+use base_data::lines::PositionStyle;
 use base_data::model::Memory;
 use base_data::model::list::List;
 use std::alloc::Global;
@@ -17,7 +17,7 @@ use types_lex::lexeme::LexFault;
 /// Returns the text of a name and a position.
 fn placed_text(
     alloc: Global,
-    positions: &Positions<'_>,
+    positions: &PositionStyle<'_>,
     name: &str,
     position: usize,
 ) -> Result<List<u8>, Memory>
@@ -33,7 +33,7 @@ fn placed_text(
 /// Returns the text of a syntax error at `position`.
 pub fn syntax_text(
     alloc: Global,
-    positions: &Positions<'_>,
+    positions: &PositionStyle<'_>,
     position: usize,
 ) -> Result<List<u8>, Memory>
     ensures { IfOk result
@@ -45,7 +45,7 @@ pub fn syntax_text(
 /// Returns the text of a fault of the lexer.
 pub fn lexer_text(
     alloc: Global,
-    positions: &Positions<'_>,
+    positions: &PositionStyle<'_>,
     fault: LexFault,
 ) -> Result<List<u8>, Memory>
     ensures { IfOk result (λ text. text ≡ text_of_lexer (reported_by positions.now) fault) }
@@ -63,7 +63,7 @@ pub fn lexer_text(
 /// specified text.
 pub fn fault_text(
     alloc: Global,
-    positions: &Positions<'_>,
+    positions: &PositionStyle<'_>,
     fault: &DeclFault,
 ) -> Result<List<u8>, Memory>
     ensures files { IfOk result

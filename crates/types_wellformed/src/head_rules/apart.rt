@@ -10,7 +10,7 @@ ghost use Rattle.types_wellformed.specs.head_rules.Apart.{AreListed, HasBody};
 ghost use Rattle.types_wellformed.specs.head_rules.Apart.{NoneConflict, StandApart};
 ghost use Rattle.std.specs.Prelude.{All};
 
-use crate::brackets::{Item, least_collision, least_conflict};
+use crate::brackets::{TagItem, least_collision, least_conflict};
 use crate::head_rules::item::NumberedItem;
 use base_data::model::Memory;
 use base_data::model::list::List;
@@ -18,7 +18,7 @@ use std::alloc::Global;
 use types_build::representation::Stored;
 use types_spec::types::decl::{Body, Decl};
 use types_spec::types::head::TagOf;
-use types_table::store::{TypeNode, Types};
+use types_table::store::{TypeNode, TypeStore};
 
 /// Returns true if a type contains no variable, given this for the earlier types.
 fn is_closed(t: &Stored<'_>, known: &[bool]) -> bool
@@ -37,7 +37,7 @@ fn is_closed(t: &Stored<'_>, known: &[bool]) -> bool
 }
 
 /// Returns for each type whether it contains no variable.
-fn closed_types(alloc: Global, types: &Types) -> Result<Vec<bool>, Memory>
+fn closed_types(alloc: Global, types: &TypeStore) -> Result<Vec<bool>, Memory>
     ensures known { IfOk result (λ v. ReportsClosed types.now v.items) }
     ensures all { IfOk result (λ v. length v.items ≡ length types.now) }
 {
@@ -52,7 +52,7 @@ fn closed_types(alloc: Global, types: &Types) -> Result<Vec<bool>, Memory>
 /// Appends a tag as an item.
 fn write_item(
     alloc: Global,
-    items: &mut List<Item>,
+    items: &mut List<TagItem>,
     name: &[u8],
     argument: Option<usize>,
 ) -> Result<(), Memory>
@@ -63,7 +63,7 @@ fn write_item(
     let name = List::of(Vec::from_slice(alloc, name)?);
     let mut tags = List::new(alloc);
     tags.push(TagOf { name, argument })?;
-    items.push(Item { position: 0, tags })?;
+    items.push(TagItem { position: 0, tags })?;
     Ok(())
 }
 
@@ -73,7 +73,7 @@ fn write_last(
     alloc: Global,
     t: &Stored<'_>,
     known: &[bool],
-    items: &mut List<Item>,
+    items: &mut List<TagItem>,
 ) -> Result<bool, Memory>
     requires all { length known.now ≡ length t.now.types.now }
     requires known { ReportsClosed t.now.types.now known.now }
@@ -95,7 +95,7 @@ fn write_last(
 }
 
 /// Returns the tags of the types, each as an item, or `None` if one of them contains a variable.
-fn listed(alloc: Global, types: &Types) -> Result<Option<List<Item>>, Memory>
+fn listed(alloc: Global, types: &TypeStore) -> Result<Option<List<TagItem>>, Memory>
     ensures { IfOk result
         (λ found. IfSome found (λ items. AreListed types.now items (length types.now))) }
 {
@@ -115,7 +115,7 @@ fn listed(alloc: Global, types: &Types) -> Result<Option<List<Item>>, Memory>
 }
 
 /// Returns true if no two items have one name with two arguments, or two names with one hash.
-fn none_conflict(alloc: Global, items: &[Item]) -> Result<bool, Memory>
+fn none_conflict(alloc: Global, items: &[TagItem]) -> Result<bool, Memory>
     ensures { IfOk result (λ none. IsTrue none → NoneConflict items.now) }
 {
     match least_conflict(alloc, items)? {
@@ -128,7 +128,7 @@ fn none_conflict(alloc: Global, items: &[Item]) -> Result<bool, Memory>
 }
 
 /// Adds the type that a declaration abbreviates, if it is an abbreviation.
-fn add_body(alloc: Global, types: &mut Types, decl: &Decl) -> Result<(), Memory>
+fn add_body(alloc: Global, types: &mut TypeStore, decl: &Decl) -> Result<(), Memory>
     ensures grown { Grows types.old types.new }
     ensures there { OnOk result (HasBody types.new decl.now) }
 {
@@ -139,7 +139,7 @@ fn add_body(alloc: Global, types: &mut Types, decl: &Decl) -> Result<(), Memory>
 }
 
 /// Adds the types that the declarations abbreviate.
-fn add_bodies(alloc: Global, types: &mut Types, decls: &[Decl]) -> Result<(), Memory>
+fn add_bodies(alloc: Global, types: &mut TypeStore, decls: &[Decl]) -> Result<(), Memory>
     ensures grown { Grows types.old types.new }
     ensures there { OnOk result (All (HasBody types.new) decls.now) }
 {
@@ -155,7 +155,7 @@ fn add_bodies(alloc: Global, types: &mut Types, decls: &[Decl]) -> Result<(), Me
 /// still be no conflict.
 pub fn stand_apart(
     alloc: Global,
-    types: &mut Types,
+    types: &mut TypeStore,
     decls: &[Decl],
     brackets: &[List<NumberedItem>],
 ) -> Result<bool, Memory>

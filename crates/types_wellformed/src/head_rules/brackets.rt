@@ -9,19 +9,19 @@ ghost use Rattle.types_table.specs.store.Held.{Grows};
 ghost use Rattle.types_table.specs.store.Instance.{HasNumbers};
 ghost use Rattle.types_wellformed.specs.head_rules.Numbered.{AreNumbered, AreAllNumbered};
 
+use crate::head_rules::head_nodes::HeadNodes;
 use crate::head_rules::item::{NumberedItem, number_item};
-use crate::head_rules::nodes::Nodes;
 use base_data::model::Memory;
 use base_data::model::list::List;
 use std::alloc::Global;
 use types_resolve::scope::{BracketItem, TypeBrackets};
-use types_table::store::Types;
+use types_table::store::TypeStore;
 
 /// Returns the items of a bracket.
 fn number_items(
     alloc: Global,
-    types: &mut Types,
-    nodes: &Nodes<'_>,
+    types: &mut TypeStore,
+    nodes: &HeadNodes<'_>,
     numbers: &[usize],
     items: &[BracketItem],
 ) -> Result<List<NumberedItem>, Memory>
@@ -40,7 +40,7 @@ fn number_items(
 /// Appends the brackets of a type.
 fn write_type(
     alloc: Global,
-    types: &mut Types,
+    types: &mut TypeStore,
     brackets: &mut List<List<NumberedItem>>,
     found: &TypeBrackets<'_>,
 ) -> Result<(), Memory>
@@ -50,7 +50,7 @@ fn write_type(
         ((all : Seq (Seq PlacedItem)) → AreAllNumbered types.old brackets.old all
         → AreAllNumbered types.new brackets.new (all ++ type_known found.now)) }
 {
-    let nodes = Nodes { all: found.nodes };
+    let nodes = HeadNodes { all: found.nodes };
     let numbers = types.add_nodes(alloc, nodes.all)?;
     for items in found.brackets.as_slice() {
         brackets.push(number_items(alloc, types, &nodes, numbers.as_slice(), items.as_slice())?)?;
@@ -61,7 +61,7 @@ fn write_type(
 /// Appends the brackets of a list of types.
 fn write_types(
     alloc: Global,
-    types: &mut Types,
+    types: &mut TypeStore,
     brackets: &mut List<List<NumberedItem>>,
     found: &[TypeBrackets<'_>],
 ) -> Result<(), Memory>
@@ -81,7 +81,7 @@ fn write_types(
 /// bracket with this item only. The function adds each node of these types once.
 pub fn number_brackets(
     alloc: Global,
-    types: &mut Types,
+    types: &mut TypeStore,
     found: &[TypeBrackets<'_>],
 ) -> Result<List<List<NumberedItem>>, Memory>
     requires { All IsOrdered found.now }
@@ -96,7 +96,7 @@ pub fn number_brackets(
 /// Returns the brackets of the types in declarations, in the same form.
 pub fn number_declared(
     alloc: Global,
-    types: &mut Types,
+    types: &mut TypeStore,
     found: &[List<TypeBrackets<'_>>],
 ) -> Result<List<List<NumberedItem>>, Memory>
     requires { All (All IsOrdered) found.now }

@@ -7,7 +7,7 @@ ghost use Rattle.types_wellformed.specs.head_rules.Broken.{IsFirstOfHeads};
 ghost use Rattle.types_wellformed.specs.head_rules.Rules.{SomeBreaks, CollideAmong, IsLeastAmong};
 ghost use Rattle.types_wellformed.specs.head_rules.Rules.{TagsBreak};
 
-use crate::brackets::{Collision, Item, least_collision, least_conflict, nearer};
+use crate::brackets::{Collision, TagItem, least_collision, least_conflict, nearer};
 use crate::head_rules::broken::HeadBreak;
 use base_data::model::Memory;
 use base_data::model::list::List;
@@ -16,7 +16,7 @@ use types_resolve::scope::earliest;
 
 /// Returns the least lexeme of a tag that occurs with two arguments in one bracket, if there is
 /// one.
-fn least_tag_clash(alloc: Global, brackets: &[List<Item>]) -> Result<Option<usize>, Memory>
+fn least_tag_clash(alloc: Global, brackets: &[List<TagItem>]) -> Result<Option<usize>, Memory>
     ensures { IfOk result (IsLeast (SomeBreaks brackets.now ConflictsIn)) }
 {
     let mut best = None;
@@ -30,7 +30,7 @@ fn least_tag_clash(alloc: Global, brackets: &[List<Item>]) -> Result<Option<usiz
 /// `None` if there are none.
 fn least_hash_clash<'a>(
     alloc: Global,
-    brackets: &'a [List<Item>],
+    brackets: &'a [List<TagItem>],
 ) -> Result<Option<Collision<'a>>, Memory>
     ensures { IfOk result (IsLeastAmong brackets.now) }
 {
@@ -60,7 +60,7 @@ fn hash_break(alloc: Global, found: Collision<'_>) -> Result<HeadBreak, Memory>
 }
 
 /// Returns the first rule on tags that a bracket breaks, at the least lexeme, if one is broken.
-pub fn first_of_tags(alloc: Global, tagged: &[List<Item>]) -> Result<Option<HeadBreak>, Memory>
+pub fn first_of_tags(alloc: Global, tagged: &[List<TagItem>]) -> Result<Option<HeadBreak>, Memory>
     ensures { IfOk result (IsFirstOfHeads (TagsBreak tagged.now) (CollideAmong tagged.now)) }
 {
     if let Some(position) = least_tag_clash(alloc, tagged)? {

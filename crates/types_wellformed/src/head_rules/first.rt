@@ -21,15 +21,15 @@ use crate::head_rules::variant::least_not_variant;
 use base_data::model::Memory;
 use base_data::model::list::List;
 use std::alloc::Global;
-use types_resolve::scope::{Placed, SoundEnvironment, TypeBrackets};
+use types_resolve::scope::{LocatedName, SoundEnvironment, TypeBrackets};
 use types_spec::types::decl::Decl;
-use types_table::store::Types;
+use types_table::store::TypeStore;
 
 /// Returns the first rule on brackets that is broken, at the least lexeme. The function gathers the
 /// tags of each bracket only if tags that are written could conflict.
 fn first_of_brackets(
     alloc: Global,
-    types: &mut Types,
+    types: &mut TypeStore,
     decls: &SoundEnvironment<'_>,
     brackets: &[List<NumberedItem>],
 ) -> Result<Option<HeadBreak>, Memory>
@@ -61,9 +61,9 @@ fn float_break(position: Option<usize>) -> Option<HeadBreak>
 /// declared names.
 fn first_of_file(
     alloc: Global,
-    types: &mut Types,
+    types: &mut TypeStore,
     decls: &SoundEnvironment<'_>,
-    names: &[Placed],
+    names: &[LocatedName],
     brackets: &[List<TypeBrackets<'_>>],
 ) -> Result<Option<HeadBreak>, Memory>
     ghost all: { Seq DeclPositions }
@@ -83,7 +83,7 @@ fn first_of_file(
 /// Returns the first of these rules that a type breaks.
 fn first_of_type(
     alloc: Global,
-    types: &mut Types,
+    types: &mut TypeStore,
     decls: &SoundEnvironment<'_>,
     brackets: &[TypeBrackets<'_>],
 ) -> Result<Option<HeadBreak>, Memory>
@@ -101,7 +101,7 @@ fn first_of_type(
 pub fn first_head_break(
     alloc: Global,
     decls: &[Decl],
-    names: &[Placed],
+    names: &[LocatedName],
     brackets: &[List<TypeBrackets<'_>>],
 ) -> Result<Option<HeadBreak>, Memory>
     ghost all: { Seq DeclPositions }
@@ -112,7 +112,7 @@ pub fn first_head_break(
     ensures { IfOk result (IsFirstOfHeads (BreaksInFile all) (FileHashes all)) }
 {
     let environment = SoundEnvironment::new(alloc, decls)?;
-    let mut types = Types::new(alloc);
+    let mut types = TypeStore::new(alloc);
     first_of_file(alloc, &mut types, &environment, names, brackets)
 }
 
@@ -130,6 +130,6 @@ pub fn first_head_break_in_type(
         (IsFirstOfHeads (BreaksInType decls.now occurrences) (TypeHashes decls.now occurrences)) }
 {
     let environment = SoundEnvironment::new(alloc, decls)?;
-    let mut types = Types::new(alloc);
+    let mut types = TypeStore::new(alloc);
     first_of_type(alloc, &mut types, &environment, brackets)
 }

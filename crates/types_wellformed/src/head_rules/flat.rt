@@ -12,10 +12,10 @@ ghost use Rattle.types_wellformed.specs.head_rules.Rules.{IsOwn, SomeFlat};
 use base_data::model::Memory;
 use std::alloc::Global;
 use types_build::representation::{Stored, is_float, name, nearer, none_known};
-use types_resolve::scope::{Placed, SoundEnvironment, earliest, position_if};
+use types_resolve::scope::{LocatedName, SoundEnvironment, earliest, position_if};
 use types_spec::types::decl::{Body, Decl, Field};
 use types_spec::types::ty::Ty;
-use types_table::store::Types;
+use types_table::store::TypeStore;
 
 /// Returns true if an abbreviation of this group is at the head of a type.
 fn is_own(t: &Stored<'_>, decls: &SoundEnvironment<'_>, group: usize) -> bool
@@ -38,7 +38,7 @@ fn is_own(t: &Stored<'_>, decls: &SoundEnvironment<'_>, group: usize) -> bool
 /// type.
 fn is_through(
     alloc: Global,
-    types: &mut Types,
+    types: &mut TypeStore,
     decls: &SoundEnvironment<'_>,
     group: usize,
     t: &Ty,
@@ -61,7 +61,7 @@ fn is_through(
 /// Returns true if all fields expand to `float`.
 fn are_floats(
     alloc: Global,
-    types: &mut Types,
+    types: &mut TypeStore,
     decls: &SoundEnvironment<'_>,
     fields: &[Field],
 ) -> Result<bool, Memory>
@@ -80,7 +80,7 @@ fn are_floats(
 /// Returns true if the expansion of some field goes through an abbreviation of this group.
 fn some_through(
     alloc: Global,
-    types: &mut Types,
+    types: &mut TypeStore,
     decls: &SoundEnvironment<'_>,
     group: usize,
     fields: &[Field],
@@ -100,7 +100,7 @@ fn some_through(
 /// Returns true if a declaration is a record that is flat through an abbreviation of its own group.
 fn is_flat(
     alloc: Global,
-    types: &mut Types,
+    types: &mut TypeStore,
     decls: &SoundEnvironment<'_>,
     decl: &Decl,
 ) -> Result<bool, Memory>
@@ -121,9 +121,9 @@ fn is_flat(
 /// group, if there is one.
 pub fn least_flat(
     alloc: Global,
-    types: &mut Types,
+    types: &mut TypeStore,
     decls: &SoundEnvironment<'_>,
-    names: &[Placed],
+    names: &[LocatedName],
 ) -> Result<Option<usize>, Memory>
     requires named { length decls.now ≡ length names.now }
     ensures { IfOk result (IsLeast (SomeFlat decls.now names.now)) }

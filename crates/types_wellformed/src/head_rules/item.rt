@@ -8,11 +8,11 @@ ghost use Rattle.types_table.specs.store.Held.{Grows};
 ghost use Rattle.types_table.specs.store.Instance.{HasNumbers};
 ghost use Rattle.types_wellformed.specs.head_rules.Numbered.{IsNumbered};
 
-use crate::head_rules::nodes::Nodes;
+use crate::head_rules::head_nodes::HeadNodes;
 use base_data::model::Memory;
 use types_resolve::scope::BracketItem;
-use types_spec::types::ty::Node;
-use types_table::store::Types;
+use types_spec::types::ty::TypeTreeNode;
+use types_table::store::TypeStore;
 
 /// An item of a bracket.
 #[derive(Clone, Copy)]
@@ -24,7 +24,7 @@ pub struct NumberedItem {
 }
 
 /// Returns the number of a bracket with this tag only.
-fn tag_number(types: &mut Types, name: &[u8]) -> Result<usize, Memory>
+fn tag_number(types: &mut TypeStore, name: &[u8]) -> Result<usize, Memory>
     ensures grown { Grows types.old types.new }
     ensures ok { IfOk result (λ n. slice_get types.new n ≡ Some (tag bracket name.now)) }
 {
@@ -33,7 +33,7 @@ fn tag_number(types: &mut Types, name: &[u8]) -> Result<usize, Memory>
 }
 
 /// Returns the number of a bracket with this tag and its argument only.
-fn tag_of_number(types: &mut Types, name: &[u8], argument: usize) -> Result<usize, Memory>
+fn tag_of_number(types: &mut TypeStore, name: &[u8], argument: usize) -> Result<usize, Memory>
     requires { argument < length types.old }
     ensures grown { Grows types.old types.new }
     ensures ok { IfOk result
@@ -44,7 +44,7 @@ fn tag_of_number(types: &mut Types, name: &[u8], argument: usize) -> Result<usiz
 }
 
 /// Returns the number of a bracket with this included type only.
-fn including_number(types: &mut Types, included: usize) -> Result<usize, Memory>
+fn including_number(types: &mut TypeStore, included: usize) -> Result<usize, Memory>
     requires { included < length types.old }
     ensures grown { Grows types.old types.new }
     ensures ok { IfOk result
@@ -56,8 +56,8 @@ fn including_number(types: &mut Types, included: usize) -> Result<usize, Memory>
 
 /// Returns the number of the item that a node adds.
 fn node_number(
-    types: &mut Types,
-    nodes: &Nodes<'_>,
+    types: &mut TypeStore,
+    nodes: &HeadNodes<'_>,
     numbers: &[usize],
     n: usize,
 ) -> Result<usize, Memory>
@@ -68,17 +68,17 @@ fn node_number(
         (λ i. slice_get types.new i ≡ Some (item_of (type_at (types_of nodes.now.all.now) n))) }
 {
     match &nodes.all[n] {
-        Node::Tag(_, x) => tag_number(types, x.as_slice()),
-        Node::TagOf(_, x, a) => tag_of_number(types, x.as_slice(), numbers[*a]),
-        Node::Including(_, u) => including_number(types, numbers[*u]),
+        TypeTreeNode::Tag(_, x) => tag_number(types, x.as_slice()),
+        TypeTreeNode::TagOf(_, x, a) => tag_of_number(types, x.as_slice(), numbers[*a]),
+        TypeTreeNode::Including(_, u) => including_number(types, numbers[*u]),
         _ => Ok(numbers[n]),
     }
 }
 
 /// Returns the number of the item that a node adds, if the node exists.
 fn item_number(
-    types: &mut Types,
-    nodes: &Nodes<'_>,
+    types: &mut TypeStore,
+    nodes: &HeadNodes<'_>,
     numbers: &[usize],
     n: usize,
 ) -> Result<usize, Memory>
@@ -96,8 +96,8 @@ fn item_number(
 
 /// Returns an item with the number of its type.
 pub fn number_item(
-    types: &mut Types,
-    nodes: &Nodes<'_>,
+    types: &mut TypeStore,
+    nodes: &HeadNodes<'_>,
     numbers: &[usize],
     item: &BracketItem,
 ) -> Result<NumberedItem, Memory>

@@ -8,7 +8,7 @@ ghost use Rattle.types_wellformed.specs.head_rules.Rules.{AreWithin, AreAllWithi
 ghost use Rattle.types_wellformed.specs.head_rules.Rules.{items_at};
 ghost use Rattle.types_wellformed.specs.head_rules.Rules.{brackets_at, tags_of_head};
 
-use crate::brackets::Item;
+use crate::brackets::TagItem;
 use crate::head_rules::item::NumberedItem;
 use base_data::model::Memory;
 use base_data::model::list::List;
@@ -16,7 +16,7 @@ use std::alloc::Global;
 use types_build::representation::{Heads, item_head, no_heads};
 use types_resolve::scope::SoundEnvironment;
 use types_spec::types::head::{HeadOf, TagOf};
-use types_table::store::Types;
+use types_table::store::TypeStore;
 
 /// Returns the tags of a head. A head other than a polymorphic variant has none.
 fn tags_in(alloc: Global, head: HeadOf<usize>) -> List<TagOf<usize>>
@@ -31,11 +31,11 @@ fn tags_in(alloc: Global, head: HeadOf<usize>) -> List<TagOf<usize>>
 /// Returns the items of a bracket with their tags.
 fn tagged_items(
     alloc: Global,
-    types: &mut Types,
+    types: &mut TypeStore,
     decls: &SoundEnvironment<'_>,
     heads: &mut Heads,
     items: &[NumberedItem],
-) -> Result<List<Item>, Memory>
+) -> Result<List<TagItem>, Memory>
     requires within { AreWithin types.old items.now }
     requires heads { AreHeads decls.now types.old heads.old }
     ensures ok { IfOk result
@@ -47,7 +47,7 @@ fn tagged_items(
     let mut all = List::new(alloc);
     for item in items {
         let head = item_head(alloc, types, decls, heads, item.number)?;
-        all.push(Item {
+        all.push(TagItem {
             position: item.position,
             tags: tags_in(alloc, head),
         })?;
@@ -58,11 +58,11 @@ fn tagged_items(
 /// Returns the items of several brackets with their tags.
 fn all_tagged(
     alloc: Global,
-    types: &mut Types,
+    types: &mut TypeStore,
     decls: &SoundEnvironment<'_>,
     heads: &mut Heads,
     brackets: &[List<NumberedItem>],
-) -> Result<List<List<Item>>, Memory>
+) -> Result<List<List<TagItem>>, Memory>
     requires within { AreAllWithin types.old brackets.now }
     requires heads { AreHeads decls.now types.old heads.old }
     ensures ok { IfOk result
@@ -82,10 +82,10 @@ fn all_tagged(
 /// distinct types.
 pub fn tagged_brackets(
     alloc: Global,
-    types: &mut Types,
+    types: &mut TypeStore,
     decls: &SoundEnvironment<'_>,
     brackets: &[List<NumberedItem>],
-) -> Result<List<List<Item>>, Memory>
+) -> Result<List<List<TagItem>>, Memory>
     requires within { AreAllWithin types.old brackets.now }
     ensures ok { IfOk result
         (λ tagged. AreTagged types.new decls.now tagged (brackets_at types.old brackets.now)) }

@@ -14,12 +14,12 @@ use base_data::model::list::List;
 use std::alloc::Global;
 use types_build::representation::is_polymorphic_variant;
 use types_resolve::scope::{SoundEnvironment, earliest, position_if};
-use types_table::store::{TypeNode, Types};
+use types_table::store::{TypeNode, TypeStore};
 
 /// Returns true if an item includes a type that is not a polymorphic variant.
 fn includes_other(
     alloc: Global,
-    types: &mut Types,
+    types: &mut TypeStore,
     decls: &SoundEnvironment<'_>,
     number: usize,
 ) -> Result<bool, Memory>
@@ -41,7 +41,7 @@ fn includes_other(
 /// variant, if there is one.
 fn least_other(
     alloc: Global,
-    types: &mut Types,
+    types: &mut TypeStore,
     decls: &SoundEnvironment<'_>,
     items: &[NumberedItem],
 ) -> Result<Option<usize>, Memory>
@@ -61,7 +61,7 @@ fn least_other(
 /// variant, if there is one.
 pub fn least_not_variant(
     alloc: Global,
-    types: &mut Types,
+    types: &mut TypeStore,
     decls: &SoundEnvironment<'_>,
     brackets: &[List<NumberedItem>],
 ) -> Result<Option<usize>, Memory>

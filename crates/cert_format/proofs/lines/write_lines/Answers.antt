@@ -1,6 +1,6 @@
 use Rattle.std.proofs.Common.{List, ℕ, arith, subst}
 use Rattle.base_io.specs.State.{change}
-use Rattle.cert_format.specs.Putting.{Leaves}
+use Rattle.cert_format.specs.TextWrites.{Leaves}
 use Rattle.cert_format.proofs.SinkLemmas.{leaves_then, leaves_more, part_then, prefix_fails, lines_more, part_of_lines}
 use Rattle.cert_format.proofs.lines.write_lines.Goals as goal
 

@@ -2,7 +2,7 @@ use Rattle.std.proofs.Common.{◌≤◌, ◌++◌, take, vec_capacity}
 use Rattle.std.specs.Prelude.{map}
 use Rattle.base_io.specs.State.{change}
 use Rattle.cert_format.specs.Format.{pair_line, text_of}
-use Rattle.cert_format.specs.Putting.{Leaves}
+use Rattle.cert_format.specs.TextWrites.{Leaves}
 use Rattle.cert_format.proofs.lines.write_lines.Given as goal
 
 abbrev pub invariant-loop-i : goal.invariant-loop-i

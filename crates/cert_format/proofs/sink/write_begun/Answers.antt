@@ -3,7 +3,7 @@ use Rattle.std.specs.Prelude.{codes}
 use Rattle.base_io.specs.State.{change}
 use Rattle.base_io.specs.Sink.{WritesPart}
 use Rattle.base_io.proofs.WritesLemmas.{part_more}
-use Rattle.cert_format.specs.Putting.{WritesAll}
+use Rattle.cert_format.specs.TextWrites.{WritesAll}
 use Rattle.cert_format.proofs.SinkLemmas.{leaves_then, leaves_more, part_then, all_fails, all_then, whole_text}
 use Rattle.cert_format.proofs.sink.write_begun.Goals as goal
 

@@ -1,5 +1,5 @@
 use Rattle.std.proofs.Common.{rules, ℕ, List, [], Some, ◌+◌, ◌<◌, ◌^◌, length, arith, sym, subst, subst₂, append-nil}
-use Rattle.marshal_read.specs.declared.left.Left.{Left}
+use Rattle.marshal_read.specs.declared.remaining_room.RemainingRoom.{RemainingRoom}
 use Rattle.marshal_read.specs.Build.{Bounded}
 use Rattle.marshal_read.specs.Chunks.{LeadsAs}
 use Rattle.marshal_read.specs.Left.{Leaves, TakesAll}
@@ -30,7 +30,7 @@ returns-then-n-eq0 c = λ limit taken h.
     let t = c.loop-at.invariant limit taken h in
     let w = t.2.2 in
     let same = (c.take_one-n.ensures (0 + c.loop-at.at) w.0 w.1 t.0 (record { leaves = t.1; builds = w.2.builds })).0 c.if-n-eq0.true in
-    subst₂ (λ (left : Left) (state : Bounded). TakesAll c.args.first.now 0 limit taken c.args.bytes.now left state c.loop-at.at) (sym same.0) (sym same.1) t
+    subst₂ (λ (left : RemainingRoom) (state : Bounded). TakesAll c.args.first.now 0 limit taken c.args.bytes.now left state c.loop-at.at) (sym same.0) (sym same.1) t
 
 -- One more token.
 moved : (c : After-take_one-n) → 0 < c.take_one-n.result → (limit : ℕ) (taken : List ℕ) → LeadsAs (Some c.args.first.now) limit taken c.args.builder.now []

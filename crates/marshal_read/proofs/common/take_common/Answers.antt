@@ -1,6 +1,6 @@
 use Rattle.std.proofs.Common.{ℕ, List, [], Some, ◌≡◌, ◌-◌, ◌++◌, take, arith, ap, sym, subst, ◌∙◌}
 use Rattle.base_data.specs.declared.model.header.Head.{Head}
-use Rattle.marshal_read.specs.declared.totals.Totals.{Totals}
+use Rattle.marshal_read.specs.declared.read_totals.ReadTotals.{ReadTotals}
 use Rattle.marshal_read.specs.Chunks.{LeadsAs, TakesCommon}
 use Rattle.marshal_read.specs.Left.{Leaves}
 use Rattle.marshal_read.proofs.LeftLemmas.{same_position}
@@ -11,7 +11,7 @@ use Rattle.marshal_read.proofs.common.take_common.Goals.{After-count}
 
 -- The totals that are reached.
 reached : (c : After-count) (limit : ℕ) (taken : List ℕ) → LeadsAs (Some c.args.totals.now) limit taken c.args.builder.now []
-    → (position : Totals) × Leaves c.args.totals.now c.take_many-n.result position c.take_many-n.new.left × (c.count.result ≡ position.objects)
+    → (position : ReadTotals) × Leaves c.args.totals.now c.take_many-n.result position c.take_many-n.new.left × (c.count.result ≡ position.objects)
     × TakesCommon limit taken c.data_in.result.now position c.take_many-n.new.builder c.take_many-n.result
 reached c limit taken h =
     let t = c.take_many-n.ensures limit taken h in

@@ -8,7 +8,7 @@ use Rattle.marshal_spec.specs.format.Step.{field_refusal}
 use Rattle.marshal_spec.specs.format.Token.{Token, EncodesAfter}
 use Rattle.marshal_spec.proofs.format.KindLemmas.{IsKind-kind_of}
 use Rattle.marshal_spec.proofs.format.RawLemmas.{fields_fit, measure_after-take}
-use Rattle.marshal_read.specs.declared.totals.Totals.{Totals}
+use Rattle.marshal_read.specs.declared.read_totals.ReadTotals.{ReadTotals}
 use Rattle.marshal_read.specs.Totals.{PassesTo, Advances, AreFew, context_of, IsPlain}
 use Rattle.marshal_read.specs.Build.{Fits, absorb_in}
 use Rattle.marshal_read.specs.Left.{Leaves, Stands, Spends, IsSpent}
@@ -30,13 +30,13 @@ len_is c = let e : c.in-Some.len ≡ fixed_bytes c.args.kind + variable_bytes c.
     subst (λ rest. c.in-Some.len ≡ fixed_bytes c.args.kind + variable_bytes c.args.kind rest) c.skip-rest.ensures e
 
 -- The objects so far.
-counted : (c : After-is_sound) (n : ℕ) (header : List ℕ) (before : List (List ℕ)) (position : Totals) → Stands c.args.first.now n header before position c.args.left.now c.args.builder.now
+counted : (c : After-is_sound) (n : ℕ) (header : List ℕ) (before : List (List ℕ)) (position : ReadTotals) → Stands c.args.first.now n header before position c.args.left.now c.args.builder.now
     → position.objects ≡ c.count-objects.result
 counted c n header before position h = sym (c.count-objects.ensures ∙ objects_built header before position c.args.builder.now h.builds ∙ h.builds.sums.objects)
 
 -- The totals advance.
-moved : (c : After-is_sound) → c.spend.result ≡ true → c.is_sound.result ≡ true → (n : ℕ) (header : List ℕ) (before : List (List ℕ)) (position : Totals) → Stands c.args.first.now n header before position c.args.left.now c.args.builder.now
-    → (next : Totals) × Leaves c.args.first.now (n + (1 + c.in-Some.len)) next c.spend.new.self × Advances position (1 + c.in-Some.len) (measure_after c.args.kind c.skip-rest.result.now) next true
+moved : (c : After-is_sound) → c.spend.result ≡ true → c.is_sound.result ≡ true → (n : ℕ) (header : List ℕ) (before : List (List ℕ)) (position : ReadTotals) → Stands c.args.first.now n header before position c.args.left.now c.args.builder.now
+    → (next : ReadTotals) × Leaves c.args.first.now (n + (1 + c.in-Some.len)) next c.spend.new.self × Advances position (1 + c.in-Some.len) (measure_after c.args.kind c.skip-rest.result.now) next true
 moved c e sound n header before position h =
     let rest = c.skip-rest.result.now in
     let l : 1 + fixed_bytes c.args.kind + variable_bytes c.args.kind rest ≡ 1 + c.in-Some.len = omega (arith, c.in-Some.ensures.len) in
@@ -50,7 +50,7 @@ moved c e sound n header before position h =
     (subst (AreFew words64 (measure_after c.args.kind rest)) l (few_words64 c.args.kind rest))
 
 -- The token passes.
-passes : (c : After-is_sound) → (n : ℕ) (header : List ℕ) (before : List (List ℕ)) (position next : Totals) → Stands c.args.first.now n header before position c.args.left.now c.args.builder.now
+passes : (c : After-is_sound) → (n : ℕ) (header : List ℕ) (before : List (List ℕ)) (position next : ReadTotals) → Stands c.args.first.now n header before position c.args.left.now c.args.builder.now
     → Advances position (1 + c.in-Some.len) (measure_after c.args.kind c.skip-rest.result.now) next true → PassesTo position (get_or c.args.bytes.now 0 0) c.args.kind (drop 1 c.args.bytes.now) next
 passes c n header before position next h advances =
     let rest = c.skip-rest.result.now in

@@ -1,5 +1,5 @@
 use Rattle.std.proofs.Common.{rules, ℕ, List, [], Some, ◌+◌, ◌<◌, ◌^◌, length, arith, sym, subst, append-nil}
-use Rattle.marshal_read.specs.declared.left.Left.{Left}
+use Rattle.marshal_read.specs.declared.remaining_room.RemainingRoom.{RemainingRoom}
 use Rattle.marshal_read.specs.Build.{Bounded}
 use Rattle.marshal_read.specs.Chunks.{LeadsAs, TakesCommon}
 use Rattle.marshal_read.specs.Left.{Leaves, Runs, HasPlenty}
@@ -41,7 +41,7 @@ returns c = λ limit taken from h leaves runs plenty.
     (t.0, t.1, t.2, t.3, t.5)
 
 -- One more token.
-moved : (c : After-run_one-n) → 0 < c.run_one-n.result → (limit : ℕ) (taken : List ℕ) (from : Left) → LeadsAs (Some c.args.first.now) limit taken c.args.builder.now []
+moved : (c : After-run_one-n) → 0 < c.run_one-n.result → (limit : ℕ) (taken : List ℕ) (from : RemainingRoom) → LeadsAs (Some c.args.first.now) limit taken c.args.builder.now []
     → Leaves c.args.first.now 0 c.args.first.now from → Runs from from c.args.begun → HasPlenty from c.args.most
     → (0 < c.run_one-n.new.now.pending) × IsUnderway c.args.first.now limit taken c.args.bytes.now from c.run_one-n.new.now c.run_one-n.new.builder (c.loop-at.at + c.run_one-n.result) c.args.most
 moved c some limit taken from h leaves runs plenty =

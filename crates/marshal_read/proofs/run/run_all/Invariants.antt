@@ -1,5 +1,5 @@
 use Rattle.std.proofs.Common.{ℕ, List, [], Some, ◌-◌, ◌<◌}
-use Rattle.marshal_read.specs.declared.left.Left.{Left}
+use Rattle.marshal_read.specs.declared.remaining_room.RemainingRoom.{RemainingRoom}
 use Rattle.marshal_read.specs.Left.{Leaves, Runs, HasPlenty}
 use Rattle.marshal_read.specs.Chunks.{LeadsAs}
 use Rattle.marshal_read.proofs.RunLemmas.{IsUnderway}
@@ -8,7 +8,7 @@ use Rattle.marshal_read.proofs.run.run_all.Given as goal
 -- If bytes led to the first totals, then with the tokens read they lead to the current state, and
 -- the room suffices for the next tokens.
 abbrev pub invariant-loop-at : goal.invariant-loop-at
-invariant-loop-at l = (0 < l.now.pending) × ((limit : ℕ) (taken : List ℕ) (from : Left) → LeadsAs (Some l.fn.first) limit taken l.fn.builder [] → Leaves l.fn.first 0 l.fn.first from
+invariant-loop-at l = (0 < l.now.pending) × ((limit : ℕ) (taken : List ℕ) (from : RemainingRoom) → LeadsAs (Some l.fn.first) limit taken l.fn.builder [] → Leaves l.fn.first 0 l.fn.first from
     → Runs from from l.fn.begun → HasPlenty from l.fn.most → IsUnderway l.fn.first limit taken l.bytes from l.now l.builder l.at l.most)
 
 abbrev pub decreases-loop-at : goal.decreases-loop-at

@@ -7,8 +7,8 @@ use Rattle.marshal_spec.specs.format.Step.{field_refusal}
 use Rattle.marshal_spec.specs.format.Token.{Token, EncodesAfter}
 use Rattle.marshal_spec.proofs.format.KindLemmas.{IsKind-kind_of}
 use Rattle.marshal_spec.proofs.format.RawLemmas.{fields_fit, measure_after-take}
-use Rattle.marshal_read.specs.declared.left.Left.{Left}
-use Rattle.marshal_read.specs.declared.totals.Totals.{Totals}
+use Rattle.marshal_read.specs.declared.remaining_room.RemainingRoom.{RemainingRoom}
+use Rattle.marshal_read.specs.declared.read_totals.ReadTotals.{ReadTotals}
 use Rattle.marshal_read.specs.Totals.{PassesTo, Advances, AreFew, context_of, IsPlain}
 use Rattle.marshal_read.specs.Build.{Fits, absorb_in}
 use Rattle.marshal_read.specs.Left.{Leaves, Stands, Runs, Goes, Keeps, HasEnough}
@@ -38,9 +38,9 @@ len_is c = let e : c.in-Some.len ≡ fixed_bytes c.args.kind + variable_bytes c.
     subst (λ rest. c.in-Some.len ≡ fixed_bytes c.args.kind + variable_bytes c.args.kind rest) c.after_code-rest.ensures e
 
 -- The totals advance.
-moved : (c : After-spend) → c.spend.result ≡ true → (n : ℕ) (header : List ℕ) (before : List (List ℕ)) (position : Totals) (from left : Left) → Stands c.args.first.now n header before position left c.args.builder.now
+moved : (c : After-spend) → c.spend.result ≡ true → (n : ℕ) (header : List ℕ) (before : List (List ℕ)) (position : ReadTotals) (from left : RemainingRoom) → Stands c.args.first.now n header before position left c.args.builder.now
     → Runs from left c.args.now.now → HasEnough left
-    → (next : Totals) × (left' : Left) × Leaves c.args.first.now (n + (1 + c.in-Some.len)) next left' × Runs from left' c.spend.new.self × Keeps left (1 + c.in-Some.len) left'
+    → (next : ReadTotals) × (left' : RemainingRoom) × Leaves c.args.first.now (n + (1 + c.in-Some.len)) next left' × Runs from left' c.spend.new.self × Keeps left (1 + c.in-Some.len) left'
     × Advances position (1 + c.in-Some.len) (measure_after c.args.kind c.after_code-rest.result.now) next true
 moved c e n header before position from left h runs enough =
     let rest = c.after_code-rest.result.now in
@@ -52,7 +52,7 @@ moved c e n header before position from left h runs enough =
     (subst (AreFew words64 (measure_after c.args.kind rest)) l (few_words64 c.args.kind rest))
 
 -- The token passes.
-passes : (c : After-spend) → (n : ℕ) (header : List ℕ) (before : List (List ℕ)) (position next : Totals) (left : Left) → Stands c.args.first.now n header before position left c.args.builder.now
+passes : (c : After-spend) → (n : ℕ) (header : List ℕ) (before : List (List ℕ)) (position next : ReadTotals) (left : RemainingRoom) → Stands c.args.first.now n header before position left c.args.builder.now
     → Advances position (1 + c.in-Some.len) (measure_after c.args.kind c.after_code-rest.result.now) next true → PassesTo position (get_or c.args.bytes.now 0 0) c.args.kind (drop 1 c.args.bytes.now) next
 passes c n header before position next left h advances =
     let rest = c.after_code-rest.result.now in

@@ -1,6 +1,6 @@
 use Rattle.std.proofs.Common.{◌∙◌, add-one, arith}
 use Rattle.text_path.proofs.LineLemmas.{further, stuck}
-use Rattle.text_path.specs.declared.prefix.Next.TheVariants as nexts
+use Rattle.text_path.specs.declared.line_prefix.LexemeResult.TheVariants as nexts
 use Rattle.text_path.proofs.line.known.Goals as goal
 
 pub returns-in-Literal : goal.returns-in-Literal

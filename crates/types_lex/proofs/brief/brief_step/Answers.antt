@@ -1,6 +1,6 @@
 use Rattle.std.proofs.Common.{sym, subst, arith, ◌∙◌, Result}
 use Rattle.std.proofs.lemmas.List.{take_rest}
-use Rattle.types_lex.specs.declared.found.Step.{Step}
+use Rattle.types_lex.specs.declared.found_lexeme.LexStep.{LexStep}
 use Rattle.types_lex.specs.declared.lexeme.LexFault.{LexFault}
 use Rattle.types_lex.specs.Brief.{StepsBrief}
 use Rattle.types_lex.specs.Scan.{step_at}
@@ -12,13 +12,13 @@ returns-then-is_empty c = no_step c.args.text.now (grind (arith, c.if-is_empty.t
 
 pub returns-then-text-eq34 : goal.returns-then-text-eq34
 returns-then-text-eq34 c =
-    subst (λ (e : Result Step LexFault). StepsBrief c.word_step.result e)
+    subst (λ (e : Result LexStep LexFault). StepsBrief c.word_step.result e)
     (sym (prefix_string c.args.text.now (grind (arith, c.if-is_empty.false, c.is_empty.ensures)) c.if-text-eq34.true))
     (c.word_step.ensures _ (rw take_rest at c.brief_string.ensures))
 
 pub returns-then-starts_name : goal.returns-then-starts_name
 returns-then-starts_name c =
-    subst (λ (e : Result Step LexFault). StepsBrief c.word_step-then-starts_name.result e)
+    subst (λ (e : Result LexStep LexFault). StepsBrief c.word_step-then-starts_name.result e)
     (sym (prefix_name c.args.text.now (grind (arith, c.if-is_empty.false, c.is_empty.ensures)) (sym c.starts_name.ensures ∙ c.if-starts_name.true)))
     (c.word_step-then-starts_name.ensures _ c.brief_word.ensures)
 

@@ -1,7 +1,7 @@
 use Rattle.std.proofs.Common.{◌+◌, ◌≡◌, Ok, length, drop, subst, arith}
 use Rattle.std.proofs.lemmas.List.{take_rest, append-nil}
-use Rattle.types_lex.specs.declared.found.Step.{Step}
-use Rattle.types_lex.specs.declared.found.Step.TheVariants as steps
+use Rattle.types_lex.specs.declared.found_lexeme.LexStep.{LexStep}
+use Rattle.types_lex.specs.declared.found_lexeme.LexStep.TheVariants as steps
 use Rattle.types_lex.specs.Brief.{StepsBrief}
 use Rattle.types_lex.specs.Lexemes.{Reached}
 use Rattle.types_lex.specs.Scan.{step_at}
@@ -14,12 +14,12 @@ use Rattle.types_lex.proofs.brief.next_brief.Goals.{In-Ok-Gap, In-Ok-Word}
 gap_here : (c : In-Ok-Gap) → IsPartAt (drop c.loop-at.at c.args.text.now) (steps.Gap c.in-Ok-Gap.len)
 gap_here c =
     part_here c.args.text.now c.loop-at.at (steps.Gap c.in-Ok-Gap.len) c.loop-at-test.true
-    (subst (λ (s : Step). StepsBrief (Ok s) (step_at (drop c.loop-at.at c.args.text.now))) c.in-Ok-Gap.field-0-is (rw take_rest at c.in-Ok-Gap.ensures))
+    (subst (λ (s : LexStep). StepsBrief (Ok s) (step_at (drop c.loop-at.at c.args.text.now))) c.in-Ok-Gap.field-0-is (rw take_rest at c.in-Ok-Gap.ensures))
 
 full : (c : In-Ok-Word) → Full c.in-Ok-Word.word (step_at (drop c.loop-at.at c.args.text.now))
 full c =
     word_full c.in-Ok-Word.word (step_at (drop c.loop-at.at c.args.text.now))
-    (subst (λ (s : Step). StepsBrief (Ok s) (step_at (drop c.loop-at.at c.args.text.now))) c.in-Ok-Word.field-0-is (rw take_rest at c.in-Ok-Word.ensures))
+    (subst (λ (s : LexStep). StepsBrief (Ok s) (step_at (drop c.loop-at.at c.args.text.now))) c.in-Ok-Word.field-0-is (rw take_rest at c.in-Ok-Word.ensures))
 
 word_here : (c : In-Ok-Word) → IsPartAt (drop c.loop-at.at c.args.text.now) (steps.Word (full c).full)
 word_here c = part_here c.args.text.now c.loop-at.at (steps.Word (full c).full) c.loop-at-test.true (full c).is

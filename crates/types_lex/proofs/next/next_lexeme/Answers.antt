@@ -1,7 +1,7 @@
 use Rattle.std.proofs.Common.{◌+◌, ◌≡◌, Ok, length, drop, ap, subst, arith, ◌∙◌}
 use Rattle.std.proofs.lemmas.List.{take_rest, append-nil}
-use Rattle.types_lex.specs.declared.found.Step.{Step}
-use Rattle.types_lex.specs.declared.found.Step.TheVariants as steps
+use Rattle.types_lex.specs.declared.found_lexeme.LexStep.{LexStep}
+use Rattle.types_lex.specs.declared.found_lexeme.LexStep.TheVariants as steps
 use Rattle.types_lex.specs.Lexemes.{lexeme_in, Reached}
 use Rattle.types_lex.proofs.FaultLaws.{IsPartAt}
 use Rattle.types_lex.proofs.PartLaws.{reached_more, reached_further, part_here, known_inside, known_fault, goes_down}
@@ -9,10 +9,10 @@ use Rattle.types_lex.proofs.next.next_lexeme.Goals as goal
 use Rattle.types_lex.proofs.next.next_lexeme.Goals.{In-Ok-Gap, In-Ok-Word}
 
 gap_here : (c : In-Ok-Gap) → IsPartAt (drop c.loop-at.at c.args.text.now) (steps.Gap c.in-Ok-Gap.len)
-gap_here c = part_here c.args.text.now c.loop-at.at (steps.Gap c.in-Ok-Gap.len) c.loop-at-test.true (rw take_rest at c.in-Ok-Gap.ensures ∙ ap (λ (s : Step). Ok s) c.in-Ok-Gap.field-0-is)
+gap_here c = part_here c.args.text.now c.loop-at.at (steps.Gap c.in-Ok-Gap.len) c.loop-at-test.true (rw take_rest at c.in-Ok-Gap.ensures ∙ ap (λ (s : LexStep). Ok s) c.in-Ok-Gap.field-0-is)
 
 word_here : (c : In-Ok-Word) → IsPartAt (drop c.loop-at.at c.args.text.now) (steps.Word c.in-Ok-Word.word)
-word_here c = part_here c.args.text.now c.loop-at.at (steps.Word c.in-Ok-Word.word) c.loop-at-test.true (rw take_rest at c.in-Ok-Word.ensures ∙ ap (λ (s : Step). Ok s) c.in-Ok-Word.field-0-is)
+word_here c = part_here c.args.text.now c.loop-at.at (steps.Word c.in-Ok-Word.word) c.loop-at-test.true (rw take_rest at c.in-Ok-Word.ensures ∙ ap (λ (s : LexStep). Ok s) c.in-Ok-Word.field-0-is)
 
 pub overflow_add-at : goal.overflow_add-at
 overflow_add-at c = omega (arith, (reached_further c.args.text.now c.loop-at.at _ c.loop-at.invariant.1 (gap_here c)).1)
@@ -39,7 +39,7 @@ returns-in-Ok-Word-clause-position c =
       onward = omega (arith, c.loop-at.invariant.0, on.0);
       within = on.1;
       behind = c.loop-at.invariant.0;
-      is = ap (lexeme_in c.loop-at.at) (rw take_rest at c.in-Ok-Word.ensures ∙ ap (λ (s : Step). Ok s) c.in-Ok-Word.field-0-is);
+      is = ap (lexeme_in c.loop-at.at) (rw take_rest at c.in-Ok-Word.ensures ∙ ap (λ (s : LexStep). Ok s) c.in-Ok-Word.field-0-is);
     }
 
 pub moved-requires : goal.moved-requires

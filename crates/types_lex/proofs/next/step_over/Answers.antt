@@ -1,17 +1,17 @@
 use Rattle.std.proofs.Common.{Ok, drop, ap, arith, ◌∙◌}
 use Rattle.std.proofs.lemmas.List.{take_rest}
-use Rattle.types_lex.specs.declared.found.Step.{Step}
-use Rattle.types_lex.specs.declared.found.Step.TheVariants as steps
+use Rattle.types_lex.specs.declared.found_lexeme.LexStep.{LexStep}
+use Rattle.types_lex.specs.declared.found_lexeme.LexStep.TheVariants as steps
 use Rattle.types_lex.proofs.FaultLaws.{IsPartAt}
 use Rattle.types_lex.proofs.PartLaws.{step_lexemes, reached_more, reached_further, part_here, known_inside, known_fault}
 use Rattle.types_lex.proofs.next.step_over.Goals as goal
 use Rattle.types_lex.proofs.next.step_over.Goals.{In-Ok-Gap, In-Ok-Word}
 
 gap_here : (c : In-Ok-Gap) → IsPartAt (drop c.args.at c.args.text.now) (steps.Gap c.in-Ok-Gap.len)
-gap_here c = part_here c.args.text.now c.args.at (steps.Gap c.in-Ok-Gap.len) c.requires (rw take_rest at c.in-Ok-Gap.ensures ∙ ap (λ (s : Step). Ok s) c.in-Ok-Gap.field-0-is)
+gap_here c = part_here c.args.text.now c.args.at (steps.Gap c.in-Ok-Gap.len) c.requires (rw take_rest at c.in-Ok-Gap.ensures ∙ ap (λ (s : LexStep). Ok s) c.in-Ok-Gap.field-0-is)
 
 word_here : (c : In-Ok-Word) → IsPartAt (drop c.args.at c.args.text.now) (steps.Word c.in-Ok-Word.word)
-word_here c = part_here c.args.text.now c.args.at (steps.Word c.in-Ok-Word.word) c.requires (rw take_rest at c.in-Ok-Word.ensures ∙ ap (λ (s : Step). Ok s) c.in-Ok-Word.field-0-is)
+word_here c = part_here c.args.text.now c.args.at (steps.Word c.in-Ok-Word.word) c.requires (rw take_rest at c.in-Ok-Word.ensures ∙ ap (λ (s : LexStep). Ok s) c.in-Ok-Word.field-0-is)
 
 pub overflow_add-result : goal.overflow_add-result
 overflow_add-result c = omega (arith, (reached_further c.args.text.now c.args.at _ (omega (arith, c.requires)) (gap_here c)).1)

@@ -1,7 +1,7 @@
 use Rattle.std.proofs.Common.{◌+◌, ◌<◌, ◌≡◌, ◌∙◌, length, refl, sym, ap, subst, arith}
 use Rattle.std.specs.Prelude.{slice_get}
 use Rattle.types_table.specs.type_table.Made.{table_of}
-use Rattle.check_heap.specs.declared.check.search.Need.{Need}
+use Rattle.check_heap.specs.declared.check.search.RequiredField.{RequiredField}
 use Rattle.check_heap.specs.check.Search.{TestsNeed, visit_fields}
 use Rattle.base_data.proofs.model.Options.{slice_get-Contains}
 use Rattle.check_heap.specs.scan.Taken.{size_of}
@@ -56,7 +56,7 @@ returns-then-not-branch-clause-tests c =
     let at_n = c.requires.visit in
     let are = c.requires.needs in
     let asked = shape_asked c.args.fitting.table.now.nodes c.get-step.result.1 c.shape.result.now c.shape.ensures (sym c.is_asked.ensures ∙ c.if-not-is_asked.false) in
-    let need : Need = record { parent = c.args.n; object = c.args.visit.object; step = c.get-step.result.0; ty = c.get-step.result.1 } in
+    let need : RequiredField = record { parent = c.args.n; object = c.args.visit.object; step = c.get-step.result.0; ty = c.get-step.result.1 } in
     let is : IsNeedOf (table_of c.args.fitting.table.now) c.args.heap.now (listed c.args.visits.now) c.args.n c.loop-k.k need =
     record { visit = v; at = at_n; parent = refl; object = refl; needed = ap (λ needs. slice_get needs c.loop-k.k) are ∙ c.get-step.ensures; asked = asked } in
     testing_until (table_of c.args.fitting.table.now) c.args.heap.now all (listed c.loop-k.visits) (listed c.take_need.new.visits) c.args.n c.loop-k.k need c.holds.ensures.lawful c.loop-k.invariant.testing is
@@ -71,7 +71,7 @@ loop-k-preserved c =
     let are = c.requires.needs in
     let needed = ap (λ needs. slice_get needs c.loop-k.k) are ∙ c.get-step.ensures in
     let asked = shape_asked c.args.fitting.table.now.nodes c.get-step.result.1 c.shape.result.now c.shape.ensures (sym c.is_asked.ensures ∙ c.if-not-is_asked.false) in
-    let need : Need = record { parent = c.args.n; object = c.args.visit.object; step = c.get-step.result.0; ty = c.get-step.result.1 } in
+    let need : RequiredField = record { parent = c.args.n; object = c.args.visit.object; step = c.get-step.result.0; ty = c.get-step.result.1 } in
     let is : IsNeedOf (table_of c.args.fitting.table.now) c.args.heap.now (listed c.args.visits.now) c.args.n c.loop-k.k need =
     record { visit = v; at = at_n; parent = refl; object = refl; needed = needed; asked = asked } in
     let node = need_node (table_of c.args.fitting.table.now) c.args.heap.now c.holds.ensures.lawful v.object v.ty c.loop-k.k c.get-step.result.0 c.get-step.result.1 within.1 needed in

@@ -6,7 +6,7 @@ use Rattle.std.proofs.lemmas.List.{take_more}
 use Rattle.base_data.specs.declared.model.value.Val.TheVariants as vals
 use Rattle.types_spec.specs.types.Table.{table_shapes}
 use Rattle.types_table.specs.type_table.Made.{table_of}
-use Rattle.check_heap.specs.declared.scan.taken.Unfit.TheVariants as unfits
+use Rattle.check_heap.specs.declared.scan.taken_objects.ScanMismatch.TheVariants as unfits
 use Rattle.check_heap.specs.scan.Scanned.{object_typed}
 use Rattle.check_heap.specs.scan.Scan.{mark_of, Stops, IsInRow}
 use Rattle.check_heap.proofs.scan.IncreaseLemmas.{position_within}

@@ -2,15 +2,15 @@ use Rattle.std.proofs.Common.{◌++◌, refl, ap}
 use Rattle.check_stream.specs.theory.Asked.{of_type}
 use Rattle.check_stream.specs.checker.Fast.{held}
 use Rattle.check_stream.specs.checker.Positions.{waiting_needs}
-use Rattle.check_stream.specs.declared.checker.positions.Open.TheVariants as opens
-use Rattle.check_stream.specs.declared.checker.state.State.{State}
+use Rattle.check_stream.specs.declared.checker.open_positions.BlockPositions.TheVariants as opens
+use Rattle.check_stream.specs.declared.checker.check_state.CheckState.{CheckState}
 use Rattle.check_stream.proofs.checker.Weaker.{match_option_weaker}
 use Rattle.check_stream.proofs.checker.fast.fast_listed.Goals as goal
 
 pub returns : goal.returns
 returns c =
     match_option_weaker c.fast_typed.result
-    (λ same. ap (λ (s : State). held (opens.Listed c.args.positions) s.positions.waiting s.types s.words) same)
+    (λ same. ap (λ (s : CheckState). held (opens.Listed c.args.positions) s.positions.waiting s.types s.words) same)
     (λ took prefix. record {
       middle = held c.in-Some.others c.args.waiting.now c.args.types.now c.args.words.now;
       need = of_type c.in-Some.ty;

@@ -1,6 +1,6 @@
 use Rattle.std.proofs.Common.{rules, ◌≡◌, List, sym, subst}
 use Rattle.marshal_spec.specs.format.Token.{block}
-use Rattle.marshal_read.specs.declared.build.OpenBlock.{OpenBlock}
+use Rattle.marshal_read.specs.declared.build.PendingBlock.{PendingBlock}
 use Rattle.marshal_read.specs.Build.{building, stack, in_room, absorb_in, WellOpen}
 use Rattle.marshal_read.proofs.AbsorbLemmas.{well_added, well_absorbed}
 use Rattle.marshal_read.proofs.RoomLemmas.{within_fields, within_filled}
@@ -11,7 +11,7 @@ settle-requires c = (well_added _ _ _ _ _ c.in-Some.ensures.1 c.self.invariant.w
 
 pub fill_next-requires-clause-well : goal.fill_next-requires-clause-well
 fill_next-requires-clause-well c =
-    subst (λ (bs : List OpenBlock). WellOpen (building c.add_block_in_room.new.self bs c.self.inside.root)) (sym c.settle.ensures.same)
+    subst (λ (bs : List PendingBlock). WellOpen (building c.add_block_in_room.new.self bs c.self.inside.root)) (sym c.settle.ensures.same)
     (well_added _ _ _ _ _ c.in-Some.ensures.1 c.self.invariant.well)
 
 pub invariant_of-self-2 : goal.invariant_of-self-2

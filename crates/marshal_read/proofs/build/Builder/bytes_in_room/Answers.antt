@@ -1,5 +1,5 @@
 use Rattle.std.proofs.Common.{List, sym, subst}
-use Rattle.marshal_read.specs.declared.build.OpenBlock.{OpenBlock}
+use Rattle.marshal_read.specs.declared.build.PendingBlock.{PendingBlock}
 use Rattle.marshal_read.specs.Build.{building, WellOpen}
 use Rattle.marshal_read.proofs.AbsorbLemmas.{well_added, well_filled}
 use Rattle.marshal_read.proofs.RoomLemmas.{within_added, within_filled}
@@ -10,7 +10,7 @@ settle-requires c = (well_added _ _ _ _ _ c.in-Some.ensures.1 c.self.invariant.w
 
 pub fill_next-requires-clause-well : goal.fill_next-requires-clause-well
 fill_next-requires-clause-well c =
-    subst (λ (bs : List OpenBlock). WellOpen (building c.add_bytes_in_room.new.self bs c.self.inside.root)) (sym c.settle.ensures.same)
+    subst (λ (bs : List PendingBlock). WellOpen (building c.add_bytes_in_room.new.self bs c.self.inside.root)) (sym c.settle.ensures.same)
     (well_added _ _ _ _ _ c.in-Some.ensures.1 c.self.invariant.well)
 
 pub invariant_of-self-2 : goal.invariant_of-self-2

@@ -1,7 +1,7 @@
 use Rattle.std.proofs.Common.{arith, sym, ap, ◌∙◌, subst}
 use Rattle.std.specs.Prelude.{ℕ, ◌+◌, ◌<◌, ◌≡◌, true, false, List, [], length, All, option_map, slice_get}
 use Rattle.std.proofs.lemmas.List.{append-nil}
-use Rattle.text_literal.specs.declared.grammar.node.Node.{Node}
+use Rattle.text_literal.specs.declared.grammar.literal_node.LiteralNode.{LiteralNode}
 use Rattle.types_lex.specs.declared.lexeme.Lexeme.{Lexeme}
 use Rattle.text_literal.specs.grammar.Literal.{again, label_kinds}
 use Rattle.text_literal.specs.parser.LiteralAnswers.{shape_in, names_in}
@@ -24,7 +24,7 @@ returns-in-Again-clause-begins c k v stands all =
     again_only (λ u. c.get-node.result ≡ own_node k u → Begins c.args.text.now k u c.args.t c.args.heap.now c.args.heap.now labels labels c.again.result) k
     (λ n is. subst (λ ls. All (λ o. o < length c.args.heap.now) ls → Begins c.args.text.now k (again n) c.args.t c.args.heap.now c.args.heap.now ls ls c.again.result) c.deref.ensures.value
     (λ below. c.again.ensures k n c.args.t c.args.heap.now is below) all) v
-    (sym (ap (λ (n : Node). n.form) own) ∙ c.in-Again.is) own
+    (sym (ap (λ (n : LiteralNode). n.form) own) ∙ c.in-Again.is) own
 
 pub returns-then-not-has_next_number : goal.returns-then-not-has_next_number
 returns-then-not-has_next_number c = record {
@@ -35,7 +35,7 @@ returns-then-not-has_next_number c = record {
       → MayRefuse c.args.text.now.lexemes.now c.args.text.now.end
       (literal_read (shape_in c.args.text.now.table.now) (names_in c.args.text.now.table.now) k u (length c.args.heap.now) c.args.labels.now.items c.args.t) (faults.Label c.byte_of.result)) k
       (λ l p is. number_refused c.args.text.now c.get-node.result k c.args.t l p c.args.heap.now c.args.labels.now.items is c.byte_of.result other c.byte_of.ensures) v
-      (λ e. c.in_default.not-Again (ap (λ (n : Node). n.form) own ∙ e)) own;
+      (λ e. c.in_default.not-Again (ap (λ (n : LiteralNode). n.form) own ∙ e)) own;
   grows = ([], sym (append-nil c.args.heap.now));
 }
 
@@ -61,9 +61,9 @@ returns c = record {
       → Begins c.args.text.now k u c.args.t c.args.heap.now c.make_plain.new.heap c.args.labels.now.items c.placed.new.labels.items c.placed.result) k
       (λ l p there is.
       let led = lead_is c.args.text.now.lexemes.now k l p there.kinds_at c.in-Some.kind
-      (sym c.in-Some.is ∙ c.in_ok-kind.ensures ∙ ap (λ i. option_map (λ (x : Lexeme). x.kind) (slice_get c.args.text.now.lexemes.now i)) (c.plain_first.ensures ∙ ap (λ (n : Node). n.first + length (label_kinds n.label)) is)) in
-      c.placed.ensures k l p c.args.heap.now c.make_plain.new.heap is (sym (ap (λ (n : Node). is_next c.args.labels.now.items n.label) is) ∙ numbered) all
+      (sym c.in-Some.is ∙ c.in_ok-kind.ensures ∙ ap (λ i. option_map (λ (x : Lexeme). x.kind) (slice_get c.args.text.now.lexemes.now i)) (c.plain_first.ensures ∙ ap (λ (n : LiteralNode). n.first + length (label_kinds n.label)) is)) in
+      c.placed.ensures k l p c.args.heap.now c.make_plain.new.heap is (sym (ap (λ (n : LiteralNode). is_next c.args.labels.now.items n.label) is) ∙ numbered) all
       (c.in_ok-made.ensures.made k l p there is led)) v
-      (λ e. c.in_default.not-Again (ap (λ (n : Node). n.form) own ∙ e)) stands own;
+      (λ e. c.in_default.not-Again (ap (λ (n : LiteralNode). n.form) own ∙ e)) stands own;
   grows = c.in_ok-made.ensures.grows;
 }

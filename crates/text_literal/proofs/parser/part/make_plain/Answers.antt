@@ -1,6 +1,6 @@
 use Rattle.std.proofs.Common.{sym, ap, ◌∙◌, subst}
 use Rattle.std.specs.Prelude.{◌+◌, length, IfOk}
-use Rattle.text_literal.specs.declared.grammar.node.Node.{Node}
+use Rattle.text_literal.specs.declared.grammar.literal_node.LiteralNode.{LiteralNode}
 use Rattle.text_literal.specs.grammar.Literal.{label_kinds}
 use Rattle.text_literal.specs.parser.Underway.{IsMade}
 use Rattle.text_literal.proofs.parser.part.make_plain.Goals as goal
@@ -8,5 +8,5 @@ use Rattle.text_literal.proofs.parser.part.make_plain.Goals as goal
 pub returns-then-node-eq0-clause-made : goal.returns-then-node-eq0-clause-made
 returns-then-node-eq0-clause-made c k l p there is led =
     subst (λ start. IfOk c.make_leaf.result (IsMade c.args.node.parts start c.args.heap.now c.make_leaf.new.heap))
-    (c.leaf_at.ensures.leaf (k + length (label_kinds l)) p led (sym (ap (λ (n : Node). n.parts) is) ∙ c.if-node-eq0.true))
+    (c.leaf_at.ensures.leaf (k + length (label_kinds l)) p led (sym (ap (λ (n : LiteralNode). n.parts) is) ∙ c.if-node-eq0.true))
     (c.make_leaf.ensures.made c.args.node.parts)

@@ -2,7 +2,7 @@ use Rattle.std.proofs.Common.{arith, rules, refl, get_or, sym, ap, ◌∙◌, su
 use Rattle.std.specs.Prelude.{ℕ, ◌+◌, ◌<◌, ◌≡◌, Result, Err, IfErr, List, ◌∷◌, length}
 use Rattle.base_data.specs.declared.model.value.Obj.{Obj}
 use Rattle.text_literal.specs.declared.parser.fault.LiteralFault.{LiteralFault}
-use Rattle.text_literal.specs.declared.parser.stack.Opened.{Opened}
+use Rattle.text_literal.specs.declared.parser.block_stack.Opened.{Opened}
 use Rattle.text_literal.specs.parser.Underway.{if_open, IsUnderway, MayRefuse}
 use Rattle.text_literal.proofs.parser.GoLemmas.{has_part, part_inside, end_behind, part_fault, part_valid, gone_in, gone_on}
 use Rattle.text_literal.proofs.parser.parts.read_part.Goals as goal

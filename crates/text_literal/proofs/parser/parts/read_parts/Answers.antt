@@ -1,7 +1,7 @@
 use Rattle.std.proofs.Common.{rules, sym, subst}
 use Rattle.std.specs.Prelude.{◌≡◌, ⊤, Result, Err, List}
 use Rattle.text_literal.specs.declared.parser.fault.LiteralFault.{LiteralFault}
-use Rattle.text_literal.specs.declared.parser.stack.Opened.{Opened}
+use Rattle.text_literal.specs.declared.parser.block_stack.Opened.{Opened}
 use Rattle.text_literal.specs.parser.Underway.{IsUnderway, Finishes}
 use Rattle.text_literal.proofs.parser.GoLemmas.{popped_none, all_finished}
 use Rattle.text_literal.proofs.parser.parts.read_parts.Goals as goal

@@ -1,6 +1,6 @@
 use Rattle.std.proofs.Common.{◌-◌, ◌+◌, ◌∙◌, arith, rules, sym, ap}
 use Rattle.std.proofs.lemmas.Option.{get_or_from_slice_get}
-use Rattle.text_literal.specs.declared.grammar.node.Node.{Node}
+use Rattle.text_literal.specs.declared.grammar.literal_node.LiteralNode.{LiteralNode}
 use Rattle.text_literal.specs.parser.Ends.{sibling}
 use Rattle.text_literal.proofs.parser.EndsLemmas.{ends_none, ends_all, ends_more}
 use Rattle.text_literal.proofs.parser.siblings.subtree_ends.Goals as goal
@@ -13,7 +13,7 @@ loop-i-preserved c = (
   search rules,
   ends_more c.args.nodes.now c.loop-i.ends.items c.as_slice.result.now (c.loop-i.i - 1) c.sibling-end.result c.get.result c.loop-i.invariant.0
       (omega (arith, c.loop-i-test.true, c.loop-i.auto.i)) c.as_slice.ensures.value
-      (c.sibling-end.ensures ∙ ap (λ (n : Node). sibling c.as_slice.result.now (c.loop-i.i - 1 + 1) n.parts) (sym (get_or_from_slice_get c.args.nodes.now (c.loop-i.i - 1) c.get.result c.get.result c.get.ensures)))
+      (c.sibling-end.ensures ∙ ap (λ (n : LiteralNode). sibling c.as_slice.result.now (c.loop-i.i - 1 + 1) n.parts) (sym (get_or_from_slice_get c.args.nodes.now (c.loop-i.i - 1) c.get.result c.get.result c.get.ensures)))
       (λ j k v low. c.loop-i.invariant.1 j k v (omega (arith, low))),
 )
 

@@ -5,8 +5,8 @@ use Rattle.std.specs.Prelude.{slice_get}
 use Rattle.check_heap.specs.fits.Needs.{needs_in}
 use Rattle.text_print.specs.leaves.Frames.{before_part}
 use Rattle.text_print.specs.leaves.FrameView.{frame_in}
-use Rattle.text_print.specs.declared.print.walk.Step.TheVariants as steps
-use Rattle.text_print.specs.declared.print.walk.Walk.{Walk}
+use Rattle.text_print.specs.declared.print.print_walk.PrintStep.TheVariants as steps
+use Rattle.text_print.specs.declared.print.print_walk.PrintWalk.{PrintWalk}
 use Rattle.text_print.specs.print.Levels.{end_text, last_outside}
 use Rattle.text_print.specs.print.Walking.{chunks_left, Goes}
 use Rattle.text_print.proofs.print.LabelLemmas.{fewer_left, none_next}
@@ -34,7 +34,7 @@ returns-in_default-clause-fewer c =
     let none : length walk.ends.items ≤ last_outside 0 items = first_of (omega (arith, c.requires.innermost), grind (arith, common_steps)) in
     let inner = innermost_at walk last block c.requires.walk.nested none many c.index-block.ensures in
     let end = c.end_of.result in
-    let closed : Walk = record { value = walk.value; stack = c.truncate.new.self; ends = walk.ends; marks = walk.marks; order = walk.order } in
+    let closed : PrintWalk = record { value = walk.value; stack = c.truncate.new.self; ends = walk.ends; marks = walk.marks; order = walk.order } in
     let goes = subst (λ ps. Goes table graph ps walk.order (steps.Closing end) closed) (none_next table graph walk c.requires.none)
     (block_goes table graph walk closed (take last items) block end c.requires.walk inner
     (no_more (needs_in block.needs) block.next c.next_need.result c.next_need.ensures.need (λ x is. c.in_default.not-Some x is))
@@ -53,7 +53,7 @@ returns-in_default-clause-write c =
     let none : length walk.ends.items ≤ last_outside 0 items = first_of (omega (arith, c.requires.innermost), grind (arith, common_steps)) in
     let inner = innermost_at walk last block c.requires.walk.nested none many c.index-block.ensures in
     let end = c.end_of.result in
-    let closed : Walk = record { value = walk.value; stack = c.truncate.new.self; ends = walk.ends; marks = walk.marks; order = walk.order } in
+    let closed : PrintWalk = record { value = walk.value; stack = c.truncate.new.self; ends = walk.ends; marks = walk.marks; order = walk.order } in
     let goes = subst (λ ps. Goes table graph ps walk.order (steps.Closing end) closed) (none_next table graph walk c.requires.none)
     (block_goes table graph walk closed (take last items) block end c.requires.walk inner
     (no_more (needs_in block.needs) block.next c.next_need.result c.next_need.ensures.need (λ x is. c.in_default.not-Some x is))
@@ -126,7 +126,7 @@ write_value-requires-clause-walk c =
     let both = block_open table graph walk (take last items) block c.requires.walk inner.blocks in
     let passed = c.in_ok-pass_part.ensures in
     let after = c.pass_part.new.self in
-    let between : Walk = record { value = Some (c.value_at-v.result, c.in-Some.at); stack = after.stack; ends = after.ends; marks = after.marks; order = after.order } in
+    let between : PrintWalk = record { value = Some (c.value_at-v.result, c.in-Some.at); stack = after.stack; ends = after.ends; marks = after.marks; order = after.order } in
     let goes = subst (λ ps. Goes table graph ps walk.order (steps.Before block.frame block.next) between) (none_next table graph walk c.requires.none)
     (part_goes table graph walk between (take last items) block c.in-Some.i c.in-Some.at c.value_at-v.result c.last_end-end.result c.requires.walk inner
     c.value_at-v.ensures.valid
@@ -158,7 +158,7 @@ write_value-requires-clause-typed c =
     let both = block_open table graph walk (take last items) block c.requires.walk inner.blocks in
     let passed = c.in_ok-pass_part.ensures in
     let after = c.pass_part.new.self in
-    let between : Walk = record { value = Some (c.value_at-v.result, c.in-Some.at); stack = after.stack; ends = after.ends; marks = after.marks; order = after.order } in
+    let between : PrintWalk = record { value = Some (c.value_at-v.result, c.in-Some.at); stack = after.stack; ends = after.ends; marks = after.marks; order = after.order } in
     let goes = subst (λ ps. Goes table graph ps walk.order (steps.Before block.frame block.next) between) (none_next table graph walk c.requires.none)
     (part_goes table graph walk between (take last items) block c.in-Some.i c.in-Some.at c.value_at-v.result c.last_end-end.result c.requires.walk inner
     c.value_at-v.ensures.valid
@@ -190,7 +190,7 @@ returns-clause-fewer c =
     let both = block_open table graph walk (take last items) block c.requires.walk inner.blocks in
     let passed = c.in_ok-pass_part.ensures in
     let after = c.pass_part.new.self in
-    let between : Walk = record { value = Some (c.value_at-v.result, c.in-Some.at); stack = after.stack; ends = after.ends; marks = after.marks; order = after.order } in
+    let between : PrintWalk = record { value = Some (c.value_at-v.result, c.in-Some.at); stack = after.stack; ends = after.ends; marks = after.marks; order = after.order } in
     let goes = subst (λ ps. Goes table graph ps walk.order (steps.Before block.frame block.next) between) (none_next table graph walk c.requires.none)
     (part_goes table graph walk between (take last items) block c.in-Some.i c.in-Some.at c.value_at-v.result c.last_end-end.result c.requires.walk inner
     c.value_at-v.ensures.valid
@@ -222,7 +222,7 @@ returns-clause-write c =
     let both = block_open table graph walk (take last items) block c.requires.walk inner.blocks in
     let passed = c.in_ok-pass_part.ensures in
     let after = c.pass_part.new.self in
-    let between : Walk = record { value = Some (c.value_at-v.result, c.in-Some.at); stack = after.stack; ends = after.ends; marks = after.marks; order = after.order } in
+    let between : PrintWalk = record { value = Some (c.value_at-v.result, c.in-Some.at); stack = after.stack; ends = after.ends; marks = after.marks; order = after.order } in
     let goes = subst (λ ps. Goes table graph ps walk.order (steps.Before block.frame block.next) between) (none_next table graph walk c.requires.none)
     (part_goes table graph walk between (take last items) block c.in-Some.i c.in-Some.at c.value_at-v.result c.last_end-end.result c.requires.walk inner
     c.value_at-v.ensures.valid

@@ -5,7 +5,7 @@ use Rattle.marshal_heap.specs.declared.heap.kind.Kind.TheVariants as kinds
 use Rattle.marshal_heap.specs.heap.Heap.{kind_of, object_at}
 use Rattle.text_print.specs.leaves.FrameView.{frame_in}
 use Rattle.text_print.proofs.leaves.ObjectLemmas.{of_kind}
-use Rattle.text_print.specs.declared.print.walk.Step.TheVariants as steps
+use Rattle.text_print.specs.declared.print.print_walk.PrintStep.TheVariants as steps
 use Rattle.text_print.specs.print.Walking.{IsBegun}
 use Rattle.text_print.proofs.print.WalkLemmas.{leaf_goes, opening_goes}
 use Rattle.text_print.proofs.print.PlainLemmas.{one_text, write_goes}

@@ -10,8 +10,8 @@ use Rattle.types_spec.specs.types.Table.{node_or_none}
 use Rattle.text_print.specs.leaves.Frames.{int_text}
 use Rattle.text_print.specs.show.Tables.{shape_in, names_in}
 use Rattle.types_table.specs.type_table.Made.{table_of}
-use Rattle.text_print.specs.declared.print.walk.Step.TheVariants as steps
-use Rattle.text_print.specs.declared.print.walk.Walk.{Walk}
+use Rattle.text_print.specs.declared.print.print_walk.PrintStep.TheVariants as steps
+use Rattle.text_print.specs.declared.print.print_walk.PrintWalk.{PrintWalk}
 use Rattle.text_print.specs.print.Levels.{levels_of}
 use Rattle.text_print.specs.print.Plain.{IsWrittenOn}
 use Rattle.text_print.specs.print.Typed.{IsTypedAt}
@@ -58,7 +58,7 @@ returns-then-index-clause-write c =
     let walk = c.args.walk.now in
     let text = c.args.text.now.items in
     let at = c.args.at in
-    let waiting : Walk = record { value = Some (vals.Ref c.in-Ref.o, at); stack = walk.stack; ends = walk.ends; marks = walk.marks; order = walk.order } in
+    let waiting : PrintWalk = record { value = Some (vals.Ref c.in-Ref.o, at); stack = walk.stack; ends = walk.ends; marks = walk.marks; order = walk.order } in
     let is = same_walk table graph walk waiting c.requires.walk (record { blocks = refl; ends = refl; marks = refl; order = refl })
     (subst (IsValue (length graph)) c.in-Ref.is c.args.value.now.value, subst (λ v. IsTypedAt (table_of table) graph v at) c.in-Ref.is c.requires.typed) in
     subst (λ v. IsWrittenOn table graph (left_of table graph (levels_of walk) (Some (v, at)) walk.order) walk.order text text waiting) (sym c.in-Ref.is)

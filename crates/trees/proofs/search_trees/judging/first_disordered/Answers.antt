@@ -1,6 +1,6 @@
 use Rattle.std.proofs.Common.{ℕ, List, sym, subst}
 use Rattle.std.specs.Global.{Vec}
-use Rattle.trees.specs.declared.search_trees.span.Settled.{Settled}
+use Rattle.trees.specs.declared.search_trees.element_span.SettledNode.{SettledNode}
 use Rattle.trees.specs.search_trees.Judgement.{IsFirst}
 use Rattle.trees.specs.search_trees.Span.{IsMarked}
 use Rattle.trees.specs.search_trees.Levels.{Has, AreRising}
@@ -26,4 +26,4 @@ returns c =
     let level = has_level graph nodes c.requires.closed c.requires.counted o among in
     c.in_ok-all.ensures.settled level.0 o
     (subst (λ (l : List (Vec ℕ)). Has l level.0 o) (sym c.as_slice.ensures.value) (c.in_ok-levels.ensures.has level.0 o among level.1)))
-    (subst (λ (l : List Settled). IsFirst (IsMarked l) nodes c.first_marked.result) c.as_slice-2.ensures.value c.first_marked.ensures)
+    (subst (λ (l : List SettledNode). IsFirst (IsMarked l) nodes c.first_marked.result) c.as_slice-2.ensures.value c.first_marked.ensures)

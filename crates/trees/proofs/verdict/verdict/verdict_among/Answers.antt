@@ -1,6 +1,6 @@
 use Rattle.std.proofs.Common.{List, ℕ, length, refl, subst, arith}
 use Rattle.std.proofs.lemmas.Option.{slice_get_read}
-use Rattle.trees.specs.declared.search_trees.judging.Judgement.TheVariants.{Faulty}
+use Rattle.trees.specs.declared.search_trees.judging.NodesVerdict.TheVariants.{Faulty}
 use Rattle.trees.specs.search_trees.Judgement.{IsJudgement}
 use Rattle.trees.proofs.verdict.AmongLemmas.{fault_inside}
 use Rattle.trees.proofs.verdict.verdict.verdict_among.Goals as goal

@@ -1,6 +1,6 @@
 use Rattle.std.proofs.Common.{ℕ, ◌∙◌, List, length, refl, sym, subst, arith}
 use Rattle.std.proofs.lemmas.Option.{slice_get_read}
-use Rattle.trees.specs.declared.search_trees.judging.Judgement.TheVariants.{Sound, Faulty}
+use Rattle.trees.specs.declared.search_trees.judging.NodesVerdict.TheVariants.{Sound, Faulty}
 use Rattle.trees.specs.declared.search_trees.verdict.TreeVerdict.TheVariants as verdicts
 use Rattle.trees.specs.search_trees.Judgement.{AreClosed, IsJudgement}
 use Rattle.trees.specs.verdict.TreeTable.{IsTableVerdict}

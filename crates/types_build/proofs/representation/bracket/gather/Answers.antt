@@ -1,6 +1,6 @@
 use Rattle.std.proofs.Common.{ℕ, ◌<◌, ◌∷◌, List, reverse, sym, subst}
 use Rattle.std.proofs.lemmas.Result.{on_ok_weaker}
-use Rattle.types_build.specs.declared.representation.bracket.Step.{Step}
+use Rattle.types_build.specs.declared.representation.bracket.BracketStep.{BracketStep}
 use Rattle.types_spec.specs.declared.types.head.TagOf.{TagOf}
 use Rattle.types_build.specs.representation.Tags.{tags_of_entries}
 use Rattle.types_build.specs.representation.Steps.{AreGathered, steps_work}
@@ -13,7 +13,7 @@ returns-in-Item-clause-gathered c =
     on_ok_weaker c.gather_item.result
     (λ gathers all was.
     gathers c.args.decls.now c.args.settled.now.keys all
-    (subst (λ (s : Step). AreGathered c.args.decls.now c.args.types.now (tags_of_entries c.args.tags.now.entries) c.args.settled.now.keys
+    (subst (λ (s : BracketStep). AreGathered c.args.decls.now c.args.types.now (tags_of_entries c.args.tags.now.entries) c.args.settled.now.keys
     (s ∷ reverse c.args.waiting.now.items) all) c.in-Item.is was))
     c.gather_item.ensures.gathered
 
@@ -21,7 +21,7 @@ pub returns-in-Item-clause-less : goal.returns-in-Item-clause-less
 returns-in-Item-clause-less c =
     on_ok_weaker c.gather_item.result
     (λ less all was.
-    subst (λ (s : Step). steps_work c.args.decls.now c.args.types.now (reverse c.gather_item.new.waiting.items)
+    subst (λ (s : BracketStep). steps_work c.args.decls.now c.args.types.now (reverse c.gather_item.new.waiting.items)
     < steps_work c.args.decls.now c.args.types.now (s ∷ reverse c.args.waiting.now.items)) (sym c.in-Item.is)
     (less c.args.decls.now))
     c.gather_item.ensures.less
@@ -32,7 +32,7 @@ returns-in-None-clause-gathered c =
     on_ok_weaker c.include.result
     (λ gathers all was.
     gathers found all
-    (subst (λ (s : Step). AreGathered c.args.decls.now c.args.types.now found c.args.settled.now.keys
+    (subst (λ (s : BracketStep). AreGathered c.args.decls.now c.args.types.now found c.args.settled.now.keys
     (s ∷ reverse c.args.waiting.now.items) all) c.in-Included.is was))
     c.include.ensures.gathered
 
@@ -41,10 +41,10 @@ returns-in-None-clause-less c =
     let found = tags_of_entries c.args.tags.now.entries in
     on_ok_weaker c.include.result
     (λ less all was.
-    subst (λ (s : Step). steps_work c.args.decls.now c.include.new.types (reverse c.include.new.waiting.items)
+    subst (λ (s : BracketStep). steps_work c.args.decls.now c.include.new.types (reverse c.include.new.waiting.items)
     < steps_work c.args.decls.now c.args.types.now (s ∷ reverse c.args.waiting.now.items)) (sym c.in-Included.is)
     (less found all
-    (subst (λ (s : Step). AreGathered c.args.decls.now c.args.types.now found c.args.settled.now.keys
+    (subst (λ (s : BracketStep). AreGathered c.args.decls.now c.args.types.now found c.args.settled.now.keys
     (s ∷ reverse c.args.waiting.now.items) all) c.in-Included.is was)))
     c.include.ensures.less
 
@@ -69,7 +69,7 @@ returns-in-Some-clause-gathered c =
     (sym write)
     (found_gathered decls types found.by_position found.met.now.keys found.heads.now c.requires.found more c.in-Included.included c.in-Some.ensures
     gathered settled rest all
-    (subst (λ (s : Step). AreGathered decls types gathered settled (s ∷ rest) all) c.in-Included.is was)))
+    (subst (λ (s : BracketStep). AreGathered decls types gathered settled (s ∷ rest) all) c.in-Included.is was)))
     c.add_found.ensures
 
 pub returns-in-Settle-clause-gathered : goal.returns-in-Settle-clause-gathered
@@ -80,7 +80,7 @@ returns-in-Settle-clause-gathered c =
     (λ brings all was.
     settle_gathered c.args.decls.now c.args.types.now c.settle.new.types c.settle.ensures.grown found c.args.settled.now.keys
     c.in-Settle.decl rest all
-    (subst (λ (s : Step). AreGathered c.args.decls.now c.args.types.now found c.args.settled.now.keys (s ∷ rest) all) c.in-Settle.is was)
+    (subst (λ (s : BracketStep). AreGathered c.args.decls.now c.args.types.now found c.args.settled.now.keys (s ∷ rest) all) c.in-Settle.is was)
     c.settle.new.settled.keys brings)
     c.settle.ensures.settled
 
@@ -90,9 +90,9 @@ returns-in-Settle-clause-less c =
     let rest = reverse c.args.waiting.now.items in
     on_ok_weaker c.settle.result
     (λ brings all was.
-    subst (λ (s : Step). steps_work c.args.decls.now c.settle.new.types rest
+    subst (λ (s : BracketStep). steps_work c.args.decls.now c.settle.new.types rest
     < steps_work c.args.decls.now c.args.types.now (s ∷ rest)) (sym c.in-Settle.is)
     (settle_less c.args.decls.now c.args.types.now c.settle.new.types c.settle.ensures.grown found c.args.settled.now.keys
     c.in-Settle.decl rest all
-    (subst (λ (s : Step). AreGathered c.args.decls.now c.args.types.now found c.args.settled.now.keys (s ∷ rest) all) c.in-Settle.is was)))
+    (subst (λ (s : BracketStep). AreGathered c.args.decls.now c.args.types.now found c.args.settled.now.keys (s ∷ rest) all) c.in-Settle.is was)))
     c.settle.ensures.settled

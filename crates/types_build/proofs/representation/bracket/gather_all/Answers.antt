@@ -1,6 +1,6 @@
 use Rattle.std.proofs.Common.{rules, ◌≡◌, ◌∙◌, ◌<◌, List, length, reverse, vec_len, None, sym, subst}
 use Rattle.types_table.proofs.store.HeldLemmas.{Grows-none, Grows-then}
-use Rattle.types_build.specs.declared.representation.bracket.Step.{Step}
+use Rattle.types_build.specs.declared.representation.bracket.BracketStep.{BracketStep}
 use Rattle.types_build.specs.representation.Tags.{tags_at, tags_of_entries}
 use Rattle.types_build.specs.representation.Steps.{AreGathered, steps_work}
 use Rattle.types_build.proofs.representation.FoundLemmas.{found_kept}
@@ -20,7 +20,7 @@ gather-requires-clause-step c =
     let was = c.step.invariant.gathered c.requires.gathered.0 c.requires.gathered.1 in
     step_within c.args.decls.now c.step.types (tags_at c.step.types (tags_of_entries c.step.tags.entries)) c.requires.gathered.0
     c.in-Some.step (reverse c.pop.new.self.items)
-    (subst (λ (ss : List Step). AreGathered c.args.decls.now c.step.types (tags_of_entries c.step.tags.entries) c.step.settled.keys ss c.requires.gathered.0)
+    (subst (λ (ss : List BracketStep). AreGathered c.args.decls.now c.step.types (tags_of_entries c.step.tags.entries) c.step.settled.keys ss c.requires.gathered.0)
     first was).left
 
 pub gather-requires-clause-found : goal.gather-requires-clause-found
@@ -33,10 +33,10 @@ step-smaller c =
     let decls = c.args.decls.now in
     let all = c.requires.gathered.0 in
     let first = pushed_first c.pop.new.self.items c.step.waiting.items c.in-Some.step c.in-Some.ensures.items in
-    subst (λ (ss : List Step). steps_work decls c.gather.new.types (reverse c.gather.new.waiting.items) < steps_work decls c.step.types ss)
+    subst (λ (ss : List BracketStep). steps_work decls c.gather.new.types (reverse c.gather.new.waiting.items) < steps_work decls c.step.types ss)
     (sym first)
     (c.in_ok-gather.ensures.less all
-    (subst (λ (ss : List Step). AreGathered decls c.step.types (tags_of_entries c.step.tags.entries) c.step.settled.keys ss all) first
+    (subst (λ (ss : List BracketStep). AreGathered decls c.step.types (tags_of_entries c.step.tags.entries) c.step.settled.keys ss all) first
     (c.step.invariant.gathered all c.requires.gathered.1)))
 
 pub step-preserved : goal.step-preserved
@@ -47,7 +47,7 @@ step-preserved c =
       grown = Grows-then c.args.types.now c.step.types c.gather.new.types c.step.invariant.grown c.gather.ensures.grown;
       known = c.in_ok-gather.ensures.known;
       gathered = λ all was. c.in_ok-gather.ensures.gathered all
-          (subst (λ (ss : List Step). AreGathered decls c.step.types (tags_of_entries c.step.tags.entries) c.step.settled.keys ss all) first
+          (subst (λ (ss : List BracketStep). AreGathered decls c.step.types (tags_of_entries c.step.tags.entries) c.step.settled.keys ss all) first
           (c.step.invariant.gathered all was));
     }
 

@@ -1,10 +1,10 @@
 use Rattle.std.proofs.Common.{ap, ◌∙◌, ◌<◌, ◌∷◌, arith, List, Some, None, reverse, sym, subst}
 use Rattle.std.proofs.lemmas.Result.{on_ok_weaker}
-use Rattle.types_spec.specs.declared.types.ty.Node.TheVariants as nodes
+use Rattle.types_spec.specs.declared.types.ty.TypeTreeNode.TheVariants as nodes
 use Rattle.types_spec.specs.types.Nodes.{type_at}
 use Rattle.types_spec.specs.types.Head.{head}
-use Rattle.types_build.specs.declared.representation.bracket.Step.{Step}
-use Rattle.types_build.specs.declared.representation.bracket.Step.TheVariants as steps
+use Rattle.types_build.specs.declared.representation.bracket.BracketStep.{BracketStep}
+use Rattle.types_build.specs.declared.representation.bracket.BracketStep.TheVariants as steps
 use Rattle.types_build.specs.representation.Tags.{tags_of_item, tags_of_entries}
 use Rattle.types_build.specs.representation.Steps.{AreGathered, steps_work}
 use Rattle.types_build.proofs.representation.SpineLemmas.{type_at-node}
@@ -37,7 +37,7 @@ returns-in_ok-push-in-Including-clause-gathered c = λ decls settled all was.
     let included = c.in-Including.included in
     let is = type_at-node types c.args.item (nodes.Including c.in-Including.field-0 included) c.in-Including.ensures.is in
     let first = pushed_first c.args.waiting.now.items c.push.new.self.items (steps.Included included) c.in_ok-push-in-Including.ensures.items in
-    subst (λ (ss : List Step). AreGathered decls types (tags_of_entries c.args.tags.now.entries) settled ss all) (sym first)
+    subst (λ (ss : List BracketStep). AreGathered decls types (tags_of_entries c.args.tags.now.entries) settled ss all) (sym first)
     (gather_including decls types _ settled _ all c.args.item was (type_at types c.in-Including.field-0) included
     (omega (arith, c.in-Including.ensures.below, c.requires)) is)
 
@@ -48,7 +48,7 @@ returns-in_ok-push-in-Including-clause-less c = λ decls.
     let is = type_at-node types c.args.item (nodes.Including c.in-Including.field-0 included) c.in-Including.ensures.is in
     let first = pushed_first c.args.waiting.now.items c.push.new.self.items (steps.Included included) c.in_ok-push-in-Including.ensures.items in
     let rest = reverse c.args.waiting.now.items in
-    subst (λ (ss : List Step). steps_work decls types ss < steps_work decls types (steps.Item c.args.item ∷ rest)) (sym first)
+    subst (λ (ss : List BracketStep). steps_work decls types ss < steps_work decls types (steps.Item c.args.item ∷ rest)) (sym first)
     (including_less decls types c.args.item rest (type_at types c.in-Including.field-0) included is)
 
 pub returns-in_default : goal.returns-in_default

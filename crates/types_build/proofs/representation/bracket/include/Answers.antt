@@ -4,7 +4,7 @@ use Rattle.std.proofs.lemmas.Result.{on_ok_weaker}
 use Rattle.types_spec.specs.types.Nodes.{type_at}
 use Rattle.types_spec.specs.types.Declarations.{unfolded}
 use Rattle.types_spec.specs.types.Head.{head}
-use Rattle.types_build.specs.declared.representation.bracket.Step.TheVariants as steps
+use Rattle.types_build.specs.declared.representation.bracket.BracketStep.TheVariants as steps
 use Rattle.types_build.specs.representation.Tags.{tags_at}
 use Rattle.types_build.proofs.representation.NearerLemmas.{type_kept, nearer_head, nearer_work_more}
 use Rattle.types_build.proofs.representation.GatherLemmas.{gathered_kept, left_by, include_there, include_next, included_less, next_less, last_less}

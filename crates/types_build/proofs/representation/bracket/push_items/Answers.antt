@@ -2,8 +2,8 @@ use Rattle.std.proofs.Common.{List, refl, sym, ap, subst, arith, reverse}
 use Rattle.types_spec.specs.types.Ty.{Ty}
 use Rattle.types_spec.specs.types.Nodes.{type_at}
 use Rattle.types_spec.specs.types.Head.{head}
-use Rattle.types_build.specs.declared.representation.bracket.Step.{Step}
-use Rattle.types_build.specs.declared.representation.bracket.Step.TheVariants as steps
+use Rattle.types_build.specs.declared.representation.bracket.BracketStep.{BracketStep}
+use Rattle.types_build.specs.declared.representation.bracket.BracketStep.TheVariants as steps
 use Rattle.types_build.specs.representation.Tags.{items, with_items}
 use Rattle.types_build.specs.representation.Work.{work}
 use Rattle.types_build.specs.representation.Steps.{AreLeft, steps_work}
@@ -27,7 +27,7 @@ loop-whole-preserved c =
     record {
       within = omega (arith, c.in-Some.ensures.below, c.loop-whole.invariant.within);
       left = λ decls tags all left.
-          subst (λ (ss : List Step). AreLeft decls types (with_items (head decls) tags (items whole)) ss all) (sym first)
+          subst (λ (ss : List BracketStep). AreLeft decls types (with_items (head decls) tags (items whole)) ss all) (sym first)
           (push_left decls types tags all at whole (reverse c.loop-whole.waiting.items) c.loop-whole.invariant.within before
           (c.loop-whole.invariant.left decls tags all left));
       work = λ decls.

@@ -2,7 +2,7 @@ use Rattle.std.proofs.Common.{Some, subst, sym, List, ℕ}
 use Rattle.types_spec.specs.types.Occurrence.{Placed}
 use Rattle.types_spec.specs.types.Scope.{IsSecond}
 use Rattle.std.specs.Prelude.{Contains, IfOk}
-use Rattle.types_resolve.specs.declared.scope.site.Use.{Use}
+use Rattle.types_resolve.specs.declared.scope.site.TypeUse.{TypeUse}
 use Rattle.types_resolve.specs.declared.scope.rule.UseRule.TheVariants as use_rules
 use Rattle.types_resolve.specs.scope.Breaks.{SiteBreaks, UsesBreak, VariablesBreak}
 use Rattle.types_resolve.specs.scope.Least.{IsLeast}
@@ -25,17 +25,17 @@ returns-in-UnboundVariable c =
 pub returns-in-UnknownName : goal.returns-in-UnknownName
 returns-in-UnknownName c =
     subst (λ rule. IsLeast (SiteBreaks rule c.args.decls.now c.args.decl.now c.args.site.now) c.least_use.result) (sym c.in-UnknownName.is)
-    (subst (λ (us : List Use). IsLeast (UsesBreak use_rules.UnknownName c.args.decls.now (Some c.args.decl.now.group) us) c.least_use.result)
+    (subst (λ (us : List TypeUse). IsLeast (UsesBreak use_rules.UnknownName c.args.decls.now (Some c.args.decl.now.group) us) c.least_use.result)
     c.as_slice-uses.ensures c.least_use.ensures)
 
 pub returns-in-Arity : goal.returns-in-Arity
 returns-in-Arity c =
     subst (λ rule. IsLeast (SiteBreaks rule c.args.decls.now c.args.decl.now c.args.site.now) c.least_use-in-Arity.result) (sym c.in-Arity.is)
-    (subst (λ (us : List Use). IsLeast (UsesBreak use_rules.Arity c.args.decls.now (Some c.args.decl.now.group) us) c.least_use-in-Arity.result)
+    (subst (λ (us : List TypeUse). IsLeast (UsesBreak use_rules.Arity c.args.decls.now (Some c.args.decl.now.group) us) c.least_use-in-Arity.result)
     c.as_slice-uses.ensures c.least_use-in-Arity.ensures)
 
 pub returns-in-Irregular : goal.returns-in-Irregular
 returns-in-Irregular c =
     subst (λ rule. IsLeast (SiteBreaks rule c.args.decls.now c.args.decl.now c.args.site.now) c.least_use-in-Irregular.result) (sym c.in-Irregular.is)
-    (subst (λ (us : List Use). IsLeast (UsesBreak use_rules.Irregular c.args.decls.now (Some c.args.decl.now.group) us) c.least_use-in-Irregular.result)
+    (subst (λ (us : List TypeUse). IsLeast (UsesBreak use_rules.Irregular c.args.decls.now (Some c.args.decl.now.group) us) c.least_use-in-Irregular.result)
     c.as_slice-uses.ensures c.least_use-in-Irregular.ensures)

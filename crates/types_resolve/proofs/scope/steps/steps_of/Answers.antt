@@ -1,7 +1,7 @@
 use Rattle.std.proofs.Common.{◌+◌, length, refl, sym, subst, arith, ◌∙◌, ℕ, List}
 use Rattle.std.specs.Prelude.{Contains}
 use Rattle.std.proofs.lemmas.Option.{slice_get_read, none-some}
-use Rattle.types_resolve.specs.declared.scope.site.Use.{Use}
+use Rattle.types_resolve.specs.declared.scope.site.TypeUse.{TypeUse}
 use Rattle.types_resolve.specs.scope.Steps.{LeadsTo}
 use Rattle.types_resolve.proofs.scope.StepLemmas.{AreLed, led_push, led_skip, led_all}
 use Rattle.types_resolve.proofs.scope.steps.steps_of.Goals as goal
@@ -11,7 +11,7 @@ pub loop-i-preserved : goal.loop-i-preserved
 loop-i-preserved c =
     let uses = c.as_slice-uses.result.now in
     let u = c.index-uses-i.result in
-    let Leads : Use → ℕ → Type 0 = λ v j. LeadsTo c.args.decls.now c.args.decl.now.group v j in
+    let Leads : TypeUse → ℕ → Type 0 = λ v j. LeadsTo c.args.decls.now c.args.decl.now.group v j in
     let u_is = slice_get_read uses (length uses) c.loop-i.i u refl (omega arith) c.index-uses-i.is in
     elim c.match-step.branch [
       | in-Some+in_ok-push w ↦
@@ -26,11 +26,11 @@ loop-i-preserved c =
 pub returns : goal.returns
 returns c =
     let uses = c.as_slice-uses.result.now in
-    let Leads : Use → ℕ → Type 0 = λ v j. LeadsTo c.args.decls.now c.args.decl.now.group v j in
+    let Leads : TypeUse → ℕ → Type 0 = λ v j. LeadsTo c.args.decls.now c.args.decl.now.group v j in
     let all = led_all uses Leads c.loop-i.i c.loop-i.steps (omega arith) (omega arith) c.loop-i.invariant in
     let same = c.as_slice-uses.ensures in
     λ j. (
       λ among. let some = (all j).0 among in
-          (c.is_abbreviation.ensures.0 c.if-not-is_abbreviation.false, some.0, subst (λ (us : List Use). Contains us some.0) same some.1, some.2),
-      λ step. (all j).1 (step.1, subst (λ (us : List Use). Contains us step.1) (sym same) step.2, step.3),
+          (c.is_abbreviation.ensures.0 c.if-not-is_abbreviation.false, some.0, subst (λ (us : List TypeUse). Contains us some.0) same some.1, some.2),
+      λ step. (all j).1 (step.1, subst (λ (us : List TypeUse). Contains us step.1) (sym same) step.2, step.3),
     )

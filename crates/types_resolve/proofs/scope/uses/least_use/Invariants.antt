@@ -1,5 +1,5 @@
 use Rattle.std.specs.Prelude.{◌≡◌}
-use Rattle.types_resolve.specs.declared.scope.site.Use.{Use}
+use Rattle.types_resolve.specs.declared.scope.site.TypeUse.{TypeUse}
 use Rattle.types_resolve.specs.scope.Breaks.{BreaksUse}
 use Rattle.types_resolve.specs.scope.Least.{IsLeast}
 use Rattle.types_resolve.proofs.scope.LeastLemmas.{Before, AtItem}
@@ -7,4 +7,4 @@ use Rattle.types_resolve.proofs.scope.uses.least_use.Given as goal
 
 abbrev pub invariant-loop-i : goal.invariant-loop-i
 invariant-loop-i l =
-    IsLeast (Before (AtItem l.uses (λ (u : Use) k. (u.position ≡ k) × BreaksUse l.rule l.decls l.group u)) l.i) l.best
+    IsLeast (Before (AtItem l.uses (λ (u : TypeUse) k. (u.position ≡ k) × BreaksUse l.rule l.decls l.group u)) l.i) l.best

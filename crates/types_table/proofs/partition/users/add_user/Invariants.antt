@@ -1,7 +1,7 @@
 use Rattle.std.proofs.Common.{◌++◌, take}
 use Rattle.std.specs.List.{flat_map}
 use Rattle.types_spec.specs.types.Reached.{listed_if}
-use Rattle.types_table.specs.declared.partition.form.TagForm.{TagForm}
+use Rattle.types_table.specs.declared.partition.head_form.TagForm.{TagForm}
 use Rattle.types_table.proofs.partition.Loops.{UsesSoFar}
 use Rattle.types_table.proofs.partition.users.add_user.Given as goal
 

@@ -1,6 +1,6 @@
 use Rattle.std.proofs.Common.{List, subst, arith}
 use Rattle.types_resolve.proofs.scope.LeastLemmas.{more_items, all_items}
-use Rattle.types_wellformed.specs.declared.brackets.item.Item.{Item}
+use Rattle.types_wellformed.specs.declared.brackets.tag_item.TagItem.{TagItem}
 use Rattle.types_wellformed.specs.brackets.Collisions.{position_of, IsLeastCollision}
 use Rattle.types_wellformed.specs.brackets.Items.{CollidesIn}
 use Rattle.types_wellformed.proofs.head_rules.LoopLemmas.{more_names}
@@ -8,7 +8,7 @@ use Rattle.types_wellformed.proofs.head_rules.conflict.least_hash_clash.Goals as
 
 pub loop-items-preserved : goal.loop-items-preserved
 loop-items-preserved c =
-    let here = subst (λ (items : List Item). IsLeastCollision items c.in_ok-least_collision.field-0) c.as_slice.ensures
+    let here = subst (λ (items : List TagItem). IsLeastCollision items c.in_ok-least_collision.field-0) c.as_slice.ensures
     c.in_ok-least_collision.ensures.least in
     record {
       least = more_items c.args.brackets.now CollidesIn c.loop-items.items-index c.items-item.result

@@ -2,7 +2,7 @@ use Rattle.std.proofs.Common.{List, subst, sym}
 use Rattle.std.proofs.lemmas.Result.{IfOk-weaker}
 use Rattle.types_spec.specs.declared.types.decl.Decl.{Decl}
 use Rattle.types_resolve.specs.scope.Least.{IsLeast}
-use Rattle.types_wellformed.specs.declared.brackets.item.Item.{Item}
+use Rattle.types_wellformed.specs.declared.brackets.tag_item.TagItem.{TagItem}
 use Rattle.types_wellformed.specs.head_rules.Apart.{StandApart}
 use Rattle.types_wellformed.specs.head_rules.Broken.{IsFirstOfHeads}
 use Rattle.types_wellformed.specs.head_rules.Rules.{SomeBreaks, ItemsInclude, AreTagged, TagsBreak, CollideAmong, BracketsBreak, BracketsHash, brackets_at}
@@ -43,7 +43,7 @@ returns c =
     (subst (IsLeast (SomeBreaks c.args.brackets.now (ItemsInclude c.args.decls.now c.args.types.now)))
     (is_none c.in_ok-position.field-0 c.in_default.not-Some) c.in_ok-position.ensures.ok)
     (subst
-    (λ (tagged : List (List Item)). AreTagged c.tagged_brackets.new.types c.args.decls.now tagged
+    (λ (tagged : List (List TagItem)). AreTagged c.tagged_brackets.new.types c.args.decls.now tagged
     (brackets_at c.stand_apart.new.types c.args.brackets.now))
     (sym c.as_slice.ensures) c.in_ok-tagged.ensures.ok)
     first)

@@ -1,6 +1,6 @@
 use Rattle.std.proofs.Common.{rules, ◌≡◌, ◌∙◌, refl, sym, ap}
 use Rattle.types_spec.specs.types.Fitting.{fits_int}
-use Rattle.check_stream.specs.declared.search.way.Asked.TheVariants as asks
+use Rattle.check_stream.specs.declared.search.way.Expectation.TheVariants as asks
 use Rattle.check_stream.specs.search.Way.{position_trail}
 use Rattle.check_stream.proofs.search.WayLemmas.{passed_first}
 use Rattle.check_stream.proofs.search.mismatch.Finding.fill.Goals as goal

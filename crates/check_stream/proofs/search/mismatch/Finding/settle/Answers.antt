@@ -1,8 +1,8 @@
 use Rattle.std.proofs.Common.{rules, ◌<◌, ◌∙◌, refl, sym, ap}
 use Rattle.types_table.specs.type_table.Made.{table_of}
 use Rattle.check_stream.proofs.checker.Weaker.{if_true}
-use Rattle.check_stream.specs.declared.search.way.Asked.TheVariants as asks
-use Rattle.check_stream.specs.declared.search.way.Left.TheVariants as lefts
+use Rattle.check_stream.specs.declared.search.way.Expectation.TheVariants as asks
+use Rattle.check_stream.specs.declared.search.way.BlockExpectations.TheVariants as lefts
 use Rattle.check_stream.specs.declared.search.mismatch.Finding.{Finding}
 use Rattle.check_stream.specs.search.Judge.{summary_fields}
 use Rattle.check_stream.specs.search.Find.{no_type}

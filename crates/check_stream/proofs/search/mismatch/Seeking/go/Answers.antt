@@ -6,7 +6,7 @@ use Rattle.check_stream.proofs.checker.Weaker.{if_true}
 use Rattle.check_stream.specs.declared.search.mismatch.Finding.{Finding}
 use Rattle.check_stream.specs.search.Judge.{IsSummaryBy}
 use Rattle.check_stream.specs.search.Way.{position_of, trail_in, way_positions}
-use Rattle.check_stream.specs.search.Find.{Finds, HastensBy}
+use Rattle.check_stream.specs.search.Find.{Finds, RunsFastBy}
 use Rattle.check_stream.proofs.search.FindLemmas.{finds_from, finds_moved, finds_marked, finds_further, finds_followed, found_end, some_open}
 use Rattle.check_stream.proofs.search.ComesLemmas.{passes_follows}
 use Rattle.check_stream.proofs.search.mismatch.Seeking.go.Goals as goal
@@ -37,8 +37,8 @@ tokens-preserved-in-Took c =
     let table = table_of c.args.table.now in
     let bytes = c.args.bytes.now in
     let here = finds_moved table c.args.limit bytes s.head s.start s.at [] [] s.finding ready c.tokens.invariant c.ready.ensures.is_way (sym c.ready.ensures.same) refl refl refl refl refl refl in
-    let hastened = subst (λ rest. HastensBy table rest ready c.run_fast.new.self c.in_ok-len.field-0) (rest_from s.at bytes) c.in_ok-len.ensures in
-    let took = subst (HastensBy table (drop s.at bytes) ready c.run_fast.new.self) c.in-Took.is hastened in
+    let ran_fast = subst (λ rest. RunsFastBy table rest ready c.run_fast.new.self c.in_ok-len.field-0) (rest_from s.at bytes) c.in_ok-len.ensures in
+    let took = subst (RunsFastBy table (drop s.at bytes) ready c.run_fast.new.self) c.in-Took.is ran_fast in
     finds_followed table c.args.limit bytes s.head s.start s.at c.in-Took.len ready c.run_fast.new.self took.0 here took.1 (took.2 s.head.objects (take s.at bytes))
 
 pub returns-in_default : goal.returns-in_default
@@ -48,8 +48,8 @@ returns-in_default c =
     let table = table_of c.args.table.now in
     let bytes = c.args.bytes.now in
     let here = finds_moved table c.args.limit bytes s.head s.start s.at [] [] s.finding ready c.tokens.invariant c.ready.ensures.is_way (sym c.ready.ensures.same) refl refl refl refl refl refl in
-    let hastened = subst (λ rest. HastensBy table rest ready c.run_fast.new.self c.in_ok-len.field-0) (rest_from s.at bytes) c.in_ok-len.ensures in
-    let unchanged : c.run_fast.new.self ≡ ready = subst (HastensBy table (drop s.at bytes) ready c.run_fast.new.self) c.in-Kept.is hastened in
+    let ran_fast = subst (λ rest. RunsFastBy table rest ready c.run_fast.new.self c.in_ok-len.field-0) (rest_from s.at bytes) c.in_ok-len.ensures in
+    let unchanged : c.run_fast.new.self ≡ ready = subst (RunsFastBy table (drop s.at bytes) ready c.run_fast.new.self) c.in-Kept.is ran_fast in
     let still = subst (Finds table c.args.limit bytes s.head s.start s.at []) (sym unchanged) here in
     (still, subst (λ f. 0 < values_at (way_positions f.way)) (sym unchanged) (some_open c.ready.new.self c.if-not-ready.ensures.ready))
 
@@ -60,8 +60,8 @@ tokens-preserved-then-pass c =
     let table = table_of c.args.table.now in
     let bytes = c.args.bytes.now in
     let here = finds_moved table c.args.limit bytes s.head s.start s.at [] [] s.finding ready c.tokens.invariant c.ready.ensures.is_way (sym c.ready.ensures.same) refl refl refl refl refl refl in
-    let hastened = subst (λ rest. HastensBy table rest ready c.run_fast.new.self c.in_ok-len.field-0) (rest_from s.at bytes) c.in_ok-len.ensures in
-    let unchanged : c.run_fast.new.self ≡ ready = subst (HastensBy table (drop s.at bytes) ready c.run_fast.new.self) c.in-Kept.is hastened in
+    let ran_fast = subst (λ rest. RunsFastBy table rest ready c.run_fast.new.self c.in_ok-len.field-0) (rest_from s.at bytes) c.in_ok-len.ensures in
+    let unchanged : c.run_fast.new.self ≡ ready = subst (RunsFastBy table (drop s.at bytes) ready c.run_fast.new.self) c.in-Kept.is ran_fast in
     let still = subst (Finds table c.args.limit bytes s.head s.start s.at []) (sym unchanged) here in
     let summary = c.in-Some.first in
     let len = c.in-Some.len in
@@ -76,8 +76,8 @@ tokens-preserved c =
     let table = table_of c.args.table.now in
     let bytes = c.args.bytes.now in
     let here = finds_moved table c.args.limit bytes s.head s.start s.at [] [] s.finding ready c.tokens.invariant c.ready.ensures.is_way (sym c.ready.ensures.same) refl refl refl refl refl refl in
-    let hastened = subst (λ rest. HastensBy table rest ready c.run_fast.new.self c.in_ok-len.field-0) (rest_from s.at bytes) c.in_ok-len.ensures in
-    let unchanged : c.run_fast.new.self ≡ ready = subst (HastensBy table (drop s.at bytes) ready c.run_fast.new.self) c.in-Kept.is hastened in
+    let ran_fast = subst (λ rest. RunsFastBy table rest ready c.run_fast.new.self c.in_ok-len.field-0) (rest_from s.at bytes) c.in_ok-len.ensures in
+    let unchanged : c.run_fast.new.self ≡ ready = subst (RunsFastBy table (drop s.at bytes) ready c.run_fast.new.self) c.in-Kept.is ran_fast in
     let still = subst (Finds table c.args.limit bytes s.head s.start s.at []) (sym unchanged) here in
     let kept = c.pass.new.self in
     let marked : Finding = record kept { seconds = c.mark.new.self } in

@@ -1,4 +1,4 @@
-use Rattle.check_stream.specs.declared.search.way.Asked.TheVariants as asks
+use Rattle.check_stream.specs.declared.search.way.Expectation.TheVariants as asks
 use Rattle.check_stream.proofs.search.WayLemmas.{taken_first}
 use Rattle.check_stream.proofs.search.way.Way.take_type.Goals as goal
 

@@ -22,7 +22,7 @@ use Rattle.std.proofs.VecSteps.Rows.{apart, whole as whole_row, row_cut, row_glu
 use Rattle.marshal_heap.proofs.arena.Parts.{cut_in_three, overwritten_is}
 use Rattle.std.specs.List.{length_refill}
 use Rattle.marshal_heap.specs.arena.Region.{overwritten}
-use Rattle.marshal_heap.specs.arena.Lends.{with_part}
+use Rattle.marshal_heap.specs.arena.BorrowedWords.{with_part}
 use Rattle.marshal_heap.proofs.arena.Words.{E}
 use Rattle.marshal_heap.specs.contracts.arena.block.Block.part_mut as f
 use Rattle.marshal_heap.proofs.arena.block.Block.part_mut.Statement.{statement}

@@ -1,0 +1,90 @@
+//! The objects that a scan checked before it ended.
+
+ghost use Rattle.std.specs.Prelude.{ℕ, ◌≡◌, [], slice_get, IfOk};
+ghost use Rattle.check_heap.specs.scan.Taken.{types_in, seen_of, rest_of, is_unfit_field};
+ghost use Rattle.check_heap.specs.scan.Taken.{is_unfit_object};
+
+use crate::scan::cells::Cells;
+use base_data::model::Memory;
+use std::alloc::Global;
+
+/// The first objects, each with the type at which the scan checked it.
+#[derive(Drop)]
+pub struct TakenObjects {
+    /// The types, indexed by object number.
+    pub types: Cells,
+    /// The number of checked objects. The objects after them were not checked.
+    pub objects: usize,
+    /// The required fields of the last object were tested below this field index; those of the
+    /// earlier objects were all tested.
+    pub seen: u64,
+    /// A mismatch that was found.
+    pub unfit: ScanMismatch,
+}
+
+/// The mismatch that the last test of a scan found.
+#[derive(Clone, Copy)]
+pub enum ScanMismatch {
+    Nothing,
+    /// This field of this object does not match. Its value is no object.
+    Field(u64, u64),
+    /// This object does not match its type. It was referenced but not checked further.
+    Object(u64),
+}
+
+impl TakenObjects {
+    /// Creates a value with no objects.
+    pub fn none(alloc: Global) -> Result<TakenObjects, Memory>
+        ensures none { IfOk result (λ taken. types_in taken ≡ []) }
+        ensures rest { IfOk result (λ taken. (size : ℕ) → rest_of size taken.seen ≡ 0) }
+    {
+        Ok(TakenObjects {
+            types: Cells::new(alloc, 0, 0)?,
+            objects: 0,
+            seen: u64::MAX,
+            unfit: ScanMismatch::Nothing,
+        })
+    }
+
+    /// Returns the type at which an object was checked.
+    #[inline(always)]
+    pub fn type_of(&self, object: usize) -> Option<usize>
+        ensures { result ≡ slice_get (types_in self.now) object }
+    {
+        if object < self.objects && object < self.types.len() {
+            return Some(self.types.get(object) as usize);
+        }
+        None
+    }
+
+    /// Returns the field index below which the required fields of a checked object were tested.
+    pub fn seen_of(&self, object: u64) -> u64
+        ensures { result ≡ seen_of self.now object }
+    {
+        if object < self.objects as u64 && object + 1 < self.objects as u64 {
+            u64::MAX
+        } else {
+            self.seen
+        }
+    }
+
+    /// Returns true if this field was found to be a mismatch.
+    pub fn is_unfit_field(&self, object: u64, field: u64) -> bool
+        ensures { result ≡ is_unfit_field self.now.unfit object field }
+    {
+        match self.unfit {
+            ScanMismatch::Field(o, i) => o == object && i == field,
+            _ => false,
+        }
+    }
+
+    /// Returns true if this object was found to be a mismatch.
+    pub fn is_unfit_object(&self, object: u64) -> bool
+        ensures { result ≡ is_unfit_object self.now.unfit object }
+    {
+        match self.unfit {
+            ScanMismatch::Object(o) => o == object,
+            _ => false,
+        }
+    }
+}

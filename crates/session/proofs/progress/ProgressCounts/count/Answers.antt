@@ -1,6 +1,0 @@
-use Rattle.session.proofs.ReadLemmas.{output_count}
-use Rattle.session.proofs.progress.ProgressCounts.count.Goals as goal
-
-pub returns : goal.returns
-returns c = λ taken output h.
-    output_count c.args.self.now.value_task h.before output c.args.self.now.values h.read

@@ -1,9 +1,0 @@
-use Rattle.std.proofs.Common.{◌≡◌, ◌∙◌, ◌∷◌, ◌++◌, [], true}
-use Rattle.session.specs.Values.{last_ok}
-use Rattle.session.proofs.ReadLemmas.{last_ok-snoc}
-use Rattle.session.proofs.progress.ProgressCounts.last_ok.Goals as goal
-
-pub returns : goal.returns
-returns c = λ taken before next h.
-    let is : c.args.self.now.values.last ≡ last_ok true (before ++ next ∷ []) = h.read.last in
-    is ∙ last_ok-snoc true before next

@@ -1,9 +1,0 @@
-use Rattle.std.proofs.Common.{refl, []}
-use Rattle.types_table.specs.store.Instance.{argument_at}
-use Rattle.types_table.proofs.store.InstanceLemmas.{each_there}
-use Rattle.types_table.proofs.store.types.Types.add_nodes.Goals as goal
-
-pub returns-in-Ok-clause-ok : goal.returns-in-Ok-clause-ok
-returns-in-Ok-clause-ok c =
-    each_there c.args.self.now c.numbers_of.new.types (argument_at c.args.self.now [] []) c.args.nodes.now
-    c.in-Ok.numbers.items (λ x. refl) c.in-Ok.ensures.ok

@@ -1,9 +1,0 @@
-use Rattle.std.proofs.Common.{ℕ, List, take}
-use Rattle.types_spec.specs.declared.types.head.TagOf.{TagOf}
-use Rattle.types_wellformed.specs.brackets.Tables.{AreSpellings, AreColliding}
-use Rattle.types_wellformed.proofs.brackets.spellings.find_collision.Given as goal
-
-abbrev pub invariant-loop-tag : goal.invariant-loop-tag
-invariant-loop-tag l =
-    (seen : List (TagOf ℕ)) → AreSpellings seen l.table → (one other : List ℕ)
-    → ¬ AreColliding seen (take l.tag-index l.tags) one other
