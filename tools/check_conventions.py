@@ -11,7 +11,7 @@ is one.
   and of lower layers only. No chain of crates is longer than 14. The order of the layers is that of the lines
   `# layer: description`.
 - docs/architecture.svg is what tools/draw_architecture.py draws.
-- Names, comments and tools do not use the words that tools/check_words.py lists."""
+- Names, comments, tools and documents do not use the words that tools/check_words.py lists."""
 import collections
 import glob
 import os
@@ -184,7 +184,7 @@ def old_picture():
 
 def main():
     os.chdir(os.path.join(os.path.dirname(os.path.abspath(__file__)), ".."))
-    found = [*wide_lines(), *empty_names(), *unused_names(), *many_mutants(), *wrong_layers(), *old_picture(), *check_words.found()]
+    found = [*wide_lines(), *empty_names(), *unused_names(), *many_mutants(), *wrong_layers(), *old_picture(), *check_words.found(documents=True)]
     print("\n".join(found), end="\n" if found else "")
     return 1 if found else 0
 

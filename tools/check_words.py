@@ -4,7 +4,6 @@ field's term. Prints each place with the term to write, and ends with 1 if there
 
     tools/check_words.py            the names, file names and comments of crates/, and the tools
     tools/check_words.py --docs     these, and the documents
-    tools/check_words.py --all      these, and the names of STANDING
     tools/check_words.py --list     prints the retired words, and the words that are kept on purpose
 
 In files *.rt and *.antt the script searches identifiers outside strings, and comments outside backticks. In tools it
@@ -56,9 +55,10 @@ EXCEPTIONS = [
     ("crates/*", r"eqb_tells|leb_tells|tells_digits", "lemmas of the toolchain"),
     ("*", r"(?i:hash_clash|tags?_clash(?:es)?)|(?:Hash|Tag)Clash", "the names of two refusals"),
     ("crates/marshal_heap/*", r"lent", "memory that is lent out, in contracts of raw pointers"),
-    ("crates/marshal_heap/proofs/arena/*", r"\w*(?:Tells|told|said|place|lent)\w*", "names of the toolchain's logic of raw pointers, and the steps of its proofs"),
+    ("crates/marshal_heap/proofs/arena/*", r"\w*(?:Tells|told|said|place|lent|Lends|Lending|lends)\w*", "names of the toolchain's logic of raw pointers, and the steps of its proofs"),
+    ("crates/marshal_heap/specs/arena/*", r"[Ll]ends", "memory that is lent, by the formula `Lends` of std"),
+    ("crates/cmd_gen/proofs/generator/received_bytes/*", r"\w*Tells", "names of the toolchain's logic of raw pointers"),
     ("crates/types_lex/proofs/numbers/integer/*", r"front", "a clause of std's `split_at`"),
-    ("crates/cli_args/*", r"spells out", "everyday English: to spell out"),
     ("*", r"quick_build|out/quick", "the script tools/quick_build.sh and its output"),
     ("*", r"in place|in_place|takes? place|took place", "everyday English: `in place of`, `takes place`"),
     ("crates/*", r"Places", "the verb, where a comment begins with it"),
@@ -73,22 +73,10 @@ EXCEPTIONS = [
     ("tools/test_questions.py", r"\"piece\"", "a setting of test_conformance"),
     ("tools/quick_build.sh", r"-?-?\w*-sections", "options of clang and of the linker"),
     ("*/expression*", r"\bplace\b", "a field of a declaration"),
+    ("docs/*", r"[Ss]ections?", "a division of a page"),
+    ("docs/BENCHMARKS.md", r"`places`", "a part of the benchmark"),
+    ("docs/omarshal.1", r"\"(?:misfit|clash) \"", "lines of a certificate"),
     ("tools/check_words.py", r".*", "the list of the words"),
-]
-
-# Names of crates/ that still have a retired word. Nothing else may use the word. `--all` prints their places.
-STANDING = [
-    ("crates/cert_format/*", r"Putting"),
-    ("crates/check_stream/*", r"[Hh]astens(?:_By|_by)?|hastened|Glances|\w*in_haste\w*"),
-    ("crates/cli_args/*", r"spelt"),
-    ("crates/marshal_heap/*", r"\w*(?:Lends|Lending|lends)\w*"),
-    ("crates/marshal_*", r"\w*[Ss]pellings?\w*"),
-    ("crates/run_loop/*", r"halted\w*"),
-    ("crates/session/*", r"\w*[Gg]lanced\w*"),
-    ("crates/types_spec/edits/*", r"lends_\w+"),
-    ("crates/types_table/edits/*", r"lends_\w+"),
-    ("crates/types_table/*", r"spelt"),
-    ("crates/types_wellformed/*", r"\w*[Ss]pellings?\w*"),
 ]
 
 # Words that look like retired ones and are kept, with the reason.
@@ -126,14 +114,9 @@ PARTS = ("front put tell told spel misfit clash hand piece halt glanc hast quick
          "graver place section wrong house said saying speech speaks job om_").split()
 
 
-class Search:
-    """A search of files. With `all_names` it prints the standing names, too."""
-    def __init__(self, all_names=False):
-        self.excused = EXCEPTIONS + ([] if all_names else [(*standing, "") for standing in STANDING])
-
-    def covers(self, path):
-        """The patterns of the exceptions that hold in a file."""
-        return [re.compile(pattern) for files, pattern, _ in self.excused if fnmatch.fnmatch(path, files)]
+def covers(path):
+    """The patterns of the exceptions that hold in a file."""
+    return [re.compile(pattern) for files, pattern, _ in EXCEPTIONS if fnmatch.fnmatch(path, files)]
 
 
 @functools.lru_cache(None)
@@ -235,19 +218,18 @@ def files(*patterns):
     return sorted(path for path in found if not re.search(r"(^|/)(out|__pycache__)/", path))
 
 
-def found(documents=False, all_names=False):
+def found(documents=False):
     """A line for each retired word. The current folder is the top of the repository."""
-    search = Search(all_names)
     for path in files("crates/**/*", "tools/**/*", "docs/*", "examples/*"):
-        yield from in_file_name(path, search.covers(path))
+        yield from in_file_name(path, covers(path))
         if path.endswith((".rt", ".antt")):
-            yield from in_source(path, search.covers(path))
+            yield from in_source(path, covers(path))
     for path in files("tools/**/*", "crates/test_conformance/**/*", "omarshal", ".ci/run", "crates.txt"):
         if path.endswith(TOOLS) or not path.startswith("crates/") and "." not in os.path.basename(path)[1:] or path == "crates.txt":
-            yield from in_tool(path, search.covers(path))
+            yield from in_tool(path, covers(path))
     if documents:
         for path in files("*.md", "docs/*.md", "docs/*.1", "examples/*.md", "crates/**/*.md"):
-            yield from in_document(path, search.covers(path))
+            yield from in_document(path, covers(path))
 
 
 def main():
@@ -259,10 +241,10 @@ def main():
         for words, reason in KEPT:
             print(f"kept: {words}: {reason}")
         return 0
-    if not set(asked) <= {"--docs", "--all"}:
+    if not set(asked) <= {"--docs"}:
         print(__doc__, file=sys.stderr)
         return 2
-    lines = list(found(documents="--docs" in asked, all_names="--all" in asked))
+    lines = list(found(documents="--docs" in asked))
     print("\n".join(lines), end="\n" if lines else "")
     return 1 if lines else 0
 
