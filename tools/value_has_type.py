@@ -8,10 +8,17 @@ last of these values are not read. A line for each value says `yes`, or `no` and
 
 It shares nothing with omarshal but the format: codes, grammar of declarations, and the representation of types. It is
 written to be compared with, not to be fast, and reports some fault, not the least one.
+
+Of a stream it checks what docs/FORMAT.md asks for, in the same order, and refuses it with the same text: each row of
+the table "All refusals", and `Truncated`. The limit is always 2^27 words.
+
+Of FILE and TYPE it checks the lexemes, the grammar and the scope rules of docs/TYPE_FILES.md. Its refusals have no
+position. If several rules are broken, it may name another one than omarshal.
 """
 import re
-import struct
 import sys
+
+sys.setrecursionlimit(5000)  # for deep types
 
 
 class Refused(Exception):
@@ -22,17 +29,35 @@ class Refused(Exception):
 
 # --- Marshalled values. A value is ("int", n), ("atom", tag) or ("ref", number of an object).
 
-CUSTOMS = {b"_i\0": ("int32", ">i"), b"_j\0": ("int64", ">q")}
+MOST_WORDS = 2 ** 27
+MOST_BYTES = 2 ** 48 - 1
+MOST_TAG = 243
+
+# The number of bytes of a number after a code, and the number of fixed bytes after each code from 00 to 19.
+INTEGERS = {0x00: 1, 0x01: 2, 0x02: 4, 0x03: 8}
+REFERENCES = {0x04: 1, 0x05: 2, 0x06: 4, 0x14: 8}
+BLOCKS = {0x08: 4, 0x13: 8}
+STRINGS = {0x09: 1, 0x0A: 4, 0x15: 8}
+DOUBLES = {0x0B: 8, 0x0C: 8}
+ARRAYS = {0x0D: 1, 0x0F: 4, 0x16: 8, 0x0E: 1, 0x07: 4, 0x17: 8}
+CUSTOMS = {0x12: 3, 0x19: 3}
+FIXED = {**INTEGERS, **REFERENCES, **BLOCKS, **STRINGS, **DOUBLES, **ARRAYS, **CUSTOMS}
+
+# The kind of a custom block, the bytes of its number (of a nativeint they come after a kind byte), and its words on 32 and
+# on 64 bits.
+IDENTIFIERS = {b"_i\0": ("int32", 4, 3, 3), b"_j\0": ("int64", 8, 4, 3), b"_n\0": ("nativeint", None, 3, 3)}
 
 
 class Input:
+    """A stream, how much of it is read, and where its last value begins."""
+
     def __init__(self, data):
-        self.data, self.at = data, 0
+        self.data, self.at, self.start = data, 0, 0
 
     def take(self, count):
         part = self.data[self.at:self.at + count]
         if len(part) < count:
-            raise Refused(4, f"the stream ends at {len(self.data)}")
+            raise Refused(4, f"Truncated({len(self.data) - self.start})")
         self.at += count
         return part
 
@@ -40,86 +65,153 @@ class Input:
         return int.from_bytes(self.take(count), "big", signed=signed)
 
 
-def read_native(stream):
-    kind = stream.number(1)
-    if kind not in (1, 2):
-        raise Refused(4, f"kind {kind} of a nativeint")
-    return stream.number(4 * kind, signed=True)
+class Reader:
+    """Reads a value: its header, and then token by token. Beside each test is its row in docs/FORMAT.md. A token is tested as
+    soon as its fields are read, before its content is: content that is not there makes a value `Truncated`."""
 
+    def __init__(self, stream):
+        self.stream, self.objects = stream, []
+        self.pending, self.found32, self.found64 = 1, 0, 0
+        stream.start = stream.at
+        magic = stream.number(4)
+        refuse_if(magic == 0x8495A6BD, "Compressed", 4)  # H1
+        refuse_if(magic not in (0x8495A6BE, 0x8495A6BF), f"BadMagic({magic:08x})", 4)
+        if magic == 0x8495A6BE:
+            length, self.stated, self.stated32, self.stated64 = (stream.number(4) for _ in range(4))
+        else:
+            stream.take(4)
+            length, self.stated, self.stated64 = (stream.number(8) for _ in range(3))
+            self.stated32 = None
+        refuse_if(self.stated64 > MOST_WORDS, f"TooLarge(words, {self.stated64}, {MOST_WORDS})", 4)  # H2
+        refuse_if(length > MOST_BYTES, f"TooLarge(length, {length}, {MOST_BYTES})", 4)  # H3
+        self.token, self.end = stream.at, stream.at + length
+        self.test_room(1)  # H4
 
-def read_token(stream, objects):
-    """The value that the next token begins, and for a block with fields the object and its number of fields."""
-    code = stream.number(1)
+    def refuse(self, text):
+        raise Refused(4, f"{text} at {self.token - self.stream.start}")
 
-    def new(*thing):
-        objects.append(thing)
-        return ("ref", len(objects) - 1), None
+    def test_room(self, needed, behind=0):
+        """That so many bytes, or values, have room in the data after the bytes read and the `behind` ones after these."""
+        left = self.end - self.stream.at - behind
+        if needed > left:
+            self.refuse(f"Overlong({needed}, {left})")
 
-    def block(tag, size):
-        if tag > 243:
-            raise Refused(4, f"tag {tag}")
+    def content(self, count, fields=0, words32=0, words64=0):
+        """The content of a token, with so many bytes. The token has so many fields and takes so many words."""
+        self.pending += fields - 1
+        self.found32 += words32
+        self.found64 += words64
+        self.test_room(self.pending, count)  # T5
+        if self.stated32 is not None and self.found32 > self.stated32:  # T6
+            self.refuse(f"SizeMismatch(w32, {self.stated32}, {self.found32})")
+        if self.found64 > self.stated64:
+            self.refuse(f"SizeMismatch(w64, {self.stated64}, {self.found64})")
+        return self.stream.take(count)
+
+    def read_token(self):
+        """The value that the next token begins, and for a block with fields the list for them and their number."""
+        stream = self.stream
+        self.token = stream.at
+        code = stream.number(1)
+        if code >= 0x80:
+            return self.block(code & 15, code >> 4 & 7)
+        if code >= 0x40:
+            self.content(0)
+            return ("int", code & 63), None
+        if code >= 0x20:
+            return self.string(code & 31)
+        if code >= 0x1A:  # T1
+            self.refuse(f"BadCode({code:02x})")
+        if code in (0x10, 0x11):
+            self.refuse(f"PointerCode({code:02x})")
+        if code == 0x18:
+            self.refuse("OtherCustom(18)")
+        self.test_room(FIXED[code])  # T2
+        if code == 0x03:
+            number = stream.number(8, signed=True)
+            if not -2 ** 62 <= number < 2 ** 62:  # T3
+                self.refuse(f"IntRange({number})")
+            self.content(0)
+            return ("int", number), None
+        if code in INTEGERS:
+            return ("int", int.from_bytes(self.content(INTEGERS[code]), "big", signed=True)), None
+        if code in REFERENCES:
+            return self.reference(stream.number(REFERENCES[code]))
+        if code in BLOCKS:
+            word = stream.number(BLOCKS[code])
+            return self.block(word & 255, word >> 10)
+        if code in STRINGS:
+            return self.string(stream.number(STRINGS[code]))
+        if code in DOUBLES:
+            return self.new("float", self.content(8, 0, 3, 2))
+        if code in ARRAYS:
+            return self.doubles(stream.number(ARRAYS[code]))
+        return self.custom(code, stream.take(3))
+
+    def new(self, *thing):
+        self.objects.append(thing)
+        return ("ref", len(self.objects) - 1), None
+
+    def reference(self, distance):
+        count = len(self.objects)
+        if not 1 <= distance <= count:  # T3
+            self.refuse(f"BadShared({distance}, {count})")
+        if self.stated == 0:
+            self.refuse("NoTable")
+        self.content(0)
+        return ("ref", count - distance), None
+
+    def block(self, tag, size):
+        if tag > MOST_TAG:  # T3
+            self.refuse(f"BadTag({tag})")
+        words = 1 + size if size else 0
+        self.content(0, size, words, words)
         if size == 0:
             return ("atom", tag), None
         fields = []
-        return new("block", tag, fields)[0], (fields, size)
+        return self.new("block", tag, fields)[0], (fields, size)
 
-    if code >= 0x80:
-        return block(code & 15, code >> 4 & 7)
-    if code >= 0x40:
-        return ("int", code & 63), None
-    if code >= 0x20:
-        return new("string", stream.take(code & 31))
-    if code <= 0x03:
-        return ("int", stream.number(1 << code, signed=True)), None
-    if code in (0x04, 0x05, 0x06, 0x14):
-        offset = stream.number({0x04: 1, 0x05: 2, 0x06: 4, 0x14: 8}[code])
-        if not 1 <= offset <= len(objects):
-            raise Refused(4, f"offset {offset}")
-        return ("ref", len(objects) - offset), None
-    if code in (0x08, 0x13):
-        word = stream.number(4 if code == 0x08 else 8)
-        return block(word & 255, word >> 10)
-    if code in (0x09, 0x0A, 0x15):
-        return new("string", stream.take(stream.number({0x09: 1, 0x0A: 4, 0x15: 8}[code])))
-    if code in (0x0B, 0x0C):
-        return new("float", stream.take(8))
-    if code in (0x0D, 0x0E, 0x0F, 0x07, 0x16, 0x17):
-        length = stream.number({0x0D: 1, 0x0E: 1, 0x0F: 4, 0x07: 4, 0x16: 8, 0x17: 8}[code])
-        return new("floats", length, stream.take(8 * length))
-    if code == 0x19:
-        name = stream.take(3)
-        if name == b"_n\0":
-            return new("nativeint", read_native(stream))
-        if name in CUSTOMS:
-            kind, form = CUSTOMS[name]
-            return new(kind, struct.unpack(form, stream.take(struct.calcsize(form)))[0])
-    raise Refused(4, f"code {code:02x} at {stream.at - 1}")
+    def string(self, length):
+        self.test_room(length)  # T4
+        return self.new("string", self.content(length, 0, 1 + (length + 4) // 4, 1 + (length + 8) // 8))
 
+    def doubles(self, length):
+        if length == 0:  # T3
+            self.refuse("ZeroArray")
+        self.test_room(8 * length)  # T4
+        return self.new("floats", length, self.content(8 * length, 0, 1 + 2 * length, 1 + length))
 
-def words_of(thing):
-    """The 64-bit words that an object takes."""
-    kind = thing[0]
-    if kind == "block":
-        return 1 + len(thing[2])
-    if kind == "string":
-        return 1 + (len(thing[1]) + 8) // 8
-    if kind == "floats":
-        return 1 + thing[1]
-    return 2 if kind == "float" else 3
+    def custom(self, code, identifier):
+        if identifier not in IDENTIFIERS:  # T3
+            self.refuse(f"OtherCustom({code:02x})")
+        name, size, words32, words64 = IDENTIFIERS[identifier]
+        if size is None:
+            self.test_room(1)  # T4a
+            kind = self.stream.number(1)
+            if kind not in (1, 2):  # T4b
+                self.refuse(f"BadNative({kind})")
+            size = 4 * kind
+        self.test_room(size)  # T4, T4c
+        return self.new(name, int.from_bytes(self.content(size, 0, words32, words64), "big", signed=True))
+
+    def test_end(self):
+        """That what the header states is so, after the last token."""
+        self.token, count = self.stream.at, len(self.objects)
+        if self.end > self.stream.at:  # E1
+            self.refuse(f"LengthMismatch({self.end - self.stream.at})")
+        if self.stated32 not in (None, self.found32):  # E2
+            self.refuse(f"SizeMismatch(w32, {self.stated32}, {self.found32})")
+        if self.stated64 != self.found64:  # E3
+            self.refuse(f"SizeMismatch(w64, {self.stated64}, {self.found64})")
+        if self.stated not in (0, count):  # E4
+            self.refuse(f"CountMismatch({self.stated}, {count})")
 
 
 def read_value(stream):
-    magic = stream.number(4)
-    if magic == 0x8495A6BE:
-        length, count, _, words = (stream.number(4) for _ in range(4))
-    elif magic == 0x8495A6BF:
-        stream.take(4)
-        length, count, words = (stream.number(8) for _ in range(3))
-    else:
-        raise Refused(4, f"magic {magic:08x}")
-    end = stream.at + length
-    objects, open_blocks = [], []
-    root, opened = read_token(stream, objects)
+    """The next value of a stream, and its objects."""
+    reader = Reader(stream)
+    open_blocks = []
+    root, opened = reader.read_token()
     while opened or open_blocks:
         if opened:
             open_blocks.append(opened)
@@ -128,18 +220,17 @@ def read_value(stream):
             open_blocks.pop()
             opened = None
         else:
-            value, opened = read_token(stream, objects)
+            value, opened = reader.read_token()
             fields.append(value)
-    if stream.at != end or count not in (0, len(objects)) or words != sum(map(words_of, objects)):
-        raise Refused(4, "the header does not fit the value")
-    return root, objects
+    reader.test_end()
+    return root, reader.objects
 
 
 # --- Declarations. A type is ("var", name), ("app", name, arguments), ("tuple", parts) or ("poly", items); an item is
 # (tag, argument or None) or (None, the included type).
 
 LEXEME = re.compile(r"(?P<name>[A-Za-z_][A-Za-z0-9_']*)|(?P<tag>`[A-Za-z_][A-Za-z0-9_']*)"
-                    r"|(?P<var>'[a-z_][A-Za-z0-9_']*)|(?P<symbol>;;|[(){}\[\]|,;:=*])")
+                    r"|(?P<var>'(?!.')[a-z_][A-Za-z0-9_']*)|(?P<symbol>;;|\[\||[(){}\[\]|,;:=*])")
 KEYWORDS = {"type", "and", "of", "mutable"}
 ARITIES = dict.fromkeys("int char bool unit string bytes float int32 int64 nativeint floatarray _".split(), 0)
 ARITIES.update(list=1, option=1, array=1, ref=1)
@@ -167,9 +258,24 @@ def lexemes(text):
     return found
 
 
+MOST_DEPTH = 200
+
+
 class Parser:
+    """Parses lexemes. `open` is the number of open brackets, `depth` that of the last type that ended."""
+
     def __init__(self, text):
-        self.rest = lexemes(text)[::-1]
+        self.rest, self.open, self.depth = lexemes(text)[::-1], 0, 0
+
+    def pop(self):
+        text = self.rest.pop()[1]
+        self.open += (text in ("(", "[", "{")) - (text in (")", "]", "}"))
+        refuse_if(self.open > MOST_DEPTH, "TooDeep")
+        return text
+
+    def deeper(self):
+        self.depth += 1
+        refuse_if(self.depth > MOST_DEPTH, "TooDeep")
 
     def peek(self):
         return self.rest[-1][1] if self.rest else None
@@ -182,21 +288,27 @@ class Parser:
             return "keyword" if text in KEYWORDS else "upper" if text[0].isupper() else "lower"
         return kind
 
-    def take(self, *wanted):
-        if self.peek() not in wanted and self.kind() not in wanted:
-            raise Refused(2, f"{self.peek()!r} where one of {wanted} is wanted")
-        return self.rest.pop()[1]
+    def take(self, text):
+        refuse_if(self.peek() != text, f"{self.peek()!r} where {text} is wanted")
+        return self.pop()
+
+    def take_kind(self, kind):
+        refuse_if(self.kind() != kind, f"{self.peek()!r} where a lexeme {kind} is wanted")
+        return self.pop()
 
     def skip(self, text):
         if self.peek() == text:
-            self.rest.pop()
+            self.pop()
             return True
         return False
 
     def separated(self, by, part):
-        parts = [part()]
+        """The parts. The depth is then that of the deepest one."""
+        parts, deepest = [part()], self.depth
         while self.skip(by):
             parts.append(part())
+            deepest = max(deepest, self.depth)
+        self.depth = deepest
         return parts
 
     def file(self):
@@ -210,11 +322,11 @@ class Parser:
     def declaration(self):
         params = []
         if self.kind() == "var":
-            params = [self.take("var")]
+            params = [self.take_kind("var")]
         elif self.skip("("):
-            params = self.separated(",", lambda: self.take("var"))
+            params = self.separated(",", lambda: self.take_kind("var"))
             self.take(")")
-        name = self.take("lower")
+        name = self.take_kind("lower")
         self.take("=")
         return name, params, self.body()
 
@@ -236,12 +348,12 @@ class Parser:
 
     def field(self):
         mutable = self.skip("mutable")
-        name = self.take("lower")
+        name = self.take_kind("lower")
         self.take(":")
         return name, mutable, self.type()
 
     def constructor(self):
-        name = self.take("upper")
+        name = self.take_kind("upper")
         if not self.skip("of"):
             return name, []
         if self.peek() == "{":
@@ -250,33 +362,41 @@ class Parser:
 
     def type(self):
         parts = self.separated("*", self.application)
-        return parts[0] if len(parts) == 1 else ("tuple", tuple(parts))
+        if len(parts) == 1:
+            return parts[0]
+        self.deeper()
+        return ("tuple", tuple(parts))
 
     def application(self):
         found = self.simple()
         while self.kind() == "lower":
-            found = ("app", self.take("lower"), (found,))
+            found = ("app", self.take_kind("lower"), (found,))
+            self.deeper()
         return found
 
     def simple(self):
+        self.depth = 1
         if self.kind() == "var":
-            return ("var", self.take("var"))
+            return ("var", self.take_kind("var"))
         if self.kind() == "lower":
-            return ("app", self.take("lower"), ())
+            return ("app", self.take_kind("lower"), ())
         if self.skip("["):
             self.skip("|")
             items = self.separated("|", self.item)
             self.take("]")
+            self.deeper()
             return ("poly", tuple(items))
         self.take("(")
         parts = self.separated(",", self.type)
         self.take(")")
-        return parts[0] if len(parts) == 1 else ("app", self.take("lower"), tuple(parts))
+        self.deeper()
+        return parts[0] if len(parts) == 1 else ("app", self.take_kind("lower"), tuple(parts))
 
     def item(self):
         if self.kind() != "tag":
             return None, self.application()
-        tag = self.take("tag")[1:]
+        self.depth = 0
+        tag = self.take_kind("tag")[1:]
         return tag, self.type() if self.skip("of") else None
 
 
@@ -337,6 +457,8 @@ class Declarations:
             refuse_if(name in self.abbreviations_below(name), f"Cyclic: {name}")
         for name, (params, body) in self.table.items():
             self.check_float_in_group(name, body)
+            for form in types_of_body(body):
+                self.check_tags(form)
 
     def check_names(self, name, body):
         kind, content = body
@@ -355,10 +477,14 @@ class Declarations:
             elif inner[0] == "app":
                 self.check_use(inner, owner)
             elif inner[0] == "poly":
-                tags = [tag for tag, _ in inner[1]]
-                refuse_twice(tags, "a tag")
-                hashes = {hash_of(tag) for tag in tags if tag is not None}
-                refuse_if(len(hashes) < len([tag for tag in tags if tag is not None]), "HashClash")
+                refuse_twice([tag for tag, _ in inner[1]], "a tag")
+
+    def check_tags(self, form):
+        """That the included types of polymorphic variants have tags, which agree with the others."""
+        for inner in all_types(form):
+            if inner[0] == "poly":
+                tags = [tag for tag, _ in self.expand(inner)[1]]
+                refuse_if(len(set(map(hash_of, tags))) < len(tags), "HashClash")
 
     def check_use(self, form, owner):
         _, name, arguments = form
@@ -423,8 +549,10 @@ class Declarations:
         return all(self.is_float(form) for _, _, form in fields)
 
     def shape(self, form):
-        """What a closed type says of a value: kind, whether it is mutable, and what its parts are."""
+        """What a type says of a value: kind, whether it is mutable, and what its parts are."""
         head = self.expand(form)
+        if head[0] == "var":
+            return ("none", False)
         if head[0] == "tuple":
             return ("product", False, head[1])
         if head[0] == "poly":
@@ -442,6 +570,8 @@ class Declarations:
             return ("any", False)
         if name == "array" and self.expand(arguments[0])[:2] == ("app", "_"):
             return ("any array", True, arguments[0])
+        if name == "array" and self.expand(arguments[0])[0] == "var":
+            return ("empty array", False)
         if name == "array" and not self.is_float(arguments[0]):
             return ("array", True, arguments[0])
         return ("floatarray", True) if name in ("array", "floatarray") else ("base", name == "bytes", name)
@@ -477,7 +607,7 @@ def substitute(form, bindings):
 # --- The check.
 
 class Types:
-    """The types that a closed type leads to, sorted into classes of equal ones."""
+    """The types that a type leads to, sorted into classes of equal ones."""
 
     def __init__(self, declarations, root):
         self.declarations = declarations
@@ -486,7 +616,7 @@ class Types:
         while waiting:
             form = waiting.pop()
             if form not in self.heads:
-                refuse_if(len(self.heads) > 65536, "TooManyTypes")
+                refuse_if(len(self.heads) == 65536, "TooManyTypes")
                 self.heads[form] = declarations.expand(form)
                 waiting += parts_of(self.heads[form]) + self.named_by(declarations.shape(form))
         self.shapes = {form: declarations.shape(form) for form in self.heads}
@@ -517,15 +647,17 @@ class Types:
     def signature(head, classes):
         if head[0] == "poly":
             return tuple(sorted((tag, -1 if argument is None else classes[argument]) for tag, argument in head[1]))
-        name = head[1] if head[0] == "app" else None
+        name = head[1] if head[0] in ("app", "var") else None
         return (head[0], name, tuple(classes[part] for part in parts_of(head)))
 
 
 def fit(shape, value, objects):
     """Whether a value fits a shape, whether its object is mutable there, and the types of its fields by number."""
     kind, thing = shape[0], objects[value[1]] if value[0] == "ref" else value
-    if kind == "any":
-        return True, False, {}
+    if kind in ("any", "none"):
+        return kind == "any", False, {}
+    if kind == "empty array":
+        return thing == ("atom", 0), False, {}
     if kind == "any array" and thing[0] == "floats":
         return True, True, {}
     if kind == "base":
@@ -559,6 +691,8 @@ def fit(shape, value, objects):
 
 
 def text_of(form):
+    if form[0] == "var":
+        return form[1]
     if form[0] == "tuple":
         return " * ".join("(" + text_of(part) + ")" if part[0] == "tuple" else text_of(part) for part in form[1])
     if form[0] == "poly":
@@ -599,7 +733,9 @@ def read_type(declarations, word):
     parser = Parser(word)
     form = parser.type()
     refuse_if(parser.rest, f"more than a type: {word}")
-    declarations.check_type(form, [])
+    variables = [inner[1] for inner in all_types(form) if inner[0] == "var"]
+    declarations.check_type(form, variables)
+    declarations.check_tags(form)
     return form, Types(declarations, form)
 
 

@@ -4,8 +4,23 @@
 
 Entry k of CERT has to show that value k has TYPE over the declarations of FILE, or that it has not. A line for each
 value says `yes`, or `no` and the stated fault. Status 0: each is `yes`; 1: some is `no`; 2: FILE or TYPE is refused;
-4: the stream is; 12: CERT is no certificate, an entry is rejected, or there are not as many entries as values. It
-shares nothing with omarshal: values and types are read by value_has_type.py beside it.
+4: the stream is; 8: a file cannot be opened; 12: CERT is no certificate, an entry is rejected, or there are not as many
+entries as values. It shares nothing with omarshal: values and types are read by value_has_type.py beside it.
+
+It checks
+
+- CERT: the format, the rules for pairs and for paths, and the number of entries;
+- the stream: all that docs/FORMAT.md asks for, with the limit 2^27 words. A header that states a wrong number, a damaged
+  token, a truncated value and bytes left over are refused with the same text and status as by `omarshal verify`;
+- FILE and TYPE: all that docs/TYPE_FILES.md asks for. TYPE may have variables, which no value has.
+
+It does not check
+
+- whose certificate CERT is. CERT names neither FILE, TYPE nor the stream: what is verified is what CERT shows of the FILE,
+  the TYPE and the stream that are given here;
+- that a fault is the first one, that all pairs are needed, or that a type has the least number of its class;
+- where FILE or TYPE is refused: its refusals have no position. If several rules are broken, it may name another one;
+- what the options `--skip`, `--limit` and `--lines` ask for: it has none.
 """
 import re
 import sys
@@ -121,7 +136,10 @@ def verify(table, certificate, data, read=read_value):
     """Prints the line of each value. Returns 1 if one of the lines says `no`."""
     entries, stream, status, k = read_entries(certificate), Input(data), 0, 0
     while stream.at < len(data):
-        root, objects = read(stream)
+        try:
+            root, objects = read(stream)
+        except Refused as refusal:
+            raise Refused(refusal.status, f"value {k}: {refusal}") from None
         refuse_if(k == len(entries), f"value {k}: no section", 12)
         if isinstance(entries[k], list):
             text, why = "yes", rejected(table, root, objects, entries[k])
@@ -137,8 +155,9 @@ def verify(table, certificate, data, read=read_value):
 
 def main(words):
     refuse_if(len(words) != 3, "usage")
-    with open(words[0], encoding="latin-1") as file, open(words[2], "rb") as certificate:
+    with open(words[0], encoding="latin-1") as file:
         table = Table(*read_type(Declarations(file.read()), words[1]))
+    with open(words[2], "rb") as certificate:
         return verify(table, certificate.read(), sys.stdin.buffer.read())
 
 
@@ -148,3 +167,6 @@ if __name__ == "__main__":
     except Refused as refusal:
         print(f"omarshal: {refusal}", file=sys.stderr)
         sys.exit(refusal.status)
+    except OSError as error:
+        print(f"omarshal: cannot open {error.filename}", file=sys.stderr)
+        sys.exit(8)
