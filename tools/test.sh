@@ -6,7 +6,7 @@
 # PROGRAM is the program omarshal, by default the proved one if it is built and current, and otherwise the unproved one, which is
 # built first if needed. CONFORMANCE is the program of crates/test_conformance, found or built in the same way. The last line is
 # `N passed, N failed`: the sum of the same lines of all parts. What needs OCaml 4.13 is skipped where there is none, which a line
-# says. The comparisons with OCaml (tools/check_*.sh, tools/check_certificates.py) are not among these tests.
+# says. The comparisons with OCaml (tools/check_*.sh) are not among these tests.
 set -u
 top=$(cd "$(dirname "$0")/.." && pwd) || exit 2
 . "$top/tools/program.sh"
@@ -55,6 +55,7 @@ part() {
 part 'stored questions' "$top/tools/test_questions.py" "$program" ${conformance:+"$conformance"}
 [ -n "$conformance" ] || failed=$((failed + 1))
 part 'examples of the documents' "$top/tools/check_examples.py" "$program"
+part 'certificates and damaged streams, by an independent verifier' "$top/tools/check_certificates.py" "$program"
 part 'list of commands and options' "$top/tools/make_help.py" --check
 part 'launcher, builds, installation and release' "$top/tools/test_launcher.py" "$program"
 part 'installed files and completion' "$top/tools/test_install.sh" "$program"
