@@ -5,12 +5,13 @@
 
 Both verifiers have to write the same text to standard output and standard error, with the same status. They are compared
 
-- on streams written by hand, of which the answers are written by hand too. Each row of the table of refusals in docs/FORMAT.md has
-  one at least that is refused so, and each code of a token one that is read (REFUSED and READ below);
+- on streams and certificates written by hand, of which the answers are written by hand too. Each row of the table of refusals in
+  docs/FORMAT.md has one at least that is refused so, each code of a token one that is read, and each reason of
+  docs/CERTIFICATES.md a certificate that is rejected so (REFUSED, READ and REJECTED below);
 - on changed certificates. For each value a certificate is made here by a search from the root, and then changed: a pair left out,
-  added or altered, a line left out or doubled, a number one greater or less. The certificate that was not changed has to be
-  accepted. What `check --cert` writes has to be accepted by both too, with the line and the status of `check`. It has to be the
-  certificate that is made here, except that here any aliasing conflict is taken;
+  added or altered, a line left out or doubled, a number one greater or less, two paths exchanged. The certificate that was not
+  changed has to be accepted. What `check --cert` writes has to be accepted by both too, with the line and the status of `check`.
+  It has to be the certificate that is made here, except that here any aliasing conflict is taken;
 - on damaged streams: bytes changed, left out or added, tokens inserted, the end cut off, numbers of the header changed. Often the
   header then states again what the data are. The certificate is that of the stream before the damage, or one that is made of
   the damaged stream, at its type or at `_`. What the program does not say yes to, the other may not say yes to either.
@@ -36,6 +37,7 @@ import shutil
 import subprocess
 import sys
 import tempfile
+import traceback
 
 here = os.path.dirname(os.path.realpath(__file__))
 sys.dont_write_bytecode = True
@@ -233,6 +235,38 @@ REFUSED = [
     ("", (7, 3, 9, 9), "a041a042a043", "Truncated(26)"),
 ]
 
+# Certificates that are not accepted: a type, the header, the data, the certificate entry, and the line on standard error.
+LIST, PAIR = ((7, 3, 9, 9), "a041a042a04340"), ((5, 2, 5, 5), "a090400401")
+REJECTED = [
+    ("int list", *LIST, "yes, pair 0 0, pair 1 0, pair 2 0, pair 3 0", "value 0: certificate Range(3)"),
+    ("int list", *LIST, "yes, pair 0 0, pair 0 9", "value 0: certificate Range(1)"),
+    ("int list", *LIST, "yes, pair 0 1, pair 1 0, pair 2 0", "value 0: certificate Unfit(0)"),
+    ("int list", *LIST, "yes, pair 0 0, pair 2 0", "value 0: certificate Need(0, 1)"),
+    ("bool list", *LIST, "yes, pair 0 0, pair 1 0, pair 2 0", "value 0: certificate Need(1, 0)"),
+    ("int list", *LIST, "yes, pair 1 0, pair 2 0", "value 0: certificate Root"),
+    ("int", (1, 0, 0, 0), "80", "yes", "value 0: certificate Root"),
+    ("int ref * bool ref", *PAIR, "yes, pair 0 0, pair 1 1, pair 1 2", "value 0: certificate TwoTypes(1)"),
+    ("int list", *LIST, "misfit .0", "value 0: certificate NotFault"),
+    ("int list", *LIST, "misfit .2", "value 0: certificate NotFault"),
+    ("int list", *LIST, "misfit .0.0", "value 0: certificate NotFault"),
+    ("int ref * _", *PAIR, "misfit .1", "value 0: certificate NotFault"),
+    ("int ref * bool ref", *PAIR, "clash .1 .0", "value 0: certificate NotFault"),
+    ("int ref * bool ref", *PAIR, "clash .0 .0", "value 0: certificate NotFault"),
+    ("int ref * int ref", *PAIR, "clash .0 .1", "value 0: certificate NotFault"),
+    ("int option * bool option", *PAIR, "clash .0 .1", "value 0: certificate NotFault"),
+    ("int ref * bool ref", (5, 3, 7, 7), "a090409040", "clash .0 .1", "value 0: certificate NotFault"),
+    ("int * bool", (3, 1, 3, 3), "a04040", "clash .0 .1", "value 0: certificate NotFault"),
+    ("int list", *LIST, "yes, pair 0 0, pair 0 0", "certificate line 3: Syntax"),
+    ("int list", *LIST, "yes, pair 1 0, pair 0 0", "certificate line 3: Syntax"),
+    ("int list", *LIST, "yes, pair 00 0", "certificate line 2: Syntax"),
+    ("int list", *LIST, "yes, pair 0 9223372036854775808", "certificate line 2: Syntax"),
+    ("int list", *LIST, "misfit .0, pair 0 0", "certificate line 2: Syntax"),
+    ("int list", *LIST, "yes, pair 0 0, pair 1 0, pair 2 0, end, value 2 yes", "certificate line 6: Syntax"),
+    ("int", (1, 0, 0, 0), "41", "yes, end, value 1 yes", "sections left"),
+    ("int", None, "8495a6be 00000001 00000000 00000000 00000000 41 8495a6be 00000001 00000000 00000000 00000000 41", "yes",
+     "value 1: no section"),
+]
+
 # Tokens that are inserted into damaged streams: some of each code, and with numbers that are refused.
 TOKENS = [bytes.fromhex(token) for token in """
     40 7f 80 8f 90 91 a0 f3 20 2161 23616263 0000 00ff 010100 0200000005 020000 033fffffffffffffff 034000000000000000
@@ -299,6 +333,9 @@ def changed(lines, draw):
         lines[at:at + 1] = draw.choice(([], 2 * [lines[at]], [altered(lines[at], draw)]))
         return lines
     head, pairs = lines[0], [tuple(map(int, line.split()[1:])) for line in lines[1:-1]]
+    if " clash " in head and draw.randrange(3) == 0:
+        one, two = head.split(" ")[3:]
+        return [f"value 0 clash {two} {draw.choice((one, two))}"] + lines[1:]
     if not head.endswith("yes"):
         return ["value 0 " + altered(head[8:], draw)] + lines[1:]
     how, one = draw.randrange(3), draw.choice(pairs or [(0, 0)])
@@ -404,19 +441,30 @@ def entry_at_any(data):
     return "value 0 yes\n" + ("" if data and (data[0] < 4 or 0x40 <= data[0] < 0x80) else "pair 0 0\n") + "end\n"
 
 
+def certificate_by_hand(entry):
+    """The certificate with the lines of an entry, which are separated by commas."""
+    return "value 0 " + text_of([*entry.split(", "), "end"])
+
+
 def streams_by_hand():
-    """The type, the stream, the certificate and what has to be said of it, of each stream of READ and REFUSED, and of some that
-    are more than one value."""
-    read = [(name, stream_of(numbers, data), "value 0 " + text_of([*entry.split(", "), "end"]), line)
-            for name, numbers, data, entry, line in READ]
-    for name, stream, certificate, line in read:
-        yield name, stream, certificate, (line + "\n", "", 0 if line == "yes" else 1)
+    """The type, the stream, the certificate and what has to be said of it, of each row of READ, REJECTED and REFUSED. A stream that
+    is refused also comes after another value. A certificate is also cut off at each of its bytes."""
+    for name, numbers, data, entry, line in READ:
+        wanted = (line + "\n", "", 0 if line == "yes" else 1)
+        yield name, stream_of(numbers, data), certificate_by_hand(entry), wanted
+    for name, numbers, data, entry, line in REJECTED:
+        accepted = "yes\n" if line in ("sections left", "value 1: no section") else ""
+        yield name, stream_of(numbers, data), certificate_by_hand(entry), (accepted, f"omarshal: {line}\n", 12)
+    whole = certificate_by_hand("yes, pair 0 0, pair 1 0, pair 2 0")
+    for size in range(1, len(whole)):
+        line = whole[:size].count("\n") + 1
+        yield "int list", stream_of(*LIST), whole[:size], ("", f"omarshal: certificate line {line}: Syntax\n", 12)
+    before, entry = stream_of((2, 1, 2, 2), "9041"), "value 0 yes\npair 0 0\nend\n"
     for _, numbers, data, refusal in REFUSED:
         stream, certificate = stream_of(numbers, data), entry_at_any(bytes.fromhex(data))
         yield "_", stream, certificate, ("", f"omarshal: value 0: {refusal}\n", 4)
-        before, entry = stream_of((2, 1, 2, 2), "9041"), "value 0 yes\npair 0 0\nend\n"
-        more = (before + stream, entry + certificate.replace("value 0", "value 1"))
-        yield "_", *more, ("yes\n", f"omarshal: value 1: {refusal}\n", 4)
+        certificate = entry + certificate.replace("value 0", "value 1")
+        yield "_", before + stream, certificate, ("yes\n", f"omarshal: value 1: {refusal}\n", 4)
 
 
 def said_by_hand(work):
@@ -744,8 +792,12 @@ def kind_of(answer):
 
 
 def done(work):
+    """What came of a stream. It is wrong if an exception came of it."""
     how, what = work
-    return how(what)
+    try:
+        return how(what)
+    except Exception:
+        return [f"FAILED: {shortened(str(what[1]))}: {traceback.format_exc()}"], 0, []
 
 
 def own_folder():
@@ -773,8 +825,8 @@ def compare(program, values, seed):
             for kind in map(kind_of, answers):
                 kinds[kind] = kinds.get(kind, 0) + 1
     print("answers: " + ", ".join(f"{kind} {count}" for kind, count in sorted(kinds.items())))
-    print(f"{len(texts)} texts of types, {len(by_hand)} streams by hand, {written} certificates by check --cert")
-    print(f"{len(rows | known) + len(texts) + sum(kinds.values()) + written - failed} passed, {failed} failed")
+    print(f"{len(texts)} texts of types, {len(by_hand)} streams with certificates by hand, {written} certificates by check --cert")
+    print(f"{max(0, len(rows | known) + len(texts) + sum(kinds.values()) + written - failed)} passed, {failed} failed")
     return failed != 0
 
 
