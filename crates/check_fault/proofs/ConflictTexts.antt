@@ -1,4 +1,4 @@
--- The appended text of an aliasing conflict is its text.
+-- The bytes that are appended for an aliasing conflict are the text of the conflict.
 use Rattle.std.proofs.Common.{ℕ, ◌≡◌, ◌∙◌, List, ◌++◌, Some, refl, ap, sym}
 use Rattle.std.proofs.lemmas.List.{append_assoc}
 use Rattle.std.proofs.lemmas.Option.{same_Some}
@@ -12,13 +12,13 @@ use Rattle.types_table.specs.declared.type_table.tabled.Tabled.{Tabled}
 use Rattle.types_table.specs.type_table.Made.{table_of}
 use Rattle.check_fault.specs.Text.{text_at, WritesFault}
 
--- One more chunk of text.
+-- If one more chunk is appended, then the appended text is the prefix followed by the chunk.
 pub more : (old prefix chunk x y : List ℕ) → x ≡ old ++ prefix → y ≡ x ++ chunk → y ≡ old ++ (prefix ++ chunk)
 more old prefix chunk x y one two = two ∙ ap (λ f. f ++ chunk) one ∙ append_assoc old prefix chunk
 
 module _ (table : Tabled) (graph : List Obj) (v : Val) (first second : List ℕ)
     (conflict : IsConflict (table_shapes (table_of table)) graph v 0 first second) where
-  -- Both paths lead to the object.
+  -- If the two paths lead to the object, then the appended bytes are the text of the conflict.
   pub conflict_written :
       (p q : Val × ℕ) (old new : List ℕ)
       → Some p ≡ value_at (table_shapes (table_of table)) graph v 0 first

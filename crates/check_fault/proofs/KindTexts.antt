@@ -1,4 +1,4 @@
--- The description of an object follows from its kind.
+-- The kind of an object determines the description of the object.
 use Rattle.std.proofs.Common.{ℕ, ◌<◌, ◌≡◌, ◌∙◌, List, length, Some, refl, ap}
 use Rattle.std.specs.Prelude.{slice_get, pos}
 use Rattle.std.proofs.lemmas.Option.{slice_get-get_or}

@@ -1,4 +1,4 @@
--- The appended text of a type mismatch is its text.
+-- The bytes that are appended for a type mismatch are the text of the mismatch.
 use Rattle.std.proofs.Common.{ℕ, ◌≡◌, ◌∙◌, List, [], ◌∷◌, ◌++◌, Some, refl, ap, sym, append-nil}
 use Rattle.std.specs.Prelude.{codes}
 use Rattle.std.proofs.lemmas.List.{append_assoc}
@@ -14,7 +14,7 @@ use Rattle.types_table.specs.type_table.Made.{table_of}
 use Rattle.check_fault.specs.Text.{step_text, text_at, found_text, WritesFault}
 use Rattle.check_fault.proofs.ConflictTexts.{more}
 
--- Paths of one step and of two.
+-- The texts of one step and of two steps are the texts of paths.
 pub one_step_text : (i : ℕ) → step_text i ≡ path_text (i ∷ [])
 one_step_text i = sym (append-nil (step_text i))
 
@@ -22,7 +22,7 @@ pub two_steps_text : (i j : ℕ) → step_text i ++ step_text j ≡ path_text (i
 two_steps_text i j = ap (λ text. step_text i ++ text) (sym (append-nil (step_text j)))
 
 module _ (table : Tabled) (graph : List Obj) (v : Val) (number : ℕ) where
-  -- The path, then the expected type and what was found.
+  -- The path, followed by the expected type and what was found, is the text of the mismatch.
   mismatch_is : (path : List ℕ) → path_text path ++ found_text table graph v number
       ≡ mismatch_text (text_at table) graph path v number
   mismatch_is path =

@@ -1,4 +1,5 @@
--- The first mismatch of a given path length, field by field, and the first one near the root.
+-- The first mismatch among paths of one length, field by field, and the first mismatch near the
+-- root.
 use Rattle.std.proofs.Common.{ℕ, zero, suc, ◌+◌, ◌<◌, ◌≤◌, ◌≡◌, ◌∙◌, ⊎_elim, List, [], ◌∷◌, length, Option, Some, None, pos, refl, sym, ap, subst, arith}
 use Rattle.std.specs.Prelude.{IsSome, IfSome, IsSomeAnd, MatchOption, option_map, option_and_then, slice_get}
 use Rattle.std.proofs.lemmas.Bool.{false≢true}
@@ -40,7 +41,8 @@ module _ (Is : List ℕ → Type 0) where
       others)
       (less_same_more j i)
 
-  -- No path begins with a field whose index is at least `count`.
+  -- Suppose `Is` holds for no path of length `n + 1` that begins with a field below `count`, nor
+  -- for a path that begins with another field. Then `Is` holds for no path of length `n + 1`.
   pub none_at_all :
       (n count : ℕ) → NoneBelow n count → ((j : ℕ) (path : List ℕ) → count ≤ j → ¬ Is (j ∷ path))
       → NoneOf Is (n + 1)
@@ -62,7 +64,7 @@ module _ (Is : List ℕ → Type 0) where
         (subst (λ k. Is (k ∷ rest)) same.0 is))
         before
 
-  -- The empty path is the only one of its length.
+  -- If the empty path satisfies `Is`, then the empty path is the first path of length 0.
   pub first_empty : Is [] → IsFirstOf Is []
   first_empty here = record { is = here; first = none } where
     none : (other : List ℕ) → length other ≡ 0 → IsLexicallyBefore other [] → Is other → ⊥
@@ -76,7 +78,7 @@ module _ (Is : List ℕ → Type 0) where
 module _ {T : Type 0} (shapes : Shapes T) (graph : List Obj) (v : Val) (t : T) where
   -- ---- one step
 
-  -- The end of a path that continues after a step.
+  -- The value and the type at the end of a path that begins at `position`.
   abbrev end_from : List ℕ → Option (Val × T) → Option (Val × T)
   end_from path position =
       option_and_then (λ (next : Val × T). value_at shapes graph next.0 next.1 path) position
@@ -136,7 +138,8 @@ module _ {T : Type 0} (shapes : Shapes T) (graph : List Obj) (v : Val) (t : T) w
 
   -- ---- the first fault
 
-  -- No shorter path is a mismatch.
+  -- If a path is the first mismatch of its length, and no shorter path is a mismatch, then the path
+  -- is the first fault.
   least_mismatch : (path : List ℕ) → IsFirstOf (IsMismatch shapes graph v t) path
       → ((n : ℕ) → n < length path → NoneOf (IsMismatch shapes graph v t) n)
       → IsLeastFault shapes graph v t (Mismatch path)
@@ -210,7 +213,8 @@ module _ (table : Table) (graph : List Obj) (v : Val) (t : ℕ) where
   abbrev Is : List ℕ → Type 0
   Is path = IsMismatch (table_shapes table) graph v t path
 
-  -- The step leads there.
+  -- If a step leads to a value and a type, then the path with this one step leads to the value and
+  -- the type.
   pub field_there : (i : ℕ) (w : Val) (u : ℕ) → Some (w, u) ≡ step (table_shapes table) graph v t i
       → IsValue (length graph) w → u < length table.nodes → IsThere table graph v t (i ∷ []) w u
   field_there i w u there valid node = record {
@@ -219,7 +223,8 @@ module _ (table : Table) (graph : List Obj) (v : Val) (t : ℕ) where
     node = node;
   }
 
-  -- A mismatch of a field is a mismatch of the value, behind the step to the field.
+  -- If a field's value has a mismatch, then the value has the mismatch at the path that begins with
+  -- the field.
   pub found_behind :
       (i : ℕ) (w : Val) (u : ℕ) (found : Option UnfitField) → Some (w, u) ≡ step (table_shapes table) graph v t i
       → MatchOption found (NoneOf (IsMismatch (table_shapes table) graph w u) 1)
@@ -243,7 +248,8 @@ module _ (table : Table) (graph : List Obj) (v : Val) (t : ℕ) where
     },
   )
 
-  -- If a field was found, then it is the first one and has this index.
+  -- If field `i` is a mismatch, and no earlier field is, then field `i` is the first mismatch of
+  -- length 1.
   pub field_found :
       (i : ℕ) (unfit : UnfitField) → NoneBelow Is 0 i
       → (unfit.field ≡ i) × Is (i ∷ []) × IsThere table graph v t (i ∷ []) unfit.value unfit.at
@@ -261,7 +267,7 @@ module _ (table : Table) (graph : List Obj) (v : Val) (t : ℕ) where
     fields_are : fields_of graph v (node_or_none (slice_get table.nodes t)) ≡ fields_of graph v shape
     fields_are = ap (λ n. fields_of graph v (node_or_none n)) is
 
-    -- If a value matches its type, then it has these fields.
+    -- If a value matches its type, then the fields of the shape are the value's typed fields.
     pub typed_are : (needs : List (ℕ × ℕ)) → Some needs ≡ fields_of graph v shape
         → needs ≡ typed_fields table graph v t
     typed_are needs fields = sym (ap or_none fields_are ∙ ap or_none (sym fields))
@@ -290,7 +296,7 @@ module _ (table : Table) (graph : List Obj) (v : Val) (t : ℕ) where
     no_type None type none = refl
     no_type (Some w) type none = ap (option_map (at_type w)) none
 
-    -- If a value does not match its type, then no path leads beyond it.
+    -- If a value does not match its type, then no path of at least one step is a mismatch.
     pub nothing_below : (n : ℕ) → None ≡ fields_of graph v shape
         → NoneOf (IsMismatch (table_shapes table) graph v t) (n + 1)
     nothing_below n none [] long mismatch = absurd (omega (arith, long))

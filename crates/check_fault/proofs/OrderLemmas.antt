@@ -1,10 +1,10 @@
--- The order of two paths of the same length.
+-- The order of two paths of equal length.
 use Rattle.std.proofs.Common.{ℕ, zero, suc, ◌<◌, ◌≡◌, ⊎_elim, inl, inr, List, [], ◌∷◌, length}
 use Rattle.std.proofs.Common.{get_or, arith}
 use Rattle.std.specs.Prelude.{◌↔◌}
 use Rattle.types_spec.specs.types.Fault.{IsLexicallyBefore}
 
--- The first difference is at this position.
+-- If two paths first differ at index `i`, then the steps at index `i` decide the order.
 pub lexical_at :
     (xs ys : List ℕ) (i : ℕ) → length xs ≡ length ys
     → ((k : ℕ) → k < i → get_or xs k 0 ≡ get_or ys k 0) → i < length xs
@@ -22,7 +22,7 @@ lexical_at (x ∷ xs) (y ∷ ys) (suc i) same below within other =
       λ lex. ⊎_elim (λ less. absurd (omega (arith, first, less))) (λ eq. rest.1 eq.1) lex,
     )
 
--- The paths do not differ.
+-- If two paths do not differ, then neither path is lexicographically smaller.
 pub lexical_never :
     (xs ys : List ℕ) → length xs ≡ length ys
     → ((k : ℕ) → k < length xs → get_or xs k 0 ≡ get_or ys k 0) → IsLexicallyBefore xs ys → ⊥

@@ -1,4 +1,4 @@
--- Required types at a number of a table.
+-- The required types of fields, as numbers of a table.
 use Rattle.std.proofs.Common.{ℕ, ◌<◌, ◌≡◌, ◌∙◌, List, [], ◌∷◌, length, Bool, true, false, Option, Some, None}
 use Rattle.std.proofs.Common.{ap, subst, sym, cond, ◌==◌, get_or}
 use Rattle.std.specs.Prelude.{Contains, slice_get, option_map, option_and_then, find, IfSome}
@@ -17,7 +17,7 @@ use Rattle.types_theory.proofs.equality.ReachedLemmas.{needs_named}
 use Rattle.types_theory.proofs.table.FieldLemmas.{fields_once}
 use Rattle.types_table.specs.type_table.Made.{IsLawful}
 
--- If a type is found, then it is one of the required types.
+-- If the type of a field is found in a list, then the list contains the type.
 need_by : (n : ℕ × ℕ) (ns : List (ℕ × ℕ)) (i u : ℕ) (test : Bool)
     → (type_of_field ns i ≡ Some u → (k : ℕ) × Contains ns (k, u))
     → option_map (λ (need : ℕ × ℕ). need.1) (cond test (Some n) (find (λ need. need.0 == i) ns))
@@ -35,7 +35,7 @@ need_found (n ∷ ns) i u is = need_by n ns i u (n.0 == i) (need_found ns i u) i
 
 module _ (table : Table) (graph : List Obj) (v : Val) (at : ℕ) (shape : ShapeOf ℕ)
     (is : slice_get table.nodes at ≡ Some shape) where
-  -- Every required type is a number of the table.
+  -- The required type of a field is a number of the table.
   pub needed_below :
       (lawful : IsLawful table) (i u : ℕ)
       → type_of_field (or_none (fields_of graph v shape)) i ≡ Some u → u < length table.nodes
@@ -47,7 +47,7 @@ module _ (table : Table) (graph : List Obj) (v : Val) (at : ℕ) (shape : ShapeO
       All-contains (λ k. k < length table.nodes) (named_in (get_or table.nodes at shape)) u all
       (subst (λ s. Contains (named_in s) u) (sym here) named)
 
-  -- Every type that was found is a number of the table.
+  -- The type that was found for a field is a number of the table.
   pub found_below :
       (lawful : IsLawful table) (i : ℕ) (needs : List (ℕ × ℕ)) (found : Option ℕ)
       → Some needs ≡ fields_of graph v shape → found ≡ type_of_field needs i
@@ -56,7 +56,7 @@ module _ (table : Table) (graph : List Obj) (v : Val) (at : ℕ) (shape : ShapeO
   found_below lawful i needs (Some u) fields is =
       needed_below lawful i u (ap (λ o. type_of_field (or_none o) i) (sym fields) ∙ sym is)
 
--- The required type of a field is its type, unless that type admits every value.
+-- The required type of a field is the field's type, unless the field's type admits every value.
 module _ (table : Table) (graph : List Obj) (v : Val) (at i : ℕ) where
   abbrev node : ℕ → ShapeOf ℕ
   node k = node_or_none (slice_get table.nodes k)

@@ -1,4 +1,4 @@
--- The text of a fault by the numbers of a table equals the text by their types.
+-- The text of a fault by the type numbers of a table equals the text by types.
 use Rattle.std.proofs.Common.{ℕ, ◌≡◌, ◌∙◌, List, ◌++◌, Option, Some, None, ap, subst, sym}
 use Rattle.std.specs.Prelude.{codes, slice_get}
 use Rattle.std.proofs.lemmas.Option.{same_Some, none-some}
@@ -29,7 +29,7 @@ module _ (decls : List Decl) (t : Ty) (table : Tabled) (is : IsTypeTable decls t
   abbrev Same : Option (Val × ℕ) → Option (Val × Ty) → Type 0
   Same p q = SamePosition (table_shapes (table_of table)) (declared_shapes decls) Is graph p q
 
-  -- If a path leads somewhere by numbers, then it leads there by types.
+  -- If a path leads to a value by type numbers, then the path leads to the value by types.
   leads : (p : Option (Val × ℕ)) (q : Option (Val × Ty)) → Same p q → (w : Val) (i : ℕ)
       → p ≡ Some (w, i) → (u : Ty) × (q ≡ Some (w, u)) × Is i u
   leads None q positions w i at = absurd (none-some (w, i) at)

@@ -1,4 +1,4 @@
--- The text of a fault by type numbers equals the text by types.
+-- The text of a fault by type numbers of a table equals the text by types.
 use Rattle.std.specs.Prelude.{ℕ, List}
 use Rattle.base_data.specs.declared.model.value.Val.{Val}
 use Rattle.base_data.specs.declared.model.value.Obj.{Obj}

@@ -13,7 +13,7 @@ use Rattle.types_spec.specs.types.VerdictText.{IsFaultText, kind_text}
 use Rattle.types_table.specs.declared.type_table.tabled.Tabled.{Tabled}
 use Rattle.types_table.specs.type_table.Made.{types_of, table_of}
 
--- A number without a type has an empty text.
+-- The text of a type. If there is no type, the text is empty.
 abbrev pub text_or_none : Option Ty → List ℕ
 text_or_none None = []
 text_or_none (Some t) = type_text t
@@ -22,7 +22,7 @@ text_or_none (Some t) = type_text t
 abbrev pub text_at : Tabled → ℕ → List ℕ
 text_at table number = text_or_none (slice_get (types_of table) number)
 
--- A dot and the number.
+-- The text of a step: a dot and the index of the field.
 abbrev pub step_text : ℕ → List ℕ
 step_text step = codes "." ++ decimal step
 
@@ -37,7 +37,8 @@ text_of_kind (kinds.Custom (customs.I32 z)) = codes "int32"
 text_of_kind (kinds.Custom (customs.I64 z)) = codes "int64"
 text_of_kind (kinds.Custom (customs.Native z)) = codes "nativeint"
 
--- The expected type, given by its number, and what was found.
+-- The text after the path of a mismatch: the expected type, given by its number, and what was
+-- found.
 abbrev pub found_text : Tabled → List Obj → Val → ℕ → List ℕ
 found_text table graph v number =
     codes ": expected " ++ text_at table number ++ codes ", found " ++ kind_text graph v

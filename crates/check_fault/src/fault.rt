@@ -1,4 +1,4 @@
-//! Decides whether a candidate is a fault of a value.
+//! Decides whether a candidate fault is a fault of a value.
 
 ghost use Rattle.std.specs.Prelude.{◌<◌, ◌↔◌, length, IsTrue};
 ghost use Rattle.types_spec.specs.types.Fault.{IsMismatch, IsConflict, IsFault};
@@ -16,7 +16,7 @@ use marshal_heap::heap::{Heap, Rooted};
 use types_spec::types::fault::Fault;
 use types_table::type_table::TypeTable;
 
-/// Returns true if `fault` is a fault of the value at the root's type. Allocates no memory.
+/// Returns true if `fault` is a fault of the value at type 0 of the table. Allocates no memory.
 pub fn is_fault(value: &Rooted<'_>, table: &TypeTable, fault: &Fault) -> bool
     ensures { IsTrue result
         ↔ IsFault (table_shapes (table_of table.now)) value.now.heap.now value.now.root 0
@@ -48,8 +48,8 @@ fn is_mismatch(value: &Rooted<'_>, table: &TypeTable, path: &Path) -> bool
     }
 }
 
-/// Returns true if the two paths are an aliasing conflict: they lead to one object at unequal
-/// types, and the object is mutable at one of them.
+/// Returns true if the two paths are an aliasing conflict. An aliasing conflict leads to one object
+/// at unequal types, at one of which the object is mutable.
 fn is_conflict(value: &Rooted<'_>, table: &TypeTable, first: &Path, second: &Path) -> bool
     ensures { IsTrue result
         ↔ IsConflict (table_shapes (table_of table.now)) value.now.heap.now value.now.root 0
@@ -73,7 +73,7 @@ fn is_conflict(value: &Rooted<'_>, table: &TypeTable, first: &Path, second: &Pat
 }
 
 /// Returns true if two values are one object at unequal types, and the object is mutable at one of
-/// them.
+/// the types.
 fn is_shared(tried: &Tried<'_>, again: Val, other: usize) -> bool
     requires other { other < length tried.now.table.now.nodes }
     ensures { IsTrue result
@@ -88,7 +88,8 @@ fn is_shared(tried: &Tried<'_>, again: Val, other: usize) -> bool
     }
 }
 
-/// Returns true if two types of an object are unequal, and the object is mutable at one of them.
+/// Returns true if two types of an object are unequal, and the object is mutable at one of the
+/// types.
 fn are_at_odds(heap: &Heap, object: u64, table: &TypeTable, one: usize, other: usize) -> bool
     requires object { object < length heap.now }
     requires one { one < length table.now.nodes }
@@ -101,7 +102,7 @@ fn are_at_odds(heap: &Heap, object: u64, table: &TypeTable, one: usize, other: u
         && (may_change(heap, object, table, one) || may_change(heap, object, table, other))
 }
 
-/// Returns true if an object matches a type's representation and is mutable at this type.
+/// Returns true if an object matches a type's representation and is mutable at the type.
 fn may_change(heap: &Heap, object: u64, table: &TypeTable, at: usize) -> bool
     requires object { object < length heap.now }
     requires number { at < length table.now.nodes }

@@ -1,4 +1,4 @@
-//! Laws about the texts of faults. The functions do nothing and exist only for their contracts.
+//! Laws about the texts of faults, as contracts of lemma functions, which do nothing at run time.
 
 ghost use Rattle.check_fault.specs.Laws.{TextsAreOfTypes};
 

@@ -1,22 +1,22 @@
-//! Follows paths in a value by a table of types, decides if something is a fault, and prints
+//! Follows paths in a value by a table of types, decides whether a candidate is a fault, and prints
 //! faults.
 //!
-//! It owns `Tried` (a value with the number of a type of a table), `Near` and `NearPath` (a
-//! mismatch near the root), and the functions that print. The text of a fault is defined in
+//! The crate owns `Tried` (a value with the number of a type of a table), `Near` and `NearPath` (a
+//! mismatch near the root), and the functions that print faults. The text of a fault is defined in
 //! `types_spec` (`VerdictText`).
 //!
-//! Promises: `walk` returns the value at the end of a path and the number of its type, or `None`
-//! if the path leads nowhere; `step` does so for one step of a path. `is_fault` returns true if
-//! and only if the value has the fault at the type, and takes no memory. `fault_text` and
-//! `write_fault` print a fault of the value: the paths, the types and what was found there.
-//! `find_near` returns a mismatch only if it is the least fault; if it returns `None`, nothing is
-//! known. `write_missed` prints a mismatch that was found without a heap, and `write_near` one
-//! near the root. `texts_are_of_types`: the text of a fault by the numbers of a table is the text
-//! by their types.
+//! Promises: `walk` returns the value at the end of a path and the number of the value's type. If
+//! the path leads nowhere, `walk` returns `None`. `step` follows one step of a path. `is_fault`
+//! returns true if and only if the value has the fault at the type, and allocates no memory.
+//! `fault_text` and `write_fault` print a fault of the value: the paths, the types and what was
+//! found. If `find_near` returns a mismatch, the mismatch is the least fault. If `find_near`
+//! returns `None`, nothing is known. `write_missed` prints a mismatch that was found without a
+//! heap, and `write_near` prints a mismatch near the root. `texts_are_of_types`: The text of a
+//! fault by type numbers equals the text by types.
 //!
-//! Leaves out: the search for the least fault (`check_heap`, `check_stream`), the `no` before
-//! the fault on the line (`run_types`), and the text of a value (`text_print`). `is_fault` does
-//! not decide if a fault is the least.
+//! Leaves out: the search for the least fault (`check_heap`, `check_stream`), the `no` before the
+//! fault on the line (`run_types`), and the text of a value (`text_print`). `is_fault` does not
+//! decide whether a fault is the least.
 #![tactic(auto)]
 
 mod fault;
@@ -35,3 +35,4 @@ pub use near::{Near, NearPath, find_near};
 pub use steps::{step, walk};
 pub use text::{fault_text, write_fault, write_near};
 pub use tried::Tried;
+pub use write::write_object;

@@ -7,15 +7,18 @@ ghost use Rattle.check_stream.specs.search.Line.{found_text};
 ghost use Rattle.check_fault.specs.Text.{text_at};
 
 use crate::text::write_type;
-use crate::write::{write, write_atom, write_int, write_object, write_step};
+use crate::write::{write_atom, write_int, write_object};
 use base_data::model::Memory;
 use base_data::model::code::CustomKind;
-use check_stream::search::{FoundMismatch, Link, Summary};
+use base_data::text::{write, write_step};
+use check_stream::search::{FoundMismatch, Link};
+use marshal_codec::token::Summary;
 use marshal_heap::heap::Kind;
 use std::alloc::Global;
 use types_table::type_table::TypeTable;
 
-/// Appends the path of the mismatch, the expected type, and what was found.
+/// Appends the path of the mismatch, the expected type, and a description of the token that was
+/// found.
 pub fn write_missed(
     text: &mut Vec<u8>,
     alloc: Global,
@@ -33,7 +36,7 @@ pub fn write_missed(
     write_summary(text, found.summary)
 }
 
-/// Appends the path of these links.
+/// Appends the text of the path that the links describe.
 fn write_links(text: &mut Vec<u8>, links: &[Link]) -> Result<(), Memory>
     ensures { OnOk result
         (text.new.items ≡ text.old.items ++ path_text (map (λ link. link.field) links.now)) }
@@ -47,7 +50,7 @@ fn write_links(text: &mut Vec<u8>, links: &[Link]) -> Result<(), Memory>
     Ok(())
 }
 
-/// Appends the description of a token.
+/// Appends the description of a token, given the token's summary.
 fn write_summary(text: &mut Vec<u8>, summary: Summary) -> Result<(), Memory>
     ensures { OnOk result (text.new.items ≡ text.old.items ++ summary_text summary) }
 {

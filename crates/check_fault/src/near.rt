@@ -1,5 +1,5 @@
-//! Finds the first type mismatch of a small value if it is near the root. This takes few tests and
-//! allocates no memory.
+//! Finds the first type mismatch of a small value if the mismatch is near the root. The search
+//! takes few tests and allocates no memory.
 
 ghost use Rattle.std.specs.Prelude.{ℕ, ◌≡◌, ◌<◌, ◌≤◌, ◌∷◌, [], None, length, IfSome, MatchOption};
 ghost use Rattle.base_data.specs.model.Graph.{IsValue};
@@ -18,11 +18,11 @@ use check_heap::fits::{Needs, is_asked, needs_of};
 use marshal_heap::heap::{Heap, Kind, Rooted};
 use types_table::type_table::TypeTable;
 
-/// The greatest number of 64-bit words of a small value.
+/// The maximum number of 64-bit words of a small value.
 const SMALL: u64 = 64;
 
-/// The greatest number of 64-bit words of a value whose fields of fields are tested. At most 49
-/// such fields are tested.
+/// The maximum number of 64-bit words of a tiny value, whose fields of fields are tested. A tiny
+/// value has at most 49 fields of fields.
 const TINY: u64 = 16;
 
 /// The path to a value near the root.
@@ -35,7 +35,8 @@ pub enum NearPath {
     Part(u64, u64),
 }
 
-/// A type mismatch near the root: its path, the value there, and the number of the type there.
+/// A type mismatch near the root: the path, the value at the path, and the number of the required
+/// type at the path.
 #[derive(Clone, Copy)]
 pub struct Near {
     pub way: NearPath,
@@ -43,7 +44,8 @@ pub struct Near {
     pub at: usize,
 }
 
-/// A field that does not match its type: its index, its value, and the number of its type.
+/// A field that does not match its type: the index of the field, the value of the field, and the
+/// number of the field's type.
 #[derive(Clone, Copy)]
 struct UnfitField {
     field: u64,
@@ -51,8 +53,9 @@ struct UnfitField {
     at: usize,
 }
 
-/// Returns the first fault of a small value if it is a type mismatch with a path of at most one
-/// step, or of at most two steps in a tiny value. If the result is `None`, nothing is known.
+/// Returns the first fault of a small value if the fault is a type mismatch at the root or in a
+/// field of the root. In a tiny value, fields of fields are tested too. If the result is `None`,
+/// nothing is known.
 pub fn find_near(value: &Rooted<'_>, table: &TypeTable) -> Option<Near>
     ensures { IfSome result (IsNear (table_of table.now) value.now.heap.now value.now.root) }
 {
@@ -83,7 +86,8 @@ pub fn find_near(value: &Rooted<'_>, table: &TypeTable) -> Option<Near>
     }
 }
 
-/// Does the same for paths of two steps, if the root and its fields match their types.
+/// Returns the first fault of a tiny value if the fault is a type mismatch in a field of a field.
+/// The root and the fields of the root must match their types.
 fn near_part(value: &Rooted<'_>, table: &TypeTable, needs: Needs<'_>) -> Option<Near>
     requires needs { needs_in needs
         ≡ typed_fields (table_of table.now) value.now.heap.now value.now.root 0 }
@@ -112,7 +116,7 @@ fn near_part(value: &Rooted<'_>, table: &TypeTable, needs: Needs<'_>) -> Option<
     }
 }
 
-/// Returns the number of fields of an object of this kind.
+/// Returns the number of fields of an object of this kind. Only blocks have fields.
 fn fields_in(kind: Kind) -> u64
     ensures { result ≡ fields_of_kind kind }
 {
@@ -133,8 +137,8 @@ fn field_count(heap: &Heap, value: Val) -> u64
     }
 }
 
-/// Returns the type of field `i` of a value, wildcard or not, if the field has a type. `needs` are
-/// the value's typed fields.
+/// If field `i` of a value has a type, returns the type, which may be a wildcard. `needs` are the
+/// value's typed fields.
 fn type_in(tried: &Tried<'_>, needs: Needs<'_>, i: u64) -> Option<usize>
     requires needs { needs_in needs ≡ typed_in tried.now }
     ensures is { result ≡ type_of_field (typed_in tried.now) i }
@@ -144,7 +148,8 @@ fn type_in(tried: &Tried<'_>, needs: Needs<'_>, i: u64) -> Option<usize>
     needs.type_of(i)
 }
 
-/// Returns the required type of field `i`.
+/// Returns the required type of field `i`. If the type of the field is a wildcard, no type is
+/// required.
 fn needed_type(tried: &Tried<'_>, needs: Needs<'_>, i: u64) -> Option<usize>
     requires needs { needs_in needs ≡ typed_in tried.now }
     ensures is { result ≡ type_of_field (needed_in tried.now) i }
@@ -160,7 +165,7 @@ fn needed_type(tried: &Tried<'_>, needs: Needs<'_>, i: u64) -> Option<usize>
     }
 }
 
-/// Takes one step: returns field `i` and the number of its required type.
+/// Returns the value of field `i` and the number of the field's required type.
 fn part(tried: &Tried<'_>, needs: Needs<'_>, i: u64) -> Option<(Val, usize)>
     requires needs { needs_in needs ≡ typed_in tried.now }
     ensures position { result ≡ step_from tried.now i }
@@ -172,7 +177,7 @@ fn part(tried: &Tried<'_>, needs: Needs<'_>, i: u64) -> Option<(Val, usize)>
     Some((next, ty))
 }
 
-/// Returns field `i` if it does not match its type.
+/// Returns field `i` if the field does not match its type.
 fn unfit_at(tried: &Tried<'_>, needs: Needs<'_>, i: u64) -> Option<UnfitField>
     requires needs { needs_in needs ≡ typed_in tried.now }
     ensures { MatchOption result (¬ IsMismatchOf tried.now (i ∷ []))
@@ -216,7 +221,8 @@ fn unfit_field(tried: &Tried<'_>, needs: Needs<'_>) -> Option<UnfitField>
     None
 }
 
-/// Does the same if the typed fields are not yet known.
+/// Returns the first field of a value that does not match its type, if the value's typed fields are
+/// not yet known.
 fn unfit_field_of(tried: &Tried<'_>) -> Option<UnfitField>
     ensures { MatchOption result (NoneOf (IsMismatchOf tried.now) 1)
         (λ unfit. IsFirstOf (IsMismatchOf tried.now) (unfit.field ∷ [])
@@ -228,7 +234,7 @@ fn unfit_field_of(tried: &Tried<'_>) -> Option<UnfitField>
     unfit_field(tried, needs)
 }
 
-/// Returns the first field of field `i` that does not match its type.
+/// Returns the first field inside field `i` that does not match its type.
 fn unfit_in(tried: &Tried<'_>, needs: Needs<'_>, i: u64) -> Option<UnfitField>
     requires needs { needs_in needs ≡ typed_in tried.now }
     ensures { MatchOption result (NoneOf (λ path. IsMismatchOf tried.now (i ∷ path)) 1)
@@ -247,8 +253,8 @@ fn unfit_in(tried: &Tried<'_>, needs: Needs<'_>, i: u64) -> Option<UnfitField>
     unfit_field_of(&next)
 }
 
-/// Returns the first field of a field that does not match its type, with the index of the field
-/// that contains it.
+/// Returns the first field of a field that does not match its type. The number in the result is the
+/// index of the outer field.
 fn unfit_part(tried: &Tried<'_>, needs: Needs<'_>) -> Option<(u64, UnfitField)>
     requires needs { needs_in needs ≡ typed_in tried.now }
     ensures { MatchOption result (NoneOf (IsMismatchOf tried.now) 2)

@@ -14,8 +14,8 @@ use check_heap::fits::{is_asked, needs_of};
 use marshal_heap::heap::{Heap, Kind, Rooted};
 use types_table::type_table::TypeTable;
 
-/// Returns the value at the end of a path and the number of its type, or `None` if the path leads
-/// nowhere.
+/// Returns the value at the end of a path and the number of the value's type. If the path leads
+/// nowhere, returns `None`.
 pub fn walk(value: &Rooted<'_>, table: &TypeTable, path: &Path) -> Option<(Val, usize)>
     ensures position { result
         ≡ value_at (table_shapes (table_of table.now)) value.now.heap.now value.now.root 0
@@ -39,8 +39,8 @@ pub fn walk(value: &Rooted<'_>, table: &TypeTable, path: &Path) -> Option<(Val, 
     Some((found, at))
 }
 
-/// Takes one step of a path: returns the value there and the number of its type, or `None` if the
-/// field has no required type.
+/// Returns the value of the field with index `step` and the number of the field's required type. If
+/// the field has no required type, returns `None`.
 pub fn step(tried: &Tried<'_>, step: u64) -> Option<(Val, usize)>
     ensures position { result
         ≡ step_of (table_shapes (table_of tried.now.table.now)) tried.now.heap.now tried.now.value
@@ -53,7 +53,7 @@ pub fn step(tried: &Tried<'_>, step: u64) -> Option<(Val, usize)>
     Some((next, ty))
 }
 
-/// Returns the type of field `i`, wildcard or not.
+/// Returns the type of field `i`, which may be a wildcard.
 fn typed_field(tried: &Tried<'_>, i: u64) -> Option<usize>
     ensures is { result ≡ type_of_field (typed_in tried.now) i }
     ensures number { IfSome result (λ ty. ty < length tried.now.table.now.nodes) }
@@ -65,7 +65,8 @@ fn typed_field(tried: &Tried<'_>, i: u64) -> Option<usize>
     }
 }
 
-/// Returns the required type of field `i`: its type, unless that type admits every value.
+/// Returns the required type of field `i`. If the type of the field admits every value, no type is
+/// required, and the result is `None`.
 fn field_type(tried: &Tried<'_>, i: u64) -> Option<usize>
     ensures is { result ≡ type_of_field (needed_in tried.now) i }
     ensures number { IfSome result (λ ty. ty < length tried.now.table.now.nodes) }

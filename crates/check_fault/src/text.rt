@@ -1,4 +1,4 @@
-//! The text of a fault.
+//! The text of a fault: the paths, the types at the paths, and what was found.
 
 ghost use Rattle.std.specs.Prelude.{◌≡◌, ◌<◌, ◌++◌, length, Some, slice_get, IfOk, OnOk};
 ghost use Rattle.base_data.specs.model.Graph.{IsValue};
@@ -12,21 +12,22 @@ ghost use Rattle.check_fault.specs.Text.{text_at, found_text, WritesFault};
 
 use crate::near::Near;
 use crate::steps::walk;
-use crate::write::{write, write_kind, write_path, write_way};
+use crate::write::{write_kind, write_way};
 use base_data::model::Memory;
 use base_data::model::list::List;
 use base_data::model::path::Path;
 use base_data::model::value::Val;
+use base_data::text::{write, write_path};
 use marshal_heap::heap::{Heap, Rooted};
 use std::alloc::Global;
 use types_spec::types::fault::Fault;
 use types_table::store::TypeNode;
 use types_table::type_table::TypeTable;
 
-/// The number of bytes reserved for a text. Most texts are no longer.
+/// The number of bytes that are reserved for the text of a fault. Most texts of faults fit.
 const ROOM: usize = 96;
 
-/// Returns the text of a fault: the paths, the types there, and what was found.
+/// Returns the text of a fault: the paths, the types at the paths, and what was found.
 pub fn fault_text(
     alloc: Global,
     value: &Rooted<'_>,
@@ -44,7 +45,7 @@ pub fn fault_text(
     Ok(List::of(text))
 }
 
-/// Appends the text of a fault.
+/// Appends the text of a fault: the paths, the types at the paths, and what was found.
 pub fn write_fault(
     text: &mut Vec<u8>,
     alloc: Global,
@@ -64,7 +65,7 @@ pub fn write_fault(
     }
 }
 
-/// Appends the text of a type mismatch.
+/// Appends the text of a type mismatch: the path, the expected type, and what was found.
 fn write_mismatch(
     text: &mut Vec<u8>,
     alloc: Global,
@@ -86,7 +87,8 @@ fn write_mismatch(
     write_found(text, alloc, value.heap, table, expected, found)
 }
 
-/// Appends the text of a type mismatch near the root.
+/// Appends the text of a type mismatch near the root: the path, the expected type, and what was
+/// found.
 pub fn write_near(
     text: &mut Vec<u8>,
     alloc: Global,
@@ -125,7 +127,7 @@ fn write_found(
     write_kind(text, &Rooted { heap, root: found })
 }
 
-/// Appends the text of an aliasing conflict.
+/// Appends the text of an aliasing conflict: the two paths, and the type at each path.
 fn write_conflict(
     text: &mut Vec<u8>,
     alloc: Global,
@@ -166,7 +168,8 @@ fn stored(table: &TypeTable, number: usize) -> usize
     table.stored()[number]
 }
 
-/// Appends a type. A name without arguments is appended as it is stored.
+/// Appends the text of a type. If the type is a name without arguments, the name is copied as the
+/// table stores the name.
 pub fn write_type(
     text: &mut Vec<u8>,
     alloc: Global,
@@ -183,7 +186,7 @@ pub fn write_type(
     }
 }
 
-/// Appends a type of any form.
+/// Appends the text of a type of any form.
 fn write_any_type(
     text: &mut Vec<u8>,
     alloc: Global,

@@ -8,7 +8,7 @@ use base_data::model::value::Val;
 use marshal_heap::heap::Heap;
 use types_table::type_table::TypeTable;
 
-/// A value of a heap and the number of a type of a table. The value is checked against this type.
+/// A value of a heap, and the number of the type of a table against which the value is checked.
 #[derive(Clone, Copy)]
 pub struct Tried<'a> {
     pub heap: &'a Heap,

@@ -10,12 +10,12 @@ ghost use Rattle.check_fault.specs.Text.{step_text, text_of_kind};
 use crate::near::NearPath;
 use base_data::model::Memory;
 use base_data::model::code::Custom;
-use base_data::model::path::Path;
 use base_data::model::value::Val;
+use base_data::text::{write, write_number, write_step};
 use itoa::Buffer;
 use marshal_heap::heap::{Kind, Rooted};
 
-/// Appends the description of a value.
+/// Appends the description of a value, such as `int 3` or `block 0 of 2`.
 #[tactic(auto, using(crate::proofs::KindTexts::object_text_by_kind))]
 pub fn write_kind(text: &mut Vec<u8>, value: &Rooted<'_>) -> Result<(), Memory>
     ensures { OnOk result
@@ -28,7 +28,7 @@ pub fn write_kind(text: &mut Vec<u8>, value: &Rooted<'_>) -> Result<(), Memory>
     }
 }
 
-/// Appends the description of an integer.
+/// Appends the description of an integer: `int` and the number in decimal.
 pub fn write_int(text: &mut Vec<u8>, n: i64) -> Result<(), Memory>
     ensures { OnOk result (text.new.items ≡ text.old.items ++ (codes "int " ++ signed_decimal n)) }
 {
@@ -36,7 +36,7 @@ pub fn write_int(text: &mut Vec<u8>, n: i64) -> Result<(), Memory>
     write_integer(text, n)
 }
 
-/// Appends the description of an atom.
+/// Appends the description of an atom: `atom` and the tag in decimal.
 pub fn write_atom(text: &mut Vec<u8>, tag: u8) -> Result<(), Memory>
     ensures { OnOk result (text.new.items ≡ text.old.items ++ (codes "atom " ++ decimal tag)) }
 {
@@ -67,19 +67,6 @@ pub fn write_object(text: &mut Vec<u8>, kind: Kind) -> Result<(), Memory>
     }
 }
 
-/// Appends a path.
-pub fn write_path(text: &mut Vec<u8>, path: &Path) -> Result<(), Memory>
-    ensures { OnOk result (text.new.items ≡ text.old.items ++ path_text path.now) }
-{
-    if path.len() == 0 {
-        return write(text, b".");
-    }
-    for i in 0..path.len() {
-        write_step(text, path.step(i))?;
-    }
-    Ok(())
-}
-
 /// Appends the path to a value near the root.
 pub fn write_way(text: &mut Vec<u8>, way: NearPath) -> Result<(), Memory>
     ensures { OnOk result (text.new.items ≡ text.old.items ++ path_text (path_in way)) }
@@ -99,42 +86,8 @@ fn write_two(text: &mut Vec<u8>, i: u64, j: u64) -> Result<(), Memory>
     write_step(text, j)
 }
 
-/// Appends a step of a path.
-pub fn write_step(text: &mut Vec<u8>, step: u64) -> Result<(), Memory>
-    ensures { OnOk result (text.new.items ≡ text.old.items ++ step_text step) }
-{
-    write(text, b".")?;
-    write_number(text, step)
-}
-
-/// Appends a number in decimal. Most numbers have one digit.
-#[tactic(auto, using(std::proofs::lemmas::Fmt::decimal_digit))]
-fn write_number(text: &mut Vec<u8>, n: u64) -> Result<(), Memory>
-    ensures { OnOk result (text.new.items ≡ text.old.items ++ decimal n) }
-{
-    if n < 10 {
-        return Ok(text.push(b'0' + n as u8)?);
-    }
-    write_more_digits(text, n)
-}
-
-/// Appends a number of any length in decimal.
-#[inline(never)]
-fn write_more_digits(text: &mut Vec<u8>, n: u64) -> Result<(), Memory>
-    ensures { OnOk result (text.new.items ≡ text.old.items ++ decimal n) }
-{
-    write(text, Buffer::new().format(n).as_bytes())
-}
-
 fn write_integer(text: &mut Vec<u8>, n: i64) -> Result<(), Memory>
     ensures { OnOk result (text.new.items ≡ text.old.items ++ signed_decimal n) }
 {
     write(text, Buffer::new().format(n).as_bytes())
-}
-
-/// Appends bytes.
-pub fn write(text: &mut Vec<u8>, bytes: &[u8]) -> Result<(), Memory>
-    ensures { OnOk result (text.new.items ≡ text.old.items ++ bytes.now) }
-{
-    Ok(text.extend_from_slice(bytes)?)
 }

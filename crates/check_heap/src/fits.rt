@@ -1,7 +1,7 @@
-//! Decides whether a value of a heap matches a shape (the representation of a type). If it matches,
-//! reports which of its fields have types and whether the value is mutable. `needs_of` promises the
-//! result of the specification `fields_of`. `WordConditions` is a fast path that decides the
-//! common cases by comparing 64-bit words.
+//! Decides whether a value of a heap matches a shape (the representation of a type). If the value
+//! matches, reports which of the value's fields have types and whether the value is mutable.
+//! `needs_of` promises the result of the specification `fields_of`. `WordConditions` is a fast path
+//! that decides the common cases by comparing 64-bit words.
 
 mod needs;
 mod parts;

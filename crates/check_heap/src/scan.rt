@@ -1,8 +1,8 @@
-//! Linear scan of the heap: checks every object once, in address order, at the first type at which
-//! it is referenced. Objects that are referenced at a second type are collected for the caller.
-//! `scan` returns the type of each object (`IsScanned`, `IsScannedBut`). If the scan cannot decide,
-//! it returns what it has checked so far (`AreTaken`). The search that continues from there is not
-//! part of this crate.
+//! Linear scan of the heap, which checks every object once, in address order, at the first type at
+//! which the object is referenced. Objects that are referenced at a second type are collected for
+//! the caller. `scan` returns the type of each object (`IsScanned`, `IsScannedBut`). If the scan
+//! cannot decide, `scan` returns the objects checked so far (`AreTaken`). The search that continues
+//! after an inconclusive scan is not part of this crate.
 
 mod cells;
 mod classed;

@@ -4,3 +4,4 @@ pub mod Weaker
 pub mod ChunkLemmas
 pub mod StateLemmas
 pub mod RunLemmas
+pub mod TakeLemmas

@@ -1,5 +1,4 @@
 pub mod WayLemmas
-pub mod SummaryLemmas
 pub mod JudgeLemmas
 pub mod ComesLemmas
 pub mod FindLemmas

@@ -1,12 +1,12 @@
-//! The streaming check: it types a value in one pass over its bytes and builds no heap. If the
+//! The streaming check: types a value in one pass over the value's bytes, without a heap. If the
 //! result is `PassStop::Typed`, the value has the type (`IsTypedPrefix`). If the result is
-//! `PassStop::Inconclusive`, the check is inconclusive and another checker must decide.
+//! `PassStop::Inconclusive`, nothing is known about the value, and another checker must decide.
 
 mod again;
 mod back;
 mod check_state;
-pub mod chunk;
 mod fast;
+pub mod first;
 pub mod fits;
 pub mod flat;
 mod listed;
@@ -18,7 +18,7 @@ mod words;
 
 pub use back::mark;
 pub use check_state::CheckState;
-pub use open_positions::{BlockPositions, OpenPositions};
+pub use open_positions::{BlockPositions, OpenPositions, values_of};
 pub use passing::{Passing, pass};
 pub use whole::PassStop;
 pub use words::Words;

@@ -1,8 +1,8 @@
 //! The streaming check: checks values as their bytes arrive in chunks, without building a heap.
-//! `StreamCheck::feed` reports that a value has the table's first type, or has exactly one
-//! mismatch, or needs more bytes; otherwise the result is inconclusive. The laws
-//! `passing_is_prefix` and `passing_but_is_prefix` prove that bytes of which more are needed are a
-//! prefix of a value.
+//! `StreamCheck::feed` reports whether a value has the table's first type, has exactly one
+//! mismatch, or needs more bytes. If `StreamCheck::feed` reports none of these results, the check
+//! is inconclusive. If a value needs more bytes, the bytes so far are a prefix of a value
+//! (`passing_is_prefix`, `passing_but_is_prefix`).
 
 mod inspect;
 mod laws;

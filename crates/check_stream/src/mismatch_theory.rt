@@ -1,7 +1,7 @@
 //! Theorems about values with exactly one type mismatch. If only one trail leads to the mismatch,
-//! then it is the first (least) fault, so the tool can report it without building a heap
-//! (`one_missed_prefixes`, `missed_has_line`). The functions are lemma functions: they do nothing,
-//! and their contracts state the theorems.
+//! then the mismatch is the first (least) fault (`one_missed_prefixes`). The tool can report such a
+//! mismatch without building a heap (`missed_has_line`). The functions are lemma functions, whose
+//! contracts state the theorems.
 
 mod laws;
 

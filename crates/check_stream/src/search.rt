@@ -1,7 +1,8 @@
-//! Finds the type mismatch in a value directly from its bytes, without building a heap, if the
-//! value has exactly one. `Seeking::go` reads the bytes in chunks and returns the path to the
-//! mismatch. A mismatch that it returns is the first fault of the value (`IsFound`). Otherwise the
-//! result is inconclusive. `found_has_line` proves that the mismatch determines the output line.
+//! Finds the type mismatch of a value that has exactly one mismatch, directly from the value's
+//! bytes, without building a heap. `Seeking::go` reads the bytes in chunks and returns the path to
+//! the mismatch. If `Seeking::go` returns a mismatch, the mismatch is the first fault of the value
+//! (`IsFound`). If `Seeking::go` returns no mismatch, the result is inconclusive. `found_has_line`
+//! proves that the mismatch determines the output line.
 
 mod again;
 mod judge;
@@ -9,12 +10,10 @@ mod laws;
 mod mismatch;
 mod push;
 mod second;
-mod summary;
 mod way;
 
 pub use again::Again;
 pub use laws::found_has_line;
 pub use mismatch::{Finding, FoundMismatch, SearchEnd, Seeking};
 pub use second::SecondReads;
-pub use summary::Summary;
 pub use way::{BlockExpectations, Expectation, Link, Wait, Way};

@@ -1,3 +1,4 @@
 pub mod codes
 pub mod headers
 pub mod customs
+pub mod token

@@ -1,6 +1,6 @@
-//! The supported custom blocks: `Int32`, `Int64` and `Nativeint` (`ints.c`). `ident` decodes their
-//! identifiers, `read_native` decodes the data of a `Nativeint`, and `encode` encodes custom blocks
-//! as the runtime writes them.
+//! The supported custom blocks: `Int32`, `Int64` and `Nativeint` (`ints.c`). `ident` decodes an
+//! identifier, and `read_native` decodes the data of a `Nativeint`. `encode` encodes a custom block
+//! as the runtime writes it.
 
 mod encoding;
 mod identifier;

@@ -1,6 +1,6 @@
-//! The headers of marshalled values, and the sizes of objects that they state (`intext.h`). `parse`
-//! decodes a header incrementally, `encode` encodes one as the runtime writes it, and `words_of`
-//! computes the size of an object.
+//! The headers of marshalled values, and the sizes of objects that headers state (`intext.h`).
+//! `parse` decodes a header incrementally, `encode` encodes a header as the runtime writes it, and
+//! `words_of` computes the size of an object.
 
 mod encoding;
 mod magic;

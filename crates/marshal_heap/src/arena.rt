@@ -1,5 +1,5 @@
-//! An arena of 64-bit words: a growable array whose capacity contracts can see (`spare`). Callers
-//! reserve room once and then append words without further checks. All code that uses pointers is
+//! An arena of 64-bit words: a growable array whose capacity contracts can see (`spare`). After one
+//! reservation of room, callers append words without further checks. All code that uses pointers is
 //! in the module `block`.
 
 mod block;

@@ -1,4 +1,4 @@
--- The effect of single tokens on a graph.
+-- The effect of a single token on a graph under construction.
 use Rattle.std.proofs.Common.{ℕ, zero, suc, ◌≡◌, ◌-◌, ◌≤◌, List, [], ◌∷◌, ◌++◌, length, Option, ℤ, arith, ap, sym, subst, append-nil}
 use Rattle.base_data.specs.declared.model.value.Val.{Val}
 use Rattle.base_data.specs.declared.model.value.Val.TheVariants as vals
@@ -8,7 +8,7 @@ use Rattle.marshal_read.specs.declared.build.PendingBlock.{PendingBlock}
 use Rattle.marshal_read.specs.Build.{Building, Bounded, building, in_room, fill, fill_in, absorb_in, WellOpen}
 use Rattle.marshal_read.proofs.BuildLemmas.{AreOpen-append, WellOpen-fill, WellOpen-absorb}
 
--- A value without an object of its own.
+-- If a token makes no object, then adding the token only stores the token's value.
 placed : (s : Bounded) (v : Val) → in_room (fill v (s.built.objects ++ []) s.built.open_blocks s.built.root) s.room ≡ fill_in v s
 placed s v = ap (λ all. in_room (fill v all s.built.open_blocks s.built.root) s.room) (append-nil s.built.objects)
 
@@ -30,13 +30,13 @@ pub well_added : (heap new : List Obj) (open_blocks : List PendingBlock) (root :
 well_added heap new open_blocks root object e h =
     subst (λ (all : List Obj). WellOpen (building all open_blocks root)) (sym e) (WellOpen-append (building heap open_blocks root) (object ∷ []) h)
 
--- A value is stored.
+-- If a value is stored, then the open blocks stay open.
 pub well_filled : (v : Val) (all : List Obj) (open_blocks same : List PendingBlock) (root : Option Val) (new : Building) → WellOpen (building all open_blocks root) → same ≡ open_blocks
     → new ≡ fill v all same root → WellOpen new
 well_filled v all open_blocks same root new h s e =
     subst WellOpen (sym e) (subst (λ (blocks : List PendingBlock). WellOpen (fill v all blocks root)) (sym s) (WellOpen-fill v all open_blocks root h))
 
--- A token is added.
+-- If a token is added, then the open blocks stay open.
 pub well_absorbed : (inside old new : Bounded) (t : Token) → inside ≡ old → WellOpen inside.built → IsToken t → new ≡ absorb_in old t → WellOpen new.built
 well_absorbed inside old new t v h k e =
     subst (λ (s : Bounded). WellOpen s.built) (sym e) (WellOpen-absorb old.built t k (subst (λ (s : Bounded). WellOpen s.built) v h))

@@ -50,7 +50,7 @@ IsOpenIn-set_field all b i v o h = record {
   at = h.at ∙ sym (word_of-set_field all b i v (vals.Ref o.object));
 }
 
--- If more objects follow, then the block stays open.
+-- If objects are appended, then an open block stays open.
 IsOpenIn-append : (xs ys : List Obj) (o : PendingBlock) → IsOpenIn xs o → IsOpenIn (xs ++ ys) o
 IsOpenIn-append xs ys o h = record {
   object = let l = length-append xs ys in let k = h.object in omega arith;
@@ -69,7 +69,7 @@ AreOpen-set_field all b i v bs h = AreOpen-in all (set_field all b i v) (IsOpenI
 pub AreOpen-append : (xs ys : List Obj) (bs : List PendingBlock) → AreOpen xs bs → AreOpen (xs ++ ys) bs
 AreOpen-append xs ys bs h = AreOpen-in xs (xs ++ ys) (IsOpenIn-append xs ys) bs h
 
--- The innermost block receives a field.
+-- If the innermost block receives a field, then the blocks that are not full stay open.
 AreOpen-still_open : (all : List Obj) (b : PendingBlock) (outer : List PendingBlock) → AreOpen all (b ∷ outer) → AreOpen all (still_open (advanced b 1) outer)
 AreOpen-still_open all b outer h =
     let k = h.0.next in
@@ -79,12 +79,12 @@ AreOpen-still_open all b outer h =
           (record { object = h.0.object; next = omega arith; size = h.0.size; at = h.0.at }, h.1, h.2)
     ]
 
--- A new object comes after all open blocks.
+-- The numbers of the open blocks' objects are below the number of objects.
 all_below : (all : List Obj) (bs : List PendingBlock) (c : ℕ) → length all ≡ c → AreOpen all bs → All (λ o. o.object < c) bs
 all_below all [] c e h = All-nil (λ o. o.object < c)
 all_below all (b ∷ outer) c e h = All-cons (λ o. o.object < c) b outer (let k = h.0.object in omega arith) (all_below all outer c e h.2)
 
--- A token opens its block.
+-- If a token is added, then the block that the token opens is open, and the other blocks stay open.
 AreOpen-opened : (t : Token) (all : List Obj) (bs : List PendingBlock) (c at : ℕ) → IsToken t → length all ≡ c → at ≡ word_of (all ++ blank t) (vals.Ref c) → AreOpen all bs
     → AreOpen (all ++ blank t) (opened t c at ++ bs)
 AreOpen-opened (integer z) all bs c at h e w k = AreOpen-append all [] bs k

@@ -1,4 +1,5 @@
--- The effect of a header, a token or a part of one on the consumed bytes (`LeadsAs`).
+-- The effect of a header, a token, or a part of a header or token on the consumed bytes
+-- (`LeadsAs`).
 use Rattle.std.proofs.Common.{ℕ, ◌≡◌, inl, inr, ◌+◌, ◌-◌, ◌<◌, ◌≤◌, List, [], ◌++◌, length, take, drop, Option, Some, None, Ok, Err, arith, refl, ap, sym, ◌∙◌, subst, append_assoc, append-nil, length-append, take_at, take_all, take-take, take-add}
 use Rattle.std.proofs.Math.Seq.{take-append-add}
 use Rattle.std.specs.List.{concat}
@@ -36,7 +37,7 @@ take_joined part more n l =
     let e : n ≡ length part + (n - length part) = omega arith in
     ap (λ k. take k (part ++ more)) e ∙ take-append-add part more (n - length part)
 
--- A part of a token is shorter than the token that it becomes.
+-- A part of a token is shorter than each token that extends the part.
 raw_grows : (part more : List ℕ) → IsPart part → length part < raw_length (part ++ more)
 raw_grows part more p =
     elim (cases_lt (length part) (raw_length (part ++ more))) [
@@ -47,7 +48,7 @@ raw_grows part more p =
           absurd (omega (arith, f, p))
     ]
 
--- A part of a header is shorter than the header that it becomes.
+-- A part of a header is shorter than each header that extends the part.
 header_grows : (part more : List ℕ) → length part < header_length part → length part < header_length (part ++ more)
 header_grows part more p =
     elim (cases_lt (length part) (header_length (part ++ more))) [
@@ -59,7 +60,7 @@ header_grows part more p =
           absurd (omega (arith, f, p))
     ]
 
--- If no byte of a token is there, then nothing is refused.
+-- No step refuses the empty list as a part of a token.
 nothing_refused : (header : List ℕ) (before : List (List ℕ)) → token_refusal header before [] ≡ None
 unfolding token_steps
 nothing_refused header before = refl
@@ -70,7 +71,7 @@ nothing_read limit = header_goes_on limit [] (first_undecided limit [] (omega ar
 
 -- ---- refusals
 
--- If a prefix is refused, then all of the bytes are refused.
+-- If `P` implies `Q` and `P` holds unless memory ran out, then `Q` holds unless memory ran out.
 UnlessMemory-map : (r : ReadRefusal) (P Q : Type 0) → (P → Q) → UnlessMemory r P → UnlessMemory r Q
 UnlessMemory-map r P Q f h = (unless_memory r Q).0 (λ ne. elim ((unless_memory r P).1 h) [ inl e ↦ absurd (ne e) | inr p ↦ f p ])
 
@@ -203,15 +204,15 @@ module _ (limit : ℕ) (taken part more header : List ℕ) (before : List (List 
 
 -- ---- chunks
 
--- If bytes lead to `chunks`, then they lead to its builder, by the limit that its `reading` has.
--- The buffered part of a token is `part`.
+-- If bytes lead to `chunks` with the buffered part `part`, then the bytes lead to the builder of
+-- `chunks` under its limit.
 pub leads_at : (limit : ℕ) (taken : List ℕ) (chunks : Chunks) (part : List ℕ) → LeadsChunks limit taken chunks → chunks.part.items ≡ part
     → LeadsAs chunks.reading.totals chunks.reading.limit taken chunks.reading.builder part
 leads_at limit taken chunks part h e =
     subst (λ (k : ℕ). LeadsAs chunks.reading.totals k taken chunks.reading.builder part) (sym h.0)
     (subst (λ (xs : List ℕ). LeadsAs chunks.reading.totals limit taken chunks.reading.builder xs) e h.1)
 
--- If the fast path read no token, then the bytes lead to the same state.
+-- If the fast path read no token, then the bytes still lead to the state of `chunks`.
 pub still_leads : (limit : ℕ) (taken rest : List ℕ) (chunks : Chunks) (new : Reading) (n : ℕ) → LeadsChunks limit taken chunks → chunks.part.items ≡ [] → new.limit ≡ chunks.reading.limit → n ≡ 0
     → ((bytes : List ℕ) → LeadsAs chunks.reading.totals chunks.reading.limit bytes chunks.reading.builder []
     → (n ≤ length rest) × LeadsAs new.totals chunks.reading.limit (bytes ++ take n rest) new.builder [])
@@ -222,7 +223,7 @@ still_leads limit taken rest chunks new n h none same zero takes =
     subst (λ (k : ℕ). LeadsAs new.totals k taken new.builder []) (sym same)
     (subst (λ xs. LeadsAs new.totals chunks.reading.limit xs new.builder []) e t)
 
--- Case: nothing was buffered.
+-- Case: nothing was buffered before the next header or token.
 pub next_taken_whole : (limit : ℕ) (taken rest : List ℕ) (len : ℕ) (new : Reading) → NextRead limit taken [] rest new (Ok len)
     → (0 < len) × (len ≤ length rest) × LeadsAs new.totals limit (taken ++ take len rest) new.builder []
 next_taken_whole limit taken rest len new n =
@@ -230,7 +231,7 @@ next_taken_whole limit taken rest len new n =
     (omega (arith, n.0), omega (arith, n.1), subst (λ k. LeadsAs new.totals limit (taken ++ take k rest) new.builder []) e n.2)
 
 module _ (limit : ℕ) (taken part rest : List ℕ) (most : ℕ) (new : Reading) where
-  -- Case: the buffered part and some of the bytes make a complete token.
+  -- Case: the buffered part and some of the new bytes make a complete header or token.
   pub joined_whole : (len : ℕ) → NextRead limit taken part (take most rest) new (Ok len)
       → (0 < len - length part) × (len - length part ≤ length rest) × LeadsAs new.totals limit (taken ++ take (len - length part) rest) new.builder []
   joined_whole len n =
@@ -239,7 +240,7 @@ module _ (limit : ℕ) (taken part rest : List ℕ) (most : ℕ) (new : Reading)
       let same : take k (take most rest) ≡ take k rest = take-take k most rest (omega (arith, n.1, few)) in
       (omega (arith, n.0), omega (arith, n.1, few), subst (λ xs. LeadsAs new.totals limit (taken ++ xs) new.builder []) same n.2)
 
-  -- Case: they do not make a complete token yet.
+  -- Case: the buffered part and the new bytes do not make a complete header or token yet.
   pub joined_part : 0 < most → 0 < length rest → NextRead limit taken part (take most rest) new (Err NeedMore)
       → (0 < length (take most rest)) × (length (take most rest) ≤ length rest)
       × LeadsAs new.totals limit (taken ++ take (length (take most rest)) rest) new.builder (part ++ take most rest)
@@ -255,15 +256,15 @@ module _ (limit : ℕ) (taken part rest : List ℕ) (most : ℕ) (new : Reading)
       append_assoc taken (take most rest) (drop most rest) ∙ ap (λ xs. taken ++ xs) (take-append-drop most rest) in
       subst (λ xs. RefusedIn limit xs r) same (refused_more limit (taken ++ take most rest) (drop most rest) r n)
 
--- The rest of a chunk as a slice from an offset on.
+-- The slice of a chunk from an offset to the end is the chunk without its first bytes.
 rest_is : (chunk : List ℕ) (a : ℕ) → take (length chunk - a) (drop a chunk) ≡ drop a chunk
 rest_is chunk a = take_all (length chunk - a) (drop a chunk) (omega (arith, length-drop a chunk))
 
 pub length_rest : (chunk : List ℕ) (a : ℕ) → length (take (length chunk - a) (drop a chunk)) ≡ length chunk - a
 length_rest chunk a = ap length (rest_is chunk a) ∙ length-drop a chunk
 
--- If the first `a` bytes of a chunk are taken, and then `b` more, then the first `a + b` bytes are
--- taken.
+-- If the first `a` bytes of a chunk are taken and the next `b` bytes are taken, then the first `a +
+-- b` bytes are taken.
 pub taken_on : (taken chunk : List ℕ) (a b : ℕ) → (taken ++ take a chunk) ++ take b (take (length chunk - a) (drop a chunk)) ≡ taken ++ take (a + b) chunk
 taken_on taken chunk a b =
     ap (λ xs. (taken ++ take a chunk) ++ take b xs) (rest_is chunk a)
@@ -276,7 +277,7 @@ rest_on taken chunk a =
     ∙ append_assoc taken (take a chunk) (drop a chunk)
     ∙ ap (λ xs. taken ++ xs) (take-append-drop a chunk)
 
--- A value is still pending.
+-- If the value is not complete, then a value is pending.
 pub open_from : (o : Option ReadTotals) (totals : ReadTotals) → o ≡ Some totals → (IsWhole o → ⊥) → 0 < totals.pending
 open_from o totals e open_is =
     let f : totals.pending ≡ 0 → ⊥ = subst (λ (x : Option ReadTotals). IsWhole x → ⊥) e open_is in

@@ -30,7 +30,8 @@ advance_fits header before position next state n measure h m =
     let room : state.room ≡ next.head.w64 = h.room ∙ ap (λ x. x.w64) m.head in
     omega (arith, m.w64, h.sums.w64, next.within64)
 
--- The bytes of a token are its code and the bytes after it.
+-- If bytes begin with a token's encoding, then the bytes after the code encode the token by the
+-- code's kind.
 encoded_after : (bytes : List ℕ) (kind : CodeKind) (t : Token) → 0 < length bytes → kind_of (get_or bytes 0 0) ≡ Ok kind
     → Encodes t (take (raw_length bytes) bytes) → EncodesAfter kind (take (fixed_bytes kind + variable_bytes kind (drop 1 bytes)) (drop 1 bytes)) t
 encoded_after [] kind t some k s = absurd (omega arith)
@@ -41,7 +42,7 @@ encoded_after (code ∷ rest) kind t some k s =
     subst (λ r. EncodesFrom r (take n rest) t) k whole.1
 
 module _ (header : List ℕ) (before : List (List ℕ)) (position next : ReadTotals) (state state' : Bounded) (bytes : List ℕ) (valid : AreBytes bytes) (some : 0 < length bytes) (is_open : 0 < position.pending) (h : Builds header before position state) where
-  -- A token of this kind is read.
+  -- If a token of a common kind passes, then reading the token leads to the next state.
   pub common_taken : (kind : CodeKind) (n : ℕ) → n ≡ 1 + fixed_bytes kind + variable_bytes kind (drop 1 bytes) → kind_of (get_or bytes 0 0) ≡ Ok kind → PassesTo position (get_or bytes 0 0) kind (drop 1 bytes) next
       → ((t : Token) → EncodesAfter kind (take (fixed_bytes kind + variable_bytes kind (drop 1 bytes)) (drop 1 bytes)) t → state' ≡ absorb_in state t)
       → TakesOne header before bytes position state next state' n
@@ -79,7 +80,7 @@ one_more_taken limit taken bytes position next state state' a n is_open t some t
     let r = one_taken limit (taken ++ take a bytes) rest position next state state' n is_open t.2 some takes in
     (omega (arith, r.0, t.0, length_rest bytes a), λ last. (omega (arith, some), (r.1 last).1), subst (λ xs. LeadsAs (Some next) limit xs state' []) (taken_on taken bytes a n) r.2)
 
--- If tokens are read from a prefix of the bytes, then they are read from all of the bytes.
+-- If tokens are read from a prefix of the bytes, then the tokens are read from all of the bytes.
 pub prefix_taken : (limit : ℕ) (taken bytes : List ℕ) (most : ℕ) (next : ReadTotals) (state : Bounded) (n : ℕ) → TakesCommon limit taken (take most bytes) next state n
     → TakesCommon limit taken bytes next state n
 prefix_taken limit taken bytes most next state n t =
@@ -89,7 +90,8 @@ prefix_taken limit taken bytes most next state n t =
 
 -- ---- the result of a token by its kind and the bytes after its code
 
--- The totals to which the token leads.
+-- If a token's fields are sound and the totals advance by the token, then the token passes to the
+-- new totals.
 pub passes_from : (position next : ReadTotals) (code : ℕ) (kind : CodeKind) (rest : List ℕ) (len : ℕ) (measure : Option Measure) → len ≡ fixed_bytes kind + variable_bytes kind rest → len ≤ length rest → IsPlain kind
     → field_refusal (context_of position) code kind rest ≡ None → measure ≡ measure_after kind rest → Advances position (1 + len) measure next true → PassesTo position code kind rest next
 passes_from position next code kind rest len measure l within plain sound m a =

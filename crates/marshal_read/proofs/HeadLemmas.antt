@@ -26,14 +26,15 @@ bad m s b c =
     let v : eqb m compressed_magic ≡ false = grind (arith, nat_tests) in
     rw (v, t, u) refl
 
--- The first step is decided in `n` bytes.
+-- If `n` bytes decide the first step, then the first refusal is that of the first step or of the
+-- next steps.
 decided : (n k : ℕ) (r : Option ReadRefusal) (steps : List Step) → k ≤ n → first_refusal n (step k r ∷ steps) ≡ or_else r (first_refusal n steps)
 decided n k r steps h = rw (le-ltb n k h) refl
 
 undecided : (n k : ℕ) (r : Option ReadRefusal) (steps : List Step) → n < k → first_refusal n (step k r ∷ steps) ≡ None
 undecided n k r steps h = rw (lt-ltb n k h) refl
 
--- The steps after the magic number.
+-- The steps of a header after the step of the magic number.
 abbrev after_magic : ℕ → List ℕ → List Step
 after_magic limit bytes =
     step (header_length bytes) (fails_if (ltb limit (head_of bytes).w64) (TooLarge Words (head_of bytes).w64 limit))
@@ -56,11 +57,12 @@ header_bad limit bytes h s b c = first_decided limit bytes h ∙ ap (λ r. or_el
 pub header_compressed : (limit : ℕ) (bytes : List ℕ) → 4 ≤ length bytes → magic bytes ≡ compressed_magic → header_refusal limit bytes ≡ Some Compressed
 header_compressed limit bytes h e = first_decided limit bytes h ∙ ap (λ m. or_else (magic_refusal m) (first_refusal (length bytes) (after_magic limit bytes))) e
 
--- The steps after a valid magic number.
+-- If the magic number is valid, then the header's refusal is the refusal of the steps after the
+-- magic number.
 after_good : (limit : ℕ) (bytes : List ℕ) → HasMagic bytes → 4 ≤ length bytes → header_refusal limit bytes ≡ first_refusal (length bytes) (after_magic limit bytes)
 after_good limit bytes h four = first_decided limit bytes four ∙ ap (λ r. or_else r (first_refusal (length bytes) (after_magic limit bytes))) (none_from_magic (magic bytes) h)
 
--- If the magic number is valid and the header is incomplete, then nothing is refused.
+-- If the magic number is valid and the header is incomplete, then no step refuses the header.
 waits : (limit : ℕ) (bytes : List ℕ) → (4 ≤ length bytes → HasMagic bytes) → length bytes < header_length bytes → (4 ≤ length bytes) ⊎ (length bytes < 4)
     → header_refusal limit bytes ≡ None
 waits limit bytes h short (inl four) =
@@ -87,7 +89,7 @@ start_is : (b : Bool) (big small : Head) → big.big ≡ true → small.big ≡ 
 start_is true big small p q = rw p refl
 start_is false big small p q = rw q refl
 
--- The end of a header, by what it states.
+-- The length of a header is 32 bytes if the header is big, and 20 bytes if the header is small.
 pub start_length : (bytes : List ℕ) → cond {A = ℕ} (head_of bytes).big 32 20 ≡ header_length bytes
 unfolding head_of
 start_length bytes = start_is (eqb (magic bytes) big_magic) (big_head bytes) (small_head bytes) refl refl

@@ -21,7 +21,7 @@ one_object (Some m) = omega arith
 limit_small : (head : Head) → head.big ≡ false → limit_of head ≡ head.w32
 limit_small head e = ap (λ b. cond b (2 ^ 62) head.w32) e
 
--- The room decreases by what the totals increase.
+-- If the totals increase by a token, then the remaining room decreases by the token.
 module _ (first position : ReadTotals) (n k : ℕ) (left left' : RemainingRoom) (measure : Option Measure) (leaves : Leaves first n position left) (is_open : 0 < left.pending) (some : 0 < k) (spends : Spends left k measure left')
     (spent : left'.pending ≡ 0 → IsSpent first.head (position.objects + of_object (λ _. 1) measure) left')
     (few32 : AreFew words32 measure k) (few64 : AreFew words64 measure k) where
@@ -84,7 +84,8 @@ still_open first position n m left leaves ends within lt =
       | inr none ↦ absurd (omega (arith, ends (omega (arith, leaves.pending)), leaves.taken, ap (λ (h : Head). h.length) leaves.head))
     ]
 
--- Totals with the same numbers are interchangeable.
+-- If two totals have the same numbers, then bytes that lead to one of the totals lead to the other
+-- totals.
 pub same_position : (limit : ℕ) (taken : List ℕ) (position position' : ReadTotals) (state : Bounded) → AreTotals position' (context_of position) → LeadsAs (Some position) limit taken state [] → LeadsAs (Some position') limit taken state []
 same_position limit taken position position' state same l =
     let h = l.2 in

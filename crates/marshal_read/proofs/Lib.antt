@@ -1,6 +1,7 @@
 pub mod TotalsLemmas
 pub mod SizeLemmas
 pub mod StepLemmas
+pub mod DecodeLemmas
 pub mod PassingLemmas
 pub mod FieldLemmas
 pub mod TreeLemmas

@@ -29,7 +29,7 @@ use Rattle.marshal_read.proofs.RoomLemmas.{heap_words-from_start}
 
 -- ---- the totals after the next token
 
--- The context after the next token is the context of all tokens including it.
+-- The context after the next token is the context of all tokens including the next token.
 pub context_after : (header : List ℕ) (before : List (List ℕ)) (rest : List ℕ) → IsOpen before → raw_length rest ≤ length rest
     → after (context header before) rest ≡ context header (with_next before rest)
 context_after header before rest is_open h =
@@ -42,11 +42,11 @@ context_after header before rest is_open h =
     sym (sums_of-push (map raw_measure before) (raw_measure rest) is_open) ∙ ap sums_of measures in
     λ i. record (context header before) { taken = len i; sums = all i }
 
--- The bytes of the next token.
+-- The totals after the next token have consumed the bytes of the next token.
 pub next_taken : (c : Context) (rest : List ℕ) (position next : ReadTotals) → AreTotals position c → AreTotals next (after c rest) → next.taken ≡ position.taken + raw_length rest
 next_taken c rest position next s t = let e = s.taken in let f = t.taken in omega arith
 
--- The next token has few fields.
+-- The next token has fewer than 2 ^ 53 fields.
 pub next_fields : (c : Context) (rest : List ℕ) (position next : ReadTotals) → AreTotals position c → AreTotals next (after c rest) → 0 < position.pending → next.pending < 2 ^ 53
     → of_object fields (raw_measure rest) < 2 ^ 53
 next_fields c rest position next s t some few =
@@ -56,19 +56,20 @@ next_fields c rest position next s t some few =
 
 -- ---- the value of the next token
 
--- The number of objects is the number that the tokens made.
+-- The graph under construction has as many objects as the tokens before made.
 pub objects_built : (header : List ℕ) (before : List (List ℕ)) (position : ReadTotals) (state : Bounded) → Builds header before position state
     → length state.built.objects ≡ objects (map raw_measure before)
 objects_built header before position state h =
     ap (λ (b : Building). length b.objects) h.builds ∙ length-from_start h.tokens h.are_tokens ∙ ap objects (sym (raw_measures-encoded h.tokens before h.encodes))
 
--- The words of the objects are the words of the tokens.
+-- The objects of the graph have as many words on 64 bits as the tokens before.
 pub words_built : (header : List ℕ) (before : List (List ℕ)) (position : ReadTotals) (state : Bounded) → Builds header before position state
     → heap_words state.built.objects ≡ all_words64 (map raw_measure before)
 words_built header before position state h =
     ap (λ (b : Building). heap_words b.objects) h.builds ∙ heap_words-from_start h.tokens h.are_tokens ∙ ap all_words64 (sym (raw_measures-encoded h.tokens before h.encodes))
 
--- There is room for the object of the next token.
+-- If the words after the next token are within the header's number, then the object of the next
+-- token fits.
 pub next_fits : (header : List ℕ) (before : List (List ℕ)) (position next : ReadTotals) (state : Bounded) (rest : List ℕ) → Builds header before position state
     → AreTotals next (after (context header before) rest) → next.w64 ≤ next.head.w64 → Fits state (raw_measure rest)
 next_fits header before position next state rest h sums within =
@@ -77,7 +78,7 @@ next_fits header before position next state rest h sums within =
     let room : state.room ≡ next.head.w64 = h.room ∙ ap (λ x. x.w64) (sym same) in
     omega (arith, sums.w64)
 
--- The bytes of the next token encode a token that refers back.
+-- If the next token is complete and not refused, then its bytes encode a token that refers back.
 pub next_encoded : (header : List ℕ) (before : List (List ℕ)) (position : ReadTotals) (state : Bounded) (rest : List ℕ) → AreBytes rest → Builds header before position state
     → first_refusal (length rest) (token_steps (context header before) rest) ≡ None → raw_length rest ≤ length rest
     → (t : Token) × Encodes t (take (raw_length rest) rest) × RefersBack t (length state.built.objects)
@@ -86,7 +87,7 @@ next_encoded header before position state rest bytes h none whole =
     let s = EncodedThere-passes header before (take (raw_length rest) rest) (AreBytes-take (raw_length rest) rest bytes) p.raw p.passes in
     (s.token, s.encodes, subst (RefersBack s.token) (sym (objects_built header before position state h)) s.refers_back)
 
--- The next token leads to the next state.
+-- If the next token is complete and not refused, then adding the token leads to the next state.
 pub next_leads : (header : List ℕ) (before : List (List ℕ)) (position next : ReadTotals) (state state' : Bounded) (rest : List ℕ) → AreBytes rest → 0 < position.pending → Builds header before position state
     → first_refusal (length rest) (token_steps (context header before) rest) ≡ None → raw_length rest ≤ length rest → AreTotals next (after (context header before) rest)
     → ((t : Token) → Encodes t (take (raw_length rest) rest) → state' ≡ absorb_in state t)

@@ -14,16 +14,16 @@ use Rattle.marshal_read.specs.declared.read_totals.ReadTotals.{ReadTotals}
 use Rattle.marshal_read.specs.Totals.{AreTotals, IsNext, PassesTo, context_of, IsPlain}
 use Rattle.marshal_read.proofs.StepLemmas.{bytes_length, bytes_after}
 
--- The variable bytes are within the data.
+-- If a token ends within the data, then the token's variable bytes fit.
 variable_fits : (c : Context) (kind : CodeKind) (custom : Option CustomKind) (rest : List ℕ) → IsPlain kind → c.taken + token_length kind rest ≤ c.head.length → VariableFits c kind custom rest
 variable_fits c (kinds.Custom old) (Some customs.Native) rest plain h = absurd plain
 variable_fits c kind custom rest plain h = omega arith
 
--- A stated count is 0 or equal to this number.
+-- If each positive count `m` equals `n`, then `m` is 0 or equal to `n`.
 none_or : (m n : ℕ) → (0 < m → m ≡ n) → (m ≡ 0) ⊎ (m ≡ n)
 none_or m n h = elim (cases_lt 0 m) [ inl some ↦ inr (h some) | inr none ↦ inl (omega arith) ]
 
--- The conditions of the token's steps hold.
+-- If a token surely passes, then the facts of the token hold.
 facts_from_position : (position next : ReadTotals) (code : ℕ) (kind : CodeKind) (rest : List ℕ) → PassesTo position code kind rest next → TokenFacts (context_of position) kind rest
 facts_from_position position next code kind rest p =
     let c : Context = context_of position in

@@ -1,4 +1,5 @@
--- The bytes that lead to a reader (`Leads`): a prefix of a value, or a whole value with its graph.
+-- The bytes that lead to a reader (`Leads`) are a prefix of a value, or a whole value with its
+-- graph.
 use Rattle.std.proofs.Common.{ℕ, ◌≡◌, ◌↔◌, inl, inr, ◌<◌, ◌≤◌, Bool, true, false, List, [], ◌∷◌, ◌++◌, length, take, Option, Some, None, Ok, arith, refl, ap, sym, ◌∙◌, subst, append-nil, take_all}
 use Rattle.std.specs.Prelude.{IsTrue, IsSome}
 use Rattle.std.specs.List.{concat}
@@ -28,7 +29,7 @@ use Rattle.marshal_read.proofs.ChunksLemmas.{open_from}
 
 -- ---- a whole value
 
--- The tree that the bytes encode, which is the graph that was built.
+-- The tree that the bytes encode and whose graph is the built graph.
 pub record DoneTree (limit : ℕ) (taken : List ℕ) (state : Bounded) : Type 0 where
   pub tree : Tree
   pub encoded : EncodedUnder limit taken tree

@@ -1,11 +1,12 @@
--- The meaning of a refusal for lack of memory.
+-- What `UnlessMemory` states for each refusal.
 use Rattle.std.proofs.Common.{ℕ, ◌≡◌, ◌≢◌, ◌⊎◌, inl, inr, ◌≤◌, List, length, take, refl}
 use Rattle.base_data.specs.declared.model.refusal.ReadRefusal.{ReadRefusal}
 use Rattle.base_data.specs.declared.model.refusal.ReadRefusal.TheVariants as refusals
 use Rattle.marshal_spec.specs.format.Prefix.{IsRefused}
 use Rattle.marshal_read.specs.Reading.{UnlessMemory, RefusedIn}
 
--- A refusal for lack of memory states nothing; every other refusal states `P`.
+-- If the refusal is lack of memory, then `UnlessMemory` states nothing. For every other refusal,
+-- `UnlessMemory` states `P`.
 pub unless_memory : (r : ReadRefusal) (P : Type 0) → ((r ≢ refusals.Memory → P) → UnlessMemory r P) × (UnlessMemory r P → (r ≡ refusals.Memory) ⊎ P)
 unless_memory refusals.Memory P = (λ f. tt, λ p. inl refl)
 unless_memory (refusals.BadMagic a) P = (λ f. f (λ e. cc e), λ p. inr p)

@@ -45,7 +45,8 @@ heap_words-one o = let s = sum_by-cons object_words o [] in omega arith
 pub heap_words-push : (all : List Obj) (o : Obj) → heap_words (all ++ o ∷ []) ≡ heap_words all + object_words o
 heap_words-push all o = heap_words-append all (o ∷ []) ∙ ap (λ n. heap_words all + n) (heap_words-one o)
 
--- If an object fits, then there is room for it.
+-- If an object fits into the room, then the words of the objects with this object are within the
+-- room.
 pub within_added : (all new : List Obj) (object : Obj) (bs : List PendingBlock) (r : Option Val) (room : ℕ) (s : Bounded) → in_room (building all bs r) room ≡ s → new ≡ all ++ object ∷ []
     → heap_words s.built.objects + object_words object ≤ s.room → heap_words new ≤ room
 within_added all new object bs r room s v e h =
@@ -53,7 +54,8 @@ within_added all new object bs r room s v e h =
     let words : heap_words new ≡ heap_words all + object_words object = ap heap_words e ∙ heap_words-push all object in
     subst (λ n. n ≤ room) (sym words) fits
 
--- A block of new fields.
+-- If a block of `size` fields fits into the room, then the words of the objects with this block are
+-- within the room.
 pub within_fields : (all new : List Obj) (tag size : ℕ) (bs : List PendingBlock) (r : Option Val) (room : ℕ) (s : Bounded) → in_room (building all bs r) room ≡ s
     → new ≡ all ++ objs.Block tag (replicate size (vals.Int (pos 0))) ∷ [] → Fits s (Some (measures.Block size)) → heap_words new ≤ room
 within_fields all new tag size bs r room s v e h =
@@ -65,13 +67,13 @@ pub within_block : (all new : List Obj) (tag size : ℕ) (bs : List PendingBlock
 within_block all new tag zero bs r room s v e some h = absurd (omega arith)
 within_block all new tag (suc n) bs r room s v e some h = within_fields all new tag (suc n) bs r room s v e h
 
--- A custom has the words of its measure.
+-- A custom block has as many words as its measure states.
 pub custom_words64 : (c : Custom) → of_object words64 (leaf_measure (custom_object c)) ≡ object_words (custom_object c)
 custom_words64 (customs.I32 z) = refl
 custom_words64 (customs.I64 z) = refl
 custom_words64 (customs.Native z) = refl
 
--- The object that a token makes has the words of its measure.
+-- The object that a token makes has as many words as the token's measure states.
 heap_words-blank : (t : Token) → IsToken t → heap_words (blank t) ≡ of_object words64 (measure_of t)
 heap_words-blank (integer z) h = refl
 heap_words-blank (atom tag) h = refl
@@ -92,7 +94,7 @@ heap_words-fill : (v : Val) (all : List Obj) (bs : List PendingBlock) (r : Optio
 heap_words-fill v all [] r h = refl
 heap_words-fill v all (b ∷ outer) r h = heap_words-set_field all b.object b.next v h.0.object
 
--- Storing a value needs no words.
+-- If a value is stored, then the words of the objects stay within the room.
 pub within_filled : (v : Val) (all : List Obj) (bs same : List PendingBlock) (r : Option Val) (room : ℕ) (new : Building) → AreOpen all bs → same ≡ bs → new ≡ fill v all same r
     → heap_words all ≤ room → heap_words new.objects ≤ room
 within_filled v all bs same r room new h s e w =
@@ -122,12 +124,12 @@ heap_words-from_start ts h = let e = heap_words-absorb_all start ts h WellOpen-s
 
 -- ---- a whole value
 
--- The objects of a tree have the words of its tokens.
+-- The objects of a tree have as many words as the measures of the tree's tokens state.
 heap_words-objects_of : (tree : Tree) → IsTree tree → All IsToken (tokens tree) → heap_words (objects_of tree 0) ≡ all_words64 (map measure_of (tokens tree))
 heap_words-objects_of tree h k = sym (ap (λ (b : Building). heap_words b.objects) (absorb_start tree h)) ∙ heap_words-from_start (tokens tree) k
 
--- If a prefix begins with a complete header, then that header states what the header of all bytes
--- states.
+-- If a prefix of the bytes begins with a complete header, then the header states what the header of
+-- all bytes states.
 head_in_prefix : (n : ℕ) (bytes header more : List ℕ) → length header ≡ header_length header → take n bytes ≡ header ++ more → head_of header ≡ head_of bytes
 head_in_prefix n bytes header more whole e =
     let from = header_length-from header in
@@ -140,7 +142,8 @@ head_in_prefix n bytes header more whole e =
     ∙ ap head_of (sym e)
     ∙ head_of-take n bytes (omega arith)
 
--- The words of an encoded tree.
+-- The objects of an encoded tree have as many words as the header states, and at most `limit`
+-- words.
 pub encoded_words : (limit n : ℕ) (bytes : List ℕ) (tree : Tree) → EncodedUnder limit (take n bytes) tree
     → (heap_words (objects_of tree 0) ≡ (head_of bytes).w64) × (heap_words (objects_of tree 0) ≤ limit)
 encoded_words limit n bytes tree s =

@@ -15,15 +15,20 @@ use Rattle.marshal_read.proofs.NextLemmas.{words_built}
 use Rattle.marshal_read.specs.Left.{Leaves, Spends, Runs, Goes, Keeps, HasEnough, AtLeast, IsAfter}
 use Rattle.marshal_read.proofs.LeftLemmas.{goes_on}
 
--- A small block has few fields.
+-- A block of fewer than eight fields has fewer than eight fields in its measure.
 pub few_fields : (size : ℕ) → size < 8 → of_object fields (block_measure size) < 8
 few_fields zero h = omega arith
 few_fields (suc n) h = omega arith
 
+-- The number of fields of a block is the block's size.
+pub all_fields : (size : ℕ) → of_object fields (block_measure size) ≡ size
+all_fields zero = refl
+all_fields (suc n) = refl
+
 -- ---- a token of a run
 
 module _ (first position : ReadTotals) (n k : ℕ) (from left : RemainingRoom) (old new : Run) (measure : Option Measure) (leaves : Leaves first n position left) (runs : Runs from left old) (enough : HasEnough left)
-    (is_open : 0 < old.pending) (some : 0 < k) (short : k ≤ 32) (few : of_object fields measure < 8) (goes : Goes old measure new)
+    (is_open : 0 < old.pending) (some : 0 < k) (room : 3 * k + of_object fields measure ≤ 1024) (few : of_object fields measure ≤ 12 * k) (goes : Goes old measure new)
     (few32 : AreFew words32 measure k) (few64 : AreFew words64 measure k) where
   spent : RemainingRoom
   spent = record {
@@ -60,7 +65,8 @@ module _ (first position : ReadTotals) (n k : ℕ) (from left : RemainingRoom) (
         m.2,
       )
 
--- The words of a token do not overflow the excess of the run.
+-- If a token's words are within the remaining room, then adding the words to the run's excess does
+-- not overflow.
 pub extra_room : (from left : RemainingRoom) (run : Run) (words : ℕ) → Runs from left run → words ≤ left.w32 → run.extra + words < 2 ^ 64
 extra_room from left run words h le = omega (arith, h.extra, h.fewer, h.short)
 
@@ -68,14 +74,15 @@ extra_room from left run words h le = omega (arith, h.extra, h.fewer, h.short)
 -- first `most` bytes.
 abbrev pub IsUnderway : ReadTotals → ℕ → List ℕ → List ℕ → RemainingRoom → Run → Bounded → ℕ → ℕ → Type 0
 IsUnderway first limit taken bytes from run state k most =
-    (next : ReadTotals) × (left : RemainingRoom) × Leaves first (0 + k) next left × Runs from left run × AtLeast (16 * most + 512 - 16 * k) left × TakesCommon limit taken bytes next state k
+    (next : ReadTotals) × (left : RemainingRoom) × Leaves first (0 + k) next left × Runs from left run × AtLeast (16 * most + 1024 - 16 * k) left × TakesCommon limit taken bytes next state k
 
 -- ---- the beginning and the end of a run
 
 pub run_begins : (from : RemainingRoom) → from.w32 < 2 ^ 64 → Runs from from (record { pending = from.pending; extra = 0 })
 run_begins from short = record { pending = refl; short = short; fewer = omega arith; extra = omega arith }
 
--- The room that the run consumed.
+-- If a run ends, then the remaining room and the state of the run determine the room that the run
+-- consumed.
 pub run_ends : (first next : ReadTotals) (n limit : ℕ) (taken before : List ℕ) (from left : RemainingRoom) (run : Run) (state state' : Bounded) → LeadsAs (Some first) limit before state [] → LeadsAs (Some next) limit taken state' []
     → Leaves first 0 first from → Leaves first (0 + n) next left → Runs from left run
     → (heap_words state.built.objects ≤ heap_words state'.built.objects)

@@ -1,16 +1,17 @@
 -- The size of a token's object, by the token's bytes.
-use Rattle.std.proofs.Common.{ℕ, zero, suc, ◌≡◌, ◌+◌, ◌*◌, ◌/◌, ◌^◌, ◌<◌, ◌≤◌, List, take, Option, Some, None, arith, get_or, subst, length, [], ◌∷◌}
+use Rattle.std.proofs.Common.{ℕ, zero, suc, ◌≡◌, ◌+◌, ◌*◌, ◌/◌, ◌^◌, ◌<◌, ◌≤◌, List, take, Option, Some, None, Result, Ok, Err, arith, get_or, subst, length, [], ◌∷◌}
 use Rattle.std.specs.Option.{ForSome}
 use Rattle.base_data.specs.declared.model.code.CodeKind.{CodeKind}
 use Rattle.base_data.specs.declared.model.code.CodeKind.TheVariants as kinds
+use Rattle.base_data.specs.declared.model.code.CodeFault.{CodeFault}
 use Rattle.base_data.specs.declared.model.code.CustomKind.{CustomKind}
 use Rattle.base_data.specs.declared.model.code.CustomKind.TheVariants as customs
 use Rattle.base_data.specs.declared.model.code.Measure.{Measure}
 use Rattle.base_data.specs.declared.model.code.Measure.TheVariants as measures
 use Rattle.std.specs.Int.{w64, from_le_bytes, from_be_bytes}
 use Rattle.base_data.specs.model.Bytes.{number, little_number}
-use Rattle.marshal_spec.specs.format.Code.{custom_of}
-use Rattle.marshal_spec.specs.format.Raw.{fixed_bytes, variable_bytes, measure_after, block_measure, custom_measure, custom_bytes}
+use Rattle.marshal_spec.specs.format.Code.{kind_of, custom_of}
+use Rattle.marshal_spec.specs.format.Raw.{fixed_bytes, variable_bytes, measure_after, block_measure, custom_measure, custom_bytes, length_after, measure_from, raw_length, raw_measure}
 use Rattle.marshal_spec.specs.format.Words.{of_object, fields, words32, words64}
 use Rattle.marshal_codec.specs.headers.Counting.{IsCountable}
 use Rattle.marshal_read.specs.Totals.{AreFew}
@@ -51,13 +52,13 @@ are_small (kinds.Double little) rest v f = tt
 are_small (kinds.Doubles width little) rest v f = omega arith
 are_small (kinds.Custom old) rest v f = small_custom (custom_of (take 3 rest))
 
--- If a token has few bytes and few fields, then its object is small.
+-- If a token has few bytes and few fields, then the token's object is small.
 pub measure_small : (kind : CodeKind) (rest : List ℕ) → variable_bytes kind rest < 2 ^ 60 → of_object fields (measure_after kind rest) < 2 ^ 60 → ForSome (measure_after kind rest) IsCountable
 measure_small kind rest v f = for_some (measure_after kind rest) (are_small kind rest v f)
 
 -- ---- words
 
--- An upper bound of the words of an object, on 32 and on 64 bits.
+-- An upper bound of an object's words on 32 and on 64 bits.
 abbrev pub most_words : Measure → ℕ
 most_words (measures.Block n) = 1 + n
 most_words (measures.Bytes n) = 1 + (n + 4) / 4
@@ -65,7 +66,7 @@ most_words measures.Double = 3
 most_words (measures.Doubles n) = 1 + 2 * n
 most_words (measures.Custom a b) = 2 + (a + b + 7) / 4
 
--- A measure of words, on 32 bits or on 64 bits.
+-- The number of words is at most `most_words`, as on 32 bits and on 64 bits.
 abbrev pub AreWords : (Measure → ℕ) → Type 0
 AreWords words = (m : Measure) → words m ≤ most_words m
 
@@ -83,7 +84,7 @@ words64-within measures.Double = omega arith
 words64-within (measures.Doubles n) = omega arith
 words64-within (measures.Custom a b) = omega arith
 
--- The words of a small object.
+-- A small object has fewer than 2 ^ 62 words.
 pub words-small : (m : Measure) → IsCountable m → most_words m < 2 ^ 62
 words-small (measures.Block n) h = omega arith
 words-small (measures.Bytes n) h = omega arith
@@ -125,9 +126,35 @@ few_words32 kind rest = few_by words32 (measure_after kind rest) _ words32-withi
 pub few_words64 : (kind : CodeKind) (rest : List ℕ) → AreFew words64 (measure_after kind rest) (1 + fixed_bytes kind + variable_bytes kind rest)
 few_words64 kind rest = few_by words64 (measure_after kind rest) _ words64-within (few_most kind rest)
 
+-- ---- a token that bytes begin with
+
+few_from : (words : Measure → ℕ) → ((kind : CodeKind) (rest : List ℕ) → AreFew words (measure_after kind rest) (1 + fixed_bytes kind + variable_bytes kind rest))
+    → (r : Result CodeKind CodeFault) (rest : List ℕ) → AreFew words (measure_from r rest) (1 + length_after r rest)
+few_from words each (Ok kind) rest = omega (arith, each kind rest)
+few_from words each (Err fault) rest = omega arith
+
+pub raw_few32 : (bytes : List ℕ) → AreFew words32 (raw_measure bytes) (raw_length bytes)
+raw_few32 [] = omega arith
+raw_few32 (code ∷ rest) = few_from words32 few_words32 (kind_of code) rest
+
+pub raw_few64 : (bytes : List ℕ) → AreFew words64 (raw_measure bytes) (raw_length bytes)
+raw_few64 [] = omega arith
+raw_few64 (code ∷ rest) = few_from words64 few_words64 (kind_of code) rest
+
+none_counts : ForSome None IsCountable
+none_counts m e = cc
+
+small_from : (r : Result CodeKind CodeFault) (rest : List ℕ) → 1 + length_after r rest < 2 ^ 60 → of_object fields (measure_from r rest) < 2 ^ 60 → ForSome (measure_from r rest) IsCountable
+small_from (Ok kind) rest short few = measure_small kind rest (omega (arith, short)) few
+small_from (Err fault) rest short few = none_counts
+
+pub raw_small : (bytes : List ℕ) → raw_length bytes < 2 ^ 60 → of_object fields (raw_measure bytes) < 2 ^ 60 → ForSome (raw_measure bytes) IsCountable
+raw_small [] short few = none_counts
+raw_small (code ∷ rest) short few = small_from (kind_of code) rest short few
+
 -- ---- eight bytes
 
--- Eight bytes in both byte orders.
+-- The machine's number of eight bytes is the number of the model, in the given byte order.
 pub little_eight : (bytes : List ℕ) → length bytes ≡ 8 → from_le_bytes w64 bytes ≡ little_number bytes
 little_eight (a ∷ b ∷ c ∷ d ∷ e ∷ f ∷ g ∷ h ∷ []) e8 = omega arith
 little_eight [] e8 = absurd (omega arith)

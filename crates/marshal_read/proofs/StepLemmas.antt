@@ -22,7 +22,7 @@ use Rattle.marshal_read.proofs.TotalsLemmas.{progress-append}
 
 -- ---- progress and the first refusal
 
--- What the progress implies for the first refusal.
+-- What the progress of steps states about the first refusal of the steps.
 abbrev pub Reports : Progress → Option ReadRefusal → Type 0
 Reports passed o = o ≡ None
 Reports waiting o = o ≡ None
@@ -38,7 +38,7 @@ pub progress-reports : (n : ℕ) (steps : List Step) → Reports (progress n ste
 progress-reports n [] = refl
 progress-reports n (s ∷ steps) = reports_once (ltb n s.ends) s.refusal (progress n steps) (first_refusal n steps) (progress-reports n steps)
 
--- A step that waits ends after the bytes.
+-- If a first decided step and other steps wait, then the other steps wait.
 waiting_once : (b : Bool) (o : Option ReadRefusal) (p : Progress) → and_then (once b o) p ≡ waiting → (b ≡ true → ⊥) → p ≡ waiting
 waiting_once true o p e not_true = absurd (not_true refl)
 waiting_once false None p e not_true = e
@@ -56,7 +56,7 @@ waiting_short low high n (s ∷ steps) within w =
 
 -- ---- a token
 
--- The groups of steps together are the steps of the token.
+-- The progress of the groups of steps, one after another, is the progress of the token's steps.
 pub steps_are : (c : Context) (code : ℕ) (kind : CodeKind) (rest : List ℕ) → kind_of code ≡ Ok kind
     → and_then (progress (length rest + 1) (entry_steps c code kind rest))
     (and_then (progress (length rest + 1) (variable_steps c kind (custom_of (take 3 rest)) rest)) (progress (length rest + 1) (closing_steps c kind rest)))
@@ -70,7 +70,7 @@ steps_are c code kind rest e =
     ∙ sym (ap (progress n) (token_steps-ok c code kind rest e))
     ∙ ap (λ m. progress m (token_steps c (code ∷ rest))) (add-one (length rest))
 
--- Case: an error.
+-- Case: the result of a token's steps is an error.
 pub judged_stop : (c : Context) (bytes : List ℕ) (x : Result ReadTotals Unread) → answered x ≡ progress (length bytes) (token_steps c bytes) → IsErr x → IsNext c bytes x
 judged_stop c bytes (Ok next) e h = cc
 judged_stop c bytes (Err NeedMore) e h = (
@@ -80,11 +80,11 @@ judged_stop c bytes (Err NeedMore) e h = (
 judged_stop c bytes (Err (Refused r)) e h =
     subst (λ p. Reports p (first_refusal (length bytes) (token_steps c bytes))) (sym e) (progress-reports (length bytes) (token_steps c bytes))
 
--- Case: all steps pass.
+-- Case: all steps of a token pass.
 pub judged_pass : (c : Context) (bytes : List ℕ) → passed ≡ progress (length bytes) (token_steps c bytes) → first_refusal (length bytes) (token_steps c bytes) ≡ None
 judged_pass c bytes e = subst (λ p. Reports p (first_refusal (length bytes) (token_steps c bytes))) (sym e) (progress-reports (length bytes) (token_steps c bytes))
 
--- Case: a code that begins no token.
+-- Case: a code begins no token, and the first step refuses the code.
 pub judged_fault : (c : Context) (code : ℕ) (fault : CodeFault) (rest : List ℕ) → kind_of code ≡ Err fault
     → first_refusal (length (code ∷ rest)) (token_steps c (code ∷ rest)) ≡ Some (code_refusal fault (position c) code)
 judged_fault c code fault rest e = rw (token_steps-err c code fault rest e) (rw (le-ltb (suc (length rest)) 1 (omega arith)) refl)

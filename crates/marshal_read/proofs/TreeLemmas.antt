@@ -15,7 +15,8 @@ use Rattle.marshal_heap.proofs.heap.FieldLemmas.{length-set_field, set_field-app
 use Rattle.marshal_spec.proofs.format.Counts.{leaf_fields, length-objects_of, length-roots}
 use Rattle.marshal_read.proofs.FieldLemmas.{set_fields, set_fields-append, set_fields_at, still_open_below, still_open_full, advanced-zero, advanced-suc}
 
--- The tokens of the trees set the next fields of an open block, and their objects are appended.
+-- The tokens of the forest's trees set the next fields of an open block and append the trees'
+-- objects.
 abbrev pub FillsFields : Forest → Type 0
 FillsFields f =
     (all : List Obj) (b : PendingBlock) (outer : List PendingBlock) (r : Option Val)
@@ -23,13 +24,13 @@ FillsFields f =
     → absorb_all (building all (still_open b outer) r) (forest_tokens f)
     ≡ building (set_fields all b.object b.next (roots f (length all)) ++ all_objects f (length all)) (still_open (advanced b (trees_in f)) outer) r
 
--- The trees after a token complete the object of the token.
+-- The trees after a token complete the object that the token makes.
 abbrev CompletesObject : Token → Forest → Type 0
 CompletesObject t f =
     (xs : List Obj) (c at : ℕ) (outer : List PendingBlock) (r : Option Val) → length xs ≡ c
     → absorb_all (building (xs ++ blank t) (opened t c at ++ outer) r) (forest_tokens f) ≡ building (xs ++ objects_of (node t f) c) outer r
 
--- A token without fields is followed by no trees.
+-- If a token has no fields, then no trees follow the token.
 no_trees : (t : Token) (f : Forest) → trees_in f ≡ 0 → CompletesObject t none → CompletesObject t f
 no_trees t none e h = h
 no_trees t (more tree f) e h = absurd (omega arith)
@@ -97,6 +98,6 @@ pub absorb_root : (tree : Tree) (all : List Obj) (r : Option Val) → IsTree tre
     → absorb_all (building all [] r) (tokens tree) ≡ building (all ++ objects_of tree (length all)) [] (Some (root tree (length all)))
 absorb_root (node t f) all r h = completes t f h (absorb_forest f h.2) all (length all) (word_of (all ++ blank t) (vals.Ref (length all))) [] (Some (value_of t (length all))) refl
 
--- From the empty state, the tokens of a tree build that tree.
+-- From the empty state, the tokens of a tree build the objects and the root of the tree.
 pub absorb_start : (tree : Tree) → IsTree tree → absorb_all start (tokens tree) ≡ building (objects_of tree 0) [] (Some (root tree 0))
 absorb_start tree h = absorb_root tree [] None h

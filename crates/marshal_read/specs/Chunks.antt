@@ -1,5 +1,5 @@
--- The state after some bytes of a value: the header, the complete tokens and the graph that they
--- build, and the buffered part of the next token.
+-- The state after some bytes of a value. The state has the header, the complete tokens, the graph
+-- that the tokens build, and the buffered part of the next token.
 use Rattle.std.specs.Prelude.{ℕ, ◌+◌, ◌-◌, ◌<◌, ◌≤◌, ◌≡◌, List, [], ◌++◌, length, take, Option}
 use Rattle.std.specs.Prelude.{Some, None, Result, Ok, Err}
 use Rattle.std.specs.List.{concat}
@@ -14,9 +14,9 @@ use Rattle.marshal_read.specs.declared.chunks.Chunks.{Chunks}
 use Rattle.marshal_read.specs.Build.{Bounded, start}
 use Rattle.marshal_read.specs.Reading.{Builds, RefusedIn}
 
--- The header and the tokens pass, the totals are their sums, and the state is the graph that they
--- build. The rest is a part of the next token and passes every step that it decides. After the last
--- token the rest is empty.
+-- The header and the tokens `before` pass, `totals` are the sums of the tokens, and `state` is the
+-- graph that the tokens build. The bytes `part` are a part of the next token and pass every step
+-- that `part` decides. After the last token, `part` is empty.
 pub record LeadsTokens (limit : ℕ) (taken header : List ℕ) (before : List (List ℕ))
     (totals : ReadTotals) (state : Bounded) (part : List ℕ) : Type 0 where
   pub bytes_are : taken ≡ header ++ (concat before ++ part)
@@ -27,15 +27,15 @@ pub record LeadsTokens (limit : ℕ) (taken header : List ℕ) (before : List (L
   pub passes : token_refusal header before part ≡ None
   pub ends : totals.pending ≡ 0 → part ≡ []
 
--- Either the bytes are a part of a header that passes every step that it decides, or they are a
--- header and what follows it.
+-- If there are no totals, then the bytes are a part of a header that passes every step decided so
+-- far. If there are totals, then the bytes are a header and what follows the header.
 abbrev pub LeadsAs : Option ReadTotals → ℕ → List ℕ → Bounded → List ℕ → Type 0
 LeadsAs None limit taken state part = (taken ≡ part) × InHeader limit part × (state.built ≡ start)
 LeadsAs (Some totals) limit taken state part =
     (header : List ℕ) × (before : List (List ℕ))
     × LeadsTokens limit taken header before totals state part
 
--- All tokens are read.
+-- All tokens of the value are read.
 abbrev pub IsWhole : Option ReadTotals → Type 0
 IsWhole None = ⊥
 IsWhole (Some totals) = totals.pending ≡ 0
@@ -50,7 +50,8 @@ NextRead limit taken part more new (Err NeedMore) =
     LeadsAs new.totals limit (taken ++ more) new.builder (part ++ more)
 NextRead limit taken part more new (Err (Refused refusal)) = RefusedIn limit (taken ++ more) refusal
 
--- Tokens of `n` bytes are read. After the last token of the value, all of its data are read.
+-- Tokens of `n` bytes are read. If the last token of the value is read, then all data of the value
+-- are read.
 abbrev pub TakesCommon : ℕ → List ℕ → List ℕ → ReadTotals → Bounded → ℕ → Type 0
 TakesCommon limit taken bytes next new n =
     (n ≤ length bytes)
@@ -59,19 +60,21 @@ TakesCommon limit taken bytes next new n =
 
 -- ---- chunks
 
--- The bytes lead to this reading and this buffered part.
+-- The bytes `taken` lead to the reading and the buffered part of `chunks`.
 abbrev pub LeadsChunks : ℕ → List ℕ → Chunks → Type 0
 LeadsChunks limit taken chunks =
     (chunks.reading.limit ≡ limit)
     × LeadsAs chunks.reading.totals limit taken chunks.reading.builder chunks.part.items
 
--- At least one of the bytes is consumed, or some prefix of them is refused.
+-- The result of a step: at least one of the bytes is consumed, or some prefix of the bytes is
+-- refused.
 abbrev pub Takes : ℕ → List ℕ → List ℕ → Chunks → Result ℕ ReadRefusal → Type 0
 Takes limit taken rest new (Ok n) =
     (0 < n) × (n ≤ length rest) × LeadsChunks limit (taken ++ take n rest) new
 Takes limit taken rest new (Err refusal) = RefusedIn limit (taken ++ rest) refusal
 
--- The whole chunk is consumed, or the prefix of it that ends the value, or some prefix is refused.
+-- The whole chunk is consumed, or the prefix of the chunk that ends the value is consumed, or some
+-- prefix is refused.
 abbrev pub TakesChunk : ℕ → List ℕ → List ℕ → Chunks → Result ℕ ReadRefusal → Type 0
 TakesChunk limit taken chunk new (Ok n) =
     (n ≤ length chunk) × LeadsChunks limit (taken ++ take n chunk) new

@@ -1,4 +1,4 @@
--- The result of the steps of a header (its format is in `intext.h`).
+-- The result of the steps of a header, whose format is in `intext.h`.
 use Rattle.std.specs.Prelude.{ℕ, ◌≡◌, ◌<◌, ◌≤◌, List, [], ◌∷◌, length, take, nat_lt, ◌==◌}
 use Rattle.std.specs.Prelude.{if◌then◌else◌, Some, None, Result, Ok, Err}
 use Rattle.marshal_spec.specs.format.Header.{header_length}
@@ -12,8 +12,8 @@ use Rattle.marshal_read.specs.declared.unread.Unread.TheVariants.{NeedMore, Refu
 use Rattle.marshal_read.specs.declared.read_totals.ReadTotals.{ReadTotals}
 use Rattle.marshal_read.specs.Totals.{AreTotals}
 
--- The result is a refusal, or the header is incomplete, or the result is the totals after the
--- header.
+-- The result of checking a header is a refusal, the fact that the header is incomplete, or the
+-- totals after the header.
 abbrev pub JudgedHeader : ℕ → List ℕ → Result ReadTotals Unread → Type 0
 JudgedHeader limit bytes (Err (Refused r)) = header_refusal limit bytes ≡ Some r
 JudgedHeader limit bytes (Err NeedMore) =
@@ -22,7 +22,7 @@ JudgedHeader limit bytes (Ok position) =
     (header_refusal limit bytes ≡ None) × (header_length bytes ≤ length bytes)
     × AreTotals position (context (take (header_length bytes) bytes) [])
 
--- The steps after a valid magic number.
+-- The steps of a header after a valid magic number.
 abbrev pub stated_steps : ℕ → Head → List Step
 stated_steps limit head =
     step 0 (fails_if (nat_lt limit head.w64) (TooLarge Words head.w64 limit))
@@ -36,7 +36,7 @@ start_of head position =
     (position.head ≡ head) × (position.start ≡ (if head.big then 32 else 20)) × (position.taken ≡ 0)
     × (position.objects ≡ 0) × (position.pending ≡ 1) × (position.w32 ≡ 0) × (position.w64 ≡ 0)
 
--- The result of `stated_steps`.
+-- The result of the steps `stated_steps`: a refusal, or the totals after the header.
 abbrev pub Begins : ℕ → Head → Result ReadTotals Unread → Type 0
 Begins limit head (Err (Refused r)) = first_refusal 0 (stated_steps limit head) ≡ Some r
 Begins limit head (Err NeedMore) = ⊥

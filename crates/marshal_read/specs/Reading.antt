@@ -1,5 +1,5 @@
--- The part of a value that was read: its header and complete tokens, the totals after them, and the
--- graph that they build.
+-- The part of a value that was read: the header, the complete tokens, the totals after the tokens,
+-- and the graph that the tokens build.
 use Rattle.std.specs.Prelude.{ℕ, ◌≡◌, ◌≢◌, ◌-◌, ◌<◌, ◌≤◌, List, length, take, All, Some, None}
 use Rattle.std.specs.Prelude.{Result, Ok, Err}
 use Rattle.std.specs.List.{AllZip}
@@ -18,8 +18,8 @@ use Rattle.marshal_read.specs.declared.value.Value.{Value}
 use Rattle.marshal_read.specs.Totals.{AreTotals}
 use Rattle.marshal_read.specs.Build.{Bounded, start, absorb_all}
 
--- The totals are those after these bytes. The graph is built from the tokens that the bytes encode,
--- within the words that the header states.
+-- `position` has the totals after the header and the tokens `before`. The graph `state` is built
+-- from the tokens that the bytes encode, within the words that the header states.
 pub record Builds (header : List ℕ) (before : List (List ℕ)) (position : ReadTotals)
     (state : Bounded)
     : Type 0 where
@@ -30,8 +30,8 @@ pub record Builds (header : List ℕ) (before : List (List ℕ)) (position : Rea
   pub builds : state.built ≡ absorb_all start tokens
   pub room : state.room ≡ position.head.w64
 
--- The result of the next token in the remaining bytes: a refusal, or an incomplete token, or the
--- totals after it.
+-- The result of the next token in the remaining bytes: a refusal, an incomplete token, or the
+-- totals after the token.
 abbrev pub NextOf : List ℕ → List (List ℕ) → List ℕ → Bounded → Result ReadTotals Unread → Type 0
 NextOf header before rest state (Err NeedMore) =
     (first_refusal (length rest) (token_steps (context header before) rest) ≡ None)
@@ -42,8 +42,8 @@ NextOf header before rest state (Ok next) =
     (first_refusal (length rest) (token_steps (context header before) rest) ≡ None)
     × (raw_length rest ≤ length rest) × Builds header (with_next before rest) next state
 
--- Either one token is read and leads to the new state, or nothing is read and nothing changes.
--- After the last value, all data are read.
+-- One token is read and leads to the new state, or nothing is read and nothing changes. If the last
+-- token is read, then all data are read.
 abbrev pub TakesOne : List ℕ → List (List ℕ) → List ℕ → ReadTotals → Bounded → ReadTotals → Bounded
     → ℕ
     → Type 0
@@ -55,7 +55,7 @@ TakesOne header before bytes position state next new n =
 
 -- ---- a whole value
 
--- The value is the value of the tree, with objects numbered from 0.
+-- The value is the root value of the tree, with objects numbered from 0.
 pub record IsValueOf (value : Value) (tree : Tree) : Type 0 where
   pub heap : value.heap ≡ objects_of tree 0
   pub root : value.root ≡ root tree 0
@@ -66,7 +66,7 @@ abbrev pub UnlessMemory : ReadRefusal → Type 0 → Type 0
 UnlessMemory Memory P = Unit {0}
 UnlessMemory refusal P = P
 
--- Some prefix of the bytes is refused with this refusal, unless memory ran out.
+-- Some prefix of the bytes is refused with this refusal, or memory ran out.
 abbrev pub RefusedIn : ℕ → List ℕ → ReadRefusal → Type 0
 RefusedIn limit bytes refusal =
     UnlessMemory refusal ((n : ℕ) × (n ≤ length bytes) × IsRefused limit (take n bytes) refusal)

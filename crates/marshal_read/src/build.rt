@@ -16,8 +16,8 @@ use marshal_heap::heap::Heap;
 use std::alloc::Global;
 use std::marker::Model;
 
-/// A block whose fields are not all read yet: the number of its object, the index of its next
-/// field, its number of fields, and the word that refers to the block.
+/// A block whose fields are not all read yet. The record has the object's number, the index of the
+/// next field, the number of fields, and the word that refers to the block.
 #[derive(Clone, Copy)]
 pub struct PendingBlock {
     pub object: u64,
@@ -26,10 +26,10 @@ pub struct PendingBlock {
     pub at: u64,
 }
 
-/// The state of a graph under construction: the objects so far, the open blocks, the root once it
-/// is read, and the maximum number of 64-bit words of the objects. `inner` is the innermost open
-/// block. If `inner` is full, then the last block of `outer` is the innermost one, or no block is
-/// open. `outer` contains the enclosing open blocks, outermost first.
+/// The state of a graph under construction. The state has the objects so far, the open blocks, the
+/// root once the root is read, and the maximum number of 64-bit words. `inner` is the innermost
+/// open block. If `inner` is full, then the last block of `outer` is the innermost one, or no block
+/// is open. `outer` contains the enclosing open blocks, outermost first.
 #[derive(Drop)]
 pub struct Builder {
     heap: Heap,
@@ -93,7 +93,7 @@ fn fill_next(
     inner.next += 1;
 }
 
-/// Makes a block the innermost open one. The capacity of `outer` suffices for the previous
+/// Makes a block the innermost open block. The capacity of `outer` suffices for the previous
 /// innermost block.
 #[inline(always)]
 fn open_in_room(inner: &mut PendingBlock, outer: &mut Vec<PendingBlock>, block: PendingBlock)
@@ -107,7 +107,7 @@ fn open_in_room(inner: &mut PendingBlock, outer: &mut Vec<PendingBlock>, block: 
     *inner = block;
 }
 
-/// Makes a block the innermost open one and reserves memory for one more block in `outer`. If
+/// Makes a block the innermost open block and reserves memory for one more block in `outer`. If
 /// memory runs out, nothing changes.
 fn open_block(
     inner: &mut PendingBlock,
@@ -165,7 +165,7 @@ impl Builder {
         self.room = room;
     }
 
-    /// Returns the number of objects.
+    /// Returns the number of objects built so far.
     #[inline(always)]
     pub fn count(&self) -> u64
         ensures { result ≡ length self.now.built.objects }
@@ -181,7 +181,7 @@ impl Builder {
         self.heap.words()
     }
 
-    /// Stores a value.
+    /// Stores a value as the root, or as the next field of the innermost open block.
     #[inline(always)]
     fn fill(&mut self, v: Val)
         requires { IsValue (length self.old.built.objects) v }
@@ -199,7 +199,7 @@ impl Builder {
         );
     }
 
-    /// Adds an integer.
+    /// Adds an integer token to the graph.
     #[tactic(auto, using(crate::proofs::AbsorbLemmas::absorbed_integer))]
     pub fn integer(&mut self, value: i64)
         requires { IsInteger value }
@@ -208,7 +208,7 @@ impl Builder {
         self.fill(Val::Int(value));
     }
 
-    /// Adds an atom (a block without fields). Atoms are rare, so this function is not inlined.
+    /// Adds an atom (a block without fields). The function is not inlined, because atoms are rare.
     #[tactic(auto, using(crate::proofs::AbsorbLemmas::absorbed_atom))]
     #[inline(never)]
     pub fn atom(&mut self, tag: u8)
@@ -218,8 +218,8 @@ impl Builder {
         self.fill(Val::Atom(tag));
     }
 
-    /// Adds a reference to the object `offset` numbers before the next object. This function is not
-    /// inlined, so that the loop of a run keeps its registers.
+    /// Adds a reference to the object `offset` numbers before the next object. The function is not
+    /// inlined, because the loop of a run needs the registers.
     #[tactic(auto, using(crate::proofs::AbsorbLemmas::absorbed_shared))]
     #[inline(never)]
     pub fn shared(&mut self, offset: u64)
@@ -257,8 +257,8 @@ impl Builder {
         Ok(())
     }
 
-    /// Adds a block whose fields follow, if this needs no new memory. Returns whether the block was
-    /// added.
+    /// Adds a block whose fields follow, if the block needs no new memory. Returns whether the
+    /// block was added.
     #[inline(always)]
     pub fn block_in_room(&mut self, tag: u8, size: u64) -> bool
         requires range { tag ≤ 243 }
@@ -305,7 +305,7 @@ impl Builder {
         Ok(())
     }
 
-    /// Adds a string, if this needs no new memory. Returns whether the string was added.
+    /// Adds a string, if the string needs no new memory. Returns whether the string was added.
     #[inline(always)]
     pub fn bytes_in_room(&mut self, content: &[u8]) -> bool
         requires small { length content.now < 2 ^ 53 }
@@ -340,7 +340,7 @@ impl Builder {
         Ok(())
     }
 
-    /// Adds a double, if this needs no new memory. Returns whether the double was added.
+    /// Adds a double, if the double needs no new memory. Returns whether the double was added.
     #[inline(always)]
     pub fn double_in_room(&mut self, bits: u64) -> bool
         requires { Fits self.old (Some measures.Double) }
@@ -375,7 +375,7 @@ impl Builder {
         Ok(())
     }
 
-    /// Adds a custom. Fails with `Memory` if memory runs out.
+    /// Adds a custom block. Fails with `Memory` if memory runs out.
     pub fn custom(&mut self, value: Custom) -> Result<(), Memory>
         requires { Fits self.old (leaf_measure (custom_object value)) }
         ensures { OnOk result (self.new ≡ absorb_in self.old (leaf (custom_object value))) }
@@ -385,7 +385,8 @@ impl Builder {
         Ok(())
     }
 
-    /// Resets the builder: it contains no objects and allows no words. It keeps its memory.
+    /// Resets the builder, which then contains no objects and allows no words. The builder keeps
+    /// its memory.
     pub fn restart(&mut self)
         ensures { self.new ≡ empty 0 }
     {

@@ -13,7 +13,7 @@ use std::alloc::Global;
 /// The maximum number of bytes that are appended to the buffered part at a time.
 const JOINED: usize = 4096;
 
-/// Returns the first bytes, at most `JOINED` of them.
+/// Returns the first bytes, at most `JOINED` bytes.
 fn joined(bytes: &[u8]) -> &[u8]
     ensures { result.now ≡ take 4096 bytes.now }
 {
@@ -24,8 +24,8 @@ fn joined(bytes: &[u8]) -> &[u8]
     }
 }
 
-/// The header and tokens that were read completely, and the buffered part of the next header or
-/// token.
+/// The state of a value read in chunks: the complete header and tokens, and the buffered part of
+/// the next header or token.
 #[derive(Drop)]
 pub struct Chunks {
     pub reading: Reading,
@@ -36,7 +36,7 @@ impl Chunks {
     ghost use Rattle.base_data.specs.model.Bytes.{AreBytes};
     ghost use Rattle.marshal_read.specs.Chunks.{LeadsChunks, IsWhole, Takes, TakesChunk};
 
-    /// Creates a state in which nothing is read. It reuses the memory of a discarded heap.
+    /// Creates a state in which nothing is read. The state reuses the memory of a discarded heap.
     pub fn over(alloc: Global, limit: u64, heap: Heap) -> Chunks
         ensures { LeadsChunks limit [] result }
     {
@@ -46,7 +46,7 @@ impl Chunks {
         }
     }
 
-    /// Resets the state: nothing is read. It keeps its memory.
+    /// Resets the state to the state in which nothing is read. The state keeps its memory.
     pub fn restart(&mut self, limit: u64)
         ensures { LeadsChunks limit [] self.new }
     {
@@ -54,8 +54,8 @@ impl Chunks {
         self.part.clear();
     }
 
-    /// Reads one header or token from the bytes. If they are only a part of one, buffers all of
-    /// them. The buffer is empty before.
+    /// Reads one header or token from the bytes. If the bytes are only a part of a header or token,
+    /// buffers all the bytes. Before the call, the buffer is empty.
     fn take_next(&mut self, alloc: Global, rest: &[u8]) -> Result<usize, ReadRefusal>
         requires none { self.old.part.items ≡ [] }
         requires some { 0 < length rest.now }
@@ -100,7 +100,7 @@ impl Chunks {
         }
     }
 
-    /// Consumes some of the bytes.
+    /// Consumes at least one of the bytes, unless the bytes are refused.
     fn take_some(&mut self, alloc: Global, rest: &[u8]) -> Result<usize, ReadRefusal>
         requires some { 0 < length rest.now }
         requires open { IsWhole self.old.reading.totals → ⊥ }
@@ -115,8 +115,8 @@ impl Chunks {
         }
     }
 
-    /// Consumes the bytes, or the prefix of them that ends the value. Returns the number of bytes
-    /// consumed. Fails with the refusal if the value is refused.
+    /// Consumes the bytes, or the prefix of the bytes that ends the value. Returns the number of
+    /// bytes consumed. Fails with the refusal if the value is refused.
     pub fn feed(&mut self, alloc: Global, chunk: &[u8]) -> Result<usize, ReadRefusal>
         requires { (limit : ℕ) × (taken : List ℕ) × LeadsChunks limit taken self.old }
         ensures { (limit : ℕ) (taken : List ℕ) → LeadsChunks limit taken self.old
@@ -132,7 +132,7 @@ impl Chunks {
         Ok(taken)
     }
 
-    /// Returns the number of bytes consumed.
+    /// Returns the number of bytes consumed since the value's first byte.
     pub fn taken(&self) -> u64
         ensures { (limit : ℕ) (taken : List ℕ) → LeadsChunks limit taken self.now
             → result ≡ length taken }
@@ -144,7 +144,7 @@ impl Chunks {
         }
     }
 
-    /// Borrows the value that was read.
+    /// Borrows the complete value that was read.
     pub fn borrow(&self) -> Borrowed<'_>
         requires leads { (limit : ℕ) × (taken : List ℕ) × AreBytes taken
             × LeadsChunks limit taken self.now }
@@ -155,7 +155,7 @@ impl Chunks {
         self.reading.builder.borrow()
     }
 
-    /// Returns the value that was read.
+    /// Returns the complete value that was read.
     pub fn finish(self) -> Value
         requires leads { (limit : ℕ) × (taken : List ℕ) × AreBytes taken
             × LeadsChunks limit taken self }

@@ -1,13 +1,13 @@
-//! Fast path. Most tokens surely pass, which a few tests decide, and need no new memory. This
-//! module reads such tokens one after another. It leaves every other token to the full check
-//! (`judge`).
+//! Fast path. A few tests show that most tokens pass and need no new memory. The fast path reads
+//! tokens that pass the tests, one after another. The full check (`judge`) reads every other token.
 
-ghost use Rattle.std.specs.Prelude.{◌≡◌, ◌≤◌, ◌<◌, ◌+◌, ◌-◌, ℕ, List, [], length, take};
-ghost use Rattle.std.specs.Prelude.{slice_index, Some, None, Ok, IfSome, OnSome};
+ghost use Rattle.std.specs.Prelude.{◌≡◌, ◌≤◌, ◌<◌, ◌+◌, ◌-◌, ◌*◌, ◌/◌, ◌%◌, ℕ, List, [], length};
+ghost use Rattle.std.specs.Prelude.{take, slice_index, Some, None, Ok, IfSome, OnSome, true};
 ghost use Rattle.marshal_spec.specs.format.Code.{kind_of};
 ghost use Rattle.marshal_spec.specs.format.Raw.{fixed_bytes, variable_bytes, measure_after};
 ghost use Rattle.marshal_spec.specs.format.Words.{of_object, fields};
-ghost use Rattle.marshal_spec.specs.format.Step.{Context, field_refusal};
+ghost use Rattle.base_data.specs.model.Bytes.{number, signed};
+ghost use Rattle.marshal_spec.specs.format.Step.{Context, field_refusal, is_integer};
 ghost use Rattle.marshal_read.specs.declared.read_totals.ReadTotals.{ReadTotals};
 ghost use Rattle.marshal_read.specs.Totals.{IsPlain};
 ghost use Rattle.marshal_read.specs.Left.{Leaves, Stands, TakesLeft, TakesAll};
@@ -15,30 +15,99 @@ ghost use Rattle.marshal_read.specs.Chunks.{LeadsAs, TakesCommon};
 
 use crate::build::Builder;
 use crate::decode::decode_in_room;
-use crate::read_totals::ReadTotals;
+use crate::read_totals::{ReadTotals, data_in};
 use crate::remaining_room::RemainingRoom;
 use crate::run::run;
-use crate::token::{measure_at, number_at};
+use crate::token::measure_at;
 use base_data::model::bytes::skip;
 use base_data::model::code::CodeKind;
 use marshal_codec::codes::{KnownKind, code_kind};
+use marshal_codec::token::{number_at, signed_of};
+
+/// Returns the length of an integer of eight bytes, if the integer is complete and fits 63 bits.
+#[inline(always)]
+fn integer_len(rest: &[u8]) -> Option<usize>
+    ensures { IfSome result
+        (λ len. (len ≡ 8) × (len ≤ length rest.now)
+        × (is_integer (signed (take 8 rest.now)) ≡ true)) }
+{
+    if rest.len() < 8 {
+        return None;
+    }
+    let value = signed_of(&rest[..8]);
+    if value < -(1 << 62) || value >= 1 << 62 {
+        return None;
+    }
+    Some(8)
+}
+
+/// Returns the length of a header word of four bytes. The header word must be complete, its tag
+/// must be valid, and its block must have few fields.
+#[inline(always)]
+fn word_len(rest: &[u8], width: u8) -> Option<usize>
+    ensures { IfSome result
+        (λ len. (width ≡ 4) × (len ≡ 4) × (len ≤ length rest.now)
+        × (number (take width rest.now) % 256 ≤ 243)
+        × (number (take width rest.now) / 1024 ≤ 48)) }
+{
+    if width != 4 || rest.len() < 4 {
+        return None;
+    }
+    let word = number_at(rest, width);
+    if word % 256 > 243 || word / 1024 > 48 {
+        return None;
+    }
+    Some(4)
+}
+
+/// Returns the length of a string and of the byte that states the string's length, if these bytes
+/// are complete.
+#[inline(always)]
+fn text_len(rest: &[u8], width: u8) -> Option<usize>
+    ensures { IfSome result
+        (λ len. (width ≡ 1) × (len ≡ 1 + number (take width rest.now)) × (len ≤ length rest.now)
+        × (len ≤ 256)) }
+{
+    if width != 1 || rest.is_empty() {
+        return None;
+    }
+    let size = number_at(rest, width);
+    if size > 255 {
+        return None;
+    }
+    let len = 1 + size as usize;
+    if rest.len() < len {
+        return None;
+    }
+    Some(len)
+}
 
 /// Returns the number of bytes after the code of a token, if the token is of a common kind,
-/// complete, and its fields are sound. A reference is sound if it refers to one of the `objects`
-/// objects so far and the header states some objects.
-#[tactic(auto, using(crate::proofs::RunLemmas::few_fields))]
+/// complete, and its fields are sound. A reference is sound if the header states some objects and
+/// the reference leads to one of the `objects` objects so far. The token needs little room, and few
+/// fields follow the token for its length.
+#[tactic(auto, using(crate::proofs::RunLemmas::few_fields, crate::proofs::RunLemmas::all_fields))]
 #[inline(always)]
 pub fn sound_len(stated: u64, objects: u64, kind: KnownKind, rest: &[u8]) -> Option<usize>
     ensures len { IfSome result
-        (λ len. (len ≡ fixed_bytes kind.kind + variable_bytes kind.kind rest.now) × (len < 32)
+        (λ len. (len ≡ fixed_bytes kind.kind + variable_bytes kind.kind rest.now) × (len < 288)
         × (len ≤ length rest.now) × IsPlain kind.kind) }
-    ensures few { OnSome result (of_object fields (measure_after kind.kind rest.now) < 8) }
+    ensures few { IfSome result
+        (λ len. of_object fields (measure_after kind.kind rest.now) ≤ 12 * (1 + len)) }
+    ensures room { IfSome result
+        (λ len. 3 * (1 + len) + of_object fields (measure_after kind.kind rest.now) ≤ 1024) }
     ensures sound { (c : Context) (code : ℕ) → c.head.objects ≡ stated → c.sums.objects ≡ objects
         → OnSome result (field_refusal c code kind.kind rest.now ≡ None) }
 {
     let len = match kind.kind {
         CodeKind::SmallBlock(_, _) | CodeKind::SmallInt(_) => 0,
         CodeKind::SmallString(len) => usize::from(len),
+        CodeKind::Int(8) => {
+            let Some(len) = integer_len(rest) else {
+                return None;
+            };
+            return Some(len);
+        }
         CodeKind::Int(width) if width < 8 => usize::from(width),
         CodeKind::Shared(width) => {
             if rest.len() < usize::from(width) {
@@ -50,6 +119,18 @@ pub fn sound_len(stated: u64, objects: u64, kind: KnownKind, rest: &[u8]) -> Opt
             }
             usize::from(width)
         }
+        CodeKind::Block(width) => {
+            let Some(len) = word_len(rest, width) else {
+                return None;
+            };
+            return Some(len);
+        }
+        CodeKind::Str(width) => {
+            let Some(len) = text_len(rest, width) else {
+                return None;
+            };
+            return Some(len);
+        }
         CodeKind::Double(_) => 8,
         _ => return None,
     };
@@ -59,7 +140,7 @@ pub fn sound_len(stated: u64, objects: u64, kind: KnownKind, rest: &[u8]) -> Opt
     Some(len)
 }
 
-/// Reads the next token, which has this kind, if it surely passes and needs no new memory.
+/// Reads the next token, whose kind is `kind`, if the token surely passes and needs no new memory.
 #[tactic(auto, using(crate::proofs::SizeLemmas::measure_small))]
 #[inline(always)]
 fn take_kind(
@@ -101,8 +182,8 @@ fn take_kind(
     1 + len
 }
 
-/// Reads the next token, if it surely passes and needs no new memory. Returns its length in bytes,
-/// or 0 if it was not read.
+/// Reads the next token, if the token surely passes and needs no new memory. Returns the token's
+/// length in bytes, or 0 if no token was read.
 #[inline(always)]
 fn take_one(
     first: &ReadTotals,
@@ -120,7 +201,8 @@ fn take_one(
         → TakesLeft first.now n header before bytes.now position left.old builder.old left.new
         builder.new result }
 {
-    // Each kind that is listed gets specialized code.
+    // The compiler specializes the code for each kind in the list, as long as the list is short.
+    // The codes 03, 08 and 09 are left to the full check.
     match code_kind(bytes[0]) {
         Ok(CodeKind::SmallBlock(tag, size)) => {
             take_kind(first, left, builder, CodeKind::SmallBlock(tag, size), bytes)
@@ -144,8 +226,8 @@ fn take_one(
     }
 }
 
-/// Reads tokens that surely pass and need no new memory, and returns their length in bytes. All the
-/// bytes are data of the value, so no bytes remain after its last token.
+/// Reads tokens that surely pass and need no new memory, and returns the total length of the tokens
+/// in bytes. All the bytes are data of the value, and no bytes remain after the value's last token.
 #[inline(always)]
 fn take_all(
     first: &ReadTotals,
@@ -172,21 +254,8 @@ fn take_all(
     at
 }
 
-/// Returns the prefix of the bytes that is data of the value.
-#[inline(always)]
-fn data_in<'a>(first: &ReadTotals, bytes: &'a [u8]) -> &'a [u8]
-    ensures { result.now ≡ take (first.now.head.length - first.now.taken) bytes.now }
-{
-    let left = (first.head.length - first.taken) as usize;
-    if bytes.len() < left {
-        bytes
-    } else {
-        &bytes[..left]
-    }
-}
-
-/// Reads tokens that surely pass and need no new memory, and returns their length in bytes. While
-/// there is enough room for every token, the room is not checked at each token.
+/// Reads tokens that surely pass and need no new memory, and returns the length of these tokens in
+/// bytes. While there is enough room for every token, the room is not checked at each token.
 #[inline(always)]
 fn take_many(
     first: &ReadTotals,
@@ -210,7 +279,8 @@ fn take_many(
     }
 }
 
-/// Reads tokens that surely pass and need no new memory. Returns their length in bytes.
+/// Reads tokens that surely pass and need no new memory. Returns the total length of the tokens in
+/// bytes.
 pub fn take_common(totals: &mut ReadTotals, builder: &mut Builder, bytes: &[u8]) -> usize
     requires open { 0 < totals.old.pending }
     requires leads { (limit : ℕ) × (taken : List ℕ)

@@ -5,10 +5,10 @@ ghost use Rattle.base_data.specs.model.Bytes.{EncodesDoubles};
 ghost use Rattle.marshal_spec.specs.format.Token.{Token, leaf, EncodesCustom};
 ghost use Rattle.marshal_heap.specs.heap.Heap.{custom_object};
 
-use crate::token::custom_at;
 use base_data::model::Memory;
 use base_data::model::bytes::{double, signed, skip};
 use base_data::model::code::{Custom, CustomKind};
+use marshal_codec::token::custom_at;
 use std::alloc::Global;
 
 /// Decodes `count` doubles of eight bytes each, in the byte order that `little` selects. Fails with
@@ -30,7 +30,7 @@ pub fn doubles_of(
     Ok(all)
 }
 
-/// Decodes the value of a custom from the bytes after its code.
+/// Decodes the value of a custom block from the bytes after the block's code.
 pub fn custom_value(rest: &[u8]) -> Custom
     requires { (t : Token) × EncodesCustom rest.now t }
     ensures { (t : Token) → EncodesCustom rest.now t → t ≡ leaf (custom_object result) }

@@ -13,11 +13,12 @@ ghost use Rattle.marshal_read.specs.Contents.{EncodesTokenAfter};
 
 use crate::build::Builder;
 use crate::content::{custom_value, doubles_of};
-use crate::token::{double_bits, number_at, signed_four};
+use crate::token::double_bits;
 use base_data::model::Memory;
 use base_data::model::bytes::{big_endian, double, signed, skip};
 use base_data::model::code::CodeKind;
 use marshal_codec::codes::KnownKind;
+use marshal_codec::token::{number_at, number_of, signed_of};
 use std::alloc::Global;
 
 /// Adds the block or atom that a header word describes.
@@ -30,6 +31,28 @@ fn word(builder: &mut Builder, bytes: &[u8]) -> Result<(), Memory>
 {
     let header = big_endian(bytes);
     builder.block((header % 256) as u8, header / 1024)
+}
+
+/// Adds the block or atom that a header word describes, if the block needs no new memory. Returns
+/// true if the block or atom was added.
+#[inline(always)]
+fn word_in_room(builder: &mut Builder, bytes: &[u8]) -> bool
+    requires few { length bytes.now ≤ 8 }
+    requires range { number bytes.now % 256 ≤ 243 }
+    requires small { number bytes.now / 1024 < 2 ^ 53 }
+    requires fits { Fits builder.old (block_measure (number bytes.now / 1024)) }
+    ensures { MatchBool result
+        (builder.new ≡ absorb_in builder.old (word_token (number bytes.now)))
+        (builder.new ≡ builder.old) }
+{
+    let header = number_of(bytes);
+    let tag = (header % 256) as u8;
+    let size = header / 1024;
+    if size == 0 {
+        builder.atom(tag);
+        return true;
+    }
+    builder.block_in_room(tag, size)
 }
 
 /// Adds an array of `count` doubles.
@@ -52,8 +75,8 @@ fn doubles(
     builder.doubles(all)
 }
 
-/// Adds the token of this kind whose bytes after the code are `rest`, if the kind is common and no
-/// new memory is needed. Returns whether the token was added.
+/// Adds the token of kind `kind` whose bytes after the code are `rest`, if the kind is common and
+/// no new memory is needed. Returns whether the token was added.
 #[inline(always)]
 pub fn decode_in_room(builder: &mut Builder, kind: KnownKind, rest: &[u8]) -> bool
     requires small { length rest.now < 2 ^ 53 }
@@ -77,25 +100,23 @@ pub fn decode_in_room(builder: &mut Builder, kind: KnownKind, rest: &[u8]) -> bo
             true
         }
         CodeKind::SmallString(_) => builder.bytes_in_room(rest),
-        CodeKind::Int(4) => {
-            builder.integer(signed_four(rest));
-            true
-        }
         CodeKind::Int(_) => {
-            builder.integer(signed(rest));
+            builder.integer(signed_of(rest));
             true
         }
         CodeKind::Shared(_) => {
-            builder.shared(big_endian(rest));
+            builder.shared(number_of(rest));
             true
         }
+        CodeKind::Block(_) => word_in_room(builder, rest),
+        CodeKind::Str(width) => builder.bytes_in_room(skip(rest, usize::from(width))),
         CodeKind::Double(little) => builder.double_in_room(double_bits(rest, little)),
         _ => false,
     }
 }
 
-/// Adds the token of this kind whose bytes after the code are `rest`. Fails with `Memory` if memory
-/// runs out.
+/// Adds the token of kind `kind` whose bytes after the code are `rest`. Fails with `Memory` if
+/// memory runs out.
 #[inline(always)]
 pub fn decode(
     alloc: Global,

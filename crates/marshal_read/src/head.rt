@@ -1,4 +1,4 @@
-//! Checks a header (its format is in `intext.h`).
+//! Checks a header, whose format is in `intext.h`.
 
 ghost use Rattle.std.specs.Prelude.{◌≤◌, IfOk};
 ghost use Rattle.marshal_read.specs.Head.{JudgedHeader, Begins};
@@ -12,7 +12,7 @@ use marshal_codec::headers::{HeadFault, HeaderStep, parse};
 /// The maximum length in bytes of a value's data.
 const LENGTH_LIMIT: u64 = (1 << 48) - 1;
 
-/// Checks the header on all bytes that are there. Returns the totals after the header if it is
+/// Checks the header on all available bytes. Returns the totals after the header if the header is
 /// complete and passes. Fails with `NeedMore` if the header is incomplete, and with `Refused` if a
 /// step fails. `limit` is the maximum number of 64-bit words.
 pub fn judge_header(bytes: &[u8], limit: u64) -> Result<ReadTotals, Unread>

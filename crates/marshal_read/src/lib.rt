@@ -1,21 +1,24 @@
-//! Reads one marshalled value from bytes that arrive in chunks, and builds its graph.
+//! Reads one marshalled value from bytes that arrive in chunks, and builds the graph of the value.
 //!
-//! It owns `Reader`, which follows the steps of `intern.c` and does not keep the bytes that it
-//! took, except for a part of a header or token; `Fed` (bytes taken, and if the value is
-//! complete); `Truncated` (the input ends inside a value); and the result, `Value` or `Borrowed`:
-//! the root and its heap.
+//! The crate owns `Reader`, which follows the steps of `intern.c`. A `Reader` keeps none of the
+//! bytes taken, except a part of a header or token. `Fed` states the bytes taken, and whether the
+//! value is complete. `Truncated` means that the input ends inside a value. The results `Value` and
+//! `Borrowed` are the root and its heap.
 //!
-//! Promises: if `Reader::feed` succeeds, it has taken a prefix of the chunk, which ends with the
-//! last byte of the value if the value is complete. If it returns a `ReadRefusal`, the bytes taken
-//! so far and the chunk have this refusal by the definitions of `marshal_spec`, and the reader
-//! keeps it. `Reader::borrow` and `Reader::finish` return the value that the bytes taken encode.
-//! `Reader::at_end` reports if the input ends inside a value, and after how many of the value's
-//! bytes. The limit of `Reader::new` bounds the 64-bit words of the value, and `Reader::over` and
-//! `Reader::restart` begin the next value in the memory of the last one.
+//! The crate promises:
+//! - If `Reader::feed` succeeds, the reader has taken a prefix of the chunk. If the value is
+//!   complete, the prefix ends with the last byte of the value.
+//! - If `Reader::feed` returns a `ReadRefusal`, the bytes taken so far and the chunk have this
+//!   refusal by the definitions of `marshal_spec`. The reader keeps the refusal.
+//! - `Reader::borrow` and `Reader::finish` return the value that the bytes taken encode.
+//! - `Reader::at_end` reports whether the input ends inside a value, and after how many of the
+//!   value's bytes.
+//! - The limit of `Reader::new` bounds the 64-bit words of the value. `Reader::over` and
+//!   `Reader::restart` begin the next value in the memory of the last value.
 //!
-//! Leaves out: header and token encodings (`marshal_codec`), the loop over an input with many
-//! values (`run_loop`, `session`), and types (`check_heap`; `check_stream` works without a heap).
-//! Time and the size of memory are not promised.
+//! The crate leaves out header and token encodings (`marshal_codec`), the loop over an input with
+//! many values (`run_loop`, `session`), and types. `check_heap` checks types, and `check_stream`
+//! checks types without a heap. The crate promises neither time nor the size of memory.
 #![tactic(auto)]
 
 mod build;

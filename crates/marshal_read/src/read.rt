@@ -1,4 +1,4 @@
-//! Reads the next token: checks it and adds what it encodes (`intern.c`).
+//! Reads the next token: checks the token, and adds the value that the token encodes (`intern.c`).
 
 ghost use Rattle.std.specs.Prelude.{◌≡◌, ◌<◌, ◌^◌, ℕ, List, length, OnOk};
 ghost use Rattle.marshal_spec.specs.format.Words.{of_object, fields};
@@ -33,7 +33,8 @@ fn add(alloc: Global, builder: &mut Builder, token: &[u8]) -> Result<(), Memory>
     }
 }
 
-/// Checks the next token and adds the value that it encodes. Returns the totals after the token.
+/// Checks the next token and adds the value that the token encodes. Returns the totals after the
+/// token.
 pub fn next_token(
     alloc: Global,
     builder: &mut Builder,

@@ -1,20 +1,21 @@
-//! The totals before a token, and the checks that compare the token with them.
+//! The totals before a token, and the checks that compare the token with the totals.
 
 ghost use Rattle.std.specs.Prelude.{◌≡◌, ◌≤◌, ◌<◌, ◌+◌, ◌-◌, ◌*◌, ◌^◌, [], length, take};
 ghost use Rattle.std.specs.Prelude.{slice_index, None, OnOk, IfOk, false, nat_lt, Option, ℕ, ◌==◌};
 ghost use Rattle.std.specs.Prelude.{if◌then◌else◌};
 ghost use Rattle.std.specs.Option.{ForSome};
 
-use crate::token::{
-    custom_at, field_len, fixed_len, measure_at, native_len, number_at, variable_len,
-};
+use crate::token::{measure_at, variable_len};
 use crate::unread::{Unread, pass};
-use base_data::model::bytes::{signed, skip};
+use base_data::model::bytes::skip;
 use base_data::model::code::{CodeFault, CodeKind, CustomKind, Measure};
 use base_data::model::header::Head;
 use base_data::model::refusal::{ReadRefusal, WordSum};
 use marshal_codec::codes::{KnownKind, code_kind};
 use marshal_codec::headers::words_of;
+use marshal_codec::token::{
+    Summary, TokenFault, TokenStep, custom_at, decode, field_len, fixed_len, measure_of, native_len,
+};
 
 /// The header, and sums over the tokens so far: bytes, objects, pending values and words.
 #[derive(Clone, Copy)]
@@ -36,6 +37,19 @@ pub struct ReadTotals {
     ghost within64: { w64 ≤ head.w64 },
 }
 
+/// Returns the prefix of the bytes that is data of the value.
+#[inline(always)]
+pub fn data_in<'a>(first: &ReadTotals, bytes: &'a [u8]) -> &'a [u8]
+    ensures { result.now ≡ take (first.now.head.length - first.now.taken) bytes.now }
+{
+    let left = (first.head.length - first.taken) as usize;
+    if bytes.len() < left {
+        bytes
+    } else {
+        &bytes[..left]
+    }
+}
+
 impl ReadTotals {
     ghost use Rattle.marshal_spec.specs.format.Code.{custom_of, native_bytes};
     ghost use Rattle.marshal_spec.specs.format.Raw.{field_bytes, fixed_bytes, variable_bytes};
@@ -45,13 +59,18 @@ impl ReadTotals {
     ghost use Rattle.marshal_spec.specs.format.Step.{overlong as overlong_refusal};
     ghost use Rattle.marshal_spec.specs.format.Step.{field_refusal as refusal_of_fields};
     ghost use Rattle.marshal_spec.specs.format.Step.{shared_refusal as refusal_of_shared};
-    ghost use Rattle.marshal_spec.specs.format.Step.{integer_refusal as refusal_of_integer};
     ghost use Rattle.marshal_spec.specs.format.Step.{code_refusal as refusal_of_code, native_steps};
     ghost use Rattle.marshal_spec.specs.format.Step.{variable_steps, entry_steps, closing_steps};
     ghost use Rattle.marshal_spec.specs.format.Step.{words32_refusal, words64_refusal, end_steps};
     ghost use Rattle.marshal_spec.specs.format.Step.{or_else};
     ghost use Rattle.marshal_spec.specs.format.Step.{position};
-    ghost use Rattle.marshal_read.specs.Totals.{AreTotals, IsNext, context_of, sums, after_kind};
+    ghost use Rattle.marshal_spec.specs.format.Raw.{raw_length};
+    ghost use Rattle.marshal_codec.specs.token.Summary.{IsFair, summary_measure};
+    ghost use Rattle.marshal_codec.specs.token.Fault.{refusal_of};
+    ghost use Rattle.marshal_codec.specs.token.Complete.{closing, remaining_steps};
+    ghost use Rattle.marshal_codec.specs.token.Complete.{reference_refusal as refusal_of_reference};
+    ghost use Rattle.marshal_read.specs.Totals.{AreTotals, AreFew, IsNext, context_of, sums, moved};
+    ghost use Rattle.marshal_read.specs.Totals.{after_kind, IsSized};
     ghost use Rattle.marshal_codec.specs.headers.Counting.{IsCountable};
     ghost use Rattle.marshal_read.specs.Progress.{answered, and_then, progress, of_refusal};
 
@@ -62,7 +81,7 @@ impl ReadTotals {
         self.start + self.taken
     }
 
-    /// Returns the refusal if the token needs more data bytes than there are after its first `n`
+    /// Returns the refusal if the token needs more than the data bytes after the token's first `n`
     /// bytes.
     fn overlong(&self, need: u128, n: u64) -> Option<ReadRefusal>
         requires { self.now.taken + n ≤ self.now.head.length }
@@ -77,7 +96,7 @@ impl ReadTotals {
         }
     }
 
-    /// Returns the refusal of a reference, if it has a fault.
+    /// Returns the refusal of a reference, if the reference has a fault.
     fn shared_refusal(&self, offset: u64) -> Option<ReadRefusal>
         ensures { result ≡ refusal_of_shared (context_of self.now) offset }
     {
@@ -90,49 +109,28 @@ impl ReadTotals {
         }
     }
 
-    /// Returns the refusal of an eight-byte integer, if it is out of range.
-    fn integer_refusal(&self, value: i64) -> Option<ReadRefusal>
-        ensures { result ≡ refusal_of_integer (context_of self.now) value }
+    /// Returns the refusal of a code that begins no token.
+    fn code_refusal(&self, fault: CodeFault, code: u8) -> ReadRefusal
+        ensures { result ≡ refusal_of_code fault (position (context_of self.now)) code }
     {
-        if value < -(1 << 62) || value >= 1 << 62 {
-            Some(ReadRefusal::IntRange(self.at(), value))
-        } else {
-            None
+        match fault {
+            CodeFault::BadCode => ReadRefusal::BadCode(self.at(), code),
+            CodeFault::PointerCode => ReadRefusal::PointerCode(self.at(), code),
+            CodeFault::CustomLen => ReadRefusal::OtherCustom(self.at(), code),
         }
     }
 
-    /// Returns the refusal of the token's fields (tag, offset, identifier, integer or length), if
-    /// one of them has a fault.
-    fn field_refusal(&self, code: u8, kind: KnownKind, rest: &[u8]) -> Option<ReadRefusal>
-        requires whole { field_bytes kind.kind ≤ length rest.now }
-        ensures { result ≡ refusal_of_fields (context_of self.now) code kind.kind rest.now }
+    /// Returns the refusal of a token whose own bytes have this fault.
+    fn fault_refusal(&self, fault: TokenFault, code: u8) -> ReadRefusal
+        ensures { result ≡ refusal_of fault (position (context_of self.now)) code }
     {
-        match kind.kind {
-            CodeKind::Int(8) => self.integer_refusal(signed(&rest[..8])),
-            CodeKind::Shared(width) => self.shared_refusal(number_at(rest, width)),
-            CodeKind::Block(width) => {
-                let tag = (number_at(rest, width) & 0xff) as u8;
-                if tag > 243 {
-                    Some(ReadRefusal::BadTag(self.at(), tag))
-                } else {
-                    None
-                }
-            }
-            CodeKind::Doubles(width, _) => {
-                if number_at(rest, width) == 0 {
-                    Some(ReadRefusal::ZeroArray(self.at()))
-                } else {
-                    None
-                }
-            }
-            CodeKind::Custom(_) => {
-                if custom_at(rest).is_none() {
-                    Some(ReadRefusal::OtherCustom(self.at(), code))
-                } else {
-                    None
-                }
-            }
-            _ => None,
+        match fault {
+            TokenFault::Code(fault) => self.code_refusal(fault, code),
+            TokenFault::Integer(value) => ReadRefusal::IntRange(self.at(), value),
+            TokenFault::Tag(tag) => ReadRefusal::BadTag(self.at(), tag),
+            TokenFault::Empty => ReadRefusal::ZeroArray(self.at()),
+            TokenFault::Identifier => ReadRefusal::OtherCustom(self.at(), code),
+            TokenFault::Native(kind) => ReadRefusal::BadNative(self.at(), kind),
         }
     }
 
@@ -161,9 +159,13 @@ impl ReadTotals {
         Ok(1 + len)
     }
 
-    /// Performs the steps that the fixed bytes of the kind and the token's fields decide.
+    /// Performs the steps that the fixed bytes of the kind and the token's fields decide. The
+    /// fields have no fault, because the token is incomplete.
     fn fields(&self, code: u8, kind: KnownKind, rest: &[u8]) -> Result<(), Unread>
         requires open { 0 < self.now.pending }
+        requires sound { self.now.taken + (1 + fixed_bytes kind.kind) ≤ self.now.head.length
+            → field_bytes kind.kind ≤ length rest.now
+            → refusal_of_fields (context_of self.now) code kind.kind rest.now ≡ None }
         ensures steps { answered result ≡ progress (length rest.now + 1)
             (entry_steps (context_of self.now) code kind.kind rest.now) }
         ensures whole { OnOk result (field_bytes kind.kind ≤ length rest.now) }
@@ -174,10 +176,11 @@ impl ReadTotals {
         if rest.len() < field_len(kind.kind) {
             return Err(Unread::NeedMore);
         }
-        pass(self.field_refusal(code, kind, rest))
+        Ok(())
     }
 
-    /// Performs the steps that the bytes of the contents decide. Returns the number of these bytes.
+    /// Performs the steps that the bytes of the token's contents decide. Returns the number of
+    /// these bytes.
     fn variable(&self, kind: KnownKind, rest: &[u8]) -> Result<u64, Unread>
         requires whole { field_bytes kind.kind ≤ length rest.now }
         requires room { self.now.taken + (1 + fixed_bytes kind.kind) ≤ self.now.head.length }
@@ -209,7 +212,8 @@ impl ReadTotals {
         }
     }
 
-    /// Returns the number of objects, plus one if the token makes an object.
+    /// Returns the number of objects after a token: the number before the token, plus one if the
+    /// token makes an object.
     fn objects_after(&self, measure: Option<Measure>) -> u64
         ensures { result ≡ self.now.objects + of_object (λ _. 1) measure }
     {
@@ -219,7 +223,7 @@ impl ReadTotals {
         }
     }
 
-    /// Returns the words on 32 and on 64 bits, with those of one more object.
+    /// Returns the sums of words on 32 and on 64 bits after a token whose object has this measure.
     fn words_after(&self, measure: Option<Measure>) -> (u64, u64)
         requires { ForSome measure IsCountable }
         ensures sum32 { result.0 ≡ self.now.w32 + of_object words32 measure }
@@ -252,7 +256,7 @@ impl ReadTotals {
         None
     }
 
-    /// Returns the refusal if the whole value differs from what the header states.
+    /// Returns the refusal if the totals of the whole value differ from what the header states.
     fn differs(&self, n: u64, objects: u64, w32: u64, w64: u64) -> Option<ReadRefusal>
         requires { self.now.taken + n ≤ self.now.head.length }
         ensures { (m : ℕ) → n ≤ m
@@ -276,10 +280,11 @@ impl ReadTotals {
         None
     }
 
-    /// After the last token, once its `n` bytes are there, performs the steps of the whole value.
+    /// If the token is the last token and `there` is at least `n`, performs the steps of the whole
+    /// value.
     fn end(
         &self,
-        rest: &[u8],
+        there: u64,
         n: u64,
         pending: u64,
         objects: u64,
@@ -288,7 +293,7 @@ impl ReadTotals {
     ) -> Result<(), Unread>
         requires { self.now.taken + n ≤ self.now.head.length }
         ensures { answered result
-            ≡ progress (length rest.now + 1)
+            ≡ progress there
             (if pending == 0
             then end_steps (context_of self.now) n (sums objects pending w32 w64)
             else []) }
@@ -296,15 +301,49 @@ impl ReadTotals {
         if pending > 0 {
             return Ok(());
         }
-        if (rest.len() as u64) + 1 < n {
+        if there < n {
             return Err(Unread::NeedMore);
         }
         pass(self.differs(n, objects, w32, w64))
     }
 
-    /// Performs the steps that need the token's size and, after the last token, those of the whole
-    /// value. Returns the totals after the token.
-    #[tactic(auto, using(crate::proofs::SizeLemmas::measure_small, crate::proofs::SizeLemmas::few_words32, crate::proofs::SizeLemmas::few_words64))]
+    /// Performs the steps of a token of `n` bytes whose object has this measure. After the last
+    /// token, also performs the steps of the whole value. `there` is the number of bytes that have
+    /// arrived. Returns the totals after the token.
+    fn finish(&self, measure: Option<Measure>, n: u64, there: u64) -> Result<ReadTotals, Unread>
+        requires open { 0 < self.now.pending }
+        requires some { 0 < n }
+        requires room { self.now.taken + n ≤ self.now.head.length }
+        requires small { of_object fields_of measure < 2 ^ 60 }
+        requires countable { ForSome measure IsCountable }
+        requires few32 { AreFew words32 measure n }
+        requires few64 { AreFew words64 measure n }
+        ensures steps { answered result
+            ≡ progress there (closing (context_of self.now) there n measure) }
+        ensures next { IfOk result
+            (λ next. AreTotals next (moved (context_of self.now) n measure)) }
+        ensures len { IfOk result (λ next. next.taken ≡ self.now.taken + n) }
+    {
+        let pending = self.pending_after(measure);
+        pass(self.overlong(u128::from(pending), n))?;
+        let (w32, w64) = self.words_after(measure);
+        pass(self.exceeded(w32, w64))?;
+        let objects = self.objects_after(measure);
+        self.end(there, n, pending, objects, w32, w64)?;
+        Ok(ReadTotals {
+            head: self.head,
+            start: self.start,
+            taken: self.taken + n,
+            objects,
+            pending,
+            w32,
+            w64,
+        })
+    }
+
+    /// Performs the steps that need the token's size. After the last token, also performs the steps
+    /// of the whole value. Returns the totals after the token.
+    #[tactic(auto, using(crate::proofs::SizeLemmas::measure_small))]
     fn close(&self, kind: KnownKind, rest: &[u8], len: u64) -> Result<ReadTotals, Unread>
         requires open { 0 < self.now.pending }
         requires whole { field_bytes kind.kind ≤ length rest.now }
@@ -321,26 +360,16 @@ impl ReadTotals {
     {
         let n = 1 + fixed_len(kind.kind) + len;
         let measure = measure_at(kind, rest);
-        let pending = self.pending_after(measure);
-        pass(self.overlong(u128::from(pending), n))?;
-        let (w32, w64) = self.words_after(measure);
-        pass(self.exceeded(w32, w64))?;
-        let objects = self.objects_after(measure);
-        self.end(rest, n, pending, objects, w32, w64)?;
-        Ok(ReadTotals {
-            head: self.head,
-            start: self.start,
-            taken: self.taken + n,
-            objects,
-            pending,
-            w32,
-            w64,
-        })
+        self.finish(measure, n, rest.len() as u64 + 1)
     }
 
-    /// Performs the steps of a token of this kind. Returns the totals after the token.
+    /// Performs the steps of an incomplete token of this kind. If all decided steps pass, returns
+    /// the totals after the token.
     fn steps(&self, code: u8, kind: KnownKind, rest: &[u8]) -> Result<ReadTotals, Unread>
         requires open { 0 < self.now.pending }
+        requires sound { self.now.taken + (1 + fixed_bytes kind.kind) ≤ self.now.head.length
+            → field_bytes kind.kind ≤ length rest.now
+            → refusal_of_fields (context_of self.now) code kind.kind rest.now ≡ None }
         ensures steps { answered result
             ≡ and_then
             (progress (length rest.now + 1)
@@ -362,23 +391,13 @@ impl ReadTotals {
         self.close(kind, rest, len)
     }
 
-    /// Returns the refusal of a code that begins no token.
-    fn code_refusal(&self, fault: CodeFault, code: u8) -> ReadRefusal
-        ensures { result ≡ refusal_of_code fault (position (context_of self.now)) code }
-    {
-        match fault {
-            CodeFault::BadCode => ReadRefusal::BadCode(self.at(), code),
-            CodeFault::PointerCode => ReadRefusal::PointerCode(self.at(), code),
-            CodeFault::CustomLen => ReadRefusal::OtherCustom(self.at(), code),
-        }
-    }
-
-    /// Checks the next token on all bytes that are there. Returns the totals after the token if it
-    /// is complete and passes. Fails with `NeedMore` if it is incomplete, and with `Refused` if a
-    /// step fails.
-    pub fn judge(&self, bytes: &[u8]) -> Result<ReadTotals, Unread>
+    /// Checks a token that is incomplete, or only partly in the data. If no step fails, fails with
+    /// `NeedMore`.
+    fn part(&self, bytes: &[u8]) -> Result<ReadTotals, Unread>
         requires open { 0 < self.now.pending }
         requires some { 0 < length bytes.now }
+        requires part { let there = take (self.now.head.length - self.now.taken) bytes.now in
+            length there < raw_length there }
         ensures { IsNext (context_of self.now) bytes.now result }
     {
         let code = bytes[0];
@@ -391,6 +410,47 @@ impl ReadTotals {
                 }
                 Ok(next)
             }
+        }
+    }
+
+    /// Returns the refusal of a reference that leads to no object. For another token, returns
+    /// `None`.
+    fn reference_refusal(&self, summary: Summary) -> Option<ReadRefusal>
+        ensures { result ≡ refusal_of_reference (context_of self.now) summary }
+    {
+        match summary {
+            Summary::Shared(offset) => self.shared_refusal(offset),
+            _ => None,
+        }
+    }
+
+    /// Performs the steps of a complete token of `n` bytes that the token's own bytes do not
+    /// decide. Returns the totals after the token.
+    fn complete(&self, summary: Summary, n: u64) -> Result<ReadTotals, Unread>
+        requires open { 0 < self.now.pending }
+        requires fair { IsFair summary }
+        requires sized { IsSized (context_of self.now) (summary_measure summary) n }
+        ensures steps { answered result
+            ≡ progress n (remaining_steps (context_of self.now) summary n) }
+        ensures next { IfOk result
+            (λ next. AreTotals next (moved (context_of self.now) n (summary_measure summary))) }
+    {
+        pass(self.reference_refusal(summary))?;
+        self.finish(measure_of(summary), n, n)
+    }
+
+    /// Checks the next token on all bytes that have arrived. If the token is complete and passes,
+    /// returns the totals after the token. Fails with `NeedMore` if the token is incomplete, and
+    /// with `Refused` if a step fails.
+    pub fn judge(&self, bytes: &[u8]) -> Result<ReadTotals, Unread>
+        requires open { 0 < self.now.pending }
+        requires some { 0 < length bytes.now }
+        ensures { IsNext (context_of self.now) bytes.now result }
+    {
+        match decode(data_in(self, bytes)) {
+            TokenStep::Token(summary, n) => self.complete(summary, n as u64),
+            TokenStep::More => self.part(bytes),
+            TokenStep::Fault(fault) => { Err(Unread::Refused(self.fault_refusal(fault, bytes[0]))) }
         }
     }
 }

@@ -10,22 +10,22 @@ use base_data::model::refusal::ReadRefusal;
 use marshal_heap::heap::Heap;
 use std::alloc::Global;
 
-/// The result of a chunk: the number of bytes consumed, and whether they complete the value.
+/// The result of feeding a chunk: the number of bytes consumed, and whether the consumed bytes
+/// complete the value.
 #[derive(Clone, Copy)]
 pub struct Fed {
     pub taken: usize,
     pub done: bool,
 }
 
-/// The error for input that ends inside a value, with the number of bytes of the value that were
-/// there.
+/// The error for input that ends inside a value, with the number of the value's bytes that arrived.
 #[derive(Clone, Copy)]
 pub struct Truncated {
     pub taken: u64,
 }
 
-/// A reader of one value. It contains the graph so far and, after an error, the refusal. Of the
-/// consumed bytes it keeps only an incomplete header or token.
+/// A reader of one value. The reader contains the graph so far and, after an error, the refusal.
+/// The reader keeps no consumed bytes except an incomplete header or token.
 #[derive(Drop)]
 pub struct Reader {
     alloc: Global,
@@ -38,7 +38,8 @@ impl Reader {
     ghost use Rattle.marshal_read.specs.Reader.{Feeds};
     ghost use Rattle.marshal_read.specs.Reader.{IsWithin, Finishes, EndsInput};
 
-    /// Creates a reader for a value of at most `limit` 64-bit words. It allocates no memory.
+    /// Creates a reader for a value of at most `limit` 64-bit words. The function allocates no
+    /// memory.
     pub fn new(alloc: Global, limit: u64) -> Reader
         ensures reader { IsReader result }
         ensures leads { Leads limit [] result }
@@ -47,8 +48,8 @@ impl Reader {
         Reader::over(alloc, limit, Heap::new(alloc))
     }
 
-    /// Creates a reader that reuses the memory of a discarded heap. This serves to read many values
-    /// one after another.
+    /// Creates a reader that reuses the memory of a discarded heap, for reading many values one
+    /// after another.
     pub fn over(alloc: Global, limit: u64, heap: Heap) -> Reader
         ensures reader { IsReader result }
         ensures leads { Leads limit [] result }
@@ -71,22 +72,23 @@ impl Reader {
         self.refusal = None;
     }
 
-    /// Consumes the chunk, or the prefix of it up to the value's last byte (`intern.c`). A reader
-    /// that is done consumes nothing. Fails with a refusal if some prefix of the bytes is refused,
-    /// or if memory runs out; the reader then returns that refusal for ever.
+    /// Consumes the chunk, or the prefix of the chunk up to the value's last byte (`intern.c`). A
+    /// reader with a complete value consumes nothing. Fails with a refusal if some prefix of the
+    /// bytes is refused, or if memory runs out. After a refusal, every call returns the same
+    /// refusal.
     pub fn feed(&mut self, chunk: &[u8]) -> Result<Fed, ReadRefusal>
-        // Every reader that `new` made and `feed` kept satisfies `IsReader`.
+        // Every reader that `new` creates and `feed` changes satisfies `IsReader`.
         requires { IsReader self.old }
         ensures reader { IsReader self.new }
         ensures feeds { (limit : ℕ) (taken : List ℕ) → Leads limit taken self.old
             → IfOk result (Feeds limit taken chunk.now self.new) }
         ensures done { IfOk result (λ fed. fed.done ≡ true → IsDone self.new) }
         ensures reads { OnOk result (IsReading self.new) }
-        // If the result is a refusal, then some prefix of the bytes is refused for that reason, or
-        // memory ran out.
+        // If the result is a refusal, then some prefix of the bytes is refused for the reason in
+        // the refusal, or memory ran out.
         ensures refuses { (limit : ℕ) (taken : List ℕ) → Leads limit taken self.old
             → IfErr result (RefusedIn limit (taken ++ chunk.now)) }
-        // Every later call returns the same refusal.
+        // After a refusal, every call of `feed` returns the same refusal.
         ensures stops { IfErr result (λ refusal. IsStopped refusal self.new) }
         ensures again { (refusal : ReadRefusal) → IsStopped refusal self.old
             → result ≡ Err refusal }

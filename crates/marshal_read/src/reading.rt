@@ -1,4 +1,4 @@
-//! The header and the tokens that were read completely, and the graph that they build.
+//! The complete header and tokens that were read, and the graph that the tokens build.
 
 ghost use Rattle.std.specs.Prelude.{◌≡◌, ◌≤◌, ◌++◌, ◌↔◌, ℕ, List, [], length, take, None, IsTrue};
 
@@ -23,7 +23,7 @@ pub struct Reading {
 impl Reading {
     ghost use Rattle.marshal_read.specs.Chunks.{LeadsAs, IsWhole, NextRead};
 
-    /// Creates a state in which nothing is read. It reuses the memory of a discarded heap.
+    /// Creates a state in which nothing is read. The state reuses the memory of a discarded heap.
     pub fn over(alloc: Global, limit: u64, heap: Heap) -> Reading
         ensures limit { result.limit ≡ limit }
         ensures leads { LeadsAs result.totals limit [] result.builder [] }
@@ -35,7 +35,7 @@ impl Reading {
         }
     }
 
-    /// Resets the state: nothing is read. It keeps its memory.
+    /// Resets the state to the state in which nothing is read. The state keeps its memory.
     pub fn restart(&mut self, limit: u64)
         ensures limit { self.new.limit ≡ limit }
         ensures leads { LeadsAs self.new.totals limit [] self.new.builder [] }
@@ -55,7 +55,8 @@ impl Reading {
         }
     }
 
-    /// Reads the header, if the bytes begin with a complete one. Returns its length in bytes.
+    /// Reads the header, if the bytes begin with a complete header. Returns the header's length in
+    /// bytes.
     fn next_header(&mut self, bytes: &[u8]) -> Result<usize, Unread>
         requires none { self.old.totals ≡ None }
         requires leads { (taken part more : List ℕ)
@@ -75,8 +76,8 @@ impl Reading {
         }
     }
 
-    /// Reads tokens after the header that surely pass and need no new memory. Returns the number of
-    /// bytes consumed, which is 0 if the header is incomplete.
+    /// Reads the tokens after the header that surely pass and need no new memory. Returns the
+    /// number of bytes consumed, which is 0 if the header is incomplete.
     pub fn take_common(&mut self, bytes: &[u8]) -> usize
         requires open { IsWhole self.old.totals → ⊥ }
         requires leads { (taken : List ℕ)
@@ -97,9 +98,9 @@ impl Reading {
         n
     }
 
-    /// Reads the header or, after it, the next token, if the bytes begin with a complete one.
-    /// Returns its length in bytes. Fails with `NeedMore` if it is incomplete, and with `Refused`
-    /// if a step fails.
+    /// Reads the next header or token, if the bytes begin with a complete one, and returns its
+    /// length in bytes. Fails with `NeedMore` if the header or token is incomplete, and with
+    /// `Refused` if a step fails.
     pub fn next(&mut self, alloc: Global, bytes: &[u8]) -> Result<usize, Unread>
         requires open { IsWhole self.old.totals → ⊥ }
         requires leads { (taken part more : List ℕ)

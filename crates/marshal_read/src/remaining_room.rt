@@ -1,5 +1,5 @@
-//! The room that remains for tokens that surely pass, in a few numbers: each check of a token is
-//! one subtraction.
+//! The room that remains for tokens that surely pass, in a few numbers. The check of a token takes
+//! one subtraction for each number.
 
 ghost use Rattle.std.specs.Prelude.{◌≡◌, ◌+◌, ◌<◌, ◌≤◌, ◌^◌, true, MatchBool};
 ghost use Rattle.std.specs.Option.{ForSome};
@@ -22,7 +22,7 @@ pub struct RemainingRoom {
     ghost short: { slack + pending < 2 ^ 48 },
 }
 
-/// The state of a run of tokens: the pending values, and the excess of its words on 32 bits over
+/// The state of a run of tokens: the pending values, and how far the run's words on 32 bits exceed
 /// its words on 64 bits.
 #[derive(Clone, Copy)]
 pub struct Run {
@@ -41,8 +41,8 @@ fn fields_of(measure: Measure) -> u64
     }
 }
 
-/// Returns true if the header states no number of objects, or exactly the number of objects
-/// including the one of this measure.
+/// Returns true if the header states no number of objects, or states the number `objects` plus the
+/// object of this measure.
 #[inline(always)]
 fn is_count(stated: u64, objects: u64, measure: Option<Measure>) -> bool
     ensures { result ≡ true → 0 < stated → stated ≡ objects + of_object (λ _. 1) measure }
@@ -62,15 +62,15 @@ impl RemainingRoom {
     ghost use Rattle.marshal_read.specs.Left.{Leaves, Spends, IsSpent, limit_of, HasPlenty};
     ghost use Rattle.marshal_read.specs.Left.{IsAfter};
 
-    /// Returns the number of words on 32 bits that a header allows. A big header states none, so
-    /// the result for it is more than its data can need.
+    /// Returns the number of words on 32 bits that a header allows. A big header states no words on
+    /// 32 bits, and the result for a big header is more than its data can need.
     fn limit32(head: &Head) -> u64
         ensures { result ≡ limit_of head.now }
     {
         if head.big { 1 << 62 } else { head.w32 }
     }
 
-    /// Returns the room that remains at these totals.
+    /// Returns the room that remains at the totals `first`.
     pub fn at(first: &ReadTotals) -> RemainingRoom
         ensures { Leaves first.now 0 first.now result }
     {
@@ -82,8 +82,8 @@ impl RemainingRoom {
         }
     }
 
-    /// Returns the number of bytes for which the room surely suffices: for all common tokens that
-    /// begin in them. Returns 0 if that number is small, because a run is not worth its cost then.
+    /// Returns a number of bytes. The room surely suffices for all common tokens that begin in so
+    /// many bytes. Returns 0 if the number is small, because a short run is not worth its cost.
     #[inline(always)]
     pub fn plenty(&self, len: usize) -> usize
         ensures plenty { 0 < result → HasPlenty self.now result }
@@ -102,7 +102,7 @@ impl RemainingRoom {
         if len < 256 || least < 1024 {
             return 0;
         }
-        (least / 16 - 32) as usize
+        (least / 16 - 64) as usize
     }
 
     /// Returns the room that remains after a run of `n` bytes that spent `spent` words on 64 bits.
@@ -156,8 +156,8 @@ impl RemainingRoom {
         true
     }
 
-    /// Returns true if a value is pending. Otherwise returns true only if no room remains and the
-    /// number of objects, including the one of this measure, is the number that the header states.
+    /// If a value is pending, returns true. If no value is pending, returns true only if no room
+    /// remains and `is_count` accepts the number of objects.
     #[inline(always)]
     pub fn is_sound(&self, first: &ReadTotals, objects: u64, measure: Option<Measure>) -> bool
         ensures { result ≡ true → self.now.pending ≡ 0
@@ -172,7 +172,7 @@ impl RemainingRoom {
         is_count(first.head.objects, objects, measure)
     }
 
-    /// Returns the totals `n` bytes after the first ones, with `objects` objects.
+    /// Returns the totals `n` bytes after the totals `first`, with `objects` objects.
     pub fn position(self, first: &ReadTotals, n: u64, objects: u64) -> ReadTotals
         requires { (position : ReadTotals) × Leaves first.now n position self
             × (objects ≡ position.objects) }

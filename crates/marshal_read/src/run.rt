@@ -1,6 +1,6 @@
-//! Fast path for runs of common tokens. While there is enough room for every token, the room is not
-//! checked at each token. Most of the totals are computed at the end of the run, so the loop keeps
-//! few numbers.
+//! Fast path for runs of common tokens. While the room suffices for every token, the loop does not
+//! check the room at each token. At the end of the run, the code computes most of the totals, and
+//! therefore the loop keeps few numbers.
 
 ghost use Rattle.std.specs.Prelude.{◌≡◌, ◌<◌, ◌≤◌, ◌^◌, ℕ, List, [], length, drop};
 ghost use Rattle.std.specs.Prelude.{slice_index, Some, Ok};
@@ -20,7 +20,7 @@ use crate::token::measure_at;
 use base_data::model::code::CodeKind;
 use marshal_codec::codes::KnownKind;
 
-/// Returns the bytes after a token's code. There is at least one byte.
+/// Returns the bytes after a token's code. The argument has at least one byte.
 #[inline(always)]
 fn after_code(bytes: &[u8]) -> &[u8]
     requires { 0 < length bytes.now }
@@ -29,8 +29,8 @@ fn after_code(bytes: &[u8]) -> &[u8]
     &bytes[1..]
 }
 
-/// Reads the next token, which has this kind, if it surely passes, is not the last one and needs no
-/// new memory.
+/// Reads the next token, whose kind is `kind`, if the token surely passes, is not the last one and
+/// needs no new memory.
 #[tactic(auto, using(crate::proofs::SizeLemmas::measure_small))]
 #[inline(always)]
 fn run_kind(
@@ -71,7 +71,7 @@ fn run_kind(
     1 + len
 }
 
-/// Reads the next token as `run_kind` does, if its code is below the codes of small blocks,
+/// Reads the next token as `run_kind` does, if the token's code is below the codes of small blocks,
 /// integers and strings.
 #[tactic(auto, unfolding(marshal_spec::specs::format::Code::kind_of))]
 #[inline(always)]
@@ -93,16 +93,20 @@ fn run_large(first: &ReadTotals, now: &mut Run, builder: &mut Builder, bytes: &[
         0x00 => run_kind(first, now, builder, CodeKind::Int(1), bytes),
         0x01 => run_kind(first, now, builder, CodeKind::Int(2), bytes),
         0x02 => run_kind(first, now, builder, CodeKind::Int(4), bytes),
+        0x03 => run_kind(first, now, builder, CodeKind::Int(8), bytes),
         0x04 => run_kind(first, now, builder, CodeKind::Shared(1), bytes),
         0x05 => run_kind(first, now, builder, CodeKind::Shared(2), bytes),
         0x06 => run_kind(first, now, builder, CodeKind::Shared(4), bytes),
+        0x08 => run_kind(first, now, builder, CodeKind::Block(4), bytes),
+        0x09 => run_kind(first, now, builder, CodeKind::Str(1), bytes),
         0x0c => run_kind(first, now, builder, CodeKind::Double(true), bytes),
         _ => 0,
     }
 }
 
-/// Reads the next token, if it surely passes, is not the last one and needs no new memory. Returns
-/// its length in bytes, or 0 if it was not read. One test each recognizes the most common tokens.
+/// Reads the next token, if the token surely passes, is not the last one and needs no new memory.
+/// Returns the token's length in bytes, or 0 if no token was read. Each of the most common tokens
+/// is recognized by one test.
 #[tactic(auto, unfolding(marshal_spec::specs::format::Code::kind_of))]
 #[inline(always)]
 fn run_one(first: &ReadTotals, now: &mut Run, builder: &mut Builder, bytes: &[u8]) -> usize
@@ -143,8 +147,9 @@ fn run_one(first: &ReadTotals, now: &mut Run, builder: &mut Builder, bytes: &[u8
     run_large(first, now, builder, bytes)
 }
 
-/// Reads tokens of the run that begin in the first `most` bytes. Returns their length in bytes and
-/// the state of the run. This function is not inlined, so that it has all registers.
+/// Reads the tokens of the run that begin in the first `most` bytes. Returns the total length of
+/// the tokens in bytes and the state of the run. The function is not inlined, and therefore has all
+/// registers.
 #[inline(never)]
 fn run_all(
     first: &ReadTotals,
@@ -184,8 +189,8 @@ fn within(most: usize, len: usize) -> usize
     if most < len { most } else { len }
 }
 
-/// Reads a run of common tokens, if there is enough room for those that begin in the first `most`
-/// bytes. Returns their length in bytes.
+/// Reads a run of common tokens, if the room suffices for the tokens that begin in the first `most`
+/// bytes. Returns the total length of the tokens in bytes.
 pub fn run(
     first: &ReadTotals,
     left: &mut RemainingRoom,

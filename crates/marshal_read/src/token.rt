@@ -1,73 +1,17 @@
-//! Computes the size of a token from its code and its first bytes (`intext.h` lists the codes).
+//! Computes the size of a token's contents and of its object from the bytes after its code.
 
-ghost use Rattle.std.specs.Prelude.{◌≡◌, ◌≤◌, ◌<◌, ◌+◌, ◌*◌, ◌^◌, length, take};
-ghost use Rattle.base_data.specs.model.Bytes.{number, number_in, signed};
-ghost use Rattle.marshal_spec.specs.format.Code.{custom_of, native_bytes};
-ghost use Rattle.marshal_spec.specs.format.Raw.{fixed_bytes, field_bytes, variable_bytes};
-ghost use Rattle.marshal_spec.specs.format.Raw.{measure_after};
-ghost use Rattle.marshal_spec.specs.format.Raw.{custom_bytes, custom_measure, block_measure};
+ghost use Rattle.std.specs.Prelude.{◌≡◌, ◌≤◌, ◌<◌, ◌^◌, length};
+ghost use Rattle.base_data.specs.model.Bytes.{number_in};
+ghost use Rattle.marshal_spec.specs.format.Raw.{field_bytes, variable_bytes, measure_after};
+ghost use Rattle.marshal_spec.specs.format.Raw.{custom_measure, block_measure};
 ghost use Rattle.marshal_spec.specs.format.Words.{of_object, fields};
 
-use base_data::model::bytes::big_endian;
 use base_data::model::code::{CodeKind, CustomKind, Measure};
 use marshal_codec::codes::KnownKind;
-use marshal_codec::customs::ident;
+use marshal_codec::token::{custom_at, custom_len, number_at};
 
-/// Returns the number of bytes that every token of the kind has after its code.
-pub fn fixed_len(kind: CodeKind) -> u64
-    ensures { result ≡ fixed_bytes kind }
-{
-    match kind {
-        CodeKind::SmallBlock(_, _) | CodeKind::SmallInt(_) | CodeKind::SmallString(_) => 0,
-        CodeKind::Int(width)
-        | CodeKind::Shared(width)
-        | CodeKind::Block(width)
-        | CodeKind::Str(width)
-        | CodeKind::Doubles(width, _) => u64::from(width),
-        CodeKind::Double(_) => 8,
-        CodeKind::Custom(_) => 3,
-    }
-}
-
-/// Returns how many of the fixed bytes the steps read: none for a double or a short integer.
-pub fn field_len(kind: CodeKind) -> usize
-    ensures { result ≡ field_bytes kind }
-{
-    match kind {
-        CodeKind::SmallBlock(_, _)
-        | CodeKind::SmallInt(_)
-        | CodeKind::SmallString(_)
-        | CodeKind::Double(_) => 0,
-        CodeKind::Int(width) => { if width == 8 { 8 } else { 0 } }
-        CodeKind::Shared(width)
-        | CodeKind::Block(width)
-        | CodeKind::Str(width)
-        | CodeKind::Doubles(width, _) => usize::from(width),
-        CodeKind::Custom(_) => 3,
-    }
-}
-
-/// Returns the number that the first `width` bytes encode, most significant byte first.
-pub fn number_at(rest: &[u8], width: u8) -> u64
-    requires few { width ≤ 8 }
-    requires whole { width ≤ length rest.now }
-    ensures { result ≡ number (take width rest.now) }
-{
-    big_endian(&rest[..usize::from(width)])
-}
-
-/// Decodes a four-byte integer in two's complement, most significant byte first. It compiles to one
+/// Decodes the bits of a double from eight bytes in either byte order. The function compiles to one
 /// load.
-#[inline(always)]
-pub fn signed_four(bytes: &[u8]) -> i64
-    requires { length bytes.now ≡ 4 }
-    ensures { result ≡ signed bytes.now }
-{
-    let value = u32::from_be_bytes([bytes[0], bytes[1], bytes[2], bytes[3]]);
-    i64::from(value.cast_signed())
-}
-
-/// Decodes the bits of a double from eight bytes in either byte order. It compiles to one load.
 #[tactic(auto, using(crate::proofs::SizeLemmas::little_eight, crate::proofs::SizeLemmas::big_eight))]
 #[inline(always)]
 pub fn double_bits(bytes: &[u8], little: bool) -> u64
@@ -80,38 +24,6 @@ pub fn double_bits(bytes: &[u8], little: bool) -> u64
         u64::from_le_bytes(all)
     } else {
         u64::from_be_bytes(all)
-    }
-}
-
-/// Returns the custom kind that the first three bytes identify.
-pub fn custom_at(rest: &[u8]) -> Option<CustomKind>
-    requires { 3 ≤ length rest.now }
-    ensures { result ≡ custom_of (take 3 rest.now) }
-{
-    ident([rest[0], rest[1], rest[2]])
-}
-
-/// Returns the number of bytes that the number of a `Nativeint` has after this kind byte, or 0 for
-/// another byte.
-pub fn native_len(kind: u8) -> u64
-    ensures { result ≡ native_bytes kind }
-{
-    match kind {
-        1 => 4,
-        2 => 8,
-        _ => 0,
-    }
-}
-
-/// Returns the number of bytes that a custom has after its identifier, given the byte there.
-pub fn custom_len(custom: Option<CustomKind>, kind: u8) -> u64
-    ensures { result ≡ custom_bytes custom kind }
-{
-    match custom {
-        None => 0,
-        Some(CustomKind::Int32) => 4,
-        Some(CustomKind::Int64) => 8,
-        Some(CustomKind::Native) => 1 + native_len(kind),
     }
 }
 
@@ -143,7 +55,7 @@ pub fn block_measure_of(size: u64) -> Option<Measure>
     }
 }
 
-/// Returns the measure of a custom.
+/// Returns the measure of a custom block with this identifier.
 pub fn custom_measure_of(custom: Option<CustomKind>) -> Option<Measure>
     ensures { result ≡ custom_measure custom }
 {
@@ -155,7 +67,7 @@ pub fn custom_measure_of(custom: Option<CustomKind>) -> Option<Measure>
     }
 }
 
-/// Returns the measure of the object that the token makes, if it makes one.
+/// Returns the measure of the object that the token makes, or `None` if the token makes no object.
 pub fn measure_at(kind: KnownKind, rest: &[u8]) -> Option<Measure>
     requires whole { field_bytes kind.kind ≤ length rest.now }
     ensures measure { result ≡ measure_after kind.kind rest.now }

@@ -6,7 +6,7 @@ ghost use Rattle.marshal_read.specs.Progress.{answered, of_refusal};
 use base_data::model::Memory;
 use base_data::model::refusal::ReadRefusal;
 
-/// The error of a step: more bytes are needed, or the step fails.
+/// The error of a step that does not pass: the step needs more bytes, or the step fails.
 pub enum Unread {
     NeedMore,
     Refused(ReadRefusal),
@@ -23,7 +23,7 @@ impl From<Memory> for Unread {
     }
 }
 
-/// Returns `Ok` if there is no refusal, and `Refused` otherwise.
+/// Returns `Refused` if there is a refusal, and `Ok` if there is none.
 pub fn pass(refusal: Option<ReadRefusal>) -> Result<(), Unread>
     ensures steps { answered result ≡ of_refusal refusal }
     ensures goes { OnOk result (refusal ≡ None) }

@@ -1,4 +1,4 @@
-//! The results of the reader.
+//! The values that the reader returns.
 
 use base_data::model::value::Val;
 use marshal_heap::heap::Heap;

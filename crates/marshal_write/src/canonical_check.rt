@@ -1,6 +1,6 @@
-//! Decides whether the bytes of a value are exactly the bytes that OCaml's runtime writes for it
-//! (the canonical bytes). `is_canonical_bytes` works on the bytes alone and builds no value. The
-//! answer true is proved; the answer false is inconclusive.
+//! Decides whether the bytes of a value are its canonical bytes, that is, exactly the bytes that
+//! OCaml's runtime writes for the value. `is_canonical_bytes` uses the bytes alone and builds no
+//! value. The answer true is proved. The answer false is inconclusive.
 
 mod canonical;
 mod prefixes;

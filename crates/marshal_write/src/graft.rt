@@ -1,5 +1,5 @@
-//! Copies a value from one heap to the end of another. `append_copy` promises that the copy is the
-//! same value, with its sharing and cycles, and that it refers to new objects only (`HasCopy`). If
+//! Copies a value from one heap to the end of another heap. `append_copy` promises that the copy is
+//! the same value, with its sharing and cycles, and refers to new objects only (`HasCopy`). If
 //! memory runs out, the heap is unchanged.
 
 mod blank;

@@ -1,7 +1,7 @@
 //! Writes a value of a heap as the bytes that OCaml's runtime writes (`extern.c`). `write` promises
-//! the canonical bytes of the value's tree (`canon`). `write32` does the same if a 32-bit reader
-//! can hold the value. The laws `written_is_read` and `read_is_written` show that reading and
-//! writing are inverse to each other.
+//! the canonical bytes of the value's tree (`canon`). If a 32-bit reader can hold the value,
+//! `write32` writes the same bytes. The laws `written_is_read` and `read_is_written` show that
+//! reading and writing are inverse to each other.
 
 mod compat;
 mod encode;

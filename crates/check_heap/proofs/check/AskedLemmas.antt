@@ -44,7 +44,7 @@ module _ {X Y : Type 0} (f : X → Y) (p : X → Bool) where
     by true (suc j) zero y at_j at_k = absurd (never j (at_j ∙ sym at_k))
     by true (suc j) (suc k) y at_j at_k = ap suc (rest j k y at_j at_k)
 
-  -- If the mapped elements are distinct, then those that pass a filter are.
+  -- If the mapped elements are distinct, then the mapped elements that pass a filter are distinct.
   pub apart_filter : (xs : List X) → AreApart (map f xs) → AreApart (map f (filter p xs))
   apart_filter [] apart j k y at_j at_k = absurd (none-some y at_j)
   apart_filter (x ∷ xs) apart j k y at_j at_k = apart_step x xs apart (apart_filter xs (apart_tail (f x) (map f xs) apart)) j k y at_j at_k
@@ -108,7 +108,8 @@ module _ (table : Table) where
       ∙ append_assoc prefix (asked_pairs table (take k pairs)) (asked_pairs table (pair ∷ []))
       ∙ ap (λ (ps : List (ℕ × ℕ)). prefix ++ ps) (sym (asked_more pairs k pair at))
 
-  -- The pair is appended or omitted.
+  -- If the type of a pair is constrained, then the filter of the list with the pair appends the
+  -- pair.
   pub asked_one : (pairs : List (ℕ × ℕ)) (pair : ℕ × ℕ) → is_asked_in table pair.1 ≡ true → pairs ++ pair ∷ [] ≡ pairs ++ asked_pairs table (pair ∷ [])
   asked_one pairs pair asked = ap (λ (test : Bool). pairs ++ cond test (pair ∷ []) []) (sym asked)
 

@@ -45,7 +45,7 @@ pub first_within : (table : Table) (graph : List Obj) (all : List Visit) (o t : 
 first_within table graph all o t within first =
     subst (λ i. i < length table.nodes) first.type (All-contains (IsWithin table graph) all first.visit within (slice_get-Contains all first.position first.visit first.at)).1
 
--- The recorded number of a visit's object.
+-- The number recorded for a visit's object is 1 plus the type of the object's first visit.
 pub first_read :
     (table : Table) (graph : List Obj) (visits : Visits) (k n : ℕ) (v : Visit) → AreLinked table (length graph) visits
     → All (IsWithin table graph) (listed visits) → slice_get (listed visits) k ≡ Some v → n ≡ slice_index visits.first v.object
@@ -116,7 +116,7 @@ module _ (table : Table) (graph : List Obj) (all : List Visit) where
         ap (λ o. mutable_at table graph (record { object = o; ty = first.visit.ty; parent = 0; step = 0 })) (first.object ∙ sym object)
         ∙ ap (λ i. mutable_at table graph (record { object = w.object; ty = i; parent = 0; step = 0 })) (first.type ∙ sym type)
 
-    -- Case: the classes differ.
+    -- Case: the two visits are at different classes.
     pub conflict_from :
         (w : Visit) → w.object ≡ v.object → w.ty ≡ t → ¬ (slice_get table.classes t ≡ slice_get table.classes v.ty)
         → IsTrue (mutable_at table graph w) ⊎ IsTrue (mutable_at table graph v) → ConflictsBack table graph all k
@@ -160,8 +160,8 @@ module _ (table : Table) (graph : List Obj) (all : List Visit) where
 
   -- ---- the loop
 
-  -- If no earlier visits conflict, then a visit that conflicts with any earlier one conflicts with
-  -- the first of its object.
+  -- If no earlier visits conflict, then a visit that conflicts with any earlier visit conflicts
+  -- with the first visit of its object.
   found_back : AllHaveFirst all → (k i : ℕ) → NoneConflict table graph all k → ConflictAt table graph all i k → ConflictsBack table graph all k
   found_back firsts k i none c =
       let f = firsts k c.other c.at_second in

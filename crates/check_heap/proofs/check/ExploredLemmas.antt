@@ -38,7 +38,8 @@ needs_compare k j n r = by_position (less_same_more k n) (less_same_more j r) wh
   by_position (inr (inl same)) (inr (inl equal)) = inr (inl (same, equal))
   by_position (inr (inl same)) (inr (inr greater)) = inr (inr (inr (sym same, greater)))
 
--- If a field precedes the next one, then it precedes this one or is this one.
+-- If a field precedes field `r + 1` of visit `n`, then the field precedes field `r` or is field
+-- `r`.
 pub next_cases : (k j n r : ℕ) → ComesBefore k j n (suc r) → ComesBefore k j n r ⊎ IsThis k j n r
 next_cases k j n r (inl earlier) = inl (inl earlier)
 next_cases k j n r (inr same) = by_need (less_same_more j r) where
@@ -59,7 +60,8 @@ module _ (table : Table) (graph : List Obj) where
       (j k : ℕ) (a b : Entry ℕ) → j < k → slice_get reported j ≡ Some a → slice_get reported k ≡ Some b
       → IsBefore a.path b.path
 
-  -- The paths to fields are ordered as the fields are.
+  -- If a field precedes another field, then the path to the first field precedes the path to the
+  -- second.
   pub step_before :
       (reported : List (Entry ℕ)) (m j n r i l a b : ℕ) (p e : Entry ℕ) → AreInOrder reported → ComesBefore m j n r
       → slice_get reported m ≡ Some p → slice_get reported n ≡ Some e
@@ -73,7 +75,8 @@ module _ (table : Table) (graph : List Obj) where
       let less : i < l = needs_increase (node e.type) graph (vals.Ref e.object) j r i l a b same.1 at_j' at_r in
       subst (λ q. IsBefore (q.path ++ i ∷ []) (e.path ++ l ∷ [])) (sym is) (pushed_less e.path i l less)
 
-  -- If the path of a field precedes that of another, then the field precedes the other.
+  -- If the path of a field precedes the path of another field, then the first field precedes the
+  -- second.
   pub need_before :
       (reported : List (Entry ℕ)) (m j n r i l a b : ℕ) (p e : Entry ℕ) → AreInOrder reported
       → slice_get reported m ≡ Some p → slice_get reported n ≡ Some e
@@ -95,7 +98,7 @@ module _ (table : Table) (graph : List Obj) where
       (needs_compare m j n r)
 
   module _ (root : ℕ) (reported : List (Entry ℕ)) (n r : ℕ) (known : AreExplored table graph root reported n r) where
-    -- The paths of all entries so far precede that of the next field.
+    -- The paths of all known entries precede the path of the next field.
     pub entries_before :
         (i a : ℕ) (e : Entry ℕ) → slice_get reported n ≡ Some e → slice_get (entry_fields table graph e) r ≡ Some (i, a)
         → (k : ℕ) (f : Entry ℕ) → slice_get reported k ≡ Some f → IsBefore f.path (e.path ++ i ∷ [])
@@ -107,7 +110,7 @@ module _ (table : Table) (graph : List Obj) where
         subst (λ p. IsBefore p (e.path ++ i ∷ [])) (sym l.path)
         (step_before reported l.parent l.need n r l.number i l.type a l.entry e known.increasing l.before l.at at_n l.needed at_r)
 
-    -- The path to the field leads to its value.
+    -- The path to a required field leads to the field's value.
     pub need_leads :
         (i a : ℕ) (e : Entry ℕ) (w : Val) → slice_get reported n ≡ Some e → slice_get (entry_fields table graph e) r ≡ Some (i, a)
         → IsTrue (is_asked_in table a) → field_of graph (vals.Ref e.object) i ≡ Some w
@@ -143,7 +146,8 @@ module _ (table : Table) (graph : List Obj) where
         subst (λ (q : ℕ × ℕ). IsTrue (is_asked_in table q.1) → IsMetNeed table graph more f q.0 q.1) need
         (subst (λ g. IsTrue (is_asked_in table a) → IsMetNeed table graph more g i a) is met)
 
-    -- Case: the field was tested if it is required, and its object was visited before.
+    -- Case: if the field is required, the field was tested, and the field's object was visited
+    -- before.
     pub explored_same :
         (i a : ℕ) (e : Entry ℕ) → slice_get reported n ≡ Some e → slice_get (entry_fields table graph e) r ≡ Some (i, a)
         → (IsTrue (is_asked_in table a) → IsMetNeed table graph reported e i a) → AreExplored table graph root reported n (suc r)
@@ -190,7 +194,7 @@ module _ (table : Table) (graph : List Obj) where
       path = l.path;
     }
 
-    -- Case: the field was tested, and its object is entered as a new one.
+    -- Case: the field was tested, and the field's object is entered as a new one.
     pub explored_more :
         (i a o : ℕ) (e : Entry ℕ) → slice_get reported n ≡ Some e → slice_get (entry_fields table graph e) r ≡ Some (i, a)
         → IsTrue (is_asked_in table a) → field_of graph (vals.Ref e.object) i ≡ Some (vals.Ref o)

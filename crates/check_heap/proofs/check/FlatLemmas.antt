@@ -17,8 +17,8 @@ use Rattle.check_heap.specs.check.Flat.{IsFlat, last_behind, last_of_all}
 
 -- ---- the parts so far
 
--- The pairs justify the first `k` parts of an object at type 0. No object number exceeds the last
--- one.
+-- The pairs justify the first `k` parts of an object at type 0. The object number of each pair is
+-- at most `last`.
 pub record ArePartly (table : Table) (graph : List Obj) (o last k : ℕ) (pairs : List (ℕ × ℕ)) : Type 0 where
   pub root : Contains pairs (o, 0)
   pub below : (p t : ℕ) → Contains pairs (p, t) → p ≤ last

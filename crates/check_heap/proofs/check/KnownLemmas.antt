@@ -6,7 +6,7 @@ use Rattle.base_data.proofs.model.Options.{slice_get_there}
 use Rattle.check_heap.specs.declared.check.visits.Visit.{Visit}
 use Rattle.check_heap.specs.check.Known.{AreOrdered, IsPathOf, IsRestOf}
 
--- One step back.
+-- If `steps` leads from visit `at` to visit `k`, then one more step leads from the parent of `at`.
 pub rest_back :
     (all : List Visit) (k at : ℕ) (old new : List ℕ) (v : Visit) → AreOrdered all → IsRestOf all k at (reverse old)
     → 0 < at → slice_get all at ≡ Some v → new ≡ old ++ v.step ∷ [] → IsRestOf all k v.parent (reverse new)
@@ -24,7 +24,7 @@ rest_back all k at old new v ordered rest later at_v is =
           ∙ ap (λ steps. p.path ++ steps) (sym (ap reverse is ∙ reverse-append old (v.step ∷ [])));
     }
 
--- Case: the root is reached.
+-- Case: the search for the path back has reached the root.
 pub rest_at_root : (all : List Visit) (k at : ℕ) (steps path : List ℕ) → IsRestOf all k at steps → at ≤ 0 → path ≡ steps → IsPathOf all k path
 rest_at_root all k at steps path rest root is known e are at_k =
     let inside = rest.within in

@@ -37,7 +37,7 @@ path_there all (suc fuel) (suc k) ordered inside few =
     )
 
 module _ (table : Table) (graph : List Obj) (lawful : IsLawful table) where
-  -- A value that has the type has no mismatch.
+  -- If an object has type 0, then a search from the object finds no mismatch.
   pub never_mismatch :
       (old new : List Visit) (o n step : ℕ) → old ≡ start table graph o ∷ [] → Searches table graph old new (Some (n, step))
       → HasType (table_shapes table) graph (vals.Ref o) 0 → ⊥

@@ -68,7 +68,7 @@ module _ (table : Table) (all : List Visit) (first : List ℕ) (later : ℕ → 
     still_met : (o : ℕ) (class : Option ℕ) → IsMet table all o class → IsMet table (all ++ v ∷ []) o class
     still_met o class met = (met.0, met.1, slice_get-append_left all (v ∷ []) met.0 met.1 met.2, met.3, met.4)
 
-    -- The first visit of the object.
+    -- If an object is visited for the first time, then the records stay correct.
     pub noted_first :
         slice_get first v.object ≡ Some 0 → AreNoted table (all ++ v ∷ []) (slice_set first v.object (suc v.ty)) later
     noted_first at_o = record {
@@ -112,7 +112,7 @@ module _ (table : Table) (all : List Visit) (first : List ℕ) (later : ℕ → 
         none = λ j w less at_j is. noted.unmet v.object j w at_o (slice_get-append_below all (v ∷ []) j w less at_j) (is ∙ same);
       }
 
-    -- A later visit at a new class.
+    -- If a visited object is visited at a new class, then the records stay correct.
     pub noted_later :
         (t c : ℕ) (later' : ℕ → ℕ → Type 0) → slice_get first v.object ≡ Some (suc t) → slice_get table.classes v.ty ≡ Some c
         → ((p d : ℕ) → later' p d → later p d ⊎ ((v.object ≡ p) × (c ≡ d))) → ((p d : ℕ) → later p d → later' p d) → later' v.object c
@@ -172,7 +172,7 @@ module _ (table : Table) (objects : ℕ) (old new : Visits) (o t p s : ℕ) (lin
             (subst (λ all. AreNoted table all old.first (Has new.later)) (sym appended) noted);
       }
 
--- Case: the class is known, and nothing is added.
+-- Case: the class is known for the object, and no visit is added.
 pub linked_known :
     (table : Table) (objects : ℕ) (visits : Visits) (later : Classed) (o c : ℕ) → AreLinked table objects visits → Has visits.later o c
     → Inserts visits.later later o c → AreLinked table objects (record { all = visits.all; first = visits.first; later = later })

@@ -11,7 +11,7 @@ lexically_more (k ∷ p) [] i j same before = absurd before
 lexically_more (k ∷ p) (l ∷ q) i j same (inl less) = inl less
 lexically_more (k ∷ p) (l ∷ q) i j same (inr later) = inr (later.0, lexically_more p q i j (omega arith) later.1)
 
--- If two paths are ordered, then they stay ordered when each is extended by a step.
+-- If two paths are ordered, then the paths extended by one step each are ordered.
 pub both_pushed : (p q : List ℕ) (i j : ℕ) → IsBefore p q → IsBefore (p ++ i ∷ []) (q ++ j ∷ [])
 both_pushed p q i j (inl shorter) = inl (omega (arith, length_pushed p i, length_pushed q j))
 both_pushed p q i j (inr equal) =

@@ -18,7 +18,7 @@ use Rattle.std.proofs.lemmas.List.{length-append}
 use Rattle.base_data.proofs.model.Lists.{slice_get-append_left, slice_get-append_right}
 use Rattle.check_heap.proofs.scan.PositionLemmas.{mapped_at}
 
--- Number `k` is at index `k`.
+-- The pair with number `s + k` is at index `k`.
 pub numbered_there : (s : ℕ) (ts : List ℕ) (k n : ℕ) → n ≡ s + k → k < length ts → slice_get (numbered_from s ts) k ≡ Some (n, slice_index ts k)
 numbered_there s [] k n is less = absurd (omega arith)
 numbered_there s (t ∷ ts) zero n is less = let same : s ≡ n = omega (arith, is) in ap (λ m. Some (m, t)) same
@@ -51,7 +51,7 @@ pub first_pair : (types : List ℕ) (t : ℕ) → slice_get types 0 ≡ Some t �
 first_pair [] t at_0 = absurd (none-some t at_0)
 first_pair (u ∷ types) t at_0 = slice_get-Contains (numbered_from 0 (u ∷ types)) 0 (0, t) (ap (λ w. Some (0, w)) (same_Some u t at_0))
 
--- The numbers are distinct, so the pairs are.
+-- The pairs of a number and a type are distinct, because the numbers are distinct.
 pub numbers_apart : (table : Table) (types : List ℕ) → AreApart (map (key_of table) (numbered_from 0 types))
 numbers_apart table types j k key at_j at_k =
     let p = mapped_at (key_of table) (numbered_from 0 types) j key at_j in
@@ -61,7 +61,7 @@ numbers_apart table types j k key at_j at_k =
     let same = ap (λ (x : ℕ × Option ℕ). x.0) (p.2 ∙ sym q.2) in
     omega (arith, one, other, same)
 
--- The first object has type 0.
+-- If a scan determined all types, then object 0 has type 0.
 pub scanned_yes :
     (table : Table) (graph : List Obj) (types : List ℕ) → IsScanned table graph types
     → HasType (table_shapes table) graph (vals.Ref 0) 0 × IsYes table graph (vals.Ref 0) (numbered_from 0 types)

@@ -19,7 +19,8 @@ use Rattle.check_heap.proofs.check.SpentLemmas.{taken_at}
 
 -- ---- steps
 
--- One more field, in one step if no scan has tested it.
+-- If one more field is reached, then the step bound grows by one, unless a scan has tested the
+-- field.
 pub reach_more :
     (reached i seen start steps more : ℕ) → reached ≤ i → steps ≤ start + (reached - seen) → more ≤ steps + 1 → (i < seen → more ≡ steps)
     → more ≤ start + (i + 1 - seen)
@@ -28,7 +29,7 @@ reach_more reached i seen start steps more before few one known = ⊎_elim
     (λ late. omega (arith, before, few, one, late))
     (cases_lt i seen)
 
--- The fields that were reached are fields of the object.
+-- If all fields that were reached are fields of the object, then the steps are within the bound.
 pub few_rest :
     (size reached seen start steps : ℕ) → reached ≤ size → reached < 2 ^ 64 → steps ≤ start + (reached - seen) → steps ≤ start + rest_of size seen
 few_rest size reached seen start steps inside small few = by_test (seen == all_fields) refl where
@@ -81,8 +82,8 @@ module _ (table : Table) (graph : List Obj) (taken : TakenObjects) where
         unfit = λ found fits. known.unfit found (lawful.lawful.fits graph (vals.Ref p) b a (inl tt) (sym equal) fits);
       }
 
-    -- If a scan has checked the visit's object at an equal type, then it has tested its required
-    -- fields.
+    -- If a scan has checked the visit's object at an equal type, then the scan has tested the
+    -- visit's required fields below `seen`.
     pub visit_seen : (v : Visit) → AreTaken table graph taken → v.ty < length table.classes → is_taken table taken v ≡ true → AreSeen table graph taken v (seen_of taken v.object)
     visit_seen v are typed is i a less needed =
         let at_o = taken_at table graph taken v is in

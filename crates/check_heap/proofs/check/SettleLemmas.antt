@@ -62,7 +62,8 @@ module _ (table : Table) (graph : List Obj) (types : List ℕ) where
         (λ other. contains_right (numbered_from 0 types) (noted_in new) p (extended (noted_in old) (noted_in new) p more other))
         (contains_cases (numbered_from 0 types) (noted_in old) p among)
 
-  -- One more pair may be recorded.
+  -- If one more pair with a path is recorded, then the types stay correct except for the recorded
+  -- pairs.
   pub over_more :
       (old new : SecondTypes) (o t : ℕ) → AreOver table graph types old → AreSeconds table new → IsNoting table (noted_in old) (noted_in new) o t
       → IsNotedOver table graph types o t → HasPath table graph (vals.Ref 0) o t → AreOver table graph types new
@@ -89,7 +90,7 @@ module _ (table : Table) (graph : List Obj) (types : List ℕ) where
             (contains_push (noted_in old) (o, t) (p, u) (subst (λ xs. Contains xs (p, u)) pushed.1 among)))
             noting
 
-  -- Case: a reference to an object that has an equal type, or was recorded at one.
+  -- Case: the value is a reference to an object that has an equal type.
   pub finds_first :
       (seconds : SecondTypes) (p u t : ℕ) → AreOver table graph types seconds → slice_get types p ≡ Some u → (table_shapes table).equal u t
       → Finds table graph types seconds seconds (vals.Ref p) t
@@ -110,7 +111,7 @@ module _ (table : Table) (graph : List Obj) (types : List ℕ) where
         found = (listed.0, contains_right (numbered_from 0 types) (noted_in new) (p, listed.0) listed.1, listed.2);
       }
 
-  -- Case: a value that is no object.
+  -- Case: the value is no object.
   pub finds_value :
       (seconds : SecondTypes) (v : Val) (t : ℕ) → AreOver table graph types seconds → ((o : ℕ) → v ≢ vals.Ref o) → (table_shapes table).fits graph v t
       → Finds table graph types seconds seconds v t
@@ -122,7 +123,8 @@ module _ (table : Table) (graph : List Obj) (types : List ℕ) where
 
   -- ---- required fields
 
-  -- One more field, which is found if it is required.
+  -- If the next field is found or not required, then the required fields up to the next field are
+  -- found.
   pub finds_more :
       (old now new : SecondTypes) (o t r i a : ℕ) → FindsNeeds table graph types old now o t r → AreOver table graph types new
       → Extends (noted_in now) (noted_in new)

@@ -34,7 +34,8 @@ use Rattle.check_heap.proofs.check.ScannedLemmas.{first_pair, numbers_apart}
 abbrev cost_pair : List Obj → ℕ × ℕ → ℕ
 cost_pair graph pair = 1 + size_of graph pair.0
 
--- Two lists with distinct elements.
+-- If two lists have distinct elements and share none, then their concatenation has distinct
+-- elements.
 apart_both :
     {X Y : Type 0} (f : X → Y) (xs ys : List X) → AreApart (map f xs) → AreApart (map f ys)
     → ((x y : X) → Contains xs x → Contains ys y → f x ≡ f y → ⊥) → AreApart (map f (xs ++ ys))
@@ -59,7 +60,7 @@ apart_both {X} f xs ys one other never j k z at_j at_k =
 
 module _ (table : Table) (graph : List Obj) (types : List ℕ) (seconds : SecondTypes) (lawful : IsLawful table) (is_graph : IsGraph graph)
     (settled : IsSettled table graph types seconds) where
-  -- Each pair is a type of its object, or was recorded.
+  -- The type of each pair is its object's type, or the pair was recorded.
   cases : (o t : ℕ) → Contains (pairs_with types seconds) (o, t) → (slice_get types o ≡ Some t) ⊎ Contains (noted_in seconds) (o, t)
   cases o t among = ⊎_elim
       (λ one. inl (pair_at types o t one))

@@ -87,7 +87,7 @@ module _ (table : Table) (graph : List Obj) where
       by_test true before = before
       by_test false before = omega (arith, before, sum_by-cons cost (pair_of v) (all_pairs all))
 
-    -- One more visit.
+    -- If the bound on the steps holds, then it holds with one more visit.
     more_within :
         (v : Visit) (all : List Visit) (n left less : ℕ) → less ≤ left
         → (is_taken table taken v ≡ true → (rest v + spent table graph taken all n) + sum_by cost (numbered_from 0 types) ≤ sum_by cost (all_pairs all) + left)
@@ -139,7 +139,7 @@ module _ (table : Table) (graph : List Obj) where
         let less = ltb-false (suc v.object) taken.objects late in
         omega (arith, inside, few, less)
 
-    -- If a scan has checked the object of two visits at their types, then these visits have the
+    -- If a scan has checked the object of two visits at their types, then the two visits have the
     -- same key.
     same_key :
         (v w : Visit) → v.ty < length table.classes → w.ty < length table.classes → is_taken table taken v ≡ true → is_taken table taken w ≡ true
@@ -198,7 +198,8 @@ module _ (table : Table) (graph : List Obj) where
               later
               (Contains-cases (pair_of v) (all_pairs all) p has)
 
-    -- No visit that a scan has not checked has the key of one that it has checked.
+    -- If a scan has not checked a visit, then the visit's key differs from the keys of the checked
+    -- pairs.
     not_taken : (v : Visit) → is_taken table taken v ≡ false → ¬ Contains (map (key_of table) (numbered_from 0 types)) (key_of table (pair_of v))
     not_taken v fresh has =
         let p = map-Contains (key_of table) (numbered_from 0 types) (key_of table (pair_of v)) has in

@@ -1,4 +1,4 @@
--- The consequences of all visits for the value, if none of their fields is a mismatch.
+-- The consequences of all visits for the value, if no field of the visits is a mismatch.
 use Rattle.std.proofs.Common.{ℕ, ◌<◌, ◌≤◌, ◌≡◌, ◌∙◌, inl, inr, ⊎_elim, ◌++◌, List, [], ◌∷◌, length, Some, refl, sym, ap, subst, arith}
 use Rattle.std.specs.Prelude.{slice_get, Contains, IsSomeAnd, IsTrue}
 use Rattle.std.proofs.lemmas.Option.{same_Some, slice_get_within}
@@ -34,7 +34,7 @@ abbrev pair_of : Visit → ℕ × ℕ
 pair_of v = (v.object, v.ty)
 
 module _ (table : Table) (graph : List Obj) where
-  -- If the path of an entry is smaller, then its index is smaller.
+  -- If the path of an entry is smaller than the path of another, then the entry's index is smaller.
   position_before :
       (known : List (Entry ℕ)) (j k : ℕ) (a b : Entry ℕ) → AreInOrder table graph known → slice_get known j ≡ Some a → slice_get known k ≡ Some b
       → IsBefore a.path b.path → j < k

@@ -98,7 +98,7 @@ module _ (table : Table) (graph : List Obj) where
 
   -- ---- one more required field
 
-  -- This is required field `r` of visit `n`.
+  -- The record `need` is required field `r` of visit `n`.
   pub record IsNeedOf (all : List Visit) (n r : ℕ) (need : RequiredField) : Type 0 where
     pub visit : Visit
     pub at : slice_get all n ≡ Some visit

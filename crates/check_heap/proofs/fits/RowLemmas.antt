@@ -21,7 +21,7 @@ same_number n = ⊎_elim (λ same. same.0) (λ other. absurd (other.1 refl)) (eq
 
 -- ---- headers
 
--- No object has this tag.
+-- No object has the tag 1023.
 pub never_1023 : (n : ℕ) (object : Obj) → IsObject n object → ¬ (header_of object % 1024 ≡ 1023)
 never_1023 n (objects.Block tag values) is same = let small = is.0 in omega (arith, small, same)
 never_1023 n (objects.Bytes bytes) is same = omega (arith, same)
@@ -58,7 +58,7 @@ by_tag shape tag tags = record {
 fields_fit : (test : Bool) (ts : List ℕ) → test ≡ true → IsSome (fields_if test ts)
 fields_fit test ts is = subst (λ b. IsSome (fields_if b ts)) (sym is) refl
 
--- One more constructor.
+-- If the next constructor has as many fields as the first, then one more constructor agrees.
 pub agree_more :
     (blocks : List (Constr ℕ)) (more : ℕ) (first next : Constr ℕ) → AgreeTo blocks more → more < 243 → more + 1 < length blocks
     → slice_get blocks 0 ≡ Some first → slice_get blocks (more + 1) ≡ Some next → length next.fields ≡ length first.fields
@@ -75,7 +75,7 @@ agree_more blocks more first next to few inside at_0 at_next same = record {
       (same_or_not k (more + 1));
 }
 
--- The claim for the first constructors, if the first one has this size.
+-- If the first `more + 1` constructors agree, then `Agree` holds.
 pub all_agree :
     (blocks : List (Constr ℕ)) (more size : ℕ) (first : Constr ℕ) → slice_get blocks 0 ≡ Some first → size ≡ length first.fields
     → (2 ^ 53 ≤ size → more ≡ 0) → AgreeTo blocks more → Agree blocks more

@@ -24,7 +24,7 @@ untouched_none classed untouched o c has = ⊎_elim
 pub free_has_none : (cells : List ℕ) (o c : ℕ) → slice_get cells o ≡ Some 0 → ¬ IsInCell cells o c
 free_has_none cells o c free cell = let is = same_Some 0 (suc c) (sym free ∙ cell) in omega (arith, is)
 
--- A free cell receives a class.
+-- If a free cell receives a class, then the cells contain the new pair and the old pairs.
 module _ (cells : List ℕ) (o c : ℕ) where
   cell_before : (p d : ℕ) → IsInCell (slice_set cells o (suc c)) p d → IsInCell cells p d ⊎ ((o ≡ p) × (c ≡ d))
   cell_before p d one = ⊎_elim
@@ -92,7 +92,7 @@ module _ (old : Classed) (cells : List ℕ) (o c : ℕ) (agree : Agree old.cells
     by_test false never = subst (λ b. MatchBool b (¬ Has old o c) (Has old o c)) (sym (is ∙ ap not never)) (has_none cell (λ there. false≢true (sym never ∙ there)))
 
   module _ (new : Classed) where
-    -- The object's cell already contains the class.
+    -- Case: the object's cell already contains the class.
     pub inserts_nothing : IsInCell cells o c → new.cells.items ≡ cells → new.more ≡ old.more → Inserts old new o c
     inserts_nothing cell same more = record {
       here = inl (subst (λ all. IsInCell all o c) (sym same) cell);
@@ -106,7 +106,7 @@ module _ (old : Classed) (cells : List ℕ) (o c : ℕ) (agree : Agree old.cells
           has;
     }
 
-    -- The object's cell was free.
+    -- Case: the object's cell was free.
     module _ (free : slice_get cells o ≡ Some 0) (write : new.cells.items ≡ slice_set cells o (suc c)) (more : new.more ≡ old.more) where
       pub inserts_in_cell : Inserts old new o c
       inserts_in_cell = record {
@@ -124,7 +124,7 @@ module _ (old : Classed) (cells : List ℕ) (o c : ℕ) (agree : Agree old.cells
             has;
       }
 
-    -- The class is in no cell.
+    -- Case: the class of the pair is in no cell.
     pub inserts_more : new.cells.items ≡ cells → Updates pair_cmp old.more new.more (o, c) true → Inserts old new o c
     inserts_more same updates = record {
       here = inr updates.1;

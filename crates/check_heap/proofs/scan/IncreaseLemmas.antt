@@ -15,7 +15,7 @@ use Rattle.types_spec.specs.declared.types.shape.ShapeOf.TheVariants as shapes
 use Rattle.types_spec.specs.types.Fitting.{tag_with, numbered_from, fields_if, none_if, constr_fields, or_none, argument_field, tag_fields, block_fields, object_fields, fields_of, fits_int, fits_atom, is_double, is_bytes, has_doubles, is_int32, is_int64, is_native}
 
 module _ {T : Type 0} where
-  -- The field indices increase.
+  -- The field indices in the list increase.
   abbrev pub Increase : List (ℕ × T) → Type 0
   Increase needs =
       (j k i l : ℕ) (a b : T) → j < k → slice_get needs j ≡ Some (i, a) → slice_get needs k ≡ Some (l, b) → i < l
@@ -90,7 +90,7 @@ module _ {T : Type 0} where
   needs_increase s graph (vals.Atom tag) = increase_none_if (fits_atom s tag)
   needs_increase s graph (vals.Ref o) = increase_at s (slice_get graph o)
 
-  -- Each field index is at least its position.
+  -- Each field index in the list is at least the index's position.
   pub position_within : (needs : List (ℕ × T)) → Increase needs → (k i : ℕ) (a : T) → slice_get needs k ≡ Some (i, a) → k ≤ i
   position_within needs increase zero i a at_k = omega arith
   position_within needs increase (suc k) i a at_k =
@@ -100,7 +100,7 @@ module _ {T : Type 0} where
       let less = increase k (suc k) before.0.0 i before.0.1 a (omega arith) before.1 at_k in
       omega (arith, rest, less)
 
-  -- If a field index is smaller, then its position is smaller.
+  -- If a field index is smaller than another, then the position of the first index is smaller.
   pub position_before :
       (needs : List (ℕ × T)) → Increase needs → (j k i l : ℕ) (a b : T) → slice_get needs j ≡ Some (i, a) → slice_get needs k ≡ Some (l, b)
       → i < l → j < k

@@ -215,7 +215,7 @@ module _ (table : Table) (graph : List Obj) where
     by_first None is none = subst (λ found. MatchOption found (noted_in notes.seconds ≡ []) (IsFirstOf table graph marks o t steps)) (sym is) none
     by_first (Some first) is some = is
 
-  -- An object is noted at a required field of this object.
+  -- If an object is noted at a required field of object `o`, then the first noted object is known.
   known_more :
       (marks : List ℕ) (o t steps : ℕ) (before now new : Notes) (first : First) → IsKnownIn table graph marks o t steps before now
       → new.first ≡ first_or now.first first → first.object ≡ o → first.ty ≡ t → first.steps ≡ steps
@@ -297,8 +297,8 @@ module _ (table : Table) (graph : List Obj) where
     met = all_kept now new (noted_in notes.seconds) (noted_in notes.seconds) o t r kept (λ p among. among) meeting.met;
   }
 
-  -- The value of a required field is an object that is marked with another type and noted at the
-  -- field's type.
+  -- If a required field's object is marked with another type and noted, then the invariant holds
+  -- with one more field.
   pub meeting_noted :
       (old now new : List ℕ) (before notes more : Notes) (o t r i a steps p : ℕ) (first : First) → IsMeeting table graph old now before notes o t r steps
       → AreMarks table graph new → AreKept now new → slice_get (object_typed table graph o t) r ≡ Some (i, a) → IsTrue (is_asked_in table a)
@@ -336,7 +336,8 @@ known false X x = tt
 
 -- ---- 64-bit words
 
--- The word refers to an object that is marked with an equal type.
+-- If a word refers to an object that is marked with an equal type, then the word's value is
+-- satisfied.
 pub marked_met :
     (table : Table) (graph : List Obj) (marks : List ℕ) (word key t u : ℕ) → IsGraph graph → IsFieldWord graph word → word % 8 ≡ 0
     → ((o : ℕ) → o < length graph → word ≡ word_of graph (vals.Ref o) → key ≡ key_of graph o)

@@ -26,7 +26,7 @@ use Rattle.check_heap.proofs.scan.IncreaseLemmas.{Increase, position_within, nee
 use Rattle.check_heap.proofs.scan.FieldLemmas.{fields_are_values}
 
 module _ (table : Table) (graph : List Obj) where
-  -- Every typed field is a field.
+  -- Every typed field of an object is a field of the object.
   pub need_field : (o t k i a : ℕ) → o < length graph → slice_get (object_typed table graph o t) k ≡ Some (i, a) → i < length (fields_of (object_at graph o))
   need_field o t k i a inside at_k =
       let needs = object_typed table graph o t in

@@ -23,7 +23,7 @@ use Rattle.check_heap.proofs.scan.PathLemmas.{wildcard_typed, wildcard_fits}
 use Rattle.check_heap.proofs.scan.SecondLemmas.{seconds_none, nothing_in}
 
 module _ (table : Table) (graph : List Obj) where
-  -- The initial notes.
+  -- If nothing is noted yet, then the notes are correct.
   pub notes_none :
       (marks types : List ℕ) (n : ℕ) (notes : Notes) → length (noted_in notes.seconds) ≡ 0 → IsUntouched notes.seconds.known → notes.first ≡ None
       → AreNotes table graph marks types n notes
@@ -53,7 +53,7 @@ module _ (table : Table) (graph : List Obj) where
     by_first None none = none
     by_first (Some first) is = stopped_within marks types n m first more is
 
-  -- One more object is checked, or the scan ends at it.
+  -- If one more object is checked, or the scan ends at the object, then the notes stay correct.
   module _ (old new types : List ℕ) (o t steps : ℕ) (kept : AreKept old new) (valid : AreMarks table graph new) (inside : o < length types)
       (marked : mark_of graph new o ≡ suc t) (fits : (table_shapes table).fits graph (vals.Ref o) t) where
     still_stopped : (first : First) → IsStoppedAt table graph old types o first → IsStoppedAt table graph new (slice_set types o t) (o + 1) first

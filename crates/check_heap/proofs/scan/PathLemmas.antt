@@ -61,7 +61,7 @@ module _ (table : Table) (graph : List Obj) where
   pub root_path : (root : ℕ) → HasPath table graph (vals.Ref root) root 0
   root_path root = ([], refl)
 
-  -- A path to the value of a required field.
+  -- If some path leads to an object, then some path leads to the value of each required field.
   pub need_path :
       (root : Val) (o t k i a p : ℕ) → o < length graph → HasPath table graph root o t
       → slice_get (object_typed table graph o t) k ≡ Some (i, a) → IsTrue (is_asked_in table a) → field_at graph o i ≡ vals.Ref p
@@ -74,7 +74,8 @@ module _ (table : Table) (graph : List Obj) where
       ∙ ap (λ u. option_map (λ b. (vals.Ref p, b)) u) named in
       (led.0 ++ i ∷ [], value_at-push (table_shapes table) graph led.0 root 0 i (vals.Ref o, t) (vals.Ref p, a) led.1 stepped)
 
-  -- If a type does not constrain its values, then every object matches it and has no typed fields.
+  -- If a type does not constrain its values, then every object matches the type and has no typed
+  -- fields.
   pub wildcard_fields : (o t : ℕ) → o < length graph → is_asked_in table t ≡ false
       → fields_of graph (vals.Ref o) (node_or_none (slice_get table.nodes t)) ≡ Some []
   wildcard_fields o t inside wildcard =

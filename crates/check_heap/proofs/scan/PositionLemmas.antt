@@ -16,7 +16,7 @@ read_at [] k x less is = absurd (omega arith)
 read_at (y ∷ xs) zero x less is = ap Some (sym is)
 read_at (y ∷ xs) (suc k) x less is = read_at xs k x (omega arith) is
 
--- The elements of a list with one more element.
+-- An element of a list with one more element is in the list or is the new element.
 pub contains_push : {X : Type 0} (xs : List X) (y x : X) → Contains (xs ++ y ∷ []) x → Contains xs x ⊎ (y ≡ x)
 contains_push xs y x among =
     let k = Contains-position (xs ++ y ∷ []) x among in

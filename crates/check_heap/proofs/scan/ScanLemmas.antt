@@ -121,7 +121,7 @@ module _ (table : Table) (graph : List Obj) where
             omega (arith, few, cost, own_cost, own_needs, spent);
       }
 
-  -- The invariant with more marks and fewer steps.
+  -- If marks or notes are added and the steps are fewer, then the invariant of the scan holds.
   pub scanning_kept :
       (old new : List ℕ) (before noted : List (ℕ × ℕ)) (types : List ℕ) (n steps fewer : ℕ) → fewer ≤ steps → IsScanning table graph old before types n steps
       → AreMarks table graph new → AreKept old new → AreStillNoted before noted
@@ -182,7 +182,7 @@ module _ (table : Table) (graph : List Obj) where
         let is : first.0 ≡ 0 = let marked = (scanning.taken 0 first.0 first.1).marked in let root = scanning.root in omega (arith, marked, root) in
         first.1 ∙ ap (λ t. Some t) is
 
-    -- If an object is marked with a type, then it is the object's type in the result.
+    -- If an object is marked with a type, then the type is the object's type in the result.
     met_type : (p u : ℕ) → p < length graph → mark_of graph marks p ≡ suc u → slice_get types p ≡ Some u
     met_type p u inside marked =
         let there = all_there p inside in

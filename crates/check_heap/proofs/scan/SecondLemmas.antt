@@ -32,13 +32,13 @@ module _ (table : Table) where
       → IsListed (table_shapes table) (noted_in seconds) (vals.Ref o) t
   second_there seconds o t c are class has = let there = are.there o c has in (there.0, there.1, there.2 ∙ sym class)
 
-  -- If an object is listed at an equal type, then its class is known.
+  -- If an object is listed at an equal type, then the class is known for the object.
   pub second_known :
       (seconds : SecondTypes) (o t c : ℕ) → AreSeconds table seconds → slice_get table.classes t ≡ Some c
       → IsListed (table_shapes table) (noted_in seconds) (vals.Ref o) t → Has seconds.known o c
   second_known seconds o t c are class listed = are.known o listed.0 c listed.1 (listed.2 ∙ class)
 
-  -- The class was known already.
+  -- Case: the class was known for the object already.
   pub seconds_same :
       (old new : SecondTypes) (o c : ℕ) → AreSeconds table old → Has old.known o c → Inserts old.known new.known o c → noted_in new ≡ noted_in old
       → AreSeconds table new
@@ -52,7 +52,7 @@ module _ (table : Table) where
     before : (p d : ℕ) → Has old.known p d ⊎ ((o ≡ p) × (c ≡ d)) → Has old.known p d
     before p d is = ⊎_elim (λ there. there) (λ own. subst (λ q. Has old.known q d) own.0 (subst (Has old.known o) own.1 has)) is
 
-  -- One more pair, at a new class for the object.
+  -- Case: a pair is appended at a new class for the object.
   module _ (old new : SecondTypes) (o t c : ℕ) (are : AreSeconds table old) (class : slice_get table.classes t ≡ Some c) (fresh : ¬ Has old.known o c)
       (inserts : Inserts old.known new.known o c) (pushed : noted_in new ≡ noted_in old ++ (o, t) ∷ []) where
     apart_pushed : AreApart (map (key_of table) (noted_in old ++ (o, t) ∷ []))

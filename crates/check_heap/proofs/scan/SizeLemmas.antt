@@ -28,7 +28,7 @@ sum_same f g (x ∷ xs) same =
     let rest = sum_same f g xs (λ y among. same y (Contains-later x xs y among)) in
     omega (arith, sum_by-cons f x xs, sum_by-cons g x xs, first, rest)
 
--- Each object as a block that requires all its fields at each type.
+-- The object as a block that requires all its fields at each type.
 abbrev plain : Obj → Obj
 plain object = objects.Block 0 (values_of object)
 
@@ -41,7 +41,7 @@ same_fields (object ∷ graph) =
     let rest = same_fields graph in
     omega (arith, rest, sum_by-cons (λ o. length (values_of o)) (plain object) (map plain graph), sum_by-cons (λ o. length (values_of o)) object graph)
 
--- Each of these types constrains its values.
+-- Each type of the plain table constrains its values.
 plain_asked : (classes : List ℕ) → is_asked (node_or_none (slice_get (map (λ (class : ℕ). shapes.ArrayOf 0) classes) 0)) ≡ true
 plain_asked [] = refl
 plain_asked (class ∷ classes) = refl

@@ -39,7 +39,8 @@ unfit_other o f k i other = by_test (o == k) (f == i) refl refl where
 pub unfit_this : (o f i : ℕ) → f ≡ i → is_unfit_field (unfits.Field o f) o i ≡ true
 unfit_this o f i same = ap₂ (λ b c. b && c) (eq-eqb o o refl) (eq-eqb f i same)
 
--- The tested fields of the last object.
+-- If `o` is the last checked object, then `seen` is the index below which the fields of `o` were
+-- tested.
 last_seen : (taken : TakenObjects) (o : ℕ) → taken.objects ≡ o + 1 → seen_of taken o ≡ taken.seen
 last_seen taken o objects = by_test (nat_lt (suc o) taken.objects) refl where
   by_test : (b : Bool) → nat_lt (suc o) taken.objects ≡ b → (if b then all_fields else taken.seen) ≡ taken.seen
@@ -54,8 +55,8 @@ rest_within size seen = by_test (seen == all_fields) where
 
 -- ---- a required field that is not satisfied
 
--- The tested fields of the last object: all before the unsatisfied field, and that field too if it
--- is a mismatch.
+-- The tested fields of the last object are all fields before the unsatisfied field. If the
+-- unsatisfied field is a mismatch, the unsatisfied field was tested, too.
 pub record SeesUntil (taken : TakenObjects) (o : ℕ) (unmet : Unmet) : Type 0 where
   pub objects : taken.objects ≡ o + 1
   pub none : (p : ℕ) → IsTrue (is_unfit_object taken.unfit p) → ⊥
@@ -88,7 +89,8 @@ nothing_sees types o unmet = record {
   seen = λ i less. inl (less, refl);
 }
 
--- The tested required fields of the last object are among its fields.
+-- If the tested required fields of the last object are among the object's fields, then the steps
+-- are within the bound.
 pub until_few :
     (graph : List Obj) (taken : TakenObjects) (types : List ℕ) (o t before steps tested : ℕ) → taken.objects ≡ o + 1 → types_in taken ≡ types ++ t ∷ [] → length types ≡ o
     → before ≤ cost_of graph types → steps ≤ before + (1 + tested) → tested ≤ taken.seen → tested ≤ size_of graph o
@@ -128,7 +130,7 @@ module _ (table : Table) (graph : List Obj) (lawful : IsLawful table) (marks : L
         w.2 (lawful.lawful.fits graph (vals.Ref p) a w.0 (inl tt) (sym met.2 ∙ ap (slice_get table.classes) same) fits);
   }
 
-  -- The claim if nothing is noted.
+  -- If nothing is noted and a value is satisfied, then the scan has tested the value's field.
   need_seen :
       (o i : ℕ) (v : Val) (a : ℕ) → AreMarked → is_unfit_field taken.unfit o i ≡ false → IsMet table graph marks v a ⊎ IsNoted table [] v a
       → IsSeen table graph taken o i v a
@@ -141,7 +143,7 @@ module _ (table : Table) (graph : List Obj) (lawful : IsLawful table) (marks : L
       subst (λ b. MatchBool b (¬ (table_shapes table).fits graph (vals.Atom tag) a) ((table_shapes table).fits graph (vals.Atom tag) a)) (sym is) unfit
   unfit_seen o i (vals.Ref p) a is unfit = absurd unfit
 
-  -- An object whose required fields are all satisfied.
+  -- If all required fields of an object are satisfied, then the scan has tested each of the fields.
   wholly_seen :
       (types : List ℕ) (n steps o t i a : ℕ) → AreMarked → IsScanning table graph marks [] types n steps → slice_get types o ≡ Some t
       → is_unfit_field taken.unfit o i ≡ false → Contains (object_needs table graph o t) (i, a) → IsSeen table graph taken o i (field_at graph o i) a

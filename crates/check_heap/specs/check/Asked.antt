@@ -6,15 +6,16 @@ use Rattle.types_spec.specs.types.Table.{Table, is_asked_in}
 abbrev pub asked_pairs : Table → List (ℕ × ℕ) → List (ℕ × ℕ)
 asked_pairs table pairs = filter (λ (pair : ℕ × ℕ). is_asked_in table pair.1) pairs
 
--- All the types are constrained.
+-- All types in the list `types` are constrained.
 abbrev pub AreAsked : Table → List ℕ → Type 0
 AreAsked table types = (o t : ℕ) → slice_get types o ≡ Some t → IsTrue (is_asked_in table t)
 
--- All the types are in the table.
+-- All types in the list `types` are in the table.
 abbrev pub AreWithin : Table → List ℕ → Type 0
 AreWithin table types = (o t : ℕ) → slice_get types o ≡ Some t → t < length table.nodes
 
--- The pairs are all pairs if all the types are constrained, or the pairs with a constrained type.
+-- If all the types are constrained, `pairs` may be all the pairs. In every case, `pairs` may be the
+-- pairs with a constrained type.
 abbrev pub AreReached : Table → List ℕ → List (ℕ × ℕ) → List (ℕ × ℕ) → Type 0
 AreReached table types all pairs =
     ((pairs ≡ all) × AreAsked table types) ⊎ (pairs ≡ asked_pairs table all)

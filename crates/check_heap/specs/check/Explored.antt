@@ -15,12 +15,12 @@ use Rattle.check_heap.specs.check.Known.{AreOrdered, AreKnown}
 abbrev pub ComesBefore : ℕ → ℕ → ℕ → ℕ → Type 0
 ComesBefore k j n r = (k < n) ⊎ ((k ≡ n) × (j < r))
 
--- The fields of an object that have types at its type, in their order. A field is required if its
--- type is constrained.
+-- The fields of an entry's object that have types at the entry's type, in order. A field is
+-- required if the field's type is constrained.
 abbrev pub entry_fields : Table → List Obj → Entry ℕ → List (ℕ × ℕ)
 entry_fields table graph e = typed_fields table graph (vals.Ref e.object) e.type
 
--- A required field of an entry exists, matches its type, and its object is entered.
+-- Field `i` of an entry exists and matches the type `a`, and the object of the field is entered.
 pub record IsMetNeed (table : Table) (graph : List Obj) (known : List (Entry ℕ)) (e : Entry ℕ)
     (i a : ℕ) : Type 0 where
   pub value : Val
@@ -28,7 +28,7 @@ pub record IsMetNeed (table : Table) (graph : List Obj) (known : List (Entry ℕ
   pub fits : (table_shapes table).fits graph value a
   pub entered : IsEntered (table_shapes table) known value a (e.path ++ i ∷ [])
 
--- Required field `need`, number `number`, of an earlier entry leads to the entry.
+-- Required field number `need` of an earlier entry leads to the entry `e`.
 pub record IsLedTo (table : Table) (graph : List Obj) (known : List (Entry ℕ)) (n r : ℕ)
     (e : Entry ℕ) : Type 0 where
   pub parent : ℕ
@@ -42,7 +42,8 @@ pub record IsLedTo (table : Table) (graph : List Obj) (known : List (Entry ℕ))
   pub asked : IsTrue (is_asked_in table type)
   pub path : e.path ≡ entry.path ++ number ∷ []
 
--- The entries so far. All required fields before field `r` of entry `n` are tested.
+-- The entries that a search knows after all required fields before field `r` of entry `n` were
+-- tested.
 pub record AreExplored (table : Table) (graph : List Obj) (root : ℕ) (known : List (Entry ℕ))
     (n r : ℕ) : Type 0 where
   pub rooted : slice_get known 0 ≡ Some (record { path = []; object = root; type = 0 })
@@ -72,7 +73,7 @@ abbrev pub root_of : List Visit → ℕ
 root_of [] = 0
 root_of (v ∷ all) = v.object
 
--- `AreExplored` for the entries of the visits.
+-- The statement `AreExplored` for the entries of the visits.
 pub record IsExplored (table : Table) (graph : List Obj) (all : List Visit) (n r : ℕ) : Type 0 where
   pub known : List (Entry ℕ)
   pub are_known : AreKnown all known

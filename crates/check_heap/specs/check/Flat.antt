@@ -1,4 +1,5 @@
--- Objects with few parts that have no parts. The fast path decides that these have their type.
+-- Objects with few parts that have no parts. The fast path decides that such an object has its
+-- type.
 use Rattle.std.specs.Prelude.{ℕ, ◌≡◌, ◌<◌, ◌&&◌, nat_lt, nat_le, Bool, true, false}
 use Rattle.std.specs.Prelude.{if◌then◌else◌, List, [], ◌∷◌, length, slice_get}
 use Rattle.std.specs.Prelude.{Option, Some, None, option_and_then, is_some}
@@ -12,8 +13,9 @@ use Rattle.types_spec.specs.types.Table.{Table, table_shapes, typed_fields, node
 use Rattle.types_spec.specs.types.Table.{is_asked_in}
 use Rattle.types_spec.specs.types.Typing.{field_at}
 
--- The value matches the type's representation. If it is an object, then it has no fields with
--- types, and its number is greater than that of the last object. It becomes the last object.
+-- The value matches the type's representation. If the value is an object, the value has no fields
+-- with types, and becomes the last object. The number of the new last object is greater than
+-- `last`.
 abbrev pub IsFlat : Table → List Obj → Val → ℕ → ℕ → ℕ → Type 0
 IsFlat table graph (vals.Int z) t last next = (table_shapes table).fits graph (vals.Int z) t
 IsFlat table graph (vals.Atom tag) t last next = (table_shapes table).fits graph (vals.Atom tag) t
@@ -24,23 +26,23 @@ IsFlat table graph (vals.Ref o) t last next =
 -- ---- whether all parts are flat
 
 -- The last object after a value whose fields with types are `fields`. If the value is an object,
--- then it becomes the last one. Its number must be greater than that of the last object, and it
--- must have no such fields.
+-- the value becomes the last object, must have no typed fields, and must have a number greater than
+-- `last`.
 abbrev pub last_with : Val → ℕ → List (ℕ × ℕ) → Option ℕ
 last_with (vals.Int z) last fields = Some last
 last_with (vals.Atom tag) last fields = Some last
 last_with (vals.Ref o) last [] = if nat_lt last o then Some o else None
 last_with (vals.Ref o) last (field ∷ fields) = None
 
--- The last object after a part at type `t`. If the type is constrained, then the part must match
--- it.
+-- The last object after a part at type `t`. If the type is constrained, the part must match the
+-- type.
 abbrev pub last_behind : Table → List Obj → ℕ → ℕ → Val → Option ℕ
 last_behind table graph t last v =
     if is_asked_in table t then option_and_then (last_with v last)
     (fields_of graph v (node_or_none (slice_get table.nodes t)))
     else Some last
 
--- The last object after these parts of the object, one after the other.
+-- The last object after the parts `parts` of object `o`, one after another.
 abbrev pub last_of_all : Table → List Obj → ℕ → List (ℕ × ℕ) → ℕ → Option ℕ
 last_of_all table graph o [] last = Some last
 last_of_all table graph o (part ∷ parts) last =
@@ -60,7 +62,7 @@ is_of_blocks (shapes.Product mutable types) = true
 is_of_blocks (shapes.Sum constants blocks) = true
 is_of_blocks shape = false
 
--- The object has such a shape and matches type 0, and its parts are flat.
+-- The object has a shape of blocks and matches type 0, and the object's parts are flat.
 abbrev pub is_sure : Table → List Obj → Val → Bool
 is_sure table graph (vals.Int z) = false
 is_sure table graph (vals.Atom tag) = false

@@ -10,7 +10,7 @@ abbrev pub AreOrdered : List Visit → Type 0
 AreOrdered all = (k : ℕ) (v : Visit) → 0 < k → slice_get all k ≡ Some v → v.parent < k
 
 -- The entries have the objects and types of the visits. The first entry has the empty path. Each
--- other entry has the path of its parent, extended by its step.
+-- further entry has the path of its parent, extended by the entry's step.
 pub record AreKnown (all : List Visit) (known : List (Entry ℕ)) : Type 0 where
   pub many : length known ≡ length all
   pub objects :
@@ -25,18 +25,18 @@ pub record AreKnown (all : List Visit) (known : List (Entry ℕ)) : Type 0 where
       → slice_get known k ≡ Some e → slice_get known v.parent ≡ Some p
       → e.path ≡ p.path ++ v.step ∷ []
 
--- The path to visit `k`.
+-- The path `path` leads to visit `k`.
 abbrev pub IsPathOf : List Visit → ℕ → List ℕ → Type 0
 IsPathOf all k path =
     (known : List (Entry ℕ)) (e : Entry ℕ) → AreKnown all known → slice_get known k ≡ Some e
     → path ≡ e.path
 
--- The fault is the aliasing conflict with the paths to the two visits.
+-- The fault is the aliasing conflict of visits `i` and `k`, with the paths to the visits.
 abbrev pub IsConflictOf : List Visit → ℕ → ℕ → Fault → Type 0
 IsConflictOf all i k (Mismatch path) = ⊥
 IsConflictOf all i k (Conflict first second) = IsPathOf all i first × IsPathOf all k second
 
--- The path to visit `k` is the path to visit `at`, extended by these steps.
+-- The path to visit `k` is the path to visit `at`, extended by the steps `steps`.
 pub record IsRestOf (all : List Visit) (k at : ℕ) (steps : List ℕ) : Type 0 where
   pub within : at < length all
   pub rest :

@@ -11,9 +11,9 @@ use Rattle.check_heap.specs.check.Known.{AreOrdered, AreKnown}
 
 -- The visits are complete and minimal:
 --
--- - The path of each visit leads to its object at its type.
--- - If some path leads to an object at a type, then that object is visited at an equal type, with a
---   path that is not after that one.
+-- - The path of each visit leads to the visit's object at the visit's type.
+-- - If some path leads to an object at a type, the object is visited at an equal type. The path of
+--   the visit is not after the given path.
 -- - No object is visited twice at equal types.
 -- - The paths increase.
 pub record AreAllMet (table : Table) (graph : List Obj) (root : Val) (all : List Visit)

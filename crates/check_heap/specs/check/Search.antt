@@ -29,13 +29,14 @@ FitAll table graph all =
     (k : ℕ) (v : Visit) → slice_get all k ≡ Some v
     → (table_shapes table).fits graph (vals.Ref v.object) v.ty
 
--- If the value is an object, then it is visited; otherwise nothing changes.
+-- If the value is an object, the value is visited. If the value is no object, nothing changes.
 abbrev pub EntersValue : Table → List Visit → List Visit → RequiredField → Val → Type 0
 EntersValue table old new need (vals.Int z) = new ≡ old
 EntersValue table old new need (vals.Atom tag) = new ≡ old
 EntersValue table old new need (vals.Ref o) = Enters table old new o need.ty need.parent need.step
 
--- Either the value of the field matches and is visited, or it does not match and nothing changes.
+-- If the value of the field matches, the value is visited. If the value does not match, nothing
+-- changes.
 pub record TestsNeed (table : Table) (graph : List Obj) (old new : List Visit)
     (need : RequiredField)
     (met : Bool) : Type 0 where
@@ -49,7 +50,7 @@ pub record TestsNeed (table : Table) (graph : List Obj) (old new : List Visit)
 
 -- ---- one visit
 
--- The path to visit `n`, extended by the field, is the first fault.
+-- The path to visit `n`, extended by the field `step`, is the first fault.
 pub record IsMismatchAt (table : Table) (graph : List Obj) (all : List Visit) (n step : ℕ)
     : Type 0 where
   pub in_range : n < length all
@@ -63,7 +64,7 @@ pub record Grows (old new : List Visit) : Type 0 where
   pub added : List Visit
   pub extends : new ≡ old ++ added
 
--- Of the first `r` fields of visit `n`, all required ones are tested.
+-- All required fields among the first `r` fields of visit `n` are tested.
 pub record IsTesting (table : Table) (graph : List Obj) (old now : List Visit) (n r : ℕ)
     : Type 0 where
   pub grows : Grows old now
@@ -80,7 +81,7 @@ pub record TestsVisit (table : Table) (graph : List Obj) (old new : List Visit) 
 abbrev pub visit_needs : Table → List Obj → Visit → List (ℕ × ℕ)
 visit_needs table graph v = (table_shapes table).needs graph (vals.Ref v.object) v.ty
 
--- The fields of a visit's object that have types, in their order.
+-- The fields of a visit's object that have types at the visit's type, in order.
 abbrev pub visit_fields : Table → List Obj → Visit → List (ℕ × ℕ)
 visit_fields table graph v = typed_fields table graph (vals.Ref v.object) v.ty
 
@@ -90,7 +91,7 @@ AreSeen table graph taken v seen =
     (i a : ℕ) → i < seen → Contains (visit_needs table graph v) (i, a)
     → IsSeen table graph taken v.object i (heap.field_at graph v.object i) a
 
--- The type has the class of the given one.
+-- The type `t` has the class of the given type, if a type is given.
 abbrev pub is_of_class : Table → Option ℕ → ℕ → Bool
 is_of_class table None t = false
 is_of_class table (Some u) t = slice_index table.classes u == slice_index table.classes t
@@ -99,8 +100,8 @@ is_of_class table (Some u) t = slice_index table.classes u == slice_index table.
 abbrev pub is_taken : Table → TakenObjects → Visit → Bool
 is_taken table taken v = is_of_class table (slice_get (types_in taken) v.object) v.ty
 
--- The steps of a visit: one for the visit, and one for each field of its object. If a scan has
--- checked the object, then one for each field that the scan did not test.
+-- The number of steps of a visit. If a scan has checked the object, one step for each field that
+-- the scan did not test. If not, one step for the visit and one for each field.
 abbrev pub counted : Table → List Obj → TakenObjects → Visit → ℕ
 counted table graph taken v =
     if is_taken table taken v then rest_of (size_of graph v.object) (seen_of taken v.object)
@@ -122,7 +123,7 @@ pub record Searches (table : Table) (graph : List Obj) (old new : List Visit)
   pub tested : MatchOption mismatch (IsExplored table graph new (length new) 0)
       (λ at. IsMismatchAt table graph new at.0 at.1)
 
--- The steps of the first `n` visits.
+-- The number of steps of the first `n` visits.
 abbrev pub spent : Table → List Obj → TakenObjects → List Visit → ℕ → ℕ
 spent table graph taken [] n = 0
 spent table graph taken (v ∷ all) zero = 0
@@ -135,8 +136,8 @@ pairs_of all = map (λ (v : Visit). (v.object, v.ty)) all
 
 -- ---- loops
 
--- Of the fields with types of visit `n`, the first `r` are tested, up to the fields below
--- `reached`. Each field that no scan has tested takes one step.
+-- The first `r` fields with types of visit `n` are tested, up to the fields below `reached`. Each
+-- field that no scan has tested takes one step.
 pub record IsTestingVisit (table : Table) (graph : List Obj) (old now : Visits) (v : Visit)
     (n r seen start steps : ℕ) : Type 0 where
   pub linked : AreLinked table (length graph) now

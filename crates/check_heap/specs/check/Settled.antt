@@ -20,8 +20,8 @@ pub record AreOver (table : Table) (graph : List Obj) (types : List ℕ) (second
   pub scanned : IsScannedBut table graph types seconds
   pub paths : (o t : ℕ) → Contains (noted_in seconds) (o, t) → HasPath table graph (vals.Ref 0) o t
 
--- The object matches the type's representation, all its required fields are found, and it is
--- mutable neither at that type nor at its first one.
+-- The object matches the type's representation, and all required fields of the object are found.
+-- The object is mutable neither at the type `t` nor at its first type.
 pub record IsSettledAt (table : Table) (graph : List Obj) (types : List ℕ) (seconds : SecondTypes)
     (o t : ℕ) : Type 0 where
   pub fits : (table_shapes table).fits graph (vals.Ref o) t
@@ -43,7 +43,7 @@ pub record Extends (old new : List (ℕ × ℕ)) : Type 0 where
   pub added : List (ℕ × ℕ)
   pub is : new ≡ old ++ added
 
--- Further pairs may be recorded, and the value is found at the type.
+-- The value is found at the type, after further pairs may have been recorded.
 pub record Finds (table : Table) (graph : List Obj) (types : List ℕ) (old new : SecondTypes)
     (v : Val)
     (t : ℕ) : Type 0 where
@@ -51,8 +51,8 @@ pub record Finds (table : Table) (graph : List Obj) (types : List ℕ) (old new 
   pub extends : Extends (noted_in old) (noted_in new)
   pub found : IsFoundIn table graph (pairs_with types new) v t
 
--- Further pairs may be recorded. Of the first `r` fields with types of an object, all required ones
--- are found.
+-- All required fields among the first `r` typed fields of an object are found, after further pairs
+-- may have been recorded.
 pub record FindsNeeds (table : Table) (graph : List Obj) (types : List ℕ) (old new : SecondTypes)
     (o t r : ℕ) : Type 0 where
   pub over : AreOver table graph types new
@@ -62,14 +62,14 @@ pub record FindsNeeds (table : Table) (graph : List Obj) (types : List ℕ) (old
       → IsTrue (is_asked_in table a)
       → IsFoundIn table graph (pairs_with types new) (field_at graph o i) a
 
--- Further pairs may be recorded, and pair `n` is settled, too.
+-- Pair `n` is settled like the pairs before, after further pairs may have been recorded.
 pub record Settles (table : Table) (graph : List Obj) (types : List ℕ) (old new : SecondTypes)
     (n : ℕ)
     : Type 0 where
   pub settling : IsSettling table graph types new (n + 1)
   pub extends : Extends (noted_in old) (noted_in new)
 
--- One step for each pair, and one for each field of its object.
+-- The sum of one step for each pair and one step for each field of the pair's object.
 abbrev pub cost_of_pairs : List Obj → List (ℕ × ℕ) → ℕ
 cost_of_pairs graph pairs = sum_by (λ (pair : ℕ × ℕ). 1 + size_of graph pair.0) pairs
 

@@ -10,8 +10,8 @@ use Rattle.check_heap.specs.scan.Paths.{HasPath}
 use Rattle.check_heap.specs.declared.check.verdict.Verdict.{Verdict}
 use Rattle.check_heap.specs.declared.check.verdict.Verdict.TheVariants.{Yes, No}
 
--- The pairs justify one another. If the root is a reference, then they contain its object at an
--- equal type. They contain no object twice at one class.
+-- The pairs justify one another. If the root is a reference, the pairs contain the root's object at
+-- a type equal to type 0. The pairs contain no object twice at one class.
 pub record IsYes (table : Table) (graph : List Obj) (root : Val) (pairs : List (ℕ × ℕ))
     : Type 0 where
   pub typing : IsTyping (table_shapes table) graph pairs

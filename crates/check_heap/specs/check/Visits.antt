@@ -9,13 +9,13 @@ use Rattle.check_heap.specs.declared.check.visits.Visits.{Visits}
 abbrev pub listed : Visits → List Visit
 listed v = v.all
 
--- Some visit is of the object at a type of the class.
+-- Some visit is of the object `o` at a type of the class.
 abbrev pub IsMet : Table → List Visit → ℕ → Option ℕ → Type 0
 IsMet table all o class =
     (k : ℕ) × (v : Visit) × (slice_get all k ≡ Some v) × (v.object ≡ o)
     × (slice_get table.classes v.ty ≡ class)
 
--- The first visit of the object is at this type.
+-- The first visit of the object `o` is at type `t`.
 pub record IsFirstAt (all : List Visit) (o t : ℕ) : Type 0 where
   pub position : ℕ
   pub visit : Visit
@@ -24,8 +24,8 @@ pub record IsFirstAt (all : List Visit) (o t : ℕ) : Type 0 where
   pub type : visit.ty ≡ t
   pub none : (j : ℕ) (v : Visit) → j < position → slice_get all j ≡ Some v → ¬ (v.object ≡ o)
 
--- The records contain for each object the type of its first visit, and the other classes at which
--- it was visited.
+-- The records contain for each object the type of the object's first visit, and the further classes
+-- at which the object was visited.
 pub record AreNoted (table : Table) (all : List Visit) (first : List ℕ) (later : ℕ → ℕ → Type 0)
     : Type 0 where
   pub unmet : (o k : ℕ) (v : Visit) → slice_get first o ≡ Some 0 → slice_get all k ≡ Some v
@@ -41,13 +41,12 @@ pub record AreLinked (table : Table) (objects : ℕ) (visits : Visits) : Type 0 
   pub many : length visits.first ≡ objects
   pub noted : AreNoted table (listed visits) visits.first (Has visits.later)
 
--- One more visit at the end.
+-- The new list of visits is the old list with one more visit at the end.
 abbrev pub IsAppended : List Visit → List Visit → ℕ → ℕ → ℕ → ℕ → Type 0
 IsAppended old new o t parent step =
     new ≡ old ++ record { object = o; ty = t; parent = parent; step = step } ∷ []
 
--- Either the object was visited at the type's class before and nothing changes, or it was not and a
--- visit is added.
+-- If the object was visited at the type's class before, nothing changes. If not, a visit is added.
 abbrev pub Enters : Table → List Visit → List Visit → ℕ → ℕ → ℕ → ℕ → Type 0
 Enters table old new o t parent step =
     (IsMet table old o (slice_get table.classes t) × (new ≡ old))

@@ -23,12 +23,13 @@ pub record IsRowOf (shape : ShapeOf ℕ) (row : WordConditions) : Type 0 where
   pub tags : (n : ℕ) (object : Obj) → IsObject n object → header_of object % 1024 ≡ row.tag
       → IsSome (object_fields shape object)
 
--- The header of a block with tag 0 and `size` fields. If `size` is too large for a header, it is a
--- header that no object has.
+-- The header of a block with tag 0 and `size` fields. If `size` is too large for a header, the
+-- header is 1023, which no object has.
 abbrev pub IsSized : ℕ → ℕ → Type 0
 IsSized header size = (header ≡ size * 1024) ⊎ ((header ≡ 1023) × (2 ^ 53 ≤ size))
 
--- The same for the first constructor with arguments.
+-- The header of the first constructor with arguments. If there is no such constructor, the header
+-- is 1023.
 abbrev pub IsFirstHeader : List (Constr ℕ) → ℕ → Type 0
 IsFirstHeader [] header = header ≡ 1023
 IsFirstHeader (constr ∷ blocks) header = IsSized header (length constr.fields)
@@ -38,8 +39,8 @@ abbrev pub IsSizeAt : List (Constr ℕ) → ℕ → ℕ → Type 0
 IsSizeAt blocks k size =
     (constr : Constr ℕ) → slice_get blocks k ≡ Some constr → size ≡ length constr.fields
 
--- The `more` constructors after the first one have the same number of fields. If that number is too
--- large for a header, then `more` is 0.
+-- The `more` constructors after the first one have as many fields as the first. If the number of
+-- fields is too large for a header, `more` is 0.
 pub record Agrees (first : Constr ℕ) (blocks : List (Constr ℕ)) (more : ℕ) : Type 0 where
   pub few : more < 244
   pub there : more < length (first ∷ blocks)
@@ -47,7 +48,7 @@ pub record Agrees (first : Constr ℕ) (blocks : List (Constr ℕ)) (more : ℕ)
   pub agree : (k : ℕ) (constr : Constr ℕ) → k ≤ more → slice_get (first ∷ blocks) k ≡ Some constr
       → length constr.fields ≡ length first.fields
 
--- The same, by the index of the constructors in the list.
+-- The first `more + 1` constructors of the list have the same number of fields, stated by index.
 pub record AgreeTo (blocks : List (Constr ℕ)) (more : ℕ) : Type 0 where
   pub few : more < 244
   pub there : more < length blocks

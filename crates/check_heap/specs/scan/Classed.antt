@@ -17,11 +17,11 @@ IsInCell cells o c = slice_get cells o ≡ Some (suc c)
 abbrev pub Has : Classed → ℕ → ℕ → Type 0
 Has classed o c = IsInCell classed.cells.items o c ⊎ IsTrue (contains pair_cmp classed.more (o, c))
 
--- There are no cells and no other pairs.
+-- The set has no cells, and no pairs outside of cells.
 abbrev pub IsUntouched : Classed → Type 0
 IsUntouched classed = (classed.cells.items ≡ []) × (classed.more.keys ≡ [])
 
--- The cells contain the same classes.
+-- The cells `old` and the cells `new` contain the same pairs.
 abbrev pub Agree : List ℕ → List ℕ → Type 0
 Agree old new = (o c : ℕ) → IsInCell old o c ↔ IsInCell new o c
 

@@ -5,7 +5,7 @@ use Rattle.types_spec.specs.types.Table.{node_or_none}
 use Rattle.check_heap.specs.declared.fits.word_conditions.WordConditions.{WordConditions}
 use Rattle.check_heap.specs.fits.Row.{IsRowOf}
 
--- Each row is the row of the type with its number.
+-- Row `i` is a row of the type with number `i`.
 abbrev pub AreRows : List (ShapeOf ℕ) → List WordConditions → Type 0
 AreRows nodes rows =
     (i : ℕ) (row : WordConditions) → slice_get rows i ≡ Some row

@@ -24,9 +24,9 @@ IsWildcard table t = (t < length table.nodes) × (is_asked_in table t ≡ false)
 abbrev pub IsLed : Table → List Obj → ℕ → ℕ → Type 0
 IsLed table graph o t = IsTrue (is_asked_in table t) → HasPath table graph (vals.Ref 0) o t
 
--- For each object, some path from the first object leads to it at its type in the result, unless
--- the type does not constrain its values. For each noted pair, some path leads to the object at the
--- type.
+-- If an object has a type that constrains its values in the result, then some path from the first
+-- object leads to the object at the type. For each noted pair, some path leads to the pair's object
+-- at the pair's type.
 abbrev pub HavePaths : Table → List Obj → Scanned → Type 0
 HavePaths table graph (answers.Known types) =
     (o t : ℕ) → slice_get types o ≡ Some t → IsLed table graph o t

@@ -20,13 +20,13 @@ use Rattle.check_heap.specs.scan.Scanned.{object_typed, cost_of}
 
 -- ---- marks
 
--- The mark of an object: 0 if it was not referenced; otherwise 1 plus the type at which it was
--- first referenced.
+-- The mark of an object. If the object was not referenced, the mark is 0. If the object was
+-- referenced, the mark is 1 plus the type of the first reference.
 abbrev pub mark_of : List Obj → List ℕ → ℕ → ℕ
 mark_of graph marks o = slice_index marks (key_of graph o)
 
--- There is a mark for each object. Each mark is 0, or 1 plus a type. If that type constrains its
--- values, then some path leads to the object at that type.
+-- There is a mark for each object. Each mark is 0, or 1 plus a type. If the type of a mark
+-- constrains its values, some path leads to the marked object at the type.
 pub record AreMarks (table : Table) (graph : List Obj) (marks : List ℕ) : Type 0 where
   pub keyed : (o : ℕ) → o < length graph → key_of graph o < length marks
   pub small : (key : ℕ) → slice_index marks key ≤ length table.nodes
@@ -39,7 +39,8 @@ AreKept old new = (key : ℕ) → 0 < slice_index old key → slice_index new ke
 
 -- ---- noted objects
 
--- An object that was referenced at another class before, and that some path reaches at this type.
+-- The object `o` was referenced at another class before, and some path reaches the object at type
+-- `t`.
 pub record IsSecond (table : Table) (graph : List Obj) (marks : List ℕ) (o t : ℕ) : Type 0 where
   pub inside : o < length graph
   pub within : t < length table.nodes
@@ -53,23 +54,23 @@ pub record AreNoted (table : Table) (graph : List Obj) (marks : List ℕ) (secon
   pub valid : AreSeconds table seconds
   pub all : (o t : ℕ) → Contains (noted_in seconds) (o, t) → IsSecond table graph marks o t
 
--- All noted pairs are still noted.
+-- All pairs that were noted in `old` are noted in `new`.
 abbrev pub AreStillNoted : List (ℕ × ℕ) → List (ℕ × ℕ) → Type 0
 AreStillNoted old new = (p : ℕ × ℕ) → Contains old p → Contains new p
 
--- Either the object of the word was noted at an equal type and nothing changed, or the pair was
--- appended.
+-- If the object of the word was noted at an equal type, nothing changes. If not, the pair of the
+-- object and the type is appended.
 abbrev pub IsNotedAt :
     Table → List Obj → List (ℕ × ℕ) → List (ℕ × ℕ) → ℕ → ℕ → Type 0
 IsNotedAt table graph old new word t =
     (o : ℕ) × (o < length graph) × (word ≡ word_of graph (vals.Ref o)) × IsNoting table old new o t
 
--- The first one that was known, or this one.
+-- The first noted object that is already known, or `first` if none is known.
 abbrev pub first_or : Option First → First → Option First
 first_or None first = Some first
 first_or (Some known) first = Some known
 
--- The record of an object that was referenced at a second class by this field of object `o`.
+-- The record of an object that was referenced at a second class by field `field` of object `o`.
 abbrev pub first_of : ℕ → ℕ → ℕ → ℕ → ℕ → First
 first_of o t position field steps = record {
   object = o;
@@ -80,8 +81,8 @@ first_of o t position field steps = record {
 
 -- ---- required fields
 
--- The value is satisfied at the type: a value that is no object matches the type; an object is
--- marked with an equal type.
+-- The value is satisfied at the type. A value that is no object must match the type, and an object
+-- must be marked with an equal type.
 abbrev pub IsMet : Table → List Obj → List ℕ → Val → ℕ → Type 0
 IsMet table graph marks (vals.Int z) t = (table_shapes table).fits graph (vals.Int z) t
 IsMet table graph marks (vals.Atom tag) t = (table_shapes table).fits graph (vals.Atom tag) t
@@ -115,8 +116,8 @@ AreMet table graph marks noted o t r =
     → IsTrue (is_asked_in table a)
     → IsMet table graph marks (field_at graph o i) a ⊎ IsNoted table noted (field_at graph o i) a
 
--- This required field, by its index among the typed fields, is the first whose value is neither
--- satisfied nor noted.
+-- The required field `unmet` is the first field of the object whose value is neither satisfied nor
+-- noted.
 pub record IsUnmet (table : Table) (graph : List Obj) (marks : List ℕ) (noted : List (ℕ × ℕ))
     (o t : ℕ) (unmet : Unmet) : Type 0 where
   pub type : ℕ
@@ -126,8 +127,8 @@ pub record IsUnmet (table : Table) (graph : List Obj) (marks : List ℕ) (noted 
   pub unfit : IsTrue unmet.unfit → IsUnfit table graph (field_at graph o unmet.field) type
   pub small : unmet.field + 1 < 2 ^ 64
 
--- The first object was noted at a required field of this object, before which `steps` steps were
--- counted.
+-- The first noted object was noted at a required field of object `o`, before which `steps` steps
+-- were counted.
 pub record IsFirstOf (table : Table) (graph : List Obj) (marks : List ℕ) (o t steps : ℕ)
     (first : First) : Type 0 where
   pub object : first.object ≡ o
@@ -135,7 +136,7 @@ pub record IsFirstOf (table : Table) (graph : List Obj) (marks : List ℕ) (o t 
   pub before : first.steps ≡ steps
   pub unmet : IsUnmet table graph marks [] o t first.unmet
 
--- If an object was noted, then it is known where the first one was noted.
+-- If an object was noted, the notes record the field at which the first object was noted.
 abbrev pub IsKnownIn : Table → List Obj → List ℕ → ℕ → ℕ → ℕ → Notes → Notes → Type 0
 IsKnownIn table graph marks o t steps old new =
     MatchOption old.first
@@ -163,10 +164,10 @@ Continues table graph now new notes more o t steps r s =
     (old : List ℕ) (before : Notes) → IsMeeting table graph old now before notes o t r steps
     → IsMeeting table graph old new before more o t s steps
 
--- ---- objects
+-- ---- checked objects
 
--- The object is marked with the type and matches it, and the values of all its required fields are
--- satisfied or noted.
+-- The object is marked with the type and matches the type, and the values of all required fields of
+-- the object are satisfied or noted.
 pub record IsTaken (table : Table) (graph : List Obj) (marks : List ℕ) (noted : List (ℕ × ℕ))
     (o t : ℕ) : Type 0 where
   pub marked : mark_of graph marks o ≡ suc t
@@ -182,8 +183,8 @@ pub record IsScanning (table : Table) (graph : List Obj) (marks : List ℕ) (not
   pub taken : (o t : ℕ) → slice_get types o ≡ Some t → IsTaken table graph marks noted o t
   pub few : steps ≤ cost_of graph types
 
--- The scan ends at the object: it is not marked, does not match the type that it is marked with, or
--- matches and has a required field that is not satisfied.
+-- The scan ends at the object for one of three reasons. The object is not marked, does not match
+-- the type of its mark, or matches and has a required field that is not satisfied.
 abbrev pub Stops : Table → List Obj → List ℕ → List (ℕ × ℕ) → ℕ → ScanStop → Type 0
 Stops table graph marks noted o stops.Unmarked = Unit {0}
 Stops table graph marks noted o stops.Mismatches =
@@ -192,8 +193,9 @@ Stops table graph marks noted o (stops.Needs t unmet) =
     (mark_of graph marks o ≡ suc t)
     × ((table_shapes table).fits graph (vals.Ref o) t × IsUnmet table graph marks noted o t unmet)
 
--- Either all required fields of an object are satisfied or noted, with at most one step plus one
--- for each; or one is the first that is not, and no step is counted.
+-- If the result is true, all required fields of the object are satisfied or noted, with at most one
+-- step plus one for each field. If the result is false, some first field is not, and no step is
+-- counted.
 abbrev pub IsTried :
     Table → List Obj → List ℕ → List (ℕ × ℕ) → ℕ → ℕ → ℕ → ℕ → ScanStop → Bool → Type 0
 IsTried table graph marks noted o t old new stop true =
@@ -218,7 +220,8 @@ pub record IsStoppedAt (table : Table) (graph : List Obj) (marks types : List �
   pub stops : Stops table graph marks [] first.object (stops.Needs first.ty first.unmet)
   pub row : slice_get types first.object ≡ Some first.ty
 
--- The notes. If any object was noted, the first one was noted at one of the first `n` objects.
+-- The notes are correct. If any object was noted, the first one was noted at one of the first `n`
+-- objects.
 pub record AreNotes (table : Table) (graph : List Obj) (marks types : List ℕ) (n : ℕ)
     (notes : Notes) : Type 0 where
   pub noted : AreNoted table graph marks notes.seconds
@@ -226,14 +229,14 @@ pub record AreNotes (table : Table) (graph : List Obj) (marks types : List ℕ) 
       MatchOption notes.first (noted_in notes.seconds ≡ [])
       (IsStoppedAt table graph marks types n)
 
--- The first `o` objects were checked.
+-- The first `o` objects were checked, in `steps` steps.
 pub record IsGoing (table : Table) (graph : List Obj) (marks types : List ℕ) (notes : Notes)
     (o steps : ℕ) : Type 0 where
   pub scanning :
       IsScanning table graph marks (noted_in notes.seconds) (take o types) o steps
   pub noted : AreNotes table graph marks types o notes
 
--- The first `o` objects were checked, and the scan ends at the next one.
+-- The first `o` objects were checked, and the scan ends at object `o`.
 pub record IsStopped (table : Table) (graph : List Obj) (marks types : List ℕ) (notes : Notes)
     (o steps : ℕ) (stop : ScanStop) : Type 0 where
   pub scanning :

@@ -22,8 +22,8 @@ use Rattle.check_heap.specs.scan.Taken.{rest_of}
 abbrev pub object_needs : Table → List Obj → ℕ → ℕ → List (ℕ × ℕ)
 object_needs table graph o t = (table_shapes table).needs graph (vals.Ref o) t
 
--- The typed fields of an object at a type, by index. A field is required if its type constrains its
--- values.
+-- The typed fields of an object at a type, by index. A field is required if the field's type
+-- constrains its values.
 abbrev pub object_typed : Table → List Obj → ℕ → ℕ → List (ℕ × ℕ)
 object_typed table graph o t = typed_fields table graph (vals.Ref o) t
 
@@ -37,8 +37,8 @@ pub record IsScanned (table : Table) (graph : List Obj) (types : List ℕ) : Typ
 
 -- ---- objects referenced at a second class
 
--- The value is found at the type: a value that is no object matches; an object is listed at an
--- equal type.
+-- The value is found at the type. A value that is no object must match, and an object must be
+-- listed at an equal type.
 abbrev pub IsFoundIn : Table → List Obj → List (ℕ × ℕ) → Val → ℕ → Type 0
 IsFoundIn table graph pairs (vals.Int z) t = (table_shapes table).fits graph (vals.Int z) t
 IsFoundIn table graph pairs (vals.Atom tag) t = (table_shapes table).fits graph (vals.Atom tag) t
@@ -75,16 +75,16 @@ pub record IsScannedBut (table : Table) (graph : List Obj) (types : List ℕ) (s
 
 -- ---- inconclusive scans
 
--- An object was tested at a type. If it was checked, then it was checked at an equal type. If it
--- was found to be a mismatch, then it does not match the type.
+-- The object `o` was tested at the type `t`. If the object was checked, it was checked at an equal
+-- type. If the object was found to be a mismatch, the object does not match `t`.
 pub record IsSeenObject (table : Table) (graph : List Obj) (taken : TakenObjects)
     (o t : ℕ) : Type 0 where
   pub taken_at : (u : ℕ) → slice_get (types_in taken) o ≡ Some u → (table_shapes table).equal u t
   pub unfit : IsTrue (is_unfit_object taken.unfit o)
       → ¬ (table_shapes table).fits graph (vals.Ref o) t
 
--- Field `i` of object `o` was tested at a type. If its value is no object, then it matches, unless
--- it was found to be a mismatch.
+-- Field `i` of object `o` was tested at a type. If the field's value is no object, then the value
+-- matches unless the field was found to be a mismatch.
 abbrev pub IsSeen : Table → List Obj → TakenObjects → ℕ → ℕ → Val → ℕ → Type 0
 IsSeen table graph taken o i (vals.Int z) t =
     MatchBool (is_unfit_field taken.unfit o i) (¬ (table_shapes table).fits graph (vals.Int z) t)
@@ -94,8 +94,8 @@ IsSeen table graph taken o i (vals.Atom tag) t =
     ((table_shapes table).fits graph (vals.Atom tag) t)
 IsSeen table graph taken o i (vals.Ref p) t = IsSeenObject table graph taken p t
 
--- The first objects, each at a type that it matches. Their required fields were tested; for the
--- last object, only the first fields were tested.
+-- The objects that a scan checked, each at a type that the object matches. All required fields of
+-- these objects were tested, except that only the first fields of the last object were tested.
 pub record AreTaken (table : Table) (graph : List Obj) (taken : TakenObjects) : Type 0 where
   pub many : length (types_in taken) ≤ length graph
   pub within : (o t : ℕ) → slice_get (types_in taken) o ≡ Some t → t < length table.nodes
@@ -106,23 +106,23 @@ pub record AreTaken (table : Table) (graph : List Obj) (taken : TakenObjects) : 
       → Contains (object_needs table graph o t) (i, a)
       → IsSeen table graph taken o i (field_at graph o i) a
 
--- The meaning of a result: the type of each object, possibly with noted pairs, or the types of the
--- first objects.
+-- The meaning of a scan's result: the type of each object, possibly with noted pairs, or the types
+-- of the first objects.
 abbrev pub Reports : Table → List Obj → Scanned → Type 0
 Reports table graph (answers.Known types) = IsScanned table graph types
 Reports table graph (answers.Noted noted) =
     IsScannedBut table graph noted.taken.types noted.seconds × AreTaken table graph noted.taken
 Reports table graph (answers.Stopped taken) = AreTaken table graph taken
 
--- One step for each object and one for each of its fields.
+-- The sum of one step for each object and one step for each field of the object.
 abbrev pub cost_of : List Obj → List ℕ → ℕ
 cost_of graph types = sum_by (λ (entry : ℕ × ℕ). 1 + size_of graph entry.0) (numbered_from 0 types)
 
--- The number of fields of the last object that were not tested.
+-- The number of fields of the last checked object that were not tested.
 abbrev pub left_of : List Obj → TakenObjects → ℕ
 left_of graph taken = rest_of (size_of graph (taken.objects - 1)) taken.seen
 
--- Bounds on the steps.
+-- Bounds on the steps of a scan.
 --
 -- - If the scan determined all types, then the steps plus one are within the bound.
 -- - If the scan is inconclusive, then the steps plus the untested fields of the last object are

@@ -1,4 +1,4 @@
--- Objects at the types at which they were referenced after the first one.
+-- Objects at the types at which they were referenced after their first type.
 use Rattle.std.specs.Prelude.{ℕ, ◌≡◌, ◌⊎◌, List, [], ◌∷◌, ◌++◌, map, Some, slice_get, Contains}
 use Rattle.base_data.specs.declared.model.value.Val.TheVariants as vals
 use Rattle.types_spec.specs.types.Table.{Table, table_shapes}
@@ -20,8 +20,8 @@ pub record AreSeconds (table : Table) (seconds : SecondTypes) : Type 0 where
       → (t : ℕ) × Contains (noted_in seconds) (o, t) × (slice_get table.classes t ≡ Some c)
   pub apart : AreApart (map (key_of table) (noted_in seconds))
 
--- Either the object was present at an equal type and nothing changed, or it was not and the pair
--- was appended.
+-- If the object was present at an equal type, nothing changes. If not, the pair of the object and
+-- the type is appended.
 abbrev pub IsNoting : Table → List (ℕ × ℕ) → List (ℕ × ℕ) → ℕ → ℕ → Type 0
 IsNoting table old new o t =
     (IsListed (table_shapes table) old (vals.Ref o) t × (new ≡ old))

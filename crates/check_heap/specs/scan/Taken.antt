@@ -1,4 +1,4 @@
--- The objects that a scan checked before it ended, and the fields that it tested.
+-- The objects that a scan checked before the scan ended, and the fields that the scan tested.
 use Rattle.std.specs.Prelude.{ℕ, suc, ◌-◌, ◌==◌, nat_lt, if◌then◌else◌, ◌&&◌, Bool, false, List}
 use Rattle.std.specs.Prelude.{length, take}
 use Rattle.base_data.specs.declared.model.value.Obj.{Obj}

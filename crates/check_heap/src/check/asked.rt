@@ -49,7 +49,7 @@ pub fn settled_typing(
     Ok(Typing::listed(pairs))
 }
 
-/// Returns true only if all these types are constrained.
+/// Returns true only if all types in `types` are constrained.
 fn are_asked(table: &TypeTable, types: &Cells) -> bool
     requires { AreWithin (table_of table.now) types.now }
     ensures { IsTrue result → AreAsked (table_of table.now) types.now }
@@ -66,7 +66,7 @@ fn are_asked(table: &TypeTable, types: &Cells) -> bool
 }
 
 /// Returns true only if all types of the table are constrained. If there are more types than
-/// objects, it does not test them and returns false.
+/// objects, returns false without a test.
 fn all_asked(table: &TypeTable, objects: usize) -> bool
     ensures { IsTrue result → (t : ℕ) → t < length table.now.nodes
         → IsTrue (is_asked_in (table_of table.now) t) }
@@ -97,7 +97,7 @@ fn pairs_asked(alloc: Global, table: &TypeTable, types: &Cells) -> Result<Vec<(u
     Ok(pairs)
 }
 
-/// Appends the recorded objects at their second types, without those at unconstrained types.
+/// Appends the recorded objects at their second types. Omits the objects at unconstrained types.
 fn write_noted(
     pairs: &mut Vec<(u64, usize)>,
     table: &TypeTable,

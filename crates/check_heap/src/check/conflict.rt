@@ -1,5 +1,5 @@
 //! Finds the first aliasing conflict: two visits of one object at different types, where the object
-//! is mutable at one of them.
+//! is mutable at one of the two types.
 
 ghost use Rattle.std.specs.Prelude.{◌≡◌, ◌<◌, ◌↔◌, length, Some, All, IsTrue, MatchOption};
 ghost use Rattle.types_table.specs.type_table.Made.{table_of};
@@ -13,9 +13,9 @@ use crate::fits::is_mutable;
 use marshal_heap::heap::Heap;
 use types_table::type_table::TypeTable;
 
-/// Returns the first visit that conflicts with an earlier one, preceded by the first visit with
-/// which it conflicts. If no object was visited at a second class of types, then there is no
-/// conflict.
+/// Returns the first visit that conflicts with an earlier visit, as the second index. The first
+/// index is that of the first visit with which the second visit conflicts. If no object was visited
+/// at a second class of types, returns `None`.
 pub fn first_conflict(heap: &Heap, table: &TypeTable, visits: &Visits) -> Option<(usize, usize)>
     requires within { All (IsWithin (table_of table.now) heap.now) (listed visits.now) }
     requires apart { AreApart (table_of table.now) (listed visits.now) }
@@ -38,7 +38,8 @@ pub fn first_conflict(heap: &Heap, table: &TypeTable, visits: &Visits) -> Option
 }
 
 /// Returns true if the object of visit `k` was visited before at another class, and is mutable at
-/// the type of this visit or of its first visit.
+/// one of two types. The two types are the type of visit `k` and the type of the object's first
+/// visit.
 fn conflicts_back(heap: &Heap, table: &TypeTable, visits: &Visits, k: usize) -> bool
     requires in_range { k < length (listed visits.now) }
     requires within { All (IsWithin (table_of table.now) heap.now) (listed visits.now) }
@@ -58,7 +59,7 @@ fn conflicts_back(heap: &Heap, table: &TypeTable, visits: &Visits, k: usize) -> 
     is_mutable_at(heap, table, visit) || is_mutable_at(heap, table, first)
 }
 
-/// Returns true if the visit's object is mutable at its type.
+/// Returns true if the object of the visit is mutable at the type of the visit.
 fn is_mutable_at(heap: &Heap, table: &TypeTable, visit: Visit) -> bool
     requires { IsWithin (table_of table.now) heap.now visit }
     ensures { result ≡ mutable_at (table_of table.now) heap.now visit }

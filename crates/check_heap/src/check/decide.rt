@@ -1,4 +1,4 @@
-//! Decides whether a value has type 0 of a table.
+//! The decision whether a value has type 0 of a table, by a scan or a search of the heap.
 
 ghost use Rattle.std.specs.Prelude.{◌≡◌, ◌≤◌, ◌<◌, ◌+◌, length, IfOk, IsTrue};
 ghost use Rattle.base_data.specs.declared.model.value.Val.TheVariants as vals;
@@ -33,14 +33,48 @@ use std::alloc::Global;
 use types_spec::types::fault::Fault;
 use types_table::type_table::TypeTable;
 
-/// Checks whether the value has type 0 of the table. Returns a typing if it does, and the first
-/// fault otherwise. Adds the steps taken to `steps`; their number is at most `most_steps`. Fails
-/// with `Memory` if memory runs out.
+/// Checks whether the value has type 0 of the table. Returns a typing if the value has the type,
+/// and the first fault if not. Adds the steps taken, at most `most_steps`, to `steps`. Fails with
+/// `Memory` if memory runs out.
 pub fn check(
     alloc: Global,
     heap: &Heap,
     root: Val,
     table: &TypeTable,
+    steps: &mut Steps,
+) -> Result<Verdict, Memory>
+    requires value { IsValue (length heap.now) root }
+    ensures verdict { IfOk result (IsVerdict (table_of table.now) heap.now root) }
+    ensures paths { IfOk result (PairsHavePaths (table_of table.now) heap.now root) }
+    ensures steps { steps.new ≤ steps.old + most_steps (table_of table.now) heap.now }
+{
+    decide(alloc, heap, root, table, false, steps)
+}
+
+/// As `check`, without the scan of the heap. If the value has a type mismatch, takes less time than
+/// `check`, because the scan would end at the mismatch.
+pub fn check_mismatched(
+    alloc: Global,
+    heap: &Heap,
+    root: Val,
+    table: &TypeTable,
+    steps: &mut Steps,
+) -> Result<Verdict, Memory>
+    requires value { IsValue (length heap.now) root }
+    ensures verdict { IfOk result (IsVerdict (table_of table.now) heap.now root) }
+    ensures paths { IfOk result (PairsHavePaths (table_of table.now) heap.now root) }
+    ensures steps { steps.new ≤ steps.old + most_steps (table_of table.now) heap.now }
+{
+    decide(alloc, heap, root, table, true, steps)
+}
+
+/// As `check`. If `mismatched` is true, the heap is not scanned before the search.
+fn decide(
+    alloc: Global,
+    heap: &Heap,
+    root: Val,
+    table: &TypeTable,
+    mismatched: bool,
     steps: &mut Steps,
 ) -> Result<Verdict, Memory>
     requires value { IsValue (length heap.now) root }
@@ -54,6 +88,7 @@ pub fn check(
         return Ok(Verdict::No(Fault::Mismatch(Path::new(alloc))));
     }
     match root {
+        Val::Ref(object) if mismatched => search_whole(alloc, heap, object, table, steps),
         Val::Ref(object) => check_object(alloc, heap, object, table, steps),
         _ => Ok(Verdict::Yes(Typing::of(Visits::none(alloc)?))),
     }
@@ -118,9 +153,9 @@ fn search_whole(
     search_object(alloc, heap, objects, object, fitting, &none, steps)
 }
 
-/// As `check`, for object 0 after a scan that found objects at second classes. Usually these
-/// objects can be settled, in as many steps as the scan took plus those of one pair. Otherwise
-/// searches the heap, which has `objects` objects.
+/// As `check`, for object 0 after a scan that found objects at second classes. Usually the objects
+/// at second classes can be settled. Settling takes at most the steps of the scan plus those of one
+/// pair. If the objects cannot be settled, searches the heap, which has `objects` objects.
 fn settle_noted(
     alloc: Global,
     heap: &Heap,
@@ -202,7 +237,7 @@ fn search_object(
     }
 }
 
-/// Returns the aliasing conflict of two visits, with their paths.
+/// Returns the aliasing conflict of two visits, with the paths of the visits.
 fn conflict(alloc: Global, visits: &Visits, first: usize, second: usize) -> Result<Fault, Memory>
     requires first { first < length (listed visits.now) }
     requires second { second < length (listed visits.now) }

@@ -1,5 +1,5 @@
-//! Fast path for small values: values with few parts, where no part has parts. It allocates no
-//! memory.
+//! Fast path for small values: values with few parts, where no part has parts. The fast path
+//! allocates no memory.
 
 ghost use Rattle.std.specs.Prelude.{◌≡◌, ◌<◌, ◌≤◌, length, IfSome, IsTrue};
 ghost use Rattle.base_data.specs.model.Graph.{IsValue};
@@ -16,11 +16,11 @@ use marshal_heap::heap::Heap;
 use types_spec::types::shape::ShapeOf;
 use types_table::type_table::TypeTable;
 
-/// The maximum number of parts of a value for this fast path.
+/// The maximum number of parts of a value for the fast path.
 const FEW: u64 = 8;
 
-/// Fast path. Returns true only if the value is an object that has type 0, with few parts that have
-/// no parts. The answer false is inconclusive.
+/// Returns true only if the value is an object that has type 0, with few parts that have no parts.
+/// The answer false is inconclusive.
 pub fn surely_has(heap: &Heap, root: Val, table: &TypeTable) -> bool
     requires { IsValue (length heap.now) root }
     ensures sure { result ≡ is_sure (table_of table.now) heap.now root }
@@ -40,7 +40,7 @@ pub fn surely_has(heap: &Heap, root: Val, table: &TypeTable) -> bool
     }
 }
 
-/// As `surely_has`, for an object that matches the type's representation and has these parts.
+/// As `surely_has`, for an object that matches the type's representation and has the parts `needs`.
 fn are_flat(heap: &Heap, object: u64, table: &TypeTable, needs: Needs<'_>) -> bool
     requires object { object < length heap.now }
     requires fits { (table_shapes (table_of table.now)).fits heap.now (vals.Ref object) 0 }
@@ -66,9 +66,9 @@ fn are_flat(heap: &Heap, object: u64, table: &TypeTable, needs: Needs<'_>) -> bo
     true
 }
 
-/// Returns the number of the last object after this part, or `None` if the part has parts or does
-/// not match. If the part is an object at a constrained type, then it becomes the last object, and
-/// its number must be greater than `last`.
+/// Returns the number of the last object after the part, or `None` if the part has parts or does
+/// not match. If the part is an object at a constrained type, the part becomes the last object. The
+/// number of such a part must be greater than `last`.
 #[inline(always)]
 fn after_flat(heap: &Heap, part: Val, table: &TypeTable, ty: usize, last: u64) -> Option<u64>
     requires part { IsValue (length heap.now) part }

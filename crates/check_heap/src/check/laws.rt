@@ -3,7 +3,7 @@
 ghost use Rattle.check_heap.specs.check.ByHand.{TakesSixtyOne};
 
 /// Proves that checking a list of three items takes at most 61 steps. The list has five objects
-/// with seven fields, and its table has five classes of types. This is a lemma function.
+/// with seven fields, and the list's table has five classes of types. A lemma function.
 pub fn items_take_61_steps()
     ensures { TakesSixtyOne }
 {}

@@ -1,4 +1,4 @@
-//! All objects that the paths of a well-typed value reach.
+//! The list of all objects that the paths of a well-typed value reach.
 
 ghost use Rattle.std.specs.Prelude.{◌≡◌, ◌<◌, length, slice_get, IfOk, IfSome};
 ghost use Rattle.base_data.specs.declared.model.value.Val.TheVariants as vals;
@@ -21,8 +21,8 @@ use std::alloc::Global;
 use std::marker::Model;
 use types_table::type_table::TypeTable;
 
-/// The objects of a value, each at each class of types at which it is reached, in the order of
-/// their first paths. Its model is the list of visits.
+/// The objects of a value, each at each class of types at which the object is reached, in the order
+/// of the first paths. The model is the list of visits.
 #[derive(Drop)]
 pub struct AllMet {
     visits: Visits,
@@ -57,8 +57,8 @@ impl AllMet {
         (visit.object, visit.ty)
     }
 
-    /// Returns the path to visit `k`, which is the first path to its object at its class. Fails
-    /// with `Memory` if memory runs out.
+    /// Returns the path to visit `k`, which is the first path to the visit's object at the visit's
+    /// class. Fails with `Memory` if memory runs out.
     pub fn path(&self, alloc: Global, k: usize) -> Result<Path, Memory>
         requires in_range { k < length self.now }
         requires ordered { AreOrdered self.now }
@@ -85,7 +85,7 @@ pub fn met(alloc: Global, heap: &Heap, root: Val, table: &TypeTable) -> Result<A
     }
 }
 
-/// As `met`, from an object on. A search visits the objects and finds no mismatch.
+/// As `met`, for a value that is an object. A search visits the objects and finds no mismatch.
 fn met_from(alloc: Global, heap: &Heap, object: u64, table: &TypeTable) -> Result<AllMet, Memory>
     requires object { object < length heap.now }
     requires has { HasType (table_shapes (table_of table.now)) heap.now (vals.Ref object) 0 }

@@ -1,4 +1,4 @@
-//! The path to a visit.
+//! The path to a visit, found from the visit back to the root.
 
 ghost use Rattle.std.specs.Prelude.{◌≡◌, ◌<◌, ◌∷◌, ◌++◌, [], length, reverse, IfOk, OnOk};
 ghost use Rattle.check_heap.specs.check.Known.{AreOrdered, IsPathOf};
@@ -9,8 +9,8 @@ use base_data::model::Memory;
 use base_data::model::path::Path;
 use std::alloc::Global;
 
-/// Returns the path to visit `k`. Finds its steps from the last one back. Fails with `Memory` if
-/// memory runs out.
+/// Returns the path to visit `k`. Finds the steps of the path from the last one back. Fails with
+/// `Memory` if memory runs out.
 pub fn path_of(alloc: Global, visits: &Visits, k: usize) -> Result<Path, Memory>
     requires in_range { k < length (listed visits.now) }
     requires ordered { AreOrdered (listed visits.now) }
@@ -26,14 +26,14 @@ pub fn path_of(alloc: Global, visits: &Visits, k: usize) -> Result<Path, Memory>
     reversed(alloc, steps)
 }
 
-/// Appends a step.
+/// Appends a step to a list of steps.
 fn write_step(steps: &mut Vec<u64>, step: u64) -> Result<(), Memory>
     ensures { OnOk result (steps.new.items ≡ steps.old.items ++ step ∷ []) }
 {
     Ok(steps.push(step)?)
 }
 
-/// Returns the path of these steps in reverse order.
+/// Returns the path that consists of the steps in reverse order.
 fn reversed(alloc: Global, mut steps: Vec<u64>) -> Result<Path, Memory>
     ensures { IfOk result (λ path. path ≡ reverse steps.items) }
 {

@@ -18,7 +18,7 @@ pub struct Short {
     pub step: u32,
 }
 
-/// A list of visits, which is also its model. While all numbers are below 2^32, each visit takes 16
+/// A list of visits, which is also the model. While all numbers are below 2^32, each visit takes 16
 /// bytes. From the first larger number on, each visit takes 32 bytes.
 #[derive(Drop)]
 pub struct Rest {
@@ -84,7 +84,7 @@ impl Rest {
     }
 }
 
-/// Appends a visit to the first list that has room for it and for the visits after it.
+/// Appends a visit to the first list that has room for the visit and for the visits after it.
 #[inline(always)]
 fn write(shorts: &mut Vec<Short>, longs: &mut Vec<Visit>, visit: Visit) -> Result<(), Memory>
     requires { vec_len shorts.old + vec_len longs.old < 2 ^ 64 }

@@ -1,5 +1,5 @@
-//! Breadth-first search of the heap. Visits each object once at each class of types, and tests the
-//! fields that it requires there.
+//! Breadth-first search of the heap. The search visits each object once at each class of types, and
+//! tests the fields that the object's type requires.
 
 ghost use Rattle.std.specs.Prelude.{ℕ, ◌≡◌, ◌≢◌, ◌<◌, ◌≤◌, ◌+◌, ◌%◌, ◌↔◌, length, All, IfOk, OnOk};
 ghost use Rattle.std.specs.Prelude.{IsTrue, Some, slice_get};
@@ -41,8 +41,8 @@ pub struct RequiredField {
 }
 
 /// Tests the required fields of each visit, and adds a visit for each new object. Returns the first
-/// mismatch: the index of a visit, and the number of its field that does not match. Fields that a
-/// scan has tested were counted there, and are not tested again.
+/// mismatch: the index of a visit, and the number of the field that does not match. A field that a
+/// scan has tested was counted by the scan, and is not tested again.
 pub fn search(
     heap: &Heap,
     fitting: Fitting<'_>,
@@ -140,8 +140,8 @@ fn take_seen(
     take_visit(heap, fitting, visits, taken, n, visit, seen, steps)
 }
 
-/// Tests the required fields of visit `n`, in one step for each. A scan has already tested the
-/// fields below number `seen`.
+/// Tests the required fields of visit `n`, in one step for each field. A scan has already tested
+/// the fields below number `seen`.
 #[inline(always)]
 fn take_visit(
     heap: &Heap,
@@ -184,8 +184,8 @@ fn take_visit(
     }
 }
 
-/// Tests these required fields of visit `n`. The compiler generates separate code for each form of
-/// the list of fields.
+/// Tests the required fields in `needs` of visit `n`. The compiler generates separate code for each
+/// form of the list of fields.
 #[inline(always)]
 fn test_needs(
     heap: &Heap,
@@ -282,9 +282,9 @@ fn take_need(
     test_need(heap, fitting, visits, taken, need, word, false, next)
 }
 
-/// Tests a required field that contains this word, and adds a visit if its object is new. The
-/// object is often `next`; afterwards `next` is the number after it. What a scan has already tested
-/// is not tested again.
+/// Tests a required field that contains the word `word`, and adds a visit if the field's object is
+/// new. The object is often `next`, which the function sets to the number after the object. What a
+/// scan has already tested is not tested again.
 #[inline(always)]
 fn test_need(
     heap: &Heap,
@@ -337,8 +337,8 @@ fn test_need(
     Ok(true)
 }
 
-/// Returns true if the value of a required field matches its type. The value is no object and has
-/// this word. If a scan has tested the field, then its result is used.
+/// Returns true if the value of a required field matches the field's type. The value is no object
+/// and has the word `word`. If a scan has tested the field, the result of the scan is used.
 #[inline(always)]
 fn value_fits(
     heap: &Heap,
@@ -368,8 +368,7 @@ fn value_fits(
 }
 
 /// Returns true if an object, given with its word, matches the type's representation. If a scan has
-/// inspected the object at that type, and has checked it or found a mismatch, then the result is
-/// known.
+/// checked the object at an equal type or found a mismatch, the result is known from the scan.
 #[inline(always)]
 fn object_fits(
     heap: &Heap,
@@ -400,7 +399,8 @@ fn object_fits(
     fits_type(heap, fitting, ty, word)
 }
 
-/// Returns the number of the object to which a reference's word refers. It is often `guess`.
+/// Returns the number of the object to which a reference's word refers. The number is often
+/// `guess`.
 #[inline(always)]
 fn number_near(heap: &Heap, guess: u64, word: u64) -> u64
     requires { IsReferenceWord heap.now word }

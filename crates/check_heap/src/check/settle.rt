@@ -1,5 +1,5 @@
 //! Settles the objects that a scan recorded at second classes of types: tests the fields that each
-//! requires there.
+//! object requires at its second type.
 
 ghost use Rattle.std.specs.Prelude.{ℕ, ◌≡◌, ◌<◌, ◌≤◌, ◌+◌, length, Some, slice_get, IfOk, IfSome};
 ghost use Rattle.std.specs.Prelude.{IsTrue};
@@ -22,8 +22,9 @@ use base_data::model::Memory;
 use base_data::model::value::Val;
 use marshal_heap::heap::Heap;
 
-/// Tests the required fields of each recorded object at its type, and records the objects that are
-/// reached there at a new class. Returns all recorded objects. Returns `None` in three cases:
+/// Tests the required fields of each recorded object at the recorded type, and records the objects
+/// that the fields reach at a new class. Returns all recorded objects. Returns `None` in three
+/// cases:
 ///
 /// - A field or an object does not match.
 /// - An object is mutable at one of its types.
@@ -58,7 +59,7 @@ pub fn settle(
     Ok(Some(seconds))
 }
 
-/// Settles pair `n`. Then counts one step for the pair and one for each field that has a type.
+/// Settles pair `n`. Counts one step for the pair and one for each field that has a type.
 fn settle_pair(
     heap: &Heap,
     fitting: Fitting<'_>,
@@ -138,7 +139,7 @@ fn settle_needs(
     Ok(true)
 }
 
-/// Tests required field `position` of an object at a type. The field contains this word.
+/// Tests required field `position` of an object at a type. The field contains the word `word`.
 #[inline(always)]
 fn settle_need(
     heap: &Heap,

@@ -8,8 +8,8 @@ use crate::scan::{Cells, SecondTypes};
 use base_data::model::Memory;
 use std::marker::Model;
 
-/// Each object at its type, followed by the objects that have further types. Its model is that
-/// list.
+/// Each object at its type, followed by the objects that have further types. The model is the list
+/// of these pairs.
 #[derive(Drop)]
 pub struct SettledObjects {
     types: Cells,
@@ -32,8 +32,8 @@ impl Model for SettledObjects {
 }
 
 impl SettledObjects {
-    /// Creates the typing of the objects at these types. Fails with `Memory` if there are 2^62
-    /// pairs or more in one of the lists.
+    /// Creates the typing of the objects at the types `types` and `seconds`. Fails with `Memory` if
+    /// there are 2^62 pairs or more in one of the lists.
     pub fn new(types: Cells, seconds: SecondTypes) -> Result<SettledObjects, Memory>
         ensures { IfOk result (λ settled. settled ≡ pairs_with types seconds) }
     {

@@ -19,8 +19,8 @@ pub struct Tiny {
     pub step: u16,
 }
 
-/// A list of visits, which is also its model. While all visits are tiny, each takes 12 bytes. From
-/// the first other visit on, each takes 16 or 32 bytes.
+/// A list of visits, which is also the model. While all visits are tiny, each visit takes 12 bytes.
+/// From the first visit on that is not tiny, each visit takes 16 or 32 bytes.
 #[derive(Drop)]
 pub struct Trail {
     tinies: Vec<Tiny>,
@@ -95,7 +95,7 @@ impl Trail {
     }
 }
 
-/// Appends a visit to the first list that has room for it and for the visits after it.
+/// Appends a visit to the first list that has room for the visit and for the visits after it.
 #[inline(always)]
 fn write(tinies: &mut Vec<Tiny>, rest: &mut Rest, visit: Visit) -> Result<(), Memory>
     requires { vec_len tinies.old + length rest.old < 2 ^ 64 }
@@ -116,8 +116,8 @@ fn write(tinies: &mut Vec<Tiny>, rest: &mut Rest, visit: Visit) -> Result<(), Me
     )
 }
 
-/// Appends a visit after the tiny ones. Takes the visit in parts, so that no tiny visit is stored
-/// for this call.
+/// Appends a visit after the tiny ones. The visit is passed in parts, because a visit passed whole
+/// would be stored in memory for the call.
 #[inline(never)]
 fn write_in_rest(
     tinies: &Vec<Tiny>,
@@ -144,7 +144,7 @@ fn write_in_rest(
     })
 }
 
-/// Appends a visit. Allocates memory only if the capacity does not suffice.
+/// Appends a tiny visit. Allocates memory only if the capacity does not suffice.
 #[inline(always)]
 fn append(tinies: &mut Vec<Tiny>, tiny: Tiny) -> Result<(), Memory>
     ensures { OnOk result (tinies.new.items ≡ tinies.old.items ++ tiny ∷ []) }

@@ -13,15 +13,17 @@ use crate::scan::{Cells, SecondTypes};
 use base_data::model::Memory;
 use std::marker::Model;
 
-/// Objects at types, as a search visited them, or as a scan determined or recorded them.
+/// Pairs of an object and a type, as a search visited the pairs, or as a scan determined or
+/// recorded them.
 #[derive(Drop)]
 pub enum TypedObjects {
     Searched(Visits),
-    /// The type of each object, indexed by its number.
+    /// The type of each object, indexed by the object's number.
     Scanned(Cells),
-    /// The type of each object, indexed by its number, followed by objects at further types.
+    /// The type of each object, indexed by the object's number, followed by objects at further
+    /// types.
     Settled(SettledObjects),
-    /// Objects at types, in any order.
+    /// Pairs of an object and a type, in any order.
     Listed(Vec<(u64, usize)>),
 }
 
@@ -62,7 +64,7 @@ impl Typing {
     }
 
     /// Returns the typing of each object at its type, followed by the recorded objects. Fails with
-    /// `Memory` if there are too many.
+    /// `Memory` if there are too many objects.
     pub fn settled(types: Cells, seconds: SecondTypes) -> Result<Typing, Memory>
         ensures { IfOk result (λ typing. typing ≡ pairs_with types seconds) }
     {
@@ -72,7 +74,7 @@ impl Typing {
         })
     }
 
-    /// Returns the typing of these pairs.
+    /// Returns the typing that consists of the pairs `pairs`.
     pub fn listed(pairs: Vec<(u64, usize)>) -> Typing
         ensures { result ≡ pairs.items }
     {

@@ -12,8 +12,8 @@ use base_data::model::Memory;
 use std::alloc::Global;
 use types_table::type_table::TypeTable;
 
-/// An object at a type. Field `step` of the object of visit `parent` leads to it. The first visit
-/// is the visit of the root.
+/// An object at a type. Field `step` of the object of visit `parent` leads to `object`. The first
+/// visit is the visit of the root.
 #[derive(Clone, Copy)]
 pub struct Visit {
     pub object: u64,
@@ -22,17 +22,19 @@ pub struct Visit {
     pub step: u64,
 }
 
-/// All visits.
+/// All visits of a search, with records of the classes at which each object was visited.
 #[derive(Drop)]
 pub struct Visits {
     pub all: Trail,
-    /// For each object, one more than the type of its first visit, or 0 if it has not been visited.
+    /// For each object, one more than the type of the object's first visit, or 0 if the object has
+    /// not been visited.
     pub first: Cells,
-    /// The objects that were visited at a second or later class, each with that class.
+    /// The objects that were visited at a second or later class, each paired with the class.
     pub later: Classed,
 }
 
-/// Returns true if the entry of `first` says that the first visit is at this type.
+/// Returns true if the entry `first` of an object records that the object's first visit is at type
+/// `ty`.
 #[inline(always)]
 pub fn is_at(first: u64, ty: usize) -> bool
     ensures { OnTrue result (first ≡ suc ty) }
@@ -97,7 +99,8 @@ impl Visits {
         self.all.get(k)
     }
 
-    /// Returns one more than the type of an object's first visit, or 0 if it has not been visited.
+    /// Returns one more than the type of an object's first visit, or 0 if the object has not been
+    /// visited.
     #[inline(always)]
     pub fn first_at(&self, object: u64) -> u64
         requires { object < length self.now.first }
@@ -140,8 +143,8 @@ impl Visits {
         self.enter_again(table, object, ty, parent, step, first)
     }
 
-    /// Adds a visit of an object that was visited before, unless it was visited at an equal type.
-    /// The type of its first visit is one below the number `first`.
+    /// Adds a visit of an object that was visited before, unless the object was visited at an equal
+    /// type. The type of the object's first visit is one below the number `first`.
     #[inline(never)]
     fn enter_again(
         &mut self,

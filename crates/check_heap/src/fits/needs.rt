@@ -1,4 +1,4 @@
-//! Decides whether a value matches a shape, and which of its fields then have types.
+//! Decides whether a value matches a shape, and which fields of a matching value have types.
 
 ghost use Rattle.std.specs.Prelude.{◌≡◌, ◌<◌, length, slice_get, Some, IsSome, option_map};
 ghost use Rattle.std.specs.Prelude.{option_and_then};
@@ -8,22 +8,23 @@ ghost use Rattle.types_spec.specs.types.Fault.{type_of_field};
 ghost use Rattle.types_spec.specs.types.Fitting.{fields_of, object_fields, none_if, numbered_from};
 ghost use Rattle.check_heap.specs.fits.Needs.{needs_in, first_fields, constr_needed};
 
-use crate::fits::parts::{block_needs, block_tag, fits_atom, fits_custom, fits_doubles, fits_int};
+use crate::fits::parts::{block_needs, block_tag, fits_custom};
 use base_data::model::value::Val;
 use marshal_heap::heap::{Heap, Kind, NumberedObject};
 use types_spec::types::shape::{Constr, ShapeOf};
+use types_table::fits::{fits_atom, fits_doubles, fits_int};
 
-/// The fields to which a shape assigns types, in a value that matches the shape, with these types.
-/// A field is required only if its type constrains its values.
+/// The fields to which a shape assigns types, in a value that matches the shape, each with its
+/// type. A field is required only if the field's type constrains its values.
 #[derive(Clone, Copy)]
 pub enum Needs<'a> {
-    /// No field.
+    /// No field has a type.
     Nothing,
-    /// One field for each of these types.
+    /// One field for each type in the list, from field 0 on.
     Listed(&'a [usize]),
-    /// The first fields, as many as the number, all at the same type.
+    /// The number of fields, from field 0 on, and the one type of all these fields.
     Each(u64, usize),
-    /// Field 1, at this type.
+    /// Field 1 alone, at the given type.
     Argument(usize),
 }
 
@@ -40,7 +41,7 @@ impl<'a> Needs<'a> {
         }
     }
 
-    /// Returns the index and the type of field `k` in this list.
+    /// Returns the index and the type of field `k` in the list of typed fields.
     pub fn get(&self, k: u64) -> (u64, usize)
         requires { k < length (needs_in self.now) }
         ensures { slice_get (needs_in self.now) k ≡ Some (result.0, result.1) }
@@ -53,7 +54,7 @@ impl<'a> Needs<'a> {
         }
     }
 
-    /// Returns the type of field `i`, if the field has one.
+    /// Returns the type of field `i`, or `None` if the field has no type.
     pub fn type_of(&self, i: u64) -> Option<usize>
         ensures { result ≡ type_of_field (needs_in self.now) i }
     {
@@ -66,7 +67,7 @@ impl<'a> Needs<'a> {
     }
 }
 
-/// Returns the type at index `i`, if there is one.
+/// Returns the type at index `i`, or `None` if the list has no such index.
 fn type_if_there(types: &[usize], i: u64) -> Option<usize>
     ensures { result ≡ slice_get types.now i }
 {
@@ -98,7 +99,7 @@ pub fn needs_of<'a>(heap: &Heap, v: Val, shape: &'a ShapeOf<usize>) -> Option<Ne
 }
 
 /// Returns the typed fields of an object that is known to match the shape. In many cases the shape
-/// alone determines them.
+/// alone determines the typed fields.
 #[inline(always)]
 pub fn known_needs<'a>(heap: &Heap, o: u64, shape: &'a ShapeOf<usize>) -> Option<Needs<'a>>
     requires object { o < length heap.now }
@@ -163,7 +164,7 @@ fn object_needs<'a>(placed: &NumberedObject<'_>, shape: &'a ShapeOf<usize>) -> O
     }
 }
 
-/// Returns no fields if the value matches, and `None` otherwise.
+/// Returns no fields if the value matches, and `None` if not.
 fn nothing_if<'a>(fits: bool) -> Option<Needs<'a>>
     ensures { option_map needs_in result ≡ none_if fits }
 {

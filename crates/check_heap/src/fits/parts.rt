@@ -1,4 +1,4 @@
-//! Decisions for values and objects of each kind.
+//! Decisions whether a value or object matches a shape, one for each kind of value.
 
 ghost use Rattle.std.specs.Prelude.{◌≡◌, ◌<◌, length, slice_get, Some, option_map, option_and_then};
 ghost use Rattle.types_spec.specs.types.Fitting as fitting;
@@ -13,70 +13,7 @@ use base_data::model::code::Custom;
 use base_data::model::value::Val;
 use marshal_heap::heap::{Heap, Kind, NumberedObject};
 use types_spec::types::shape::{Constr, PolyTag, ShapeOf};
-
-/// Returns true if an integer matches the shape.
-pub fn fits_int(shape: &ShapeOf<usize>, z: i64) -> bool
-    ensures { result ≡ fitting.fits_int shape.now z }
-{
-    match shape {
-        ShapeOf::AnyInt => true,
-        ShapeOf::Below(limit) => is_below(*limit, z),
-        ShapeOf::Sum(constants, _) => is_below(*constants, z),
-        ShapeOf::Poly(tags) => match tag_of_hash(tags.as_slice(), z) {
-            Some(tag) => tag.arg.is_none(),
-            None => false,
-        },
-        ShapeOf::Anything => true,
-        _ => false,
-    }
-}
-
-/// Returns true if an integer is at least 0 and below the limit.
-fn is_below(limit: u64, z: i64) -> bool
-    ensures { result ≡ fitting.is_below limit z }
-{
-    z >= 0 && (z as u64) < limit
-}
-
-/// Returns the tag with this hash.
-fn tag_of_hash(tags: &[PolyTag<usize>], hash: i64) -> Option<&PolyTag<usize>>
-    ensures { option_map (λ tag. tag.now) result ≡ tag_with tags.now hash }
-{
-    tags.iter().find(|tag| is_hash(tag.hash, hash))
-}
-
-/// Returns true if the two hashes are equal.
-fn is_hash(own: i64, hash: i64) -> bool
-    ensures { result ≡ fitting.is_number own hash }
-{
-    own == hash
-}
-
-/// Returns true if an atom (a block without fields) matches the shape.
-pub fn fits_atom(shape: &ShapeOf<usize>, tag: u8) -> bool
-    ensures { result ≡ fitting.fits_atom shape.now tag }
-{
-    match shape {
-        ShapeOf::ArrayOf(_) => tag == 0,
-        ShapeOf::FloatArray => tag == 0,
-        ShapeOf::ArrayOfVariable => tag == 0,
-        ShapeOf::ArrayOfAnything(_) => tag == 0,
-        ShapeOf::Anything => true,
-        _ => false,
-    }
-}
-
-/// Returns true if an array of `size` doubles matches the shape.
-pub fn fits_doubles(shape: &ShapeOf<usize>, size: u64) -> bool
-    ensures { result ≡ fitting.has_doubles shape.now size }
-{
-    match shape {
-        ShapeOf::FloatArray => true,
-        ShapeOf::FlatFloats(_, fields) => *fields == size,
-        ShapeOf::ArrayOfAnything(_) | ShapeOf::Anything => true,
-        _ => false,
-    }
-}
+use types_table::fits::tag_of_hash;
 
 /// Returns true if a custom block matches the shape.
 pub fn fits_custom(shape: &ShapeOf<usize>, custom: Custom) -> bool

@@ -22,15 +22,15 @@ const NONE: u64 = 1023;
 pub struct WordConditions {
     /// An integer matches if its word is at most this number.
     pub most: u64,
-    /// An object matches if its header is this number ..
+    /// An object matches if its header is at least this number and at most this number plus `more`.
     pub header: u64,
-    /// .. or one of this many numbers after it.
+    /// The number of headers directly after `header` that also match.
     pub more: u64,
     /// An object matches if its header has this tag.
     pub tag: u64,
 }
 
-/// Returns the row of a shape.
+/// Returns the row of a shape, which are conditions on words under which a value matches.
 pub fn row_of(shape: &ShapeOf<usize>) -> WordConditions
     ensures { IsRowOf shape.now result }
 {
@@ -73,7 +73,7 @@ pub fn row_of(shape: &ShapeOf<usize>) -> WordConditions
     }
 }
 
-/// Returns the row for objects with this tag.
+/// Returns the row that only objects with the tag `tag` satisfy.
 fn row_of_tag(tag: u64) -> WordConditions
     ensures { result ≡ record { most = 0; header = 1023; more = 0; tag = tag } }
 {
@@ -148,7 +148,7 @@ fn size_at(blocks: &[Constr<usize>], k: usize) -> usize
     blocks[k].fields.len()
 }
 
-/// Returns true if the header shows that an object matches the shape of this row.
+/// Returns true if the header shows that an object matches the shape of the row.
 #[inline(always)]
 fn is_of(row: WordConditions, header: u64) -> bool
     ensures { OnTrue result (IsNear row header ⊎ (header % 1024 ≡ row.tag)) }
@@ -156,7 +156,7 @@ fn is_of(row: WordConditions, header: u64) -> bool
     header >= row.header && header - row.header <= row.more || header % 1024 == row.tag
 }
 
-/// Returns true if the word shows that the value matches the shape of this row. If the result is
+/// Returns true if the word shows that the value matches the shape of the row. If the result is
 /// false, the value may still match.
 #[inline(always)]
 pub fn surely_fits(heap: &Heap, row: WordConditions, word: u64) -> bool

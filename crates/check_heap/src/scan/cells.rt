@@ -59,7 +59,7 @@ impl Cells {
         requires { position < length self.now }
         ensures { result ≡ slice_index self.now position }
     {
-        // One test recognizes the common representation.
+        // A single test recognizes the common representation.
         match &self.row {
             NumberRow::Bytes(row) => u64::from(row[position]),
             row => number_at(row, position),

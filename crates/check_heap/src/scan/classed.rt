@@ -12,8 +12,8 @@ use std::collections::BTreeSet;
 /// object.
 #[derive(Drop)]
 pub struct Classed {
-    /// For each object, its class plus 1, or 0. The cells are created once there is one pair for
-    /// every 64 objects.
+    /// For each object, the class in the object's cell plus 1, or 0. The cells are created once
+    /// there is one pair for every 64 objects.
     pub cells: Vec<u16>,
     /// The pairs that are not in cells.
     pub more: BTreeSet<(u64, usize)>,
@@ -49,9 +49,9 @@ impl Classed {
         Ok(added)
     }
 
-    /// Moves the first pair that is in no cell into its object's cell, if that cell is free and can
-    /// hold the class. So pairs that were inserted before the cells existed move into cells one by
-    /// one, up to the first that cannot.
+    /// Moves the first pair that is in no cell into its object's cell, if the cell is free and can
+    /// hold the class. By repeated calls, the pairs that were inserted before the cells existed
+    /// move into cells, up to the first pair that cannot move.
     fn shift(&mut self)
         ensures { (o c : ℕ) → Has self.old o c ↔ Has self.new o c }
     {

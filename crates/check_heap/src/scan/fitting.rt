@@ -28,7 +28,7 @@ pub fn fits_type(heap: &Heap, fitting: Fitting<'_>, ty: usize, word: u64) -> boo
     fits_by_kind(heap, fitting.table, ty, word)
 }
 
-/// The same decision by the kind of the value.
+/// Decides by the kind of the value whether the value of a word matches a type.
 #[cold]
 #[inline(never)]
 fn fits_by_kind(heap: &Heap, table: &TypeTable, ty: usize, word: u64) -> bool

@@ -69,7 +69,7 @@ pub fn needs_nothing(shape: &ShapeOf<usize>) -> bool
     ensures { (heap : List Obj) (v : Val) → IsTrue result → IsSome (fields_of heap v shape.now)
         → fields_of heap v shape.now ≡ Some [] }
 {
-    // These variants are adjacent, so one comparison suffices.
+    // The matched variants are adjacent, which makes one comparison sufficient.
     matches!(
         shape,
         ShapeOf::Bytes(_) | ShapeOf::Double | ShapeOf::Int32 | ShapeOf::Int64 | ShapeOf::Native

@@ -10,26 +10,27 @@ use std::alloc::Global;
 /// The first required field of an object that is not satisfied.
 #[derive(Clone, Copy)]
 pub struct Unmet {
-    /// The number of typed fields before it.
+    /// The number of typed fields before the required field.
     pub position: u64,
     pub field: u64,
-    /// True if the value of the field is no object and does not match; false if it is an object
-    /// that was referenced at another type before.
+    /// True if the value of the field is no object and does not match. False if the value is an
+    /// object that was referenced at another type before.
     pub unfit: bool,
 }
 
-/// Where an object was referenced at a second class for the first time.
+/// The required field at which an object was referenced at a second class for the first time.
 #[derive(Clone, Copy)]
 pub struct First {
-    /// The object with the required field ..
+    /// The object that has the required field.
     pub object: u64,
     pub ty: usize,
     pub unmet: Unmet,
-    /// .. and the number of steps before that object.
+    /// The number of steps before the object was checked.
     pub steps: u64,
 }
 
-/// The objects that were referenced at a second class, and where the first of them was found.
+/// The objects that were referenced at a second class, and the field at which the first such object
+/// was found.
 #[derive(Drop)]
 pub struct Notes {
     pub seconds: SecondTypes,

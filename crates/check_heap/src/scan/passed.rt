@@ -1,4 +1,4 @@
-//! The type for objects that the scan skips.
+//! The type that the scan gives to the objects that it skips.
 
 ghost use Rattle.std.specs.Prelude.{IfSome};
 ghost use Rattle.types_table.specs.type_table.Made.{table_of};

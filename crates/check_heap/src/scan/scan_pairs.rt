@@ -6,8 +6,8 @@ use base_data::model::Memory;
 use std::alloc::Global;
 use std::marker::Model;
 
-/// A list of pairs of an object and a type. The pairs before the first number of 2^32 or more take
-/// half the memory of the others. Contracts treat it as a list.
+/// A list of pairs of an object and a type. A pair before the first number of 2^32 or more takes
+/// half the memory of a later pair. Contracts treat the pairs as a list.
 #[derive(Drop)]
 pub struct ScanPairs {
     small: Vec<(u32, u32)>,
@@ -64,7 +64,8 @@ impl ScanPairs {
     }
 }
 
-/// Appends a pair to `small` if its numbers are small and `large` is empty; otherwise to `large`.
+/// Appends a pair to `small` if the pair's numbers are small and `large` is empty. In all other
+/// cases, appends the pair to `large`.
 #[inline(always)]
 fn append(
     small: &mut Vec<(u32, u32)>,

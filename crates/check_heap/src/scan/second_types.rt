@@ -16,7 +16,7 @@ use types_table::type_table::TypeTable;
 pub struct SecondTypes {
     /// The pairs in the order in which they were added.
     pub listed: ScanPairs,
-    /// The same objects, each with the class of its type.
+    /// The objects of the pairs, each with the class of its type.
     pub known: Classed,
 }
 
@@ -47,8 +47,8 @@ impl SecondTypes {
         self.listed.get(k)
     }
 
-    /// Adds an object at a type, unless it is present at an equal type. `objects` is the number of
-    /// all objects.
+    /// Adds an object at a type, unless the object is present at an equal type. `objects` is the
+    /// number of all objects.
     #[inline(never)]
     pub fn note(
         &mut self,

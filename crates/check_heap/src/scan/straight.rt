@@ -47,23 +47,23 @@ use types_table::type_table::TypeTable;
 pub enum Scanned {
     /// The type of each object.
     Known(Cells),
-    /// The type of each object, but some objects were referenced at other types too.
+    /// The type of each object, together with the objects that were referenced at other types too.
     Noted(Noted),
-    /// The scan is inconclusive: it ended at the object after these.
+    /// The objects checked before the scan ended without a result.
     Stopped(TakenObjects),
 }
 
 /// The result of a scan that found objects referenced at a second class.
 #[derive(Drop)]
 pub struct Noted {
-    /// The type of each object, and the objects that the scan had checked when it first found an
-    /// object referenced at a second class.
+    /// The type of each object, and the objects that the scan had checked when the scan first found
+    /// an object referenced at a second class.
     pub taken: TakenObjects,
-    /// The objects at the other types.
+    /// The pairs of an object and a type other than the object's first type.
     pub seconds: SecondTypes,
-    /// The number of steps until then ..
+    /// The number of steps before the first object referenced at a second class was found.
     pub before: u64,
-    /// .. and the number of all steps.
+    /// The number of steps of the whole scan.
     pub all: u64,
 }
 
@@ -72,19 +72,19 @@ pub struct Noted {
 enum ScanStop {
     /// The object is not marked.
     Unmarked,
-    /// The object does not match the type that it is marked with.
+    /// The object does not match the type with which the object is marked.
     Mismatches,
-    /// The object matches this type, but this required field is not satisfied.
+    /// The object matches the given type, but the given required field is not satisfied.
     Needs(usize, Unmet),
 }
 
-/// Checks the objects in the order of their numbers: the first at type 0, and each other object at
-/// the type at which it was first referenced. If an object is not referenced before its turn, the
-/// scan skips it: it gives the object a wildcard type, if the table has one. If every object
-/// matches or is skipped, returns the type of each, together with the objects referenced at unequal
-/// types. Otherwise returns the objects checked so far, or those before the first object referenced
-/// at an unequal type. Counts one step for each object that is checked and not skipped, and one for
-/// each required field that is tested.
+/// Checks the objects in the order of their numbers: the first at type 0, and each further object
+/// at the type at which the object was first referenced. If an object is not referenced before its
+/// turn and the table has a wildcard type, the scan skips the object and gives the object the
+/// wildcard type. If every object matches or is skipped, returns the type of each object, together
+/// with the objects referenced at unequal types. If some object fails, returns the objects checked
+/// so far, or those before the first object referenced at an unequal type. Counts one step for each
+/// object that is checked and not skipped, and one for each required field that is tested.
 pub fn scan(
     alloc: Global,
     heap: &Heap,
@@ -161,7 +161,7 @@ fn known(
 }
 
 /// Returns the objects checked before the scan ended at object `o`, and the number of steps. If
-/// objects were noted, returns the state before the first of them.
+/// objects were noted, returns the state before the first noted object.
 #[inline(never)]
 fn stopped(
     heap: &Heap,
@@ -209,7 +209,7 @@ fn until_first(
 }
 
 /// Returns the objects checked if the scan ends at object `o` and nothing was noted, and the number
-/// of steps. Includes object `o` if it matches its type.
+/// of steps. The objects include object `o` if object `o` matches its type.
 #[inline(never)]
 fn stop_at(
     _heap: &Heap,
@@ -275,9 +275,10 @@ fn stop_at(
     }
 }
 
-/// Checks object `o` at the type that it is marked with, or skips it if it is not marked. Returns
-/// false if it is not marked and cannot be skipped, does not match, or has a required field that is
-/// not satisfied. In this case `stop` is the reason.
+/// Checks object `o` at the type with which the object is marked. If the object is not marked,
+/// skips the object. Returns false in three cases: the object is not marked and cannot be skipped,
+/// does not match, or has a required field that is not satisfied. If the result is false, `stop` is
+/// the reason.
 #[inline(always)]
 fn take_object(
     heap: &Heap,
@@ -322,8 +323,9 @@ fn take_object(
     Ok(met)
 }
 
-/// Skips object `o`, which is not marked: marks it with a wildcard type and counts no step. Returns
-/// false if there is no such type. If the object is later required at another type, it is noted.
+/// Skips object `o`, which is not marked: marks the object with a wildcard type and counts no step.
+/// Returns false if the table has no wildcard type. If the object is later required at another
+/// type, the object is noted.
 #[cold]
 #[inline(never)]
 fn pass_object(
@@ -364,8 +366,8 @@ fn pass_object(
 }
 
 /// Tests the required fields of an object that matches its type, and counts the steps. `word` is
-/// the word of the object. Returns true if all are satisfied; otherwise `stop` holds the first that
-/// is not.
+/// the word of the object. Returns true if all required fields are satisfied. If the result is
+/// false, `stop` holds the first field that is not satisfied.
 #[inline(always)]
 fn meet_all(
     heap: &Heap,
@@ -413,7 +415,7 @@ fn meet_all(
     Ok(met)
 }
 
-/// The same for a type of any shape.
+/// As `meet_all`, for a type of any shape.
 #[cold]
 #[inline(never)]
 fn meet_others(
@@ -451,7 +453,7 @@ fn meet_others(
     meet_counted(heap, fitting, marks, notes, o, word, ty, needs, taken, stop)
 }
 
-/// The same for these typed fields.
+/// As `meet_all`, for a given list of typed fields.
 #[inline(always)]
 fn meet_counted(
     heap: &Heap,
@@ -495,8 +497,8 @@ fn meet_counted(
     Ok(true)
 }
 
-/// Tests the required fields of an object and returns the first that is not satisfied. `word` is
-/// the word of the object.
+/// Tests the required fields of an object and returns the first field that is not satisfied. `word`
+/// is the word of the object.
 #[inline(always)]
 fn meet_each(
     heap: &Heap,
@@ -551,8 +553,8 @@ fn meet_each(
     Ok(None)
 }
 
-/// Tests the typed field at index `position` of an object. If its value is an object that was
-/// referenced at another class and its type constrains values, notes that object.
+/// Tests the typed field at index `position` of an object. If the field's type constrains values
+/// and the field's value is an object that was referenced at another class, notes the value.
 #[inline(always)]
 fn meet_need(
     heap: &Heap,
@@ -612,8 +614,8 @@ fn meet_need(
     Ok(true)
 }
 
-/// Notes an object at a type. It was referenced at another class before, and is the value of a
-/// required field of object `o`.
+/// Notes an object at a type. The object was referenced at another class before, and is the value
+/// of a required field of object `o`.
 #[cold]
 #[inline(never)]
 fn note(
@@ -657,7 +659,7 @@ fn note(
     Ok(())
 }
 
-/// Returns `known` if it is present, and `own` otherwise.
+/// Returns `known` if `known` is present, and `own` if not.
 fn first_or(known: Option<First>, own: First) -> Option<First>
     ensures { result ≡ first_or known own }
 {
@@ -667,9 +669,9 @@ fn first_or(known: Option<First>, own: First) -> Option<First>
     }
 }
 
-/// Tests the value of a word at a type, and returns true if it is satisfied. If the value is an
-/// object without a mark and the type constrains its values, marks the object with the type. Marked
-/// objects are checked at their turn.
+/// Tests the value of a word at a type, and returns true if the value is satisfied. If the value is
+/// an object without a mark and the type constrains its values, marks the object with the type. A
+/// marked object is checked at its turn.
 #[inline(always)]
 fn meet(
     heap: &Heap,
@@ -721,7 +723,7 @@ fn meet(
     Ok(marked == ty || is_same(fitting.table, marked, ty))
 }
 
-/// Returns true if two types are equal.
+/// Returns true if the types `t` and `u` are equal in the table.
 #[cold]
 #[inline(never)]
 fn is_same(table: &TypeTable, t: usize, u: usize) -> bool

@@ -13,12 +13,12 @@ use std::alloc::Global;
 pub struct TakenObjects {
     /// The types, indexed by object number.
     pub types: Cells,
-    /// The number of checked objects. The objects after them were not checked.
+    /// The number of checked objects. The objects with larger numbers were not checked.
     pub objects: usize,
-    /// The required fields of the last object were tested below this field index; those of the
-    /// earlier objects were all tested.
+    /// The field index below which the required fields of the last checked object were tested. For
+    /// each earlier object, all required fields were tested.
     pub seen: u64,
-    /// A mismatch that was found.
+    /// The mismatch that the scan found, if any.
     pub unfit: ScanMismatch,
 }
 
@@ -26,9 +26,10 @@ pub struct TakenObjects {
 #[derive(Clone, Copy)]
 pub enum ScanMismatch {
     Nothing,
-    /// This field of this object does not match. Its value is no object.
+    /// An object and a field of the object that does not match. The value of the field is no
+    /// object.
     Field(u64, u64),
-    /// This object does not match its type. It was referenced but not checked further.
+    /// An object that does not match the type at which the object was referenced.
     Object(u64),
 }
 
@@ -68,7 +69,7 @@ impl TakenObjects {
         }
     }
 
-    /// Returns true if this field was found to be a mismatch.
+    /// Returns true if the scan found the field `field` of `object` to be a mismatch.
     pub fn is_unfit_field(&self, object: u64, field: u64) -> bool
         ensures { result ≡ is_unfit_field self.now.unfit object field }
     {
@@ -78,7 +79,7 @@ impl TakenObjects {
         }
     }
 
-    /// Returns true if this object was found to be a mismatch.
+    /// Returns true if the scan found the object `object` to be a mismatch.
     pub fn is_unfit_object(&self, object: u64) -> bool
         ensures { result ≡ is_unfit_object self.now.unfit object }
     {

@@ -1,23 +1,19 @@
 -- If valid bytes after a code encode a token that satisfies the requirement, then the token is
 -- accepted.
-use Rattle.std.proofs.Common.{ℕ, suc, pos, ◌+◌, ◌*◌, ◌-◌, ◌%◌, ◌<◌, ◌≤◌, ◌≡◌, ◌∙◌, Bool, List, [], ◌∷◌, length, take, drop, get_or, Ok, refl, sym, subst, arith, take_all, length-drop}
+use Rattle.std.proofs.Common.{ℕ, suc, pos, ◌+◌, ◌-◌, ◌%◌, ◌<◌, ◌≤◌, ◌≡◌, Bool, List, [], ◌∷◌, length, take, drop, get_or, Ok, refl, sym, subst, arith, take_all, length-drop}
 use Rattle.base_data.specs.declared.model.value.Obj.TheVariants as objects
 use Rattle.base_data.specs.declared.model.code.CodeKind.{CodeKind}
 use Rattle.base_data.specs.declared.model.code.CodeKind.TheVariants as kinds
 use Rattle.base_data.specs.model.Bytes.{AreBytes, number, number_in, signed}
 use Rattle.base_data.specs.model.Graph.{IsInteger}
 use Rattle.types_spec.specs.types.Table.{Table}
-use Rattle.marshal_spec.specs.format.Code.{IsKind, kind_of, custom_of}
-use Rattle.marshal_spec.specs.format.Raw.{fixed_bytes, variable_bytes, custom_bytes}
-use Rattle.marshal_spec.specs.format.Token.{Token, integer, shared, leaf, block_or_atom, word_token, Encodes, EncodesFrom, EncodesAfter}
-use Rattle.marshal_spec.proofs.format.EncodeFields.{AreSoundFields, IsKnownData, encoded_of}
-use Rattle.marshal_spec.proofs.format.ContentLemmas.{EncodesData, data_at}
-use Rattle.base_data.specs.declared.model.code.CustomKind.{CustomKind}
-use Rattle.base_data.specs.declared.model.code.CustomKind.TheVariants as customs
-use Rattle.std.specs.Prelude.{ℤ, slice_index, Some}
+use Rattle.marshal_spec.specs.format.Code.{IsKind, kind_of}
+use Rattle.marshal_spec.specs.format.Raw.{fixed_bytes, variable_bytes}
+use Rattle.marshal_spec.specs.format.Token.{Token, integer, atom, shared, leaf, block_or_atom, word_token, Encodes, EncodesFrom, EncodesAfter}
+use Rattle.marshal_spec.proofs.format.EncodeFields.{AreSoundFields, encoded_of}
 use Rattle.check_stream.specs.theory.Asked.{Need}
 use Rattle.check_stream.specs.declared.checker.check_state.CheckState.{CheckState}
-use Rattle.check_stream.specs.checker.State.{types_in, Took, TookChunk, TookPrefix, custom_leaf}
+use Rattle.check_stream.specs.checker.State.{types_in, Took, TookChunk, TookPrefix}
 
 module _ (table : Table) (stated : ℕ) (old new : CheckState) (need : Need) (chunk : List ℕ) where
   encoded : (kind : CodeKind) → IsKind kind → AreBytes chunk → length chunk ≡ fixed_bytes kind + variable_bytes kind chunk → AreSoundFields kind chunk (length (types_in old)) stated
@@ -72,34 +68,6 @@ module _ (table : Table) (stated : ℕ) (old new : CheckState) (need : Need) (ch
   double little bytes whole took =
       encoded (kinds.Double little) tt bytes (omega (arith, whole)) tt (λ t s. subst (Took table old new need) (sym s.1) (took (number_in little chunk)))
 
-  pub doubles : (width : ℕ) (little : Bool) → IsKind (kinds.Doubles width little) → AreBytes chunk → length chunk ≡ width + 8 * number (take width chunk) → 0 < number (take width chunk)
-      → ((all : List ℕ) → length all ≡ number (take width chunk) → Took table old new need (leaf (objects.Doubles all))) → TookChunk table stated old new need (kinds.Doubles width little) chunk
-  doubles width little known bytes whole some took =
-      encoded (kinds.Doubles width little) known bytes whole some (λ t s. subst (Took table old new need) (sym s.4) (took s.0 s.2))
-
--- ---- custom blocks
-
--- The number of a `Nativeint` has at least one byte.
-pub known_data : (kind : CustomKind) (size b : ℕ) → 5 ≤ size → size ≡ 3 + custom_bytes (Some kind) b → IsKnownData (Some kind) b
-known_data customs.Int32 size b some whole = tt
-known_data customs.Int64 size b some whole = tt
-known_data customs.Native size b some whole = omega (arith, some, whole)
-
-module _ (table : Table) (old new : CheckState) (need : Need) (chunk : List ℕ) where
-  data_took : (kind : CustomKind) (t : Token) → EncodesData (Some kind) chunk t → ((z : ℤ) → Took table old new need (leaf (custom_leaf kind z))) → Took table old new need t
-  data_took customs.Int32 t data' took = subst (Took table old new need) (sym data'.1) (took (signed (drop 3 chunk)))
-  data_took customs.Int64 t data' took = subst (Took table old new need) (sym data'.1) (took (signed (drop 3 chunk)))
-  data_took customs.Native t data' took = subst (Took table old new need) (sym data'.2) (took (signed (drop 4 chunk)))
-
-  pub custom : (named : CustomKind) → 5 ≤ length chunk → AreBytes chunk → length chunk ≡ 3 + custom_bytes (custom_of (take 3 chunk)) (slice_index chunk 3) → custom_of (take 3 chunk) ≡ Some named
-      → ((z : ℤ) → Took table old new need (leaf (custom_leaf named z)))
-      → (stated : ℕ) (kind : CodeKind) (by : Bool) → kind ≡ kinds.Custom by → TookChunk table stated old new need kind chunk
-  custom named some bytes whole is took stated kind by same =
-      let known : IsKnownData (custom_of (take 3 chunk)) (slice_index chunk 3) = subst (λ k. IsKnownData k (slice_index chunk 3)) (sym is)
-      (known_data named (length chunk) (slice_index chunk 3) some (subst (λ k. length chunk ≡ 3 + custom_bytes k (slice_index chunk 3)) is whole)) in
-      subst (λ k. TookChunk table stated old new need k chunk) (sym same)
-      (encoded table stated old new need chunk (kinds.Custom by) tt bytes whole known (λ t s. data_took named t (data_at (Some named) chunk t s (sym is)) took))
-
 -- ---- by an equation of the kind
 
 module _ (table : Table) (stated : ℕ) (old new : CheckState) (need : Need) (kind : CodeKind) (chunk : List ℕ) (known : IsKind kind) (bytes : AreBytes chunk) (whole : length chunk ≡ fixed_bytes kind + variable_bytes kind chunk) where
@@ -113,13 +81,20 @@ module _ (table : Table) (stated : ℕ) (old new : CheckState) (need : Need) (ki
       let long : length chunk ≡ 8 + 0 = subst (λ k. length chunk ≡ fixed_bytes k + variable_bytes k chunk) is whole in
       subst (λ k. TookChunk table stated old new need k chunk) (sym is) (double table stated old new need chunk little bytes (omega (arith, long)) took)
 
-  pub at_doubles : (width count : ℕ) (little : Bool) → kind ≡ kinds.Doubles width little → number (take width chunk) ≡ count → (0 < count) × ((all : List ℕ) → length all ≡ count → Took table old new need (leaf (objects.Doubles all))) → TookChunk table stated old new need kind chunk
-  at_doubles width count little is many took =
-      subst (λ k. TookChunk table stated old new need k chunk) (sym is)
-      (doubles table stated old new need chunk width little (subst IsKind is known) bytes (subst (λ k. length chunk ≡ fixed_bytes k + variable_bytes k chunk) is whole) (let some = took.0 in omega (arith, some, many)) (λ all long. took.1 all (long ∙ many)))
-
   long_of : (other : CodeKind) → kind ≡ other → length chunk ≡ fixed_bytes other + variable_bytes other chunk
   long_of other is = subst (λ k. length chunk ≡ fixed_bytes k + variable_bytes k chunk) is whole
+
+  pub at_atom : (tag size : ℕ) → kind ≡ kinds.SmallBlock tag size → size ≡ 0 → Took table old new need (atom tag) → TookChunk table stated old new need kind chunk
+  at_atom tag size is none took =
+      let long : length chunk ≡ 0 = long_of (kinds.SmallBlock tag size) is in
+      let own : Took table old new need (block_or_atom tag size) = subst (λ n. Took table old new need (block_or_atom tag n)) (sym none) took in
+      subst (λ k. TookChunk table stated old new need k chunk) (sym is) (small_block table stated old new need chunk tag size (subst IsKind is known) bytes long own)
+
+  pub at_word : (width n : ℕ) → kind ≡ kinds.Block width → n ≡ number chunk → n % 256 ≤ 243 → Took table old new need (word_token n) → TookChunk table stated old new need kind chunk
+  at_word width n is same tag took =
+      let long : length chunk ≡ width + 0 = long_of (kinds.Block width) is in
+      subst (λ k. TookChunk table stated old new need k chunk) (sym is)
+      (word table stated old new need chunk width (subst IsKind is known) bytes (omega (arith, long)) (subst (λ m. m % 256 ≤ 243) same tag) (subst (λ m. Took table old new need (word_token m)) same took))
 
   pub at_small_int : (n : ℕ) → kind ≡ kinds.SmallInt n → Took table old new need (integer (pos n)) → TookChunk table stated old new need kind chunk
   at_small_int n is took =
@@ -141,11 +116,11 @@ module _ (table : Table) (stated : ℕ) (old new : CheckState) (need : Need) (ki
       let long : length chunk ≡ width + 0 = long_of (kinds.Shared width) is in
       subst (λ k. TookChunk table stated old new need k chunk) (sym is) (back table stated old new need chunk width (omega (arith, long)) some first few took)
 
--- The slice from an offset on.
+-- Taking all bytes of the slice from an offset on does not change the slice.
 pub rest_from : (n : ℕ) (bytes : List ℕ) → take (length bytes - n) (drop n bytes) ≡ drop n bytes
 rest_from n bytes = let long = length-drop n bytes in take_all (length bytes - n) (drop n bytes) (omega (arith, long))
 
--- With the code before the bytes.
+-- If the bytes after the code were accepted, then the code and the bytes were accepted.
 pub with_code : (table : Table) (stated : ℕ) (old new : CheckState) (need : Need) (rest : List ℕ) (kind : CodeKind) (len : ℕ) → 0 < length rest → kind_of (get_or rest 0 0) ≡ Ok kind → len ≤ length (drop 1 rest)
     → TookChunk table stated old new need kind (take len (drop 1 rest)) → TookPrefix table stated old new need rest (1 + len)
 with_code table stated old new need [] kind len some is within p = absurd (omega arith)

@@ -8,7 +8,7 @@ use Rattle.check_stream.proofs.theory.EndLemmas.{values_in-append}
 use Rattle.check_stream.specs.declared.checker.open_positions.BlockPositions.{BlockPositions}
 use Rattle.check_stream.specs.checker.Positions.{open_needs, waiting_needs}
 
--- The last entry of the stack comes first.
+-- If an entry is pushed on the stack, then the requirements of the entry come first.
 pub waiting_needs_push : (waiting : List BlockPositions) (last : BlockPositions) → waiting_needs (waiting ++ last ∷ []) ≡ open_needs last ++ waiting_needs waiting
 waiting_needs_push [] last = sym (append-nil (open_needs last))
 waiting_needs_push (first ∷ waiting) last =
@@ -19,7 +19,7 @@ waiting_needs_push (first ∷ waiting) last =
 pub values_each : (n t : ℕ) → values_in (map of_type (replicate n t)) ≡ n
 values_each n t = values_of_types (replicate n t) ∙ length-replicate n t
 
--- One block fewer remains to be counted.
+-- The values of one block and the values of the blocks after the block add up.
 pub values_less :
     (waiting : List BlockPositions) (at n : ℕ) (default : BlockPositions) → at < length waiting → n ≡ values_in (open_needs (get_or waiting at default))
     → values_in (waiting_needs (drop at waiting)) ≡ values_in (waiting_needs (drop (at + 1) waiting)) + n

@@ -40,7 +40,6 @@ start_by : (b : Bool) (bytes : List ℕ) → ◌≡◌ {A = ℕ} (if (if b then 
 start_by true bytes = refl
 start_by false bytes = refl
 
--- The length of a header.
 pub start_is : (bytes : List ℕ) → ◌≡◌ {A = ℕ} (if (head_of bytes).big then 32 else 20) (header_length bytes)
 unfolding head_of
 start_is bytes = start_by (magic bytes == big_magic) bytes
@@ -88,7 +87,7 @@ leads_marked table limit bytes head start n marks after notes state is l =
       are_known = l.are_known;
     }
 
--- Before the first token, whose offset is marked.
+-- The state before the first token, whose offset is marked, satisfies the invariant.
 pub leads_begun :
     (table : Table) (limit : ℕ) (bytes : List ℕ) (head : Head) (start : ℕ) (state : CheckState) → BeginsAs limit bytes head → start ≡ header_length bytes → types_in state ≡ [] → needs_in state ≡ of_type 0 ∷ []
     → state.words.w32 ≡ stated32 head → state.words.w64 ≡ head.w64 → Leads table limit bytes head start start (start ∷ []) [] state
@@ -132,7 +131,8 @@ pub leads_first :
 leads_first table limit bytes head start n m marks notes first last l t =
     leads_further table limit bytes head start n m marks notes first t.middle last t.need l t.types t.needs t.words t.took
 
--- If the same positions are open.
+-- If the types, the open requirements and the words are equal, then the bytes lead to the second
+-- state.
 pub leads_same :
     (table : Table) (limit : ℕ) (bytes : List ℕ) (head : Head) (start n : ℕ) (marks : List ℕ) (notes : List (ℕ × ℕ)) (first last : CheckState) → Leads table limit bytes head start n marks notes first
     → types_in last ≡ types_in first → needs_in last ≡ needs_in first → last.words ≡ first.words → Leads table limit bytes head start n marks notes last
@@ -150,7 +150,7 @@ leads_same table limit bytes head start n marks notes first last l types needs w
 
 -- ---- the remaining bytes
 
--- After `n` more bytes.
+-- If `n` more bytes were read, then the bytes before the remaining bytes lead to the state.
 pub left_further :
     (table : Table) (limit : ℕ) (bytes : List ℕ) (head : Head) (start n : ℕ) (marks : List ℕ) (notes : List (ℕ × ℕ)) (state : CheckState) (rest : List ℕ) → rest ≡ drop (length bytes - length rest) bytes
     → Leads table limit bytes head start (length bytes - length rest + n) marks notes state → IsLeft table limit bytes head start marks notes state (take (length rest - n) (drop n rest))
@@ -168,7 +168,8 @@ left_further table limit bytes head start n marks notes state rest same l =
 
 -- ---- one more reference
 
--- With a note on the object to which it leads.
+-- If a reference to a noted object is read, then the bytes after the reference lead to the state
+-- with the note.
 leads_noted :
     (table : Table) (limit : ℕ) (bytes : List ℕ) (head : Head) (start n m : ℕ) (marks : List ℕ) (notes after : List (ℕ × ℕ)) (first middle : CheckState) (t offset : ℕ) → (l : Leads table limit bytes head start n marks notes first)
     → types_in middle ≡ types_in first → needs_in first ≡ of_type t ∷ needs_in middle → middle.words ≡ first.words → 0 < head.objects → IsReference (drop n bytes) offset m
@@ -193,7 +194,7 @@ leads_noted table limit bytes head start n m marks notes after first middle t of
       are_known = known;
     }
 
--- Notes that are added later.
+-- If a valid note is added, then the recorded second types stay valid.
 noted_also :
     (table : Table) (types : List ℕ) (noted : List (ℕ × ℕ)) (o t : ℕ) (tokens more : List Token) → o < length types → AreNoted table types noted tokens → IsFlatNoted table types [] tokens o t
     → AreNoted table types (noted ++ (o, t) ∷ []) (tokens ++ more)
@@ -208,7 +209,8 @@ noted_also table types noted o t tokens more within are flat p u among =
     (within, subst (λ ts. IsFlatNoted table ts (noted ++ (o, t) ∷ []) (tokens ++ more) o t) all (noted_more table [] (noted ++ (o, t) ∷ []) (λ q v kept. absurd (Contains-none {X = ℕ × ℕ} (q, v) kept)) types [] tokens more o t within flat)))
     (Contains-append_cases noted ((o, t) ∷ []) (p, u) among)
 
--- A reference to an object whose note is among the recorded ones.
+-- If a reference leads to an object whose note is already recorded, then the bytes after the
+-- reference lead to the state.
 leads_back :
     (table : Table) (limit : ℕ) (bytes : List ℕ) (head : Head) (start n m : ℕ) (marks : List ℕ) (notes : List (ℕ × ℕ)) (first middle : CheckState) (t offset : ℕ) → (l : Leads table limit bytes head start n marks notes first)
     → types_in middle ≡ types_in first → needs_in first ≡ of_type t ∷ needs_in middle → middle.words ≡ first.words → 0 < head.objects → IsReference (drop n bytes) offset m
@@ -262,7 +264,7 @@ leads_turn table limit bytes head start n m marks notes after first middle last 
     subst (Leads table limit bytes head start (n + m) marks after) (sym back.0)
     (leads_known table limit bytes head start n m marks notes after first middle b.type b.offset l types (subst (λ u. needs_in first ≡ u ∷ needs_in middle) b.is_asked needs) words b.some b.reference b.known)
 
--- After the header.
+-- The bytes that lead to a state contain the header.
 pub leads_from : (table : Table) (limit : ℕ) (bytes : List ℕ) (head : Head) (start n : ℕ) (marks : List ℕ) (notes : List (ℕ × ℕ)) (state : CheckState) → Leads table limit bytes head start n marks notes state → start ≤ n
 leads_from table limit bytes head start n marks notes state l =
     let p = l.passing in
@@ -289,22 +291,22 @@ words32_stated head tokens left true is sum none = tt
 words32_stated head tokens left false is sum none = let zero' = none refl in omega (arith, sum, zero')
 
 pub leads_end :
-    (table : Table) (limit : ℕ) (bytes : List ℕ) (head : Head) (start n : ℕ) (marks : List ℕ) (notes : List (ℕ × ℕ)) (state last : CheckState) → AreLawful (table_shapes table) Everything → Leads table limit bytes head start n marks notes state
-    → needs_in state ≡ [] → types_in last ≡ types_in state → last.words ≡ state.words → IsSpent head start n last → IsTypedPrefix table limit n bytes
-leads_end table limit bytes head start n marks notes state last lawful l none types words spent =
+    (table : Table) (limit : ℕ) (bytes : List ℕ) (head : Head) (start n : ℕ) (marks : List ℕ) (notes : List (ℕ × ℕ)) (state : CheckState) → AreLawful (table_shapes table) Everything → Leads table limit bytes head start n marks notes state
+    → needs_in state ≡ [] → IsSpent head start n state.words (length (types_in state)) → IsTypedPrefix table limit n bytes
+leads_end table limit bytes head start n marks notes state lawful l none spent =
     noted_passes_type_prefixes l.noted table limit bytes head start n l.tokens (types_in state) lawful
     (subst (IsPassing l.noted table limit bytes head start n l.tokens (types_in state)) none l.passing)
     (record {
       whole = spent.whole;
-      w32 = words32_stated head l.tokens state.words.w32 head.big refl l.w32 (λ big. ap (λ (w : Words). w.w32) (sym words) ∙ spent.w32 big);
-      w64 = let sum = l.w64 in let zero' = spent.w64 in let same = ap (λ (w : Words). w.w64) words in omega (arith, sum, zero', same);
-      count = subst (λ ts. (head.objects ≡ 0) ⊎ (head.objects ≡ length ts)) types spent.count;
+      w32 = words32_stated head l.tokens state.words.w32 head.big refl l.w32 spent.w32;
+      w64 = let sum = l.w64 in let zero' = spent.w64 in omega (arith, sum, zero');
+      count = spent.count;
     })
     (λ o t among. (l.are_noted o t among).1)
 
 -- ---- a truncated token
 
--- If the current position is opened again.
+-- If the first open position was taken and is opened again, then the bytes lead to the state.
 pub leads_again :
     (table : Table) (limit : ℕ) (bytes : List ℕ) (head : Head) (start n : ℕ) (marks : List ℕ) (notes : List (ℕ × ℕ)) (first middle last : CheckState) (need : Need) → Leads table limit bytes head start n marks notes first
     → types_in middle ≡ types_in first → needs_in first ≡ need ∷ needs_in middle → middle.words ≡ first.words
@@ -323,7 +325,7 @@ leads_again table limit bytes head start n marks notes first middle last need l 
       are_known = l.are_known;
     }
 
--- A value is still to be read.
+-- If a position is open, then a value is still to be read.
 pub some_need : (needs : List Need) (need : Need) (others : List Need) → needs ≡ need ∷ others → 0 < length needs
 some_need needs need others same = let size : length needs ≡ length (need ∷ others) = ap length same in omega (arith, size)
 

@@ -1,11 +1,11 @@
--- The effect of each token.
+-- The effect of each kind of token on the state of the pass.
 use Rattle.std.proofs.Common.{ℕ, ℤ, ◌≡◌, ◌∙◌, ◌+◌, ◌++◌, List, [], ◌∷◌, Some, refl, sym, ap, arith}
 use Rattle.std.specs.Prelude.{IsTrue}
 use Rattle.std.proofs.lemmas.List.{append-nil}
 use Rattle.types_spec.specs.declared.types.shape.PolyTag.{PolyTag}
-use Rattle.types_spec.specs.types.Fitting.{fits_int, tag_with}
+use Rattle.types_spec.specs.types.Fitting.{fits_int, fits_atom, tag_with}
 use Rattle.types_spec.specs.types.Table.{Table}
-use Rattle.marshal_spec.specs.format.Token.{integer, shared, block}
+use Rattle.marshal_spec.specs.format.Token.{integer, atom, shared, block}
 use Rattle.check_stream.specs.theory.Asked.{Need, of_type, hash_of, shape_at, fields_ask, IsBackAt}
 use Rattle.check_stream.specs.declared.checker.check_state.CheckState.{CheckState}
 use Rattle.check_stream.specs.checker.State.{types_in, needs_in, Took}
@@ -14,6 +14,16 @@ use Rattle.check_stream.specs.declared.checker.words.Words.{Words}
 module _ (table : Table) (state : CheckState) where
   pub took_integer : (t : ℕ) (z : ℤ) → IsTrue (fits_int (shape_at table t) z) → Took table state state (of_type t) (integer z)
   took_integer t z fits = record {
+    next = [];
+    asks = (fits, refl);
+    types = sym (append-nil (types_in state));
+    needs = refl;
+    w32 = omega arith;
+    w64 = omega arith;
+  }
+
+  pub took_atom : (t tag : ℕ) → IsTrue (fits_atom (shape_at table t) tag) → Took table state state (of_type t) (atom tag)
+  took_atom t tag fits = record {
     next = [];
     asks = (fits, refl);
     types = sym (append-nil (types_in state));

@@ -1,4 +1,4 @@
--- Clauses on an answer that may be an error or `false`.
+-- Clauses about a result that may be an error or `false`.
 use Rattle.std.proofs.Common.{◌≡◌, Bool, true, false, Result, Ok, Err, Some}
 use Rattle.std.specs.Prelude.{IfOk, IsTrue, MatchOption, Option, None}
 use Rattle.std.specs.Bool.{OnTrue}

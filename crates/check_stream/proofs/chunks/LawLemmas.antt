@@ -1,4 +1,4 @@
--- From the streaming check to a prefix of a value.
+-- Bytes that the streaming check passed are a prefix of a value.
 use Rattle.std.proofs.Common.{ℕ, ◌+◌, ◌<◌, ◌≤◌, ◌^◌, ◌≡◌, ◌∙◌, List, ◌++◌, length, take, drop, map, Option, sym, ap, subst, subst₂, arith}
 use Rattle.std.specs.List.{concat}
 use Rattle.std.proofs.lemmas.List.{append_assoc, length-append, length-take-le, take-append-drop}

@@ -1,5 +1,5 @@
--- Bytes that are a prefix of a value: a part of a header, or bytes that passed or were searched up
--- to an incomplete token. Also: checks that continue.
+-- Bytes are a prefix of a value if the bytes are a part of a header, or if the bytes passed up to
+-- an incomplete token. The lemmas also show that checks continue with more bytes.
 use Rattle.std.proofs.Common.{ℕ, ◌+◌, ◌-◌, ◌^◌, ◌<◌, ◌≤◌, ◌≡◌, ◌⊎◌, inl, inr, false, List, [], ◌∷◌, ◌++◌, length, drop, map, Option, Some, None, refl, sym, ap, subst, subst₂, arith}
 use Rattle.std.specs.Prelude.{if◌then◌else◌}
 use Rattle.std.proofs.lemmas.List.{length-append}
@@ -36,7 +36,8 @@ use Rattle.check_stream.proofs.chunks.LawLemmas.{passing_is_prefix, passing_but_
 
 -- ---- in a header
 
--- A step that is decided and does not fail.
+-- If a step is decided and does not fail, and the steps after the step do not fail, then no step
+-- fails.
 passed : (n k : ℕ) (r : Option ReadRefusal) (after : List Step) → k ≤ n → r ≡ None → first_refusal n after ≡ None → first_refusal n (step k r ∷ after) ≡ None
 passed n k r after whole none others = rw (le-ltb n k whole, none) others
 
@@ -52,7 +53,7 @@ header_prefix bytes k has some sum limit =
     let short : length bytes < header_length bytes = grind (arith, nat_tests) in
     inl (record { part = short; passes = waits limit bytes has short (cases_lt (length bytes) 4) })
 
--- If no byte is buffered, then the state is valid.
+-- If no byte is buffered, then the state of the check is valid.
 pub fresh_stream_check : (g : StreamCheck) → g.kept.items ≡ [] → ((table : Table) (limit : ℕ) (bytes : List ℕ) → IsInspecting table limit bytes g.inspecting) → (table : Table) (limit : ℕ) → IsStreamCheck table limit g
 fresh_stream_check g none inspecting table limit = record {
   bytes = subst AreBytes (sym none) (All-nil (λ (b : ℕ). b < 256));
@@ -60,14 +61,15 @@ fresh_stream_check g none inspecting table limit = record {
   inspecting = inspecting table limit g.kept.items;
 }
 
--- If more bytes are appended, then the state stays valid.
+-- If more bytes are appended, then the state of the check stays valid.
 pub inspecting_longer : (table : Table) (limit : ℕ) (bytes more : List ℕ) (inspecting : Inspecting) → IsInspecting table limit bytes inspecting → IsInspecting table limit (bytes ++ more) inspecting
 inspecting_longer table limit bytes more inspecting l = record {
   underway = λ begun. let p = inspecting.passing in leads_longer table limit bytes more p.head p.start p.at p.marks.items p.notes.items p.state (l.underway begun);
   sought = λ sought. let s = inspecting.seeking in finds_longer table limit bytes more s.head s.start s.at [] s.finding (l.sought sought);
 }
 
--- Case: the buffered bytes and the chunk are a prefix of a value.
+-- If the buffered bytes and the chunk are a prefix of a value, then the new state is valid for all
+-- these bytes.
 pub more_taken :
     (table : Table) (limit : ℕ) (old new : StreamCheck) (chunk : List ℕ) → AreBytes old.kept.items → AreBytes chunk → new.kept.items ≡ old.kept.items ++ chunk → IsPrefix limit (old.kept.items ++ chunk) → IsInspecting table limit (old.kept.items ++ chunk) new.inspecting
     → (new.kept.items ≡ old.kept.items ++ chunk) × IsStreamCheck table limit new
@@ -80,7 +82,8 @@ more_taken table limit old new chunk before bytes kept prefix inspecting = (
   },
 )
 
--- Case: they are a value with one mismatch, and the next value begins.
+-- If the buffered bytes and the chunk begin with a value with one mismatch, then the next value
+-- begins after the value.
 pub missed_next :
     (table : Table) (limit : ℕ) (old new : StreamCheck) (chunk bytes : List ℕ) (total n : ℕ) (found : FoundMismatch) → total ≡ length old.kept.items + n → bytes ≡ old.kept.items ++ chunk → 0 < n → held new ≡ Some found → IsFound table limit total bytes found
     → found.ty < length table.nodes → new.kept.items ≡ [] → ((other : Table) (limit' : ℕ) → IsStreamCheck other limit' new) → IsMissedNext table limit old chunk new n

@@ -96,18 +96,18 @@ module _ (table : Table) (graph : List Obj) (made : List Made) (back : List ℕ)
   abbrev pairs : List (ℕ × ℕ)
   pairs = typed_of made ++ noted
 
-  -- An object that has the type and to which a reference leads back.
+  -- Object `o` has the type `t`, and a reference leads back to the object.
   pub record IsMetAgain (o t : ℕ) : Type 0 where
     pub typed : HasFirst table made o t ⊎ Contains noted (o, t)
     pub led : Contains back o
 
-  -- The value satisfies the requirement of its position.
+  -- The value satisfies the requirement of the position with this trail and type.
   abbrev pub IsFine : List (ℕ × ℕ) → Val → ℕ → Type 0
   IsFine trail (vals.Int z) t = IsTrue (fits_int (shape_at table t) z)
   IsFine trail (vals.Atom tag) t = IsTrue (fits_atom (shape_at table t) tag)
   IsFine trail (vals.Ref o) t = IsMadeAt made o t trail ⊎ IsMetAgain o t
 
-  -- The value is the mismatch.
+  -- The value at the end of the trail is the mismatch.
   pub record IsMissedHere (trail : List (ℕ × ℕ)) (v : Val) : Type 0 where
     pub here : missed ≡ trail
     pub object : (o : ℕ) → v ≡ vals.Ref o → (type : Option ℕ) × (slice_get made o ≡ Some record { type = type; trail = trail })
@@ -115,7 +115,7 @@ module _ (table : Table) (graph : List Obj) (made : List Made) (back : List ℕ)
   abbrev pub IsPlaced : List (ℕ × ℕ) → Val → ℕ → Type 0
   IsPlaced trail v t = IsFine trail v t ⊎ IsMissedHere trail v
 
-  -- The last step of the trail leads to the object.
+  -- The last step of the trail leads to object `o` at type `t`.
   abbrev pub IsFrom : List (ℕ × ℕ) → ℕ → ℕ → Type 0
   IsFrom [] o t = (root ≡ vals.Ref o) × (0 ≡ t)
   IsFrom (link ∷ trail) o t =
@@ -156,7 +156,7 @@ module _ (table : Table) (graph : List Obj) (made : List Made) (back : List ℕ)
     fine_held trail (vals.Ref o) t (inl at) = record { fits = are.fits o t trail at; listed = (t, first_in o t trail at, lawful.reflexive t tt) }
     fine_held trail (vals.Ref o) t (inr again) = again_held o t again
 
-    -- A field of a pair.
+    -- If a field of a pair is not the mismatch, then the field is held.
     held_first : (o i : ℕ) (trail : List (ℕ × ℕ)) → missed ≡ (o, i) ∷ trail → (p s : ℕ) (way : List (ℕ × ℕ)) (j u : ℕ) → IsMadeAt made p s way → Contains ((table_shapes table).needs graph (vals.Ref p) s) (j, u) → Contains {X = ℕ × ℕ} ((o, i) ∷ []) (p, j) ⊎ IsSomeAnd (field_at graph p j) (λ v. IsHeld (table_shapes table) graph pairs v u)
     held_first o i trail is p s way j u at need =
         let f = are.fields p s way j u at need in
@@ -181,8 +181,8 @@ module _ (table : Table) (graph : List Obj) (made : List Made) (back : List ℕ)
           (Contains-append_cases (typed_of made) noted (p, s) among);
     }
 
-    -- If no reference leads back to an object, then the object has the trail of each position that
-    -- holds it.
+    -- If no reference leads back to an object, then each position that holds the object has the
+    -- object's trail.
     fine_trail : (o s a : ℕ) (trail position : List (ℕ × ℕ)) → IsMadeAt made o s trail → (Contains back o → ⊥) → IsFine position (vals.Ref o) a → trail ≡ position
     fine_trail o s a trail position at not (inl at') =
         ap (λ (m : Made). m.trail) (same_Some record { type = Some s; trail = trail } record { type = Some a; trail = position } (sym at ∙ at'))
@@ -194,7 +194,7 @@ module _ (table : Table) (graph : List Obj) (made : List Made) (back : List ℕ)
         let r = missed'.object o refl in
         ap (λ (m : Made). m.trail) (same_Some record { type = Some s; trail = trail } record { type = r.0; trail = position } (sym at ∙ r.1))
 
-    -- A field at a second type is no reference.
+    -- A field of an object at a second type is not a reference.
     not_again : (o p j t a : ℕ) → Contains noted (p, t) → Contains ((table_shapes table).needs graph (vals.Ref p) t) (j, a) → field_at graph p j ≡ Some (vals.Ref o) → ⊥
     not_again o p j t a among needed field =
         subst (λ x. IsSomeAnd x (λ v. FitsAlone table v a)) field ((are.again p t among).fields j a needed)
@@ -215,7 +215,7 @@ module _ (table : Table) (graph : List Obj) (made : List Made) (back : List ℕ)
       IsEmpty [] = Unit {0}
       IsEmpty (link ∷ trail) = ⊥
 
-    -- The trails of objects lead to them.
+    -- The trail of an object leads from the root to the object.
     pub way_of : (trail : List (ℕ × ℕ)) (o s : ℕ) → IsMadeAt made o s trail → IsTrue (is_asked_in table s) → IsWay (table_shapes table) graph root 0 trail o s
     way_of [] o s at asked = are.ways o s [] at asked
     way_of (link ∷ trail) o s at asked =

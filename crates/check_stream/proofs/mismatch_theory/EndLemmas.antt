@@ -1,4 +1,4 @@
--- The last step: if the one mismatch was found, then it is the first fault.
+-- If exactly one mismatch was found, then the mismatch is the first fault.
 use Rattle.std.proofs.Common.{ℕ, ◌≡◌, List, [], ◌∷◌, ◌++◌, Some, sym, ap, subst}
 use Rattle.std.specs.Prelude.{Contains, IsTrue, All}
 use Rattle.std.proofs.lemmas.List.Elements.{All-head, All-tail}
@@ -18,7 +18,7 @@ use Rattle.check_stream.proofs.mismatch_theory.BridgeLemmas.{IsMadeAt, typed_of,
 use Rattle.check_stream.proofs.mismatch_theory.MissLemmas.{misses_do_not_fit}
 
 module _ (table : Table) (graph : List Obj) (root : Val) (missed : Missed) where
-  -- The mismatch is a field of an object of the value.
+  -- The mismatch is at field `i` of object `o`.
   pub record IsMet (made : List Made) (o i : ℕ) (trail : List (ℕ × ℕ)) : Type 0 where
     pub is : missed.trail ≡ (o, i) ∷ trail
     pub type : ℕ
@@ -47,7 +47,7 @@ module _ (table : Table) (graph : List Obj) (root : Val) (missed : Missed) where
             (only_mismatch shapes lawful graph (typed_of made ++ noted) root 0 trail o i met.type missed.type met.value held way only met.stepped not);
       }
 
-  -- The mismatch is the root.
+  -- If the mismatch is at the root, then the mismatch is the first fault.
   pub root_least : missed.trail ≡ [] → missed.type ≡ 0 → Misses table missed.type missed.token → IsEncodedBy graph root missed.token → IsLeastMissed table graph root missed
   root_least is type misses encoded =
       let shapes = table_shapes table in

@@ -1,4 +1,5 @@
--- The fields of a block at its type, from their requirements; a step to one of them.
+-- The fields of a block at its type, given by the requirements of the fields, and the step to a
+-- field.
 use Rattle.std.proofs.Common.{ℕ, ◌≡◌, ◌∙◌, ⊎_elim, List, [], ◌∷◌, length, Bool, true, false, Option, Some, None, refl, sym, ap, subst}
 use Rattle.std.specs.Prelude.{slice_get, IsTrue, ◌==◌, ◌&&◌, if◌then◌else◌, map, replicate, option_and_then, option_map, Contains, ℤ}
 use Rattle.std.proofs.lemmas.Bool.Decides.{Decides-eqb}
@@ -24,7 +25,7 @@ use Rattle.check_stream.specs.theory.Asked.{Need, of_type, hash_of, shape_at, ne
 
 -- ---- the fields
 
--- The requirements are those of the fields' types in order, or that of a hash with an argument.
+-- The requirements are the types of the fields in order, or the hash of a tag with an argument.
 pub data AreFields (values : List Val) (needs : List Need) (fields : Option (List (ℕ × ℕ))) : Type 0 where
   numbered : (ts : List ℕ) → needs ≡ map of_type ts → fields ≡ Some (numbered_from 0 ts) → AreFields values needs fields
   tagged : (tags : List (PolyTag ℕ)) → needs ≡ hash_of tags ∷ [] → fields ≡ tag_fields tags values → length values ≡ 2 → AreFields values needs fields
@@ -42,7 +43,7 @@ poly_are true true tags values needs two is = tagged tags (sym (same_Some (hash_
 poly_are true false tags values needs two is = absurd (none-some needs is)
 poly_are false second tags values needs two is = absurd (none-some needs is)
 
--- The fields of a block at the shape.
+-- The requirements of a block's fields at a shape describe the fields of the shape.
 pub fields_are : (shape : ShapeOf ℕ) (tag : ℕ) (values : List Val) (needs : List Need) → block_needs shape tag (length values) ≡ Some needs → AreFields values needs (block_fields shape tag values)
 fields_are shapes.AnyInt tag values needs is = absurd (none-some needs is)
 fields_are (shapes.Below k) tag values needs is = absurd (none-some needs is)
@@ -76,7 +77,7 @@ argument_once t i a b first second = its i a first ∙ sym (its i b second) wher
       (Contains-cases {X = ℕ × ℕ} (1, t) [] (i, a) among)
 
 module _ (table : Table) where
-  -- If a field is not a wildcard, then its type is the required one.
+  -- If the type of a listed field is no wildcard, then the type is the required type of the field.
   named_once : (fields : List (ℕ × ℕ)) (i t : ℕ) → AreOnce fields → Contains fields (i, t) → IsTrue (is_asked_in table t) → type_of_field (asked_of (shape_at table) fields) i ≡ Some t
   named_once fields i t once among asked =
       let needs = asked_of (shape_at table) fields in
@@ -84,7 +85,7 @@ module _ (table : Table) where
       let other = asked_is (shape_at table) fields i named.0 (named_is_needed needs i named.0 named.1) in
       subst (λ u. type_of_field needs i ≡ Some u) (once i named.0 t other.0 among) named.1
 
-  -- A step from a block to a field that is not a wildcard.
+  -- If the type of a field is no wildcard, then a step leads from the block to the field.
   pub step_there : (graph : List Obj) (p s tag : ℕ) (values : List Val) (fields : List (ℕ × ℕ)) (i t : ℕ) (v : Val) → slice_get graph p ≡ Some (objects.Block tag values) → block_fields (shape_at table s) tag values ≡ Some fields → AreOnce fields → Contains fields (i, t) → IsTrue (is_asked_in table t) → slice_get values i ≡ Some v → step (table_shapes table) graph (vals.Ref p) s i ≡ Some (v, t)
   step_there graph p s tag values fields i t v at its once among asked at_i =
       let named = named_once fields i t once among asked in
@@ -96,12 +97,12 @@ module _ (table : Table) where
       ap (option_and_then (λ w. option_map (λ u. (w, u)) (type_of_field ((table_shapes table).needs graph (vals.Ref p) s) i))) field
       ∙ ap (option_map (λ u. (v, u))) type
 
-  -- A step to a field by its index.
+  -- If field `i` has a listed type that is no wildcard, then a step leads to the field.
   pub step_to_field : (graph : List Obj) (p s tag : ℕ) (values : List Val) (ts : List ℕ) (i t : ℕ) (v : Val) → slice_get graph p ≡ Some (objects.Block tag values) → block_fields (shape_at table s) tag values ≡ Some (numbered_from 0 ts) → slice_get ts i ≡ Some t → IsTrue (is_asked_in table t) → slice_get values i ≡ Some v → step (table_shapes table) graph (vals.Ref p) s i ≡ Some (v, t)
   step_to_field graph p s tag values ts i t v at its at_t asked at_i =
       step_there graph p s tag values (numbered_from 0 ts) i t v at its (numbered_once ts) (pair_there ts i t at_t) asked at_i
 
-  -- A step to the argument of a tag.
+  -- If the type of a tag's argument is no wildcard, then a step leads to the argument.
   pub step_to_argument : (graph : List Obj) (p s tag : ℕ) (tags : List (PolyTag ℕ)) (z : ℤ) (its : PolyTag ℕ) (t : ℕ) (v : Val) → slice_get graph p ≡ Some (objects.Block tag (vals.Int z ∷ v ∷ [])) → block_fields (shape_at table s) tag (vals.Int z ∷ v ∷ []) ≡ tag_fields tags (vals.Int z ∷ v ∷ []) → tag_with tags z ≡ Some its → its.arg ≡ Some t → IsTrue (is_asked_in table t) → step (table_shapes table) graph (vals.Ref p) s 1 ≡ Some (v, t)
   step_to_argument graph p s tag tags z its t v at fields hash argument asked =
       let same : tag_fields tags (vals.Int z ∷ v ∷ []) ≡ Some ((1, t) ∷ []) =

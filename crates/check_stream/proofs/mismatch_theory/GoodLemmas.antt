@@ -1,5 +1,5 @@
--- The invariant of an object: it matches its type, its fields are placed, and its trail leads to
--- it.
+-- The invariant of an object: the object matches its type, its fields are placed, and its trail
+-- leads to the object.
 use Rattle.std.proofs.Common.{ℕ, ◌≡◌, ◌∙◌, List, [], ◌∷◌, length, Bool, true, false, Option, Some, refl, sym, ap, subst}
 use Rattle.std.specs.Prelude.{slice_get, IsSome, IsTrue, Contains, map, replicate, option_and_then, if◌then◌else◌}
 use Rattle.std.proofs.lemmas.Bool.{false≢true}
@@ -36,7 +36,8 @@ module _ (table : Table) (graph : List Obj) (all : List Made) (back : List ℕ) 
     pub way : IsTrue (is_asked_in table t) → IsFrom table graph all back noted whole missed trail o t
 
   module _ (o t : ℕ) (trail : List (ℕ × ℕ)) (real : IsRealIf table graph all whole trail (vals.Ref o) t) where
-    -- An object, by its parts.
+    -- If an object matches its type and its fields are placed, then the object satisfies the
+    -- invariant.
     object_good : (object : Obj) → slice_get graph o ≡ Some object → IsSome (object_fields (shape_at table t) object) → ((i a : ℕ) → Contains (or_none (object_fields (shape_at table t) object)) (i, a) → IsTrue (is_asked_in table a) → IsField table graph all back noted whole missed o i trail a) → IsGoodBut o t trail
     object_good object at some each = record {
       fits = subst (λ x. IsSome (option_and_then (object_fields (shape_at table t)) x)) (sym at) some;
@@ -50,7 +51,8 @@ module _ (table : Table) (graph : List Obj) (all : List Made) (back : List ℕ) 
     leaf_good object at is some = object_good object at some (λ i a typed asked. absurd (leaf_needs (shape_at table t) object i a is typed))
 
     module _ (tag : ℕ) (values : List Val) (needs : List Need) (placed : ArePlaced table graph all back noted whole missed o trail 0 values needs) where
-      -- The fields of a tag with an argument.
+      -- If the values of a block satisfy the requirement for a hash with an argument, then the tag
+      -- has fields.
       tag_some : (tags : List (PolyTag ℕ)) (vs : List Val) → ArePlaced table graph all back noted whole missed o trail 0 vs (hash_of tags ∷ []) → IsSome (tag_fields tags vs)
       tag_some tags [] are = absurd are
       tag_some tags (v ∷ []) are = absurd are.2
@@ -66,7 +68,8 @@ module _ (table : Table) (graph : List Obj) (all : List Made) (back : List ℕ) 
       fields_some fields (tagged tags asks its two) =
           subst IsSome (sym its) (tag_some tags values (subst (ArePlaced table graph all back noted whole missed o trail 0 values) asks placed))
 
-      -- A block, at a wildcard too.
+      -- If the values of a block are placed, then the block satisfies the invariant, also if its
+      -- type is a wildcard.
       pub block_good : slice_get graph o ≡ Some (objects.Block tag values) → fields_ask table t tag (length values) ≡ Some needs → IsGoodBut o t trail
       block_good at is = by (is_asked_in table t) refl is where
         by : (asked : Bool) → is_asked_in table t ≡ asked → (if asked then block_needs (shape_at table t) tag (length values) else Some (map of_type (replicate (length values) t))) ≡ Some needs → IsGoodBut o t trail

@@ -1,4 +1,4 @@
--- The one mismatch that was found is the first fault.
+-- If exactly one mismatch was found, then the mismatch is the first fault of the value.
 use mathlib.Core.List.{cons≢nil}
 use Rattle.std.proofs.Common.{ℕ, ◌≡◌, ◌∙◌, ⊎_elim, List, [], ◌∷◌, ◌++◌, length, Some, refl, sym, ap, subst, arith}
 use Rattle.std.specs.Prelude.{Contains, IsTrue, All}
@@ -33,7 +33,7 @@ module _ (table : Table) (lawful : AreLawful (table_shapes table) Everything) (b
   from : IsFromStart back table made (tokens tree) (m ∷ [])
   from = passes_from_start back table made (tokens tree) (m ∷ []) passed
 
-  -- The objects with a second type.
+  -- The pairs of an object and a second type of the object.
   abbrev noted : List (ℕ × ℕ)
   noted = from.noted
 
@@ -53,7 +53,7 @@ module _ (table : Table) (lawful : AreLawful (table_shapes table) Everything) (b
   met : IsMetAs back table noted made graph whole m m
   met = ⊎_elim (λ same. absurd (cons≢nil (same ∙ read.passes.1))) (λ is. is) read.met
 
-  -- If a trail begins with the root, then the root's type is no wildcard.
+  -- If an object has a type that is no wildcard, then the root's type is no wildcard.
   root_asked : (trail : List (ℕ × ℕ)) (o t : ℕ) → IsMadeAt made o t trail → IsTrue (is_asked_in table t) → IsTrue (is_asked_in table 0)
   root_asked [] o t at asked =
       let from = (good o t [] at).way asked in

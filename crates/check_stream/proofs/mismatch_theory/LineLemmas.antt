@@ -11,7 +11,7 @@ use Rattle.check_stream.specs.mismatch_theory.OnlyWay.{path_of}
 use Rattle.check_stream.specs.mismatch_theory.MissedLaw.{IsEncodedBy}
 use Rattle.check_stream.specs.mismatch_theory.MissedLine.{token_text, missed_text, MissedHasLine}
 
--- The text of a token is the text of the value's kind.
+-- The text of a token is the text of the encoded value's kind.
 kind_is : (graph : List Obj) (v : Val) (token : Token) → IsEncodedBy graph v token → kind_text graph v ≡ token_text token
 kind_is graph v (integer z) is = ap (λ w. kind_text graph w) is
 kind_is graph v (atom tag) is = ap (λ w. kind_text graph w) is

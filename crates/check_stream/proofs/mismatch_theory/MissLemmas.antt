@@ -1,4 +1,4 @@
--- If a token certainly does not match a type, then its value does not match it.
+-- If a token certainly does not match a type, then the encoded value does not match the type.
 use Rattle.std.proofs.Common.{ℕ, ◌≡◌, ◌∙◌, List, [], ◌∷◌, length, Bool, true, false, Option, Some, None, refl, sym, subst}
 use Rattle.std.specs.Prelude.{ℤ, slice_get, IsSome, IsTrue, ◌==◌, ◌&&◌, if◌then◌else◌, map, replicate, option_and_then}
 use Rattle.std.proofs.lemmas.Bool.{false≢true}
@@ -70,7 +70,7 @@ block_missed table t tag values is some = by (is_asked_in table t) refl is where
   by true asked is = shape_missed (shape_at table t) tag values asked is some
   by false asked is = none-some (map of_type (replicate (length values) t)) (sym is)
 
--- If the token of a value mismatches a type, then the value does not match the type.
+-- If the token of a value certainly does not match a type, then the value does not match the type.
 pub misses_do_not_fit : (table : Table) (graph : List Obj) (w : Val) (t : ℕ) (token : Token) → Misses table t token → IsEncodedBy graph w token → (table_shapes table).fits graph w t → ⊥
 misses_do_not_fit table graph w t (integer z) misses is fits =
     not_some_if (fits_int (shape_at table t) z) misses (subst (λ v. (table_shapes table).fits graph v t) is fits)

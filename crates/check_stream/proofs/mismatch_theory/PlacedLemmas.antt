@@ -16,7 +16,7 @@ use Rattle.check_stream.specs.mismatch_theory.PassedBut.{Made}
 use Rattle.check_stream.proofs.mismatch_theory.BridgeLemmas.{IsPlaced}
 use Rattle.check_stream.proofs.mismatch_theory.FieldLemmas.{AreFields, numbered, tagged, fields_are}
 
--- The value is the hash of a tag with an argument of the type.
+-- The value is the hash of a tag whose argument has the type.
 pub record IsHashOf (tags : List (PolyTag ℕ)) (v : Val) (type : ℕ) : Type 0 where
   pub hash : ℤ
   pub is_hash : v ≡ vals.Int hash
@@ -25,12 +25,12 @@ pub record IsHashOf (tags : List (PolyTag ℕ)) (v : Val) (type : ℕ) : Type 0 
   pub has_argument : tag.arg ≡ Some type
 
 module _ (table : Table) (graph : List Obj) (made : List Made) (back : List ℕ) (noted : List (ℕ × ℕ)) (root : Val) (missed : List (ℕ × ℕ)) where
-  -- A value at a wildcard is arbitrary.
+  -- If the type is no wildcard, then the value is placed at the position.
   abbrev pub IsPlacedIf : List (ℕ × ℕ) → Val → ℕ → Type 0
   IsPlacedIf position v t = IsTrue (is_asked_in table t) → IsPlaced table graph made back noted root missed position v t
 
 module _ (table : Table) (graph : List Obj) (made : List Made) (back : List ℕ) (noted : List (ℕ × ℕ)) (root : Val) (missed : List (ℕ × ℕ)) (p : ℕ) (trail : List (ℕ × ℕ)) where
-  -- The values from field `k` on satisfy their requirements, or are the mismatch.
+  -- Each value from field `k` on satisfies the field's requirement or is the mismatch.
   abbrev pub ArePlaced : ℕ → List Val → List Need → Type 0
   ArePlaced k [] [] = Unit {0}
   ArePlaced k [] (need ∷ needs) = ⊥
@@ -72,7 +72,7 @@ module _ (table : Table) (graph : List Obj) (made : List Made) (back : List ℕ)
       (λ none. absurd (Contains-none {X = ℕ × ℕ} (i, a) none))
       (Contains-cases {X = ℕ × ℕ} (1, are.0) [] (i, a) among')
 
-  -- Each field for which the shape has a type is placed.
+  -- If the values of a block are placed, then each field with a type is placed.
   pub fields_placed : (shape : ShapeOf ℕ) (tag : ℕ) (values : List Val) (needs : List Need) (i a : ℕ) → block_needs shape tag (length values) ≡ Some needs → ArePlaced 0 values needs → Contains (or_none (block_fields shape tag values)) (i, a) → IsPlacedAt values i i a
   fields_placed shape tag values needs i a is are among = by (fields_are shape tag values needs is) where
     by : AreFields values needs (block_fields shape tag values) → IsPlacedAt values i i a

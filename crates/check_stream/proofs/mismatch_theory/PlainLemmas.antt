@@ -1,4 +1,4 @@
--- An object that has a second type, by the tokens of its fields alone.
+-- An object that has a second type because of the tokens of its fields alone.
 use Rattle.std.proofs.Common.{ℕ, ◌∙◌, inl, inr, List, [], ◌++◌, Option, Some, None, sym, subst}
 use Rattle.std.specs.Prelude.{slice_get, Contains, IsTrue, IsSome, IsSomeAnd, option_and_then}
 use Rattle.std.proofs.lemmas.Bool.{false≢true}
@@ -20,7 +20,7 @@ use Rattle.check_stream.proofs.theory.FlatLemmas.{flat_noted}
 use Rattle.check_stream.proofs.theory.NotedLemmas.{stands_more}
 use Rattle.check_stream.specs.mismatch_theory.PassedBut.{IsPlain}
 
--- The object if more tokens follow.
+-- If more tokens follow, then an object keeps its second type.
 pub plain_more : (table : Table) (ts us : List Token) (o t : ℕ) → IsPlain table ts o t → IsPlain table (ts ++ us) o t
 plain_more table ts us o t plain = record {
   tag = plain.tag;
@@ -34,7 +34,7 @@ plain_more table ts us o t plain = record {
 }
 
 module _ (table : Table) where
-  -- The value satisfies the requirement of the type, and is no reference.
+  -- The value satisfies the requirement of the type, and the value is no reference.
   abbrev pub FitsAlone : Val → ℕ → Type 0
   FitsAlone (vals.Int z) t = IsTrue (fits_int (shape_at table t) z)
   FitsAlone (vals.Atom tag) t = IsTrue (fits_atom (shape_at table t) tag)
@@ -45,7 +45,8 @@ module _ (table : Table) where
   held_alone graph pairs (vals.Atom tag) t fits = record { fits = some_if (fits_atom (shape_at table t) tag) fits; listed = tt }
   held_alone graph pairs (vals.Ref o) t fits = absurd fits
 
-  -- If a value satisfies a requirement without the types of objects, then it is no reference.
+  -- If a value satisfies the requirement of a type without the types of objects, and the type is no
+  -- wildcard, then the value is no reference.
   at_alone : (v : Val) (t : ℕ) → IsTrue (is_asked_in table t) → IsAt table [] [] v t → FitsAlone v t
   at_alone (vals.Int z) t asked at = at
   at_alone (vals.Atom tag) t asked at = at
@@ -57,7 +58,8 @@ module _ (table : Table) where
   some_alone None t asked h = h
   some_alone (Some v) t asked h = at_alone v t asked h
 
-  -- An object matches the type, and its fields do so without the types of other objects.
+  -- An object matches the type, and each field satisfies its requirement without the types of other
+  -- objects.
   pub record IsAlone (graph : List Obj) (o t : ℕ) : Type 0 where
     pub fits : (table_shapes table).fits graph (vals.Ref o) t
     pub fields : (i a : ℕ) → Contains ((table_shapes table).needs graph (vals.Ref o) t) (i, a) → IsSomeAnd (field_at graph o i) (λ v. FitsAlone v a)

@@ -1,4 +1,4 @@
--- Tokens that lead from the start to the end, described from the beginning.
+-- Tokens that lead from the start to the end, described from the first token on.
 use Rattle.std.proofs.Common.{ℕ, ◌≡◌, ◌⊎◌, ⊎_elim, inl, inr, List, [], ◌∷◌, ◌++◌, length, Some, None, refl, sym, subst, subst₂, ◌-◌}
 use Rattle.std.specs.Prelude.{Contains}
 use Rattle.std.proofs.lemmas.List.{append_assoc, append-nil}
@@ -10,13 +10,13 @@ use Rattle.check_stream.specs.theory.Asked.{Need, of_type, hash_of}
 use Rattle.check_stream.specs.mismatch_theory.PassedBut.{Position, Made, Missed, unasked, made_in, type_of_need, IsPlain, IsLedBack, Takes, Misses, PassedBut, begin, fitting, missing, below}
 use Rattle.check_stream.proofs.mismatch_theory.PlainLemmas.{plain_more}
 
--- The object has the second type.
+-- Object `o` has the second type `t` among the recorded pairs.
 abbrev pub Among : List (ℕ × ℕ) → ℕ → ℕ → Type 0
 Among noted o t = Contains noted (o, t)
 
 module _ (back : List ℕ) (table : Table) (noted : List (ℕ × ℕ)) (all : List Made) where
-  -- Starting with these objects and open positions, the tokens lead to all objects and have these
-  -- mismatches.
+  -- Starting with these objects and open positions, the tokens lead to all objects and have the
+  -- mismatches `missed`.
   abbrev pub PassesBut : List Made → List Position → List Token → List Missed → Type 0
   PassesBut made [] [] missed = (made ≡ all) × (missed ≡ [])
   PassesBut made [] (token ∷ tokens) missed = ⊥
@@ -43,13 +43,13 @@ abbrev Keeps : List (ℕ × ℕ) → List (ℕ × ℕ) → Type 0
 Keeps pairs noted = (o t : ℕ) → Contains pairs (o, t) → Contains noted (o, t)
 
 module _ (back : List ℕ) (table : Table) (Second : ℕ → ℕ → Type 0) (made : List Made) where
-  -- If these pairs are recorded, then the token satisfies its requirement.
+  -- The token satisfies its requirement if the second types `pairs` are recorded.
   record IsTaken (trail : List (ℕ × ℕ)) (need : Need) (token : Token) (next : List Position) : Type 0 where
     pairs : List (ℕ × ℕ)
     each : (o t : ℕ) → Contains pairs (o, t) → Second o t
     takes : (noted : List (ℕ × ℕ)) → Keeps pairs noted → Takes back table (Among noted) made trail need token next
 
-  -- The token uses no second type.
+  -- If a token satisfies its requirement with any recorded pairs, then no second type is used.
   plain_taken : (trail : List (ℕ × ℕ)) (need : Need) (token : Token) (next : List Position) → ((noted : List (ℕ × ℕ)) → Takes back table (Among noted) made trail need token next) → IsTaken trail need token next
   plain_taken trail need token next takes = record { pairs = []; each = λ o t among. absurd (Contains-none {X = ℕ × ℕ} (o, t) among); takes = λ noted kept. takes noted }
 
@@ -84,7 +84,8 @@ module _ (back : List ℕ) (table : Table) (Second : ℕ → ℕ → Type 0) (ma
 -- ---- from the beginning
 
 module _ (back : List ℕ) (table : Table) (all : List Made) where
-  -- The second types that these tokens use, and where the tokens lead with them.
+  -- The second types that the tokens `prefix` use, and the objects and positions to which the
+  -- tokens lead.
   record IsFronted (prefix : List Token) (made : List Made) (positions : List Position) (missed : List Missed) : Type 0 where
     pairs : List (ℕ × ℕ)
     each : (o t : ℕ) → Contains pairs (o, t) → IsPlain table prefix o t
@@ -129,7 +130,7 @@ module _ (back : List ℕ) (table : Table) (all : List Made) where
             rejoined back table noted all tokens token rest (missed ++ later) (r.passes noted kept (token ∷ rest) later (inr (inr (refl, h))));
       }
 
-  -- The tokens lead to the end.
+  -- From the root, the tokens lead to the end of the value and have the mismatches `missed`.
   pub record IsFromStart (tokens : List Token) (missed : List Missed) : Type 0 where
     pub noted : List (ℕ × ℕ)
     pub each : (o t : ℕ) → Contains noted (o, t) → IsPlain table tokens o t

@@ -1,4 +1,5 @@
--- From tokens all of which but one satisfy their requirements to the objects of their tree.
+-- If all tokens but one satisfy their requirements, then the objects of the tree satisfy the
+-- invariant.
 use Rattle.std.proofs.Common.{ℕ, suc, ◌+◌, ◌-◌, ◌<◌, ◌≤◌, ◌≡◌, ◌∙◌, ◌⊎◌, ⊎_elim, inl, inr, List, [], ◌∷◌, ◌++◌, length, Option, Some, None, refl, sym, ap, subst, arith}
 use Rattle.std.specs.Prelude.{slice_get, ℤ}
 use Rattle.std.proofs.lemmas.Bool.{false≢true, cases_lt}
@@ -50,7 +51,7 @@ number_of (vals.Ref o) = Some o
 -- ---- objects of the graph
 
 module _ (graph : List Obj) where
-  -- The objects are in the graph from number `c` on.
+  -- The graph contains the objects from number `c` on.
   abbrev pub AreIn : ℕ → List Obj → Type 0
   AreIn c [] = Unit {0}
   AreIn c (x ∷ xs) = (slice_get graph c ≡ Some x) × AreIn (suc c) xs
@@ -65,7 +66,7 @@ module _ (graph : List Obj) where
       let same : suc c + length xs ≡ c + suc (length xs) = omega arith in
       subst (λ n. AreIn n ys) same (in_back (suc c) xs ys are.1)
 
--- All objects of the graph are in it.
+-- A graph that ends with objects contains these objects.
 pub all_in : (prefix xs : List Obj) → AreIn (prefix ++ xs) (length prefix) xs
 all_in prefix [] = tt
 all_in prefix (x ∷ xs) = (there prefix, subst (λ n. AreIn (prefix ++ x ∷ xs) n xs) (length-append prefix (x ∷ []) ∙ next) (subst (λ g. AreIn g (length (prefix ++ x ∷ [])) xs) (append_assoc prefix (x ∷ []) xs) (all_in (prefix ++ x ∷ []) xs))) where
@@ -77,12 +78,13 @@ all_in prefix (x ∷ xs) = (there prefix, subst (λ n. AreIn (prefix ++ x ∷ xs
   there (y ∷ prefix) = there prefix
 
 module _ (back : List ℕ) (table : Table) (noted : List (ℕ × ℕ)) (all : List Made) (graph : List Obj) (whole : Val) (m : Missed) where
-  -- Each of them is the mismatch.
+  -- Each mismatch in the list is the mismatch `m`.
   abbrev pub AreIt : List Missed → Type 0
   AreIt [] = Unit {0}
   AreIt (one ∷ later) = (one ≡ m) × AreIt later
 
-  -- The trail leads to the mismatch, and its token encodes the value there.
+  -- The trail leads to the mismatch, and the token of the mismatch encodes the value at the end of
+  -- the trail.
   pub record IsMetAs (one : Missed) : Type 0 where
     pub value : Val
     pub real : IsReal table graph all whole one.trail value one.type
@@ -95,7 +97,7 @@ module _ (back : List ℕ) (table : Table) (noted : List (ℕ × ℕ)) (all : Li
   abbrev pub Good : ℕ → ℕ → List (ℕ × ℕ) → Type 0
   Good o t trail = IsGoodBut table graph all back noted whole m.trail o t trail
 
-  -- The invariant of the objects from number `c` on.
+  -- The `n` objects from number `c` on satisfy the invariant.
   abbrev pub AreGoodBut : ℕ → ℕ → Type 0
   AreGoodBut c n = (o : ℕ) → c ≤ o → o < c + n → (t : ℕ) (trail : List (ℕ × ℕ)) → IsMadeAt all o t trail → Good o t trail
 
@@ -183,7 +185,7 @@ module _ (back : List ℕ) (table : Table) (noted : List (ℕ × ℕ)) (all : Li
   encoded_there (block tag size) f c t is misses are = (c, roots f (c + 1), refl, are.0, length-roots f (c + 1) ∙ is.1)
   encoded_there (leaf object) f c t is misses are = (c, refl, are.0)
 
-  -- The object that the token creates is the value.
+  -- If the value of a token is an object, then the token created the object.
   its_object : (token : Token) (c t o : ℕ) → IsToken token → Misses table t token → value_of token c ≡ vals.Ref o → (c ≡ o) × (o < c + made_by token)
   its_object (integer z) c t o is misses same = absurd (none-some o (ap number_of same))
   its_object (atom tag) c t o is misses same = absurd (none-some o (ap number_of same))
@@ -233,7 +235,7 @@ module _ (back : List ℕ) (table : Table) (noted : List (ℕ × ℕ)) (all : Li
   no_object : (c : ℕ) → AreGoodBut c 0
   no_object c o from to = absurd (omega (arith, from, to))
 
-  -- The object that a token creates is among the objects in the end.
+  -- The object that a token creates is among the objects after the last token.
   made_at : (token : Token) (t : ℕ) (trail : List (ℕ × ℕ)) (made : List Made) (positions : List Position) (ts : List Token) (ms : List Missed) → IsToken token → 0 < made_by token → Goes (made ++ made_in (Some t) trail token) positions ts ms → IsMadeAt all (length made) t trail
   made_at token t trail made positions ts ms is some h =
       kept_at back table noted all (made ++ made_in (Some t) trail token) positions ts ms (length made) record { type = Some t; trail = trail } h

@@ -1,4 +1,4 @@
--- Positions whose trails lead to them by their last step.
+-- Positions whose trails lead to the positions by the last step of the trail.
 use Rattle.std.proofs.Common.{ℕ, zero, suc, ◌+◌, ◌≡◌, ◌∙◌, List, [], ◌∷◌, length, Bool, true, false, Some, refl, sym, subst, arith}
 use Rattle.std.specs.Prelude.{slice_get, IsTrue, map, replicate, if◌then◌else◌}
 use Rattle.std.proofs.lemmas.Bool.{false≢true}
@@ -18,14 +18,14 @@ use Rattle.check_stream.proofs.mismatch_theory.FieldLemmas.{AreFields, numbered,
 use Rattle.check_stream.proofs.mismatch_theory.PlacedLemmas.{IsHashOf}
 
 module _ (table : Table) (graph : List Obj) (all : List Made) (whole : Val) where
-  -- The last step of the trail leads to the value at the type.
+  -- The last step of the trail leads to the value `v` at type `t`.
   abbrev pub IsReal : List (ℕ × ℕ) → Val → ℕ → Type 0
   IsReal [] v t = (whole ≡ v) × (0 ≡ t)
   IsReal (link ∷ trail) v t =
       (s : ℕ) × IsMadeAt all link.0 s trail × IsTrue (is_asked_in table s)
       × (step (table_shapes table) graph (vals.Ref link.0) s link.1 ≡ Some (v, t))
 
-  -- The trail leads to the value unless the type is a wildcard.
+  -- If the type is no wildcard, then the last step of the trail leads to the value.
   abbrev pub IsRealIf : List (ℕ × ℕ) → Val → ℕ → Type 0
   IsRealIf trail v t = IsTrue (is_asked_in table t) → IsReal trail v t
 
@@ -34,7 +34,7 @@ module _ (table : Table) (graph : List Obj) (all : List Made) (whole : Val) wher
   real_from back noted missed (link ∷ trail) o t real = real
 
   module _ (p : ℕ) (trail : List (ℕ × ℕ)) where
-    -- The positions of a block's values from field `k` on.
+    -- The trails of the positions from field `k` on lead to the block's values.
     abbrev pub AreReal : ℕ → List Val → List Need → Type 0
     AreReal k [] needs = Unit {0}
     AreReal k (v ∷ vs) [] = Unit {0}
@@ -69,7 +69,7 @@ module _ (table : Table) (graph : List Obj) (all : List Made) (whole : Val) wher
       tt,
     )
 
-    -- The positions of a block that was created at a type.
+    -- If a block was created at a type, then the trails of its positions lead to its values.
     pub block_real : (s tag : ℕ) (values : List Val) (needs : List Need) → slice_get graph p ≡ Some (objects.Block tag values) → IsMadeAt all p s trail → fields_ask table s tag (length values) ≡ Some needs → AreReal 0 values needs
     block_real s tag values needs at made is = by (is_asked_in table s) refl is where
       fields : IsTrue (is_asked_in table s) → AreFields values needs (block_fields (shape_at table s) tag values) → AreReal 0 values needs

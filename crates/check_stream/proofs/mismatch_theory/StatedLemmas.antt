@@ -1,5 +1,5 @@
--- Bytes with exactly one mismatch: the theorem, and the invariant at the start and after one more
--- token.
+-- The theorem for bytes with exactly one mismatch, and the invariant at the start and after one
+-- more token.
 use Rattle.std.proofs.Common.{ℕ, zero, suc, ◌+◌, ◌-◌, ◌<◌, ◌≤◌, ◌^◌, ◌≡◌, ◌∙◌, ⊎_elim, inl, inr, refl, List, [], ◌∷◌, ◌++◌, length, map, Option, Some, None, sym, ap, subst, subst₂, arith, take-add}
 use Rattle.std.specs.Prelude.{replicate, take, drop}
 use Rattle.std.specs.List.{concat, AllZip}
@@ -48,7 +48,8 @@ need_some (of_type t) = omega arith
 need_some (hash_of tags) = omega arith
 
 module _ (back : List ℕ) (table : Table) where
-  -- The positions that a token opens, and its own position.
+  -- The number of values to be read for the positions that a token opens and for the token's
+  -- position.
   taken_many : (Second : ℕ → ℕ → Type 0) (made : List Made) (trail : List (ℕ × ℕ)) (need : Need) (token : Token) (next : List Position) → Takes back table Second made trail need token next → values_at next + 1 ≡ values_in (need ∷ []) + of_object fields (measure_of token)
   taken_many Second made trail (of_type t) (integer z) next takes = let is = ap values_at takes.1 in omega (arith, is)
   taken_many Second made trail (of_type t) (atom tag) next takes = let is = ap values_at takes.1 in omega (arith, is)
@@ -69,7 +70,7 @@ module _ (back : List ℕ) (table : Table) where
   unasked_many : (token : Token) → values_at (unasked token) ≡ of_object fields (measure_of token)
   unasked_many token = ap values_at (unasked_are token) ∙ values_at-unasked (of_object fields (measure_of token))
 
-  -- One more token.
+  -- If one more token is read, then the number of pending values agrees with the open positions.
   pushed : (ts : List Token) (token : Token) (position : Position) (positions next : List Position) → pending (map measure_of ts) ≡ values_at (position ∷ positions) → 0 < values_of position.asks → values_at next + 1 ≡ values_of position.asks + of_object fields (measure_of token) → pending (map measure_of (ts ++ token ∷ [])) ≡ values_at (next ++ positions)
   pushed ts token position positions next earlier some many =
       let push = pending_push (map measure_of ts) (measure_of token) (omega (arith, earlier, some)) in
@@ -119,7 +120,7 @@ states_from back table limit bytes head start n ts made missed p stated = record
   objects = ⊎_elim (λ none. inr (none, p.unshared none)) (λ same. inl (same ∙ sym p.many)) stated.count;
 }
 
--- The data bytes are those of the tokens.
+-- The header states the length of the encoded tokens as the number of data bytes.
 data_length : (back : List ℕ) (table : Table) (limit : ℕ) (bytes : List ℕ) (head : Head) (start n : ℕ) (ts : List Token) (made : List Made) (missed : List Missed) (p : IsPassingBut back table limit bytes head start n ts made [] missed) → IsStated head start n ts (length made) → head.length ≡ length (concat p.chunks)
 data_length back table limit bytes head start n ts made missed p stated =
     let prefix = length-take-le n bytes p.within in
@@ -178,8 +179,8 @@ but_start table limit bytes head n within is_header head_is begins words small =
   small = small;
 }
 
--- After one more token, given its effect on the objects, positions and mismatches. References may
--- lead back to more objects.
+-- If one more token is read, then the invariant holds after the token. The token may add targets of
+-- references.
 pub but_further :
     (back more : List ℕ) (table : Table) (limit : ℕ) (bytes : List ℕ) (head : Head) (first n : ℕ) (tokens : List Token) (made : List Made) (positions : List Position) (missed : List Missed)
     → (p : IsPassingBut back table limit bytes head first n tokens made positions missed)

@@ -1,4 +1,4 @@
--- A tree below a mismatch: its objects have no type.
+-- The objects of a tree below a mismatch have no type.
 use Rattle.std.proofs.Common.{ℕ, zero, suc, ◌+◌, ◌<◌, ◌≤◌, ◌≡◌, ◌∙◌, ◌⊎◌, ⊎_elim, inl, inr, List, [], ◌∷◌, ◌++◌, length, Option, Some, None, refl, sym, ap, subst, arith}
 use Rattle.std.specs.Prelude.{slice_get, replicate}
 use Rattle.std.proofs.lemmas.List.{append_assoc, append-nil, length-append}
@@ -26,7 +26,8 @@ unasked_are (block tag size) = refl
 unasked_are (leaf object) = ap (λ n. replicate n nothing) (sym (leaf_fields object))
 
 module _ (type : Option ℕ) (trail : List (ℕ × ℕ)) (made : List Made) where
-  -- The number of objects that a token creates.
+  -- If a token is read, then the number of objects grows by the number of objects that the token
+  -- creates.
   pub made_long : (token : Token) → IsToken token → length (made ++ made_in type trail token) ≡ length made + made_by token
   made_long (integer z) is = length-append made []
   made_long (atom tag) is = length-append made []
@@ -39,7 +40,7 @@ module _ (type : Option ℕ) (trail : List (ℕ × ℕ)) (made : List Made) wher
       let is : length made ≡ o = omega (arith, from, to) in
       subst (λ k. slice_get (made ++ record { type = type; trail = trail } ∷ []) k ≡ Some record { type = type; trail = trail }) is (slice_get-last made record { type = type; trail = trail })
 
-  -- The object that a token creates is at its index.
+  -- The object that a token creates is the last of the objects so far.
   pub made_there : (token : Token) → IsToken token → (o : ℕ) → length made ≤ o → o < length made + made_by token → slice_get (made ++ made_in type trail token) o ≡ Some record { type = type; trail = trail }
   made_there (integer z) is o from to = absurd (omega (arith, from, to))
   made_there (atom tag) is o from to = absurd (omega (arith, from, to))
@@ -48,7 +49,7 @@ module _ (type : Option ℕ) (trail : List (ℕ × ℕ)) (made : List Made) wher
   made_there (leaf object) is o from to = let one = leaf_made object is in last_there o from (omega (arith, to, one))
 
 module _ (back : List ℕ) (table : Table) (noted : List (ℕ × ℕ)) (all : List Made) where
-  -- The objects so far are a prefix of the objects in the end.
+  -- The objects so far are a prefix of the objects after the last token.
   pub prefix : (made : List Made) (positions : List Position) (tokens : List Token) (missed : List Missed) → PassesBut back table noted all made positions tokens missed → (later : List Made) × (made ++ later ≡ all)
   prefix made [] [] missed h = ([], append-nil made ∙ h.0)
   prefix made [] (token ∷ tokens) missed h = absurd h
@@ -78,7 +79,8 @@ module _ (back : List ℕ) (table : Table) (noted : List (ℕ × ℕ)) (all : Li
     pub untyped : (o : ℕ) → c ≤ o → o < c + n → (trail : List (ℕ × ℕ)) × (slice_get all o ≡ Some record { type = None; trail = trail })
     pub passes : PassesBut back table noted all after positions rest missed
 
-  -- If nothing is required of a token's fields, then they are passed over.
+  -- If nothing is required of a token's fields, then each field of the token has a position at
+  -- which nothing is required.
   fields_next : (token : Token) (f : Forest) (made : List Made) (positions : List Position) (rest : List Token) (missed : List Missed) → PassesBut back table noted all made (unasked token ++ positions) (forest_tokens f ++ rest) missed → PassesBut back table noted all made (replicate (of_object fields (measure_of token)) nothing ++ positions) (forest_tokens f ++ rest) missed
   fields_next token f made positions rest missed h = subst (λ xs. PassesBut back table noted all made (xs ++ positions) (forest_tokens f ++ rest) missed) (unasked_are token) h
 
@@ -129,7 +131,8 @@ module _ (back : List ℕ) (table : Table) (noted : List (ℕ × ℕ)) (all : Li
           passes = later.passes;
         }
 
-  -- After a token of which nothing is required, or which mismatches.
+  -- If nothing is required of a token, or the token mismatches, then the tree of the token is
+  -- passed over.
   pub after_token : (token : Token) (f : Forest) (trail : List (ℕ × ℕ)) (made : List Made) (positions : List Position) (rest : List Token) (missed : List Missed) → IsTree (node token f) → PassesBut back table noted all (made ++ made_in None trail token) (unasked token ++ positions) (forest_tokens f ++ rest) missed → IsPassedOver (length made) (made_by token + all_made f) positions rest missed
   after_token token f trail made positions rest missed is h =
       let made' = made ++ made_in None trail token in

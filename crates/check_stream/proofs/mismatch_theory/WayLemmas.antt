@@ -1,4 +1,4 @@
--- Each path leads to a value that is held, by its only trail, or passes through a hole.
+-- Each path passes through a hole, or leads by the only trail to a value that is held.
 use Rattle.std.proofs.Common.{ℕ, ◌≡◌, ◌∙◌, ◌⊎◌, ⊎_elim, inl, inr, List, [], ◌∷◌, ◌++◌}
 use Rattle.std.proofs.Common.{Some, refl, sym, ap, subst, arith}
 use Rattle.std.specs.Prelude.{Contains, IsSomeAnd, option_map}
@@ -20,7 +20,8 @@ use Rattle.types_theory.proofs.typing.PathLemmas.{value_at-push}
 use Rattle.types_theory.proofs.typing.SearchedLemmas.{never_before_itself, never_before_root}
 use Rattle.check_stream.specs.mismatch_theory.OnlyWay.{AreHeldBut, IsNeededOf, path_of, IsWay, IsOnlyWay, HasOnlyWay}
 
--- If a prefix of a path does not come before another path, then the whole path does not.
+-- If a prefix of a path does not come before `path`, then the whole path does not come before
+-- `path`.
 pub prefix_not_before : (prefix more path : List ℕ) → (IsBefore prefix path → ⊥) → IsBefore (prefix ++ more) path → ⊥
 prefix_not_before prefix [] path not before = not (subst (λ p. IsBefore p path) (append-nil prefix) before)
 prefix_not_before prefix (i ∷ more) path not (inl shorter) = not (inl (omega (arith, shorter, length-append prefix (i ∷ more))))
@@ -40,12 +41,12 @@ module _ {T : Type 0} (shapes : Shapes T) (graph : List Obj) (root : Val) (t : T
 module _ {T : Type 0} (shapes : Shapes T) (lawful : AreLawful shapes Everything) (graph : List Obj)
     (pairs : List (ℕ × T)) (holes : List (ℕ × ℕ)) (root : Val) (t : T)
     (are : AreHeldBut shapes graph pairs holes root t) where
-  -- If only one trail leads to the value, then its path is this path.
+  -- If only one trail leads to the value, then the path of the trail is `path`.
   abbrev Tracked : List ℕ → Val → Type 0
   Tracked path v = (o : ℕ) (trail : List (ℕ × ℕ)) → v ≡ vals.Ref o → IsOnlyWay shapes graph pairs root trail o → path_of trail ≡ path
 
-  -- The path passes through a hole. If only one trail leads to the hole, then its path is the
-  -- prefix up to the hole.
+  -- The path passes through a hole. If only one trail leads to the hole, then the path of the trail
+  -- is a prefix of the path.
   pub record IsThrough (path : List ℕ) : Type 0 where
     pub object : ℕ
     pub field : ℕ
@@ -74,7 +75,7 @@ module _ {T : Type 0} (shapes : Shapes T) (lawful : AreLawful shapes Everything)
       let prefix = tracked o trail refl only' in
       subst (λ j. path_of trail ++ j ∷ [] ≡ path ++ i ∷ []) same.1 (ap (λ q. q ++ i ∷ []) prefix)
 
-  -- The invariant of a step from a listed object.
+  -- The invariant after a step from object `o` to its field `i`.
   record IsStep (path : List ℕ) (o i : ℕ) (w : Val) (a : T) : Type 0 where
     tracked : Tracked (path ++ i ∷ []) w
     next : Contains holes (o, i) ⊎ IsHeld shapes graph pairs w a
@@ -125,7 +126,7 @@ module _ {T : Type 0} (shapes : Shapes T) (lawful : AreLawful shapes Everything)
         let found = IsSomeAnd-some (value_at shapes graph root t other) (λ position. shapes.fits graph position.0 position.1 → ⊥) is in
         ⊎_elim (λ fits. found.2 fits) (λ h. through other h before) (walk [] other root t found.0 are.root_held root_tracked found.1)
 
--- One hole.
+-- The law for a value with exactly one hole.
 module _ {T : Type 0} (shapes : Shapes T) (lawful : AreLawful shapes Everything) (graph : List Obj)
     (pairs : List (ℕ × T)) (root : Val) (t : T) (trail : List (ℕ × ℕ)) (o i : ℕ) (u a : T) (w : Val)
     (are : AreHeldBut shapes graph pairs ((o, i) ∷ []) root t)

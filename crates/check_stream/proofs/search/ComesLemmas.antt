@@ -1,4 +1,4 @@
--- The state after one more token, by what the token changes.
+-- The state of the search after one more token, by what the token changes.
 use Rattle.std.proofs.Common.{ℕ, zero, suc, ◌+◌, ◌-◌, ◌<◌, ◌≤◌, ◌≡◌, ◌∙◌, ◌⊎◌, ⊎_elim, inl, inr, List, [], ◌∷◌, ◌++◌, length, map, set, Bool, true, false, Option, Some, None, refl, sym, ap, subst, arith}
 use Rattle.std.specs.Prelude.{slice_get, replicate, Contains, ℤ, is_some}
 use Rattle.std.specs.Global.{Vec}
@@ -27,9 +27,9 @@ use Rattle.check_stream.specs.checker.State.{Spends}
 use Rattle.check_stream.specs.declared.search.again.Again.{Again}
 use Rattle.check_stream.specs.declared.search.mismatch.FoundMismatch.{FoundMismatch}
 use Rattle.check_stream.specs.declared.search.mismatch.Finding.{Finding}
-use Rattle.check_stream.specs.declared.search.summary.Summary.{Summary}
+use Rattle.marshal_codec.specs.declared.token.summary.Summary.{Summary}
 use Rattle.check_stream.specs.declared.search.second.SecondReads.{SecondReads}
-use Rattle.check_stream.specs.declared.search.summary.Summary.TheVariants as sayings
+use Rattle.marshal_codec.specs.declared.token.summary.Summary.TheVariants as summaries
 use Rattle.check_stream.specs.declared.search.mismatch.Fast.{Fast}
 use Rattle.check_stream.specs.declared.search.mismatch.Fast.TheVariants as fasts
 use Rattle.check_stream.specs.declared.search.way.Expectation.{Expectation}
@@ -37,17 +37,18 @@ use Rattle.check_stream.specs.declared.search.way.Expectation.TheVariants as ask
 use Rattle.check_stream.specs.declared.search.way.BlockExpectations.{BlockExpectations}
 use Rattle.check_stream.specs.declared.search.way.BlockExpectations.TheVariants as lefts
 use Rattle.check_stream.specs.declared.search.way.Way.{Way}
-use Rattle.check_stream.specs.search.Judge.{IsSummary, IsSummaryBy, IsNoBack, summary_fields}
+use Rattle.check_stream.specs.search.Judge.{IsNoBack}
+use Rattle.marshal_codec.specs.token.Summary.{IsSummary, IsSummaryBy, summary_fields}
 use Rattle.check_stream.specs.search.Way.{trail_of, trail_in, position_of, left_values, way_positions, opened_positions, unasked_position, IsWay, OpensAt}
 use Rattle.check_stream.specs.search.Find.{no_type, type_or_none, AreTypes, AreMarked, AlsoMarks, IsMissedAt, AreMissedAt, IsHeld, HasRoom, Passes, Adds, LeadsTo, Comes, Follows, RunsFast, RunsFastBy, unasked_in}
 use Rattle.check_stream.specs.search.Second.{Knows, Shows}
 use Rattle.check_stream.proofs.search.WayLemmas.{none_opened}
-use Rattle.check_stream.proofs.search.SummaryLemmas.{some_token}
+use Rattle.marshal_codec.proofs.token.SummaryLemmas.{some_token}
 
 abbrev held_type : Made → ℕ
 held_type object = type_or_none object.type
 
--- The type numbers that are recorded for the objects of a token.
+-- The number that is recorded for the type of a token's object.
 types_made : (type : Option ℕ) (trail : List (ℕ × ℕ)) (token : Token) → IsToken token → map held_type (made_in type trail token) ≡ replicate (made_by token) (type_or_none type)
 types_made type trail (integer z) is = refl
 types_made type trail (atom tag) is = refl
@@ -59,7 +60,7 @@ module _ (made : List Made) (type : Option ℕ) (trail : List (ℕ × ℕ)) (tok
   abbrev after : List Made
   after = made ++ made_in type trail token
 
-  -- Each object is an earlier one or the token's object.
+  -- Each object after the token is an object before the token or the token's object.
   there : (o : ℕ) (object : Made) → slice_get after o ≡ Some object → (slice_get made o ≡ Some object) ⊎ (object ≡ record { type = type; trail = trail })
   there o object at = ⊎_elim
       (λ before. inl (kept o object before at))
@@ -86,7 +87,7 @@ module _ (made : List Made) (type : Option ℕ) (trail : List (ℕ × ℕ)) (tok
         (there o record { type = Some t; trail = way } at)),
   )
 
--- If the token is no reference, then the marks stay.
+-- If the token is no reference, then the marks of the targets stay valid.
 marked_still : (back : List ℕ) (old new : Again) → AreMarked back old.marks.items → new ≡ old → AreMarked (back ++ []) new.marks.items
 marked_still back old new are same =
     subst (λ bs. AreMarked bs new.marks.items) (sym (append-nil back)) (subst (λ (a : Again). AreMarked back a.marks.items) (sym same) are)
@@ -95,13 +96,13 @@ many_types : (made : List Made) → length (map held_type made) ≡ length made
 many_types [] = refl
 many_types (object ∷ made) = ap suc (many_types made)
 
--- There are as many recorded types as objects.
+-- The number of recorded types is the number of objects.
 pub many_held : (types : List ℕ) (made : List Made) → AreTypes types made → length types ≡ length made
 many_held types made are = ap length are.0 ∙ many_types made
 
 module _ (table : Table) (back : List ℕ) (tokens : List Token) (made : List Made) (missed : List Missed) (token : Token) (is : IsToken token)
     (old new : Finding) (summary : Summary) (left : BlockExpectations) (its : IsSummary summary token) (held : IsHeld back made missed old) (prefix : List ℕ) (known : Knows table prefix tokens old.seconds) where
-  -- The state after an object, or none, was added.
+  -- If at most one object was added, then the new state agrees with the objects.
   held_after : (n : ℕ) (type : Option ℕ) (trail : List (ℕ × ℕ)) (later : List Missed) → Adds old n summary left new → n ≡ type_or_none type → ((t : ℕ) → type ≡ Some t → t < no_type) → AreMissedAt new.found later → IsHeld (back ++ []) (made ++ made_in type trail token) later new
   held_after n type trail later adds same some found = record {
     is_way = (adds.opens held.is_way).0;
@@ -110,7 +111,7 @@ module _ (table : Table) (back : List ℕ) (tokens : List Token) (made : List Ma
     found = found;
   }
 
-  -- The number of the next object.
+  -- The number of recorded types is the number of objects before the token.
   many_made : length old.types.items ≡ length made
   many_made = many_held old.types.items made held.types
 
@@ -119,7 +120,7 @@ module _ (table : Table) (back : List ℕ) (tokens : List Token) (made : List Ma
       subst (λ (ps : List Position). PassedBut (back ++ []) table (tokens ++ token ∷ []) (made ++ made_in type trail token) ps later) (sym same)
       (subst (λ bs. PassedBut bs table (tokens ++ token ∷ []) (made ++ made_in type trail token) positions later) (sym (append-nil back)) passed)
 
-  -- Case: the token matches the expected type.
+  -- Case: the token matches the type that its position expects.
   pub fits_leads : (t : ℕ) → t < no_type → Adds old t summary left new → Takes back table (IsPlain table tokens) made (trail_in old.way) (of_type t) token (opened_positions (length made) (trail_in old.way) left)
       → PassedBut back table tokens made (record { asks = Some (of_type t); trail = trail_in old.way } ∷ way_positions old.way) missed → LeadsTo back table prefix tokens made token new
   fits_leads t some adds takes passed =
@@ -136,7 +137,7 @@ module _ (table : Table) (back : List ℕ) (tokens : List Token) (made : List Ma
         known = subst (Knows table prefix tokens) (sym adds.seconds) known;
       }
 
-  -- Case: nothing is expected.
+  -- Case: the position of the token expects nothing.
   pub below_leads : Adds old no_type summary left new → unasked_in left token → PassedBut back table tokens made (unasked_position ∷ way_positions old.way) missed → LeadsTo back table prefix tokens made token new
   below_leads adds fields passed =
       let positions : way_positions new.way ≡ unasked token ++ way_positions old.way = (adds.opens held.is_way).1 ∙ ap (λ ps. ps ++ way_positions old.way) (fields (length old.types.items) (trail_in old.way)) in
@@ -150,7 +151,7 @@ module _ (table : Table) (back : List ℕ) (tokens : List Token) (made : List Ma
         known = subst (Knows table prefix tokens) (sym adds.seconds) known;
       }
 
--- Case: the token does not match, and is the first mismatch.
+-- Case: the token does not match the expected type, and is the first mismatch.
 pub miss_leads :
     (table : Table) (back : List ℕ) (tokens : List Token) (made : List Made) (missed : List Missed) (token : Token) → IsToken token → (old middle new : Finding) (summary : Summary) (left : BlockExpectations) → IsSummary summary token → IsHeld back made missed old
     → (t : ℕ) (found : FoundMismatch) → old.found ≡ None → middle.found ≡ Some found → found.links.items ≡ old.way.links.items → found.ty ≡ t → found.summary ≡ summary
@@ -185,7 +186,7 @@ miss_leads table back tokens made missed token is old middle new summary left it
       known = subst (Knows table prefix tokens) (sym (adds.seconds ∙ seconds)) known;
     }
 
--- ---- what is added
+-- ---- the object that the token adds
 
 -- Case: the token makes no object.
 pub adds_none : (old : Finding) (type : ℕ) (summary : Summary) (left : BlockExpectations) → HasRoom summary left → ((token : Token) → IsSummary summary token → measure_of token ≡ None) → Adds old type summary left old
@@ -220,29 +221,30 @@ adds_one old new type summary left measure is opens found seconds types again sp
       w64 = λ token its. let own : of_object words64 (measure_of token) ≡ words64 measure = ap (of_object words64) (is token its) in let left' = spends.w64 in omega (arith, own, left');
     }
 
--- The fields that expect nothing.
+-- If nothing is expected of a token's fields, then the positions of the fields are unasked
+-- positions.
 fields_unasked : (summary : Summary) (token : Token) → IsSummary summary token → unasked_in (lefts.Unasked (summary_fields summary)) token
-fields_unasked (sayings.Integer z) token its object trail = ap unasked (sym its)
-fields_unasked (sayings.Atom tag) token its object trail = ap unasked (sym its)
-fields_unasked (sayings.Shared offset) token its object trail = ap unasked (sym its)
-fields_unasked (sayings.Block tag size) token its object trail = ap unasked (sym its)
-fields_unasked (sayings.Bytes m) token its object trail = ap unasked (sym its.2)
-fields_unasked sayings.Double token its object trail = ap unasked (sym its.1)
-fields_unasked (sayings.Doubles m) token its object trail = ap unasked (sym its.2)
-fields_unasked (sayings.Custom kind) token its object trail = ap unasked (sym its.1)
+fields_unasked (summaries.Integer z) token its object trail = ap unasked (sym its)
+fields_unasked (summaries.Atom tag) token its object trail = ap unasked (sym its)
+fields_unasked (summaries.Shared offset) token its object trail = ap unasked (sym its)
+fields_unasked (summaries.Block tag size) token its object trail = ap unasked (sym its)
+fields_unasked (summaries.Bytes m) token its object trail = ap unasked (sym its.2)
+fields_unasked summaries.Double token its object trail = ap unasked (sym its.1)
+fields_unasked (summaries.Doubles m) token its object trail = ap unasked (sym its.2)
+fields_unasked (summaries.Custom kind) token its object trail = ap unasked (sym its.1)
 
 pub unasked_fields : (summary : Summary) (n : ℕ) → n ≡ summary_fields summary → (token : Token) → IsSummary summary token → unasked_in (lefts.Unasked n) token
 unasked_fields summary n is token its object trail = ap (λ k. replicate k unasked_position) is ∙ fields_unasked summary token its object trail
 
 fields_none : (summary : Summary) (token : Token) → IsSummary summary token → made_by token ≡ 0 → summary_fields summary ≡ 0
-fields_none (sayings.Integer z) token its none = refl
-fields_none (sayings.Atom tag) token its none = refl
-fields_none (sayings.Shared offset) token its none = refl
-fields_none (sayings.Block tag size) token its none = let one : made_by token ≡ 1 = ap made_by its in absurd (omega (arith, one, none))
-fields_none (sayings.Bytes m) token its none = refl
-fields_none sayings.Double token its none = refl
-fields_none (sayings.Doubles m) token its none = refl
-fields_none (sayings.Custom kind) token its none = refl
+fields_none (summaries.Integer z) token its none = refl
+fields_none (summaries.Atom tag) token its none = refl
+fields_none (summaries.Shared offset) token its none = refl
+fields_none (summaries.Block tag size) token its none = let one : made_by token ≡ 1 = ap made_by its in absurd (omega (arith, one, none))
+fields_none (summaries.Bytes m) token its none = refl
+fields_none summaries.Double token its none = refl
+fields_none (summaries.Doubles m) token its none = refl
+fields_none (summaries.Custom kind) token its none = refl
 
 pub unasked_room : (summary : Summary) (n : ℕ) → n ≡ summary_fields summary → HasRoom summary (lefts.Unasked n)
 unasked_room summary n is token its none = is ∙ fields_none summary token its none
@@ -252,27 +254,27 @@ unasked_room summary n is token its none = is ∙ fields_none summary token its 
 abbrev May : ℕ → ℕ → Token → Type 0
 May n stated token = RefersBack token n × (stated ≡ 0 → IsNoReference token)
 
--- If a token is no reference, then its position does not matter.
+-- If the summary is no reference, then the token may follow any number of objects.
 refers_by : (summary : Summary) (n stated : ℕ) → IsNoBack summary → (token : Token) → IsSummary summary token → May n stated token
-refers_by (sayings.Integer z) n stated plain token its = subst (May n stated) (sym its) (tt, λ _. tt)
-refers_by (sayings.Atom tag) n stated plain token its = subst (May n stated) (sym its) (tt, λ _. tt)
-refers_by (sayings.Shared offset) n stated plain token its = absurd plain
-refers_by (sayings.Block tag size) n stated plain token its = subst (May n stated) (sym its) (tt, λ _. tt)
-refers_by (sayings.Bytes m) n stated plain token its = subst (May n stated) (sym its.2) (tt, λ _. tt)
-refers_by sayings.Double n stated plain token its = subst (May n stated) (sym its.1) (tt, λ _. tt)
-refers_by (sayings.Doubles m) n stated plain token its = subst (May n stated) (sym its.2) (tt, λ _. tt)
-refers_by (sayings.Custom kind) n stated plain token its = subst (May n stated) (sym its.1) (tt, λ _. tt)
+refers_by (summaries.Integer z) n stated plain token its = subst (May n stated) (sym its) (tt, λ _. tt)
+refers_by (summaries.Atom tag) n stated plain token its = subst (May n stated) (sym its) (tt, λ _. tt)
+refers_by (summaries.Shared offset) n stated plain token its = absurd plain
+refers_by (summaries.Block tag size) n stated plain token its = subst (May n stated) (sym its) (tt, λ _. tt)
+refers_by (summaries.Bytes m) n stated plain token its = subst (May n stated) (sym its.2) (tt, λ _. tt)
+refers_by summaries.Double n stated plain token its = subst (May n stated) (sym its.1) (tt, λ _. tt)
+refers_by (summaries.Doubles m) n stated plain token its = subst (May n stated) (sym its.2) (tt, λ _. tt)
+refers_by (summaries.Custom kind) n stated plain token its = subst (May n stated) (sym its.1) (tt, λ _. tt)
 
--- If the summary is no reference, then the token is none.
-pub no_back_summary : (summary : Summary) → ((offset : ℕ) → summary ≡ sayings.Shared offset → ⊥) → IsNoBack summary
-no_back_summary (sayings.Integer z) plain = tt
-no_back_summary (sayings.Atom tag) plain = tt
-no_back_summary (sayings.Shared offset) plain = plain offset refl
-no_back_summary (sayings.Block tag size) plain = tt
-no_back_summary (sayings.Bytes m) plain = tt
-no_back_summary sayings.Double plain = tt
-no_back_summary (sayings.Doubles m) plain = tt
-no_back_summary (sayings.Custom kind) plain = tt
+-- If the summary is that of no reference, then the token is no reference.
+pub no_back_summary : (summary : Summary) → ((offset : ℕ) → summary ≡ summaries.Shared offset → ⊥) → IsNoBack summary
+no_back_summary (summaries.Integer z) plain = tt
+no_back_summary (summaries.Atom tag) plain = tt
+no_back_summary (summaries.Shared offset) plain = plain offset refl
+no_back_summary (summaries.Block tag size) plain = tt
+no_back_summary (summaries.Bytes m) plain = tt
+no_back_summary summaries.Double plain = tt
+no_back_summary (summaries.Doubles m) plain = tt
+no_back_summary (summaries.Custom kind) plain = tt
 
 pub none_found : (found : Option FoundMismatch) → is_some found ≡ false → found ≡ None
 none_found None none = refl
@@ -301,15 +303,15 @@ comes_below table stated prefix old new summary left refers fields adds = record
   w64 = adds.w64;
 }
 
--- A reference at a position that expects nothing.
+-- A reference at a position that expects nothing is consumed and changes nothing.
 pub comes_below_back :
-    (table : Table) (stated : ℕ) (prefix : List ℕ) (old : Finding) (summary : Summary) (offset : ℕ) → summary ≡ sayings.Shared offset → 0 < stated → 1 ≤ offset → offset ≤ length old.types.items → Comes table stated prefix old asks.Nothing summary old
+    (table : Table) (stated : ℕ) (prefix : List ℕ) (old : Finding) (summary : Summary) (offset : ℕ) → summary ≡ summaries.Shared offset → 0 < stated → 1 ≤ offset → offset ≤ length old.types.items → Comes table stated prefix old asks.Nothing summary old
 comes_below_back table stated prefix old summary offset same some first few =
     subst (λ s. Comes table stated prefix old asks.Nothing s old) (sym same)
-    (comes_below table stated prefix old old (sayings.Shared offset) (lefts.Unasked 0)
+    (comes_below table stated prefix old old (summaries.Shared offset) (lefts.Unasked 0)
     (λ token its. subst (May (length old.types.items) stated) (sym its) ((first, few), λ none. absurd (omega (arith, some, none))))
     (λ token its object trail. ap unasked (sym its))
-    (adds_none old no_type (sayings.Shared offset) (lefts.Unasked 0) (λ token its none. refl) (λ token its. ap measure_of its)))
+    (adds_none old no_type (summaries.Shared offset) (lefts.Unasked 0) (λ token its none. refl) (λ token its. ap measure_of its)))
 
 pub comes_below_other :
     (table : Table) (stated : ℕ) (prefix : List ℕ) (old new : Finding) (summary : Summary) (left : BlockExpectations) → IsNoBack summary → ((token : Token) → IsSummary summary token → unasked_in left token)
@@ -328,16 +330,16 @@ comes_miss table stated prefix old middle new t summary left found misses none s
   w32 = λ token its. adds.w32 token its ∙ ap (λ (w : Words). w.w32) words;
   w64 = λ token its. adds.w64 token its ∙ ap (λ (w : Words). w.w64) words;
 } where
-  -- A reference is no mismatch.
+  -- If every token with the summary mismatches the type, then the summary is no reference.
   no_back : (s : Summary) → ((token : Token) → IsSummary s token → Misses table t token) → IsNoBack s
-  no_back (sayings.Integer z) each = tt
-  no_back (sayings.Atom tag) each = tt
-  no_back (sayings.Shared offset) each = each (shared offset) refl
-  no_back (sayings.Block tag size) each = tt
-  no_back (sayings.Bytes m) each = tt
-  no_back sayings.Double each = tt
-  no_back (sayings.Doubles m) each = tt
-  no_back (sayings.Custom kind) each = tt
+  no_back (summaries.Integer z) each = tt
+  no_back (summaries.Atom tag) each = tt
+  no_back (summaries.Shared offset) each = each (shared offset) refl
+  no_back (summaries.Block tag size) each = tt
+  no_back (summaries.Bytes m) each = tt
+  no_back summaries.Double each = tt
+  no_back (summaries.Doubles m) each = tt
+  no_back (summaries.Custom kind) each = tt
 
 -- ---- no object is made, and no position is opened except the next one
 
@@ -351,16 +353,16 @@ held_kept back made missed old new held is types again found =
       found = subst (λ f. AreMissedAt f missed) (sym found) held.found;
     }
 
--- The hash of a tag.
+-- If a token is the hash of a tag, then the position of the tag's argument is opened.
 pub comes_hash :
-    (table : Table) (stated : ℕ) (prefix : List ℕ) (old new : Finding) (tags : Bor (List (PolyTag ℕ))) (summary : Summary) (z : ℤ) (tag : PolyTag ℕ) (t : ℕ) → summary ≡ sayings.Integer z → tag_with tags.now z ≡ Some tag → tag.arg ≡ Some t
+    (table : Table) (stated : ℕ) (prefix : List ℕ) (old new : Finding) (tags : Bor (List (PolyTag ℕ))) (summary : Summary) (z : ℤ) (tag : PolyTag ℕ) (t : ℕ) → summary ≡ summaries.Integer z → tag_with tags.now z ≡ Some tag → tag.arg ≡ Some t
     → (IsWay old.way → IsWay new.way) → way_positions new.way ≡ position_of (asks.Type t) (field_after (trail_in old.way)) ∷ way_positions old.way → new.types ≡ old.types → new.again ≡ old.again → new.seconds ≡ old.seconds → new.words ≡ old.words → new.found ≡ old.found
     → Comes table stated prefix old (asks.Hash tags) summary new
 comes_hash table stated prefix old new tags summary z tag t same has_hash has_argument is positions types again seconds words found =
     subst (λ s. Comes table stated prefix old (asks.Hash tags) s new) (sym same) record {
       leads = λ back tokens made missed token is_token its held known passed.
           subst (λ u. LeadsTo back table prefix tokens made u new) (sym its) (leads back tokens made missed held known passed);
-      refers = refers_by (sayings.Integer z) (length old.types.items) stated tt;
+      refers = refers_by (summaries.Integer z) (length old.types.items) stated tt;
       w32 = λ token its. let none : of_object words32 (measure_of token) ≡ 0 = ap (λ u. of_object words32 (measure_of u)) its in let kept = ap (λ (w : Words). w.w32) words in omega (arith, none, kept);
       w64 = λ token its. let none : of_object words64 (measure_of token) ≡ 0 = ap (λ u. of_object words64 (measure_of u)) its in let kept = ap (λ (w : Words). w.w64) words in omega (arith, none, kept);
     } where
@@ -380,7 +382,7 @@ comes_hash table stated prefix old new tags summary z tag t same has_hash has_ar
             known = subst (Knows table prefix tokens) (sym seconds) known;
           }
 
--- An integer at a position to which no link leads.
+-- An integer is consumed at a position to which the links do not lead.
 module _ (table : Table) (old new : Finding) (summary : Summary) (token : Token) (its : IsSummary summary token) (p : Passes table old summary new) where
   is_integer : token ≡ integer p.z
   is_integer = subst (λ s. IsSummary s token) p.its its
@@ -419,7 +421,8 @@ passes_follows table stated prefix old new summary p = record {
   w64 = λ token its. passes_w64 table old new summary token its p;
 }
 
--- A token that is consumed at the first position.
+-- If a token is consumed at the position taken last, then the token is consumed at the first open
+-- position.
 pub came_follows :
     (table : Table) (stated : ℕ) (prefix : List ℕ) (old new : Finding) (taken : Way) (asked : Expectation) (summary : Summary) → IsWay taken → way_positions old.way ≡ position_of asked (trail_in taken) ∷ way_positions taken
     → Comes table stated prefix (record old { way = taken }) asked summary new → Follows table stated prefix old summary new
@@ -432,7 +435,8 @@ came_follows table stated prefix old new taken asked summary is positions c = re
   w64 = c.w64;
 }
 
--- By the summary of the token.
+-- If the bytes begin with a token of the summary, then the result for the summary is the result for
+-- the bytes.
 pub runs_fast_by : (table : Table) (bytes : List ℕ) (old new : Finding) (summary : Summary) (len : ℕ) (fast : Fast) → IsSummaryBy bytes summary len → RunsFast table old summary len new fast → RunsFastBy table bytes old new fast
 runs_fast_by table bytes old new summary len (fasts.Took n) by h = (summary, subst (IsSummaryBy bytes summary) (sym h.0) by, h.1)
 runs_fast_by table bytes old new summary len fasts.Kept by h = h
@@ -441,11 +445,12 @@ runs_fast_by table bytes old new summary len fasts.Inconclusive by h = tt
 -- ---- a reference
 
 module _ (table : Table) (stated : ℕ) (prefix : List ℕ) (old : Finding) (t offset : ℕ) (some : 0 < stated) (first : 1 ≤ offset) (few : offset ≤ length old.types.items) where
-  refers_back : (token : Token) → IsSummary (sayings.Shared offset) token → May (length old.types.items) stated token
+  refers_back : (token : Token) → IsSummary (summaries.Shared offset) token → May (length old.types.items) stated token
   refers_back token its = subst (May (length old.types.items) stated) (sym its) ((first, few), λ none. absurd (omega (arith, some, none)))
 
-  -- Case: nothing is expected of its target.
-  pub comes_wildcard : IsWildcard table t → Comes table stated prefix old (asks.Type t) (sayings.Shared offset) old
+  -- If a reference is required at the wildcard, then the state of the search after the reference is
+  -- the state before it.
+  pub comes_wildcard : IsWildcard table t → Comes table stated prefix old (asks.Type t) (summaries.Shared offset) old
   comes_wildcard wildcard = record {
     leads = λ back tokens made missed token is_token its held known passed.
         subst (λ u. LeadsTo back table prefix tokens made u old) (sym its) (leads back tokens made missed held known passed);
@@ -466,7 +471,7 @@ module _ (table : Table) (stated : ℕ) (prefix : List ℕ) (old : Finding) (t o
           known = known;
         }
 
--- The type of an object that has one.
+-- If a recorded number is not `no_type`, then the object has the type with this number.
 type_there : (made : List Made) (o n : ℕ) → slice_get (map held_type made) o ≡ Some n → (n ≡ no_type → ⊥) → (trail : List (ℕ × ℕ)) × (slice_get made o ≡ Some record { type = Some n; trail = trail })
 type_there [] o n at some = absurd (none-some n at)
 type_there (object ∷ made) zero n at some = (object.trail, by object.type refl) where
@@ -489,7 +494,7 @@ mark_there [] o short = absurd (omega (arith, short))
 mark_there (mark ∷ marks) zero short = refl
 mark_there (mark ∷ marks) (suc o) short = mark_there marks o (omega (arith, short))
 
--- One more target of a reference.
+-- If the mark of one more target is set, then the marks stay valid.
 marked_more : (back : List ℕ) (marks new : List Bool) (o : ℕ) → AreMarked back marks → AlsoMarks marks o new → AreMarked (back ++ o ∷ []) new
 marked_more back marks new o are also p among =
     let far = also.reaches in
@@ -503,13 +508,13 @@ marked_more back marks new o are also p among =
     subst (λ q. slice_get (set also.all o true) q ≡ Some true) own (mark_there also.all o far.within))
     (Contains-append_cases back (o ∷ []) p among))
 
--- Case: its target has the type and is marked.
+-- Case: the target of the reference has the type and is marked.
 pub comes_back :
     (table : Table) (stated : ℕ) (prefix : List ℕ) (old new : Finding) (t offset object : ℕ) → 0 < stated → 1 ≤ offset → offset ≤ length old.types.items
     → object ≡ length old.types.items - offset
     → ((tokens : List Token) (made : List Made) → AreTypes old.types.items made → Knows table prefix tokens old.seconds → (HasFirst table made object t ⊎ IsPlain table tokens object t) × Knows table prefix tokens new.seconds)
     → AlsoMarks old.again.marks.items object new.again.marks.items
-    → new.way ≡ old.way → new.types ≡ old.types → new.words ≡ old.words → new.found ≡ old.found → Comes table stated prefix old (asks.Type t) (sayings.Shared offset) new
+    → new.way ≡ old.way → new.types ≡ old.types → new.words ≡ old.words → new.found ≡ old.found → Comes table stated prefix old (asks.Type t) (summaries.Shared offset) new
 comes_back table stated prefix old new t offset object some first few its_object has marks way types words found = record {
   leads = λ back tokens made missed token is_token its held known passed.
       subst (λ u. LeadsTo back table prefix tokens made u new) (sym its) (leads back tokens made missed held known passed);
@@ -546,7 +551,7 @@ comes_back table stated prefix old new t offset object some first few its_object
         known = both.1;
       }
 
--- The target has the type by its first type.
+-- The target of the reference has the type as its first type.
 pub has_first :
     (table : Table) (prefix : List ℕ) (types : List ℕ) (old new : SecondReads) (t object own : ℕ) → slice_get types object ≡ Some own → (own ≡ no_type → ⊥) → (table_shapes table).equal own t → new ≡ old
     → (tokens : List Token) (made : List Made) → AreTypes types made → Knows table prefix tokens old → (HasFirst table made object t ⊎ IsPlain table tokens object t) × Knows table prefix tokens new
@@ -554,7 +559,7 @@ has_first table prefix types old new t object own at typed equal same tokens mad
     let there = type_there made object own (ap (λ ts. slice_get ts object) (sym are.0) ∙ at) typed in
     (inl record { type = own; trail = there.0; at = there.1; equal = equal }, subst (Knows table prefix tokens) (sym same) known)
 
--- The target has the type by its tokens.
+-- The target of the reference has the type as a second type, by its tokens.
 pub has_second :
     (table : Table) (prefix : List ℕ) (types : List ℕ) (old new : SecondReads) (t object : ℕ) → Shows table prefix old object t new
     → (tokens : List Token) (made : List Made) → AreTypes types made → Knows table prefix tokens old → (HasFirst table made object t ⊎ IsPlain table tokens object t) × Knows table prefix tokens new

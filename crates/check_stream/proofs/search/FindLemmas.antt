@@ -28,11 +28,11 @@ use Rattle.check_stream.proofs.checker.RunLemmas.{words32_push, words64_push, wo
 use Rattle.check_stream.specs.declared.search.again.Again.{Again}
 use Rattle.check_stream.specs.declared.search.mismatch.FoundMismatch.{FoundMismatch}
 use Rattle.check_stream.specs.declared.search.mismatch.Finding.{Finding}
-use Rattle.check_stream.specs.declared.search.summary.Summary.{Summary}
+use Rattle.marshal_codec.specs.declared.token.summary.Summary.{Summary}
 use Rattle.check_stream.specs.declared.search.second.SecondReads.{SecondReads}
 use Rattle.check_stream.specs.declared.search.way.Expectation.{Expectation}
 use Rattle.check_stream.specs.declared.search.way.Link.{Link}
-use Rattle.check_stream.specs.search.Judge.{IsSummaryBy}
+use Rattle.marshal_codec.specs.token.Summary.{IsSummaryBy}
 use Rattle.check_stream.specs.declared.search.way.Way.{Way}
 use Rattle.check_stream.specs.search.Way.{trail_of, trail_in, position_of, way_positions, left_values, IsWay}
 use Rattle.check_stream.specs.search.Find.{AreTypes, AreMarked, IsAlone, IsMissedAt, AreMissedAt, Finds, Begins, LeadsTo, Comes, Follows, Ends, IsFound}
@@ -76,7 +76,7 @@ finds_start table limit bytes head start finding b by begins =
       w64 = omega (arith, w64');
     }
 
--- The header precedes the tokens.
+-- If the bytes lead to a state of the search, then the header precedes the tokens.
 pub finds_from : (table : Table) (limit : ℕ) (bytes : List ℕ) (head : Head) (start n : ℕ) (taken : List Position) (finding : Finding) → Finds table limit bytes head start n taken finding → start ≤ n
 finds_from table limit bytes head start n taken finding f =
     let p = f.passing in
@@ -88,7 +88,7 @@ finds_from table limit bytes head start n taken finding f =
 
 -- ---- the search continues
 
--- If the taken and open positions together are the same, and nothing else changes, then the bytes
+-- If the list of taken and open positions is unchanged, and nothing else changes, then the bytes
 -- lead to the new state.
 pub finds_moved :
     (table : Table) (limit : ℕ) (bytes : List ℕ) (head : Head) (start n : ℕ) (taken taken' : List Position) (old new : Finding) → Finds table limit bytes head start n taken old → IsWay new.way → taken ++ way_positions old.way ≡ taken' ++ way_positions new.way
@@ -113,7 +113,7 @@ finds_moved table limit bytes head start n taken taken' old new f is positions t
   w64 = subst (λ (w : Words). w.w64 + all_words64 (map measure_of f.tokens) ≡ head.w64) (sym words) f.w64;
 }
 
--- If more bytes are appended, then the state stays valid.
+-- If more bytes are appended, then the bytes still lead to the state of the search.
 pub finds_longer :
     (table : Table) (limit : ℕ) (bytes more : List ℕ) (head : Head) (start n : ℕ) (taken : List Position) (finding : Finding) → Finds table limit bytes head start n taken finding → Finds table limit (bytes ++ more) head start n taken finding
 finds_longer table limit bytes more head start n taken finding f =
@@ -154,7 +154,8 @@ some_open way some = let many = way_many way in omega (arith, many, some)
 
 -- ---- a mark
 
--- The offset is marked according to the number of objects before it.
+-- If the number of objects before the offset calls for a mark and the offset is marked, then the
+-- marks stay valid.
 marked_there :
     (table : Table) (limit : ℕ) (bytes : List ℕ) (head : Head) (start n made : ℕ) (finding : Finding) (new : SecondReads) → (f : Finds table limit bytes head start n [] finding) → made ≡ length finding.types.items → Marks finding.seconds n made new
     → Knows table (take n bytes) f.tokens new
@@ -188,7 +189,7 @@ finds_marked table limit bytes head start n made finding seconds f many m = reco
 
 -- ---- one more token
 
--- By the state to which the token leads.
+-- If one more token leads to a state, then the bytes up to the end of the token lead to the state.
 finds_led :
     (table : Table) (limit : ℕ) (bytes : List ℕ) (head : Head) (start n m : ℕ) (taken : List Position) (old new : Finding) (summary : Summary) → (f : Finds table limit bytes head start n taken old) → (by : IsSummaryBy (drop n bytes) summary m)
     → LeadsTo f.back table (take n bytes) f.tokens f.made by.token new → RefersBack by.token (length old.types.items) × (head.objects ≡ 0 → IsNoReference by.token)
@@ -219,7 +220,8 @@ finds_further table limit bytes head start n m old new asked summary f by c =
     finds_led table limit bytes head start n m (position_of asked (trail_in old.way) ∷ []) old new summary f by (c.leads f.back f.tokens f.made f.missed by.token by.is_token by.is_summary f.held f.known f.passing.passed)
     (c.refers by.token by.is_summary) (c.w32 by.token by.is_summary) (c.w64 by.token by.is_summary)
 
--- At the first open position.
+-- If a token is consumed at the first open position, then the bytes up to the end of the token lead
+-- to the new state.
 pub finds_followed :
     (table : Table) (limit : ℕ) (bytes : List ℕ) (head : Head) (start n m : ℕ) (old new : Finding) (summary : Summary) → Finds table limit bytes head start n [] old → IsSummaryBy (drop n bytes) summary m
     → Follows table head.objects (take n bytes) old summary new → Finds table limit bytes head start (n + m) [] new
@@ -229,7 +231,7 @@ finds_followed table limit bytes head start n m old new summary f by g =
 
 -- ---- the end
 
--- If the links are alone, then no reference leads back to their blocks.
+-- If no mark of a link's block is set, then no reference leads back to a block of the links.
 alone_links : (back : List ℕ) (marks : List Bool) → ((o : ℕ) → Contains back o → slice_get marks o ≡ Some true) → (links : List Link) → All (IsAlone marks) links → All (λ (link : ℕ × ℕ). ¬ Contains back link.0) (trail_of links)
 alone_links back marks each [] alone = All-nil (λ (link : ℕ × ℕ). ¬ Contains back link.0)
 alone_links back marks each (link ∷ links) alone =
@@ -237,7 +239,7 @@ alone_links back marks each (link ∷ links) alone =
     (alone_links back marks each links (All-tail (IsAlone marks) link links alone))
     (λ among. let marked = each link.object among in let lone = All-head (IsAlone marks) link links alone in lone marked)
 
--- The only mismatch.
+-- If a mismatch was found, then exactly one mismatch is recorded.
 one_missed : (found : Option FoundMismatch) (its : FoundMismatch) (missed : List Missed) → found ≡ Some its → AreMissedAt found missed → (one : Missed) × (missed ≡ one ∷ []) × IsMissedAt its one
 one_missed found its missed is are = subst (λ f. AreMissedAt f missed) is are
 

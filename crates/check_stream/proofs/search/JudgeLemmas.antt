@@ -15,16 +15,17 @@ use Rattle.check_stream.proofs.theory.BlockLemmas.{fields_many}
 use Rattle.check_stream.specs.mismatch_theory.PassedBut.{positions_of, IsPlain, Takes}
 use Rattle.check_stream.specs.declared.checker.open_positions.BlockPositions.{BlockPositions}
 use Rattle.check_stream.specs.checker.Positions.{open_needs}
-use Rattle.check_stream.specs.checker.State.{custom_leaf}
-use Rattle.check_stream.specs.declared.search.summary.Summary.{Summary}
-use Rattle.check_stream.specs.declared.search.summary.Summary.TheVariants as sayings
+use Rattle.marshal_codec.specs.token.Summary.{custom_leaf}
+use Rattle.marshal_codec.specs.declared.token.summary.Summary.{Summary}
+use Rattle.marshal_codec.specs.declared.token.summary.Summary.TheVariants as summaries
 use Rattle.check_stream.specs.declared.search.judge.TokenJudgement.{TokenJudgement}
 use Rattle.check_stream.specs.declared.search.judge.TokenJudgement.TheVariants as judged
 use Rattle.check_stream.specs.declared.search.way.BlockExpectations.{BlockExpectations}
-use Rattle.check_stream.specs.search.Judge.{IsSummary, IsNoBack, IsApt, IsJudged, has_custom, judged_by}
+use Rattle.check_stream.specs.search.Judge.{IsNoBack, IsApt, IsJudged, has_custom, judged_by}
+use Rattle.marshal_codec.specs.token.Summary.{IsSummary}
 use Rattle.check_stream.specs.search.Find.{HasRoom}
 
--- Both clauses of the contract of `judge`.
+-- The two clauses of the contract of `judge`.
 abbrev pub AreJudged : Table → ℕ → Summary → TokenJudgement → Type 0
 AreJudged table t summary result = IsApt summary result × ((token : Token) → IsSummary summary token → IsJudged table t token result)
 
@@ -32,7 +33,7 @@ apt_by : (summary : Summary) → IsNoBack summary → (fits : Bool) → IsApt su
 apt_by summary plain true = plain
 apt_by summary plain false = tt
 
--- The result for a token without fields, by whether it matches.
+-- The result for a token without fields, by whether the token matches the type.
 module _ (table : Table) (t : ℕ) where
   int_judged : (z : ℤ) (fits : Bool) → fits_int (shape_at table t) z ≡ fits → IsJudged table t (integer z) (judged_by fits)
   int_judged z true is = λ back tokens made trail. (is, refl)
@@ -46,33 +47,33 @@ module _ (table : Table) (t : ℕ) where
   leaf_judged object true is = λ back tokens made trail. (ap is_some is, refl)
   leaf_judged object false is = is
 
-  -- By what the code computed.
+  -- The clauses of `judge`, by the shape and the test result that the code computed.
   module _ (summary : Summary) (shape : ShapeOf ℕ) (fits : Bool) (result : TokenJudgement) (own : shape ≡ shape_at table t) (by : result ≡ judged_by fits) where
     judged_summary : (other : Summary) → summary ≡ other → IsNoBack other → ((token : Token) → IsSummary other token → IsJudged table t token (judged_by fits)) → AreJudged table t summary result
     judged_summary other is plain each =
         let its : AreJudged table t other (judged_by fits) = (apt_by other plain fits, each) in
         subst (λ s. AreJudged table t s result) (sym is) (subst (AreJudged table t other) (sym by) its)
 
-    pub judged_int : (z : ℤ) → summary ≡ sayings.Integer z → fits ≡ fits_int shape z → AreJudged table t summary result
-    judged_int z is test = judged_summary (sayings.Integer z) is tt
+    pub judged_int : (z : ℤ) → summary ≡ summaries.Integer z → fits ≡ fits_int shape z → AreJudged table t summary result
+    judged_int z is test = judged_summary (summaries.Integer z) is tt
         (λ token its. subst (λ u. IsJudged table t u (judged_by fits)) (sym its) (int_judged z fits (ap (λ s. fits_int s z) (sym own) ∙ sym test)))
 
-    pub judged_atom : (tag : ℕ) → summary ≡ sayings.Atom tag → fits ≡ fits_atom shape tag → AreJudged table t summary result
-    judged_atom tag is test = judged_summary (sayings.Atom tag) is tt
+    pub judged_atom : (tag : ℕ) → summary ≡ summaries.Atom tag → fits ≡ fits_atom shape tag → AreJudged table t summary result
+    judged_atom tag is test = judged_summary (summaries.Atom tag) is tt
         (λ token its. subst (λ u. IsJudged table t u (judged_by fits)) (sym its) (atom_judged tag fits (ap (λ s. fits_atom s tag) (sym own) ∙ sym test)))
 
-    pub judged_bytes : (n : ℕ) → summary ≡ sayings.Bytes n → fits ≡ is_bytes shape → AreJudged table t summary result
-    judged_bytes n is test = judged_summary (sayings.Bytes n) is tt
+    pub judged_bytes : (n : ℕ) → summary ≡ summaries.Bytes n → fits ≡ is_bytes shape → AreJudged table t summary result
+    judged_bytes n is test = judged_summary (summaries.Bytes n) is tt
         (λ token its. subst (λ u. IsJudged table t u (judged_by fits)) (sym its.2)
         (leaf_judged (objects.Bytes its.0) fits (ap (λ s. object_fields s (objects.Bytes its.0)) (sym own) ∙ ap none_if (sym test))))
 
-    pub judged_double : summary ≡ sayings.Double → fits ≡ is_double shape → AreJudged table t summary result
-    judged_double is test = judged_summary sayings.Double is tt
+    pub judged_double : summary ≡ summaries.Double → fits ≡ is_double shape → AreJudged table t summary result
+    judged_double is test = judged_summary summaries.Double is tt
         (λ token its. subst (λ u. IsJudged table t u (judged_by fits)) (sym its.1)
         (leaf_judged (objects.Double its.0) fits (ap (λ s. object_fields s (objects.Double its.0)) (sym own) ∙ ap none_if (sym test))))
 
-    pub judged_doubles : (n : ℕ) → summary ≡ sayings.Doubles n → fits ≡ has_doubles shape n → AreJudged table t summary result
-    judged_doubles n is test = judged_summary (sayings.Doubles n) is tt
+    pub judged_doubles : (n : ℕ) → summary ≡ summaries.Doubles n → fits ≡ has_doubles shape n → AreJudged table t summary result
+    judged_doubles n is test = judged_summary (summaries.Doubles n) is tt
         (λ token its. subst (λ u. IsJudged table t u (judged_by fits)) (sym its.2)
         (leaf_judged (objects.Doubles its.0) fits
         (ap (λ s. object_fields s (objects.Doubles its.0)) (sym own) ∙ ap (λ k. none_if (has_doubles shape k)) its.1 ∙ ap none_if (sym test))))
@@ -82,13 +83,14 @@ module _ (table : Table) (t : ℕ) where
     custom_fields customs.Int64 z = refl
     custom_fields customs.Native z = refl
 
-    pub judged_custom : (kind : CustomKind) → summary ≡ sayings.Custom kind → fits ≡ has_custom shape kind → AreJudged table t summary result
-    judged_custom kind is test = judged_summary (sayings.Custom kind) is tt
+    pub judged_custom : (kind : CustomKind) → summary ≡ summaries.Custom kind → fits ≡ has_custom shape kind → AreJudged table t summary result
+    judged_custom kind is test = judged_summary (summaries.Custom kind) is tt
         (λ token its. subst (λ u. IsJudged table t u (judged_by fits)) (sym its.1)
         (leaf_judged (custom_leaf kind its.0) fits (ap (λ s. object_fields s (custom_leaf kind its.0)) (sym own) ∙ custom_fields kind its.0 ∙ ap none_if (sym test))))
 
-  -- A block, by its positions.
-  pub judged_opens : (summary : Summary) (shape : ShapeOf ℕ) (tag size : ℕ) (positions : Option BlockPositions) (open' : BlockPositions) → summary ≡ sayings.Block tag size → shape ≡ shape_at table t → option_map open_needs positions ≡ shape_asks shape t tag size → positions ≡ Some open'
+  -- If the shape of a type has positions for a block, then the block is judged to open these
+  -- positions.
+  pub judged_opens : (summary : Summary) (shape : ShapeOf ℕ) (tag size : ℕ) (positions : Option BlockPositions) (open' : BlockPositions) → summary ≡ summaries.Block tag size → shape ≡ shape_at table t → option_map open_needs positions ≡ shape_asks shape t tag size → positions ≡ Some open'
       → AreJudged table t summary (judged.Opens open')
   judged_opens summary shape tag size positions open' is own asks some =
       let its : fields_ask table t tag size ≡ Some (open_needs open') = ap (λ s. shape_asks s t tag size) (sym own) ∙ sym asks ∙ ap (option_map open_needs) some in (
@@ -98,7 +100,7 @@ module _ (table : Table) (t : ℕ) where
             (open_needs open', its, refl),
       )
 
-  pub judged_misses : (summary : Summary) (shape : ShapeOf ℕ) (tag size : ℕ) (positions : Option BlockPositions) → summary ≡ sayings.Block tag size → shape ≡ shape_at table t → option_map open_needs positions ≡ shape_asks shape t tag size → positions ≡ None
+  pub judged_misses : (summary : Summary) (shape : ShapeOf ℕ) (tag size : ℕ) (positions : Option BlockPositions) → summary ≡ summaries.Block tag size → shape ≡ shape_at table t → option_map open_needs positions ≡ shape_asks shape t tag size → positions ≡ None
       → AreJudged table t summary judged.Misses
   judged_misses summary shape tag size positions is own asks none =
       let its : fields_ask table t tag size ≡ None = ap (λ s. shape_asks s t tag size) (sym own) ∙ sym asks ∙ ap (option_map open_needs) none in (
@@ -107,11 +109,11 @@ module _ (table : Table) (t : ℕ) where
       )
 
 -- Only a block has positions.
-pub room_of_block : (summary : Summary) (left : BlockExpectations) (tag size : ℕ) → summary ≡ sayings.Block tag size → HasRoom summary left
+pub room_of_block : (summary : Summary) (left : BlockExpectations) (tag size : ℕ) → summary ≡ summaries.Block tag size → HasRoom summary left
 room_of_block summary left tag size is token its none =
     let same : token ≡ block tag size = subst (λ s. IsSummary s token) is its in
     let one : made_by token ≡ 1 = ap made_by same in
     absurd (omega (arith, one, none))
 
-pub no_back_block : (summary : Summary) (tag size : ℕ) → summary ≡ sayings.Block tag size → IsNoBack summary
+pub no_back_block : (summary : Summary) (tag size : ℕ) → summary ≡ summaries.Block tag size → IsNoBack summary
 no_back_block summary tag size is = subst IsNoBack (sym is) tt

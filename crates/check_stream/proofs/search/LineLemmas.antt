@@ -1,4 +1,4 @@
--- The mismatch determines the output line.
+-- The mismatch alone determines the output line of the value.
 use Rattle.std.proofs.Common.{ℕ, ◌≡◌, ◌∙◌, List, [], ◌∷◌, ◌++◌, map, Some, refl, ap, subst}
 use Rattle.std.specs.Prelude.{ℤ, codes, decimal}
 use Rattle.base_data.specs.model.PathText.{path_text}
@@ -12,12 +12,13 @@ use Rattle.check_stream.specs.mismatch_theory.OnlyWay.{path_of}
 use Rattle.check_stream.specs.mismatch_theory.PassedBut.{Missed}
 use Rattle.check_stream.specs.mismatch_theory.MissedLine.{token_text, missed_text}
 use Rattle.check_stream.proofs.mismatch_theory.LineLemmas.{missed_has_line}
-use Rattle.check_stream.specs.checker.State.{custom_leaf}
+use Rattle.marshal_codec.specs.token.Summary.{custom_leaf}
 use Rattle.check_stream.specs.declared.search.mismatch.FoundMismatch.{FoundMismatch}
-use Rattle.check_stream.specs.declared.search.summary.Summary.{Summary}
-use Rattle.check_stream.specs.declared.search.summary.Summary.TheVariants as sayings
+use Rattle.marshal_codec.specs.declared.token.summary.Summary.{Summary}
+use Rattle.marshal_codec.specs.declared.token.summary.Summary.TheVariants as summaries
 use Rattle.check_stream.specs.declared.search.way.Link.{Link}
-use Rattle.check_stream.specs.search.Judge.{IsSummary, summary_text}
+use Rattle.check_stream.specs.search.Judge.{summary_text}
+use Rattle.marshal_codec.specs.token.Summary.{IsSummary}
 use Rattle.check_stream.specs.search.Way.{trail_of}
 use Rattle.check_stream.specs.search.Find.{IsMissedAt}
 use Rattle.check_stream.specs.search.Line.{path_in, found_text, FoundHasLine}
@@ -35,15 +36,15 @@ path_summary (link ∷ links) = path_push (trail_of links) (link.object, link.fi
 -- ---- the token
 
 text_summary : (summary : Summary) (token : Token) → IsSummary summary token → token_text token ≡ summary_text summary
-text_summary (sayings.Integer z) token its = ap token_text its
-text_summary (sayings.Atom tag) token its = ap token_text its
-text_summary (sayings.Shared offset) token its = ap token_text its
-text_summary (sayings.Block tag size) token its = ap token_text its
-text_summary (sayings.Bytes n) token its = ap token_text its.2
-text_summary sayings.Double token its = ap token_text its.1
-text_summary (sayings.Doubles n) token its = ap token_text its.2 ∙ ap (λ k. codes "float array of " ++ decimal k) its.1
-text_summary (sayings.Custom kind) token its = ap token_text its.1 ∙ custom_summary kind its.0 where
-  custom_summary : (kind : CustomKind) (z : ℤ) → object_text (Some (custom_leaf kind z)) ≡ summary_text (sayings.Custom kind)
+text_summary (summaries.Integer z) token its = ap token_text its
+text_summary (summaries.Atom tag) token its = ap token_text its
+text_summary (summaries.Shared offset) token its = ap token_text its
+text_summary (summaries.Block tag size) token its = ap token_text its
+text_summary (summaries.Bytes n) token its = ap token_text its.2
+text_summary summaries.Double token its = ap token_text its.1
+text_summary (summaries.Doubles n) token its = ap token_text its.2 ∙ ap (λ k. codes "float array of " ++ decimal k) its.1
+text_summary (summaries.Custom kind) token its = ap token_text its.1 ∙ custom_summary kind its.0 where
+  custom_summary : (kind : CustomKind) (z : ℤ) → object_text (Some (custom_leaf kind z)) ≡ summary_text (summaries.Custom kind)
   custom_summary customs.Int32 z = refl
   custom_summary customs.Int64 z = refl
   custom_summary customs.Native z = refl
@@ -55,7 +56,6 @@ text_found type_text found missed at =
     ∙ ap (λ t. path_text (path_in found) ++ codes ": expected " ++ type_text t ++ codes ", found " ++ token_text missed.token) at.type
     ∙ ap (λ text. path_text (path_in found) ++ codes ": expected " ++ type_text found.ty ++ codes ", found " ++ text) (text_summary found.summary missed.token at.summary)
 
--- The output line of the value at the start of the bytes, from the mismatch alone.
 pub found_line : FoundHasLine
 found_line table limit n bytes found type_text f =
     subst (λ text. IsNoLine (table_shapes table) type_text (objects_of f.prefix.tree 0) (root f.prefix.tree 0) 0 (codes "no " ++ text))

@@ -1,4 +1,4 @@
--- Links and the positions to which they lead.
+-- Links, and the positions to which the links lead.
 use Rattle.std.proofs.Common.{ℕ, zero, suc, ◌+◌, ◌-◌, ◌^◌, ◌<◌, ◌≤◌, ◌≡◌, ◌∙◌, ◌⊎◌, ⊎_elim, inl, inr, List, [], ◌∷◌, ◌++◌, length, map, get_or, take, drop, drop-cons, set, Option, Some, None, refl, sym, ap, subst, arith, vec_len}
 use Rattle.std.specs.Prelude.{slice_get, replicate, All, MatchOption}
 use Rattle.std.specs.Global.{Vec}
@@ -26,7 +26,7 @@ use Rattle.check_stream.specs.search.Way.{trail_of, trail_in, own_field, positio
 abbrev pair : Link → ℕ × ℕ
 pair link = (link.object, link.field)
 
--- The path lists the last link first.
+-- If a link is appended to the links, then the trail begins with the appended link.
 pub trail_of_push : (links : List Link) (last : Link) → trail_of (links ++ last ∷ []) ≡ pair last ∷ trail_of links
 trail_of_push [] last = refl
 trail_of_push (link ∷ links) last = ap (λ trail. trail ++ pair link ∷ []) (trail_of_push links last)
@@ -98,8 +98,8 @@ pushed_positions links last (lefts.Unasked count) = refl
 
 -- ---- the field of the last block
 
--- If two lists of links differ only in the field of the last link, then they lead to the same
--- positions, also in the block of the last link.
+-- If two lists of links differ only in the field of the last link, then the lists lead to equal
+-- positions up to the last link's block.
 pub turned_agree : (links : List Link) (one two : Link) → one.object ≡ two.object → Agree (length links + 1) (links ++ two ∷ []) (links ++ one ∷ [])
 turned_agree links one two same = record { trails = trails } where
   trails : (d k : ℕ) → d ≤ length links + 1 → position_trail (links ++ two ∷ []) d k ≡ position_trail (links ++ one ∷ []) d k
@@ -166,7 +166,8 @@ none_opened o trail (lefts.Unasked count) none = ap (λ n. replicate n unasked_p
 
 -- ---- pointing to a position
 
--- The links are truncated after the block of this depth, and its field is changed.
+-- The old links are truncated after the block at depth `d`, and the field of the last link is
+-- changed.
 record IsTruncated (old : List Link) (d : ℕ) (one two : Link) : Type 0 where
   prefix : List Link
   rest : List Link
@@ -235,7 +236,7 @@ points_at old truncated new d depth field one two is next at written same own =
     let its : new ≡ set (take (suc d) old) d two = written ∙ ap (λ ls. set ls d two) all in
     subst (λ n. ArePointed old new n field) next (subst (λ ls. ArePointed old ls (suc d) field) (sym its) (pointed_at old d field one two there same own))
 
--- The positions stay the same.
+-- If the links are pointed to a field, then the open positions stay equal.
 module _ (old new : List Link) (depth field : ℕ) (pointed : ArePointed old new depth field) where
   pointed_agree : Agree depth new old
   pointed_agree = record { trails = pointed.agree }
@@ -273,7 +274,8 @@ split_tagged left tags is = subst (λ l. IsSplit l (asks.Hash tags) (lefts.Asked
 pub split_hash : (positions : BlockPositions) (tags : Bor (List (PolyTag ℕ))) → positions ≡ opens.Tagged tags → IsSplit (lefts.Asked positions) (asks.Hash tags) (lefts.Asked (opens.Each 0 0)) 2
 split_hash positions tags is = split_tagged (lefts.Asked positions) tags (ap lefts.Asked is)
 
--- The result for the positions of a block.
+-- If the positions of a block are split, then the result of the split is right for the block's
+-- expectations.
 pub split_same : (left : BlockExpectations) (positions : BlockPositions) (result : Option (Expectation × BlockExpectations × ℕ)) → left ≡ lefts.Asked positions
     → MatchOption result (left_values (lefts.Asked positions) ≡ 0) (λ first. IsSplit (lefts.Asked positions) first.0 first.1 first.2) → MatchOption result (left_values left ≡ 0) (λ first. IsSplit left first.0 first.1 first.2)
 split_same left positions None is none = ap left_values is ∙ none
@@ -292,8 +294,8 @@ split_unasked left count is some = subst (λ l. IsSplit l asks.Nothing (lefts.Un
 
 -- ---- the first open position is taken
 
--- `new` is `old` without its first open position. The position expects `asked`, and the links of
--- `new` lead to it.
+-- `new` is `old` without the first open position. The first open position expects `asked`, and the
+-- links of `new` lead to the first open position.
 pub record IsTaken (old : Way) (asked : Expectation) (new : Way) : Type 0 where
   pub is_way : IsWay new
   pub positions : way_positions old ≡ position_of asked (trail_in new) ∷ way_positions new
@@ -302,7 +304,7 @@ pub record IsTaken (old : Way) (asked : Expectation) (new : Way) : Type 0 where
 abbrev pub taken_way : Way → ℕ → BlockExpectations → Way
 taken_way pointed next others = record { now = record { depth = pointed.now.depth; next = next; left = others }; waiting = pointed.waiting; links = pointed.links }
 
--- The field after a field of a block is its next field.
+-- The trail of field `k + 1` of a block is the trail of the field after field `k`.
 after_own : (links : List Link) (d k : ℕ) → d ≤ length links → position_trail links d (suc k) ≡ field_after (position_trail links d k)
 after_own links zero k within = refl
 after_own links (suc d) k within = by (slice_get links d) refl where
@@ -332,7 +334,7 @@ module _ (old pointed : Way) (asked : Expectation) (others : BlockExpectations) 
     all_small = subst (λ (v : Vec Wait). All IsSmall v.items) (sym points.waiting) is.all_small;
   }
 
-  -- The positions after the first one are the same by the old links as by the new ones.
+  -- The old and the new links give equal positions after the first open position.
   others_same : way_positions new ≡ positions_left old.links.items old.now.depth next others ++ waiting_positions old.links.items old.waiting.items
   others_same =
       ap (λ d. positions_left pointed.links.items d next others ++ waiting_positions pointed.links.items pointed.waiting.items) same_depth
@@ -368,7 +370,7 @@ module _ (old pointed : Way) (asked : Expectation) (others : BlockExpectations) 
   pub taken_first : IsTaken old asked new
   taken_first = record { is_way = taken_is_way; positions = taken_positions; hash = on_hash asked split.hash }
 
--- If the first open position is removed, then the other positions stay the same, and the links do
+-- If the first open position is removed, then the remaining positions stay equal, and the links do
 -- not change.
 pub passed_first : (old : Way) (asked : Expectation) (others : BlockExpectations) (values : ℕ) → IsWay old → IsSplit old.now.left asked others values
     → IsWay (taken_way old (old.now.next + values) others) × (way_positions old ≡ position_of asked (position_trail old.links.items old.now.depth old.now.next) ∷ way_positions (taken_way old (old.now.next + values) others))
@@ -435,7 +437,7 @@ way_many way =
     let own = left_many links way.now.depth way.now.next way.now.left in
     omega (arith, both, own)
 
--- One block fewer remains to be counted.
+-- The values of one waiting block and the values of the blocks after the block add up.
 pub waiting_less :
     (links : List Link) (waits : List Wait) (at n : ℕ) (default : Wait) → at < length waits → n ≡ left_values (get_or waits at default).left
     → values_at (waiting_positions links (drop at waits)) ≡ values_at (waiting_positions links (drop (at + 1) waits)) + n

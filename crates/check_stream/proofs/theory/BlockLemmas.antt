@@ -1,4 +1,4 @@
--- The requirements of a block's fields in the pass, and the required fields of its type.
+-- The requirements of a block's fields in the pass, and the required fields of the block's type.
 use Rattle.std.proofs.Common.{ℕ, zero, suc, ◌≡◌, ◌∙◌, refl, List, [], ◌∷◌, length, ◌⊎◌, inl, inr, Bool, true, false, Option, Some, None, sym, ap, subst}
 use Rattle.std.specs.Prelude.{slice_get, IsSome, IsSomeAnd, IsTrue, Contains, ◌==◌, ◌&&◌, if◌then◌else◌, map, replicate, option_and_then}
 use Rattle.std.proofs.lemmas.Bool.{false≢true}
@@ -68,7 +68,7 @@ needs_many (shapes.ArrayOfAnything t) tag size next is =
     let r = fields_if_needed (tag == 0) (replicate size t) next is in
     r.1 ∙ length-replicate size t
 
--- The number of requirements is the number of fields, for a wildcard too.
+-- The number of requirements is the number of fields, also at a wildcard.
 pub fields_many : (table : Table) (t tag size : ℕ) (next : List Need) → fields_ask table t tag size ≡ Some next → values_in next ≡ size
 fields_many table t tag size next is = by (is_asked_in table t) is where
   by : (asked : Bool) → (if asked then block_needs (shape_at table t) tag size else Some (map of_type (replicate size t))) ≡ Some next → values_in next ≡ size
@@ -76,7 +76,7 @@ fields_many table t tag size next is = by (is_asked_in table t) is where
   by false is = ap values_in (sym (same_Some (map of_type (replicate size t)) next is)) ∙ values_of_types (replicate size t) ∙ length-replicate size t
 
 module _ (table : Table) (all : List ℕ) (noted : List (ℕ × ℕ)) where
-  -- The required fields exist, and the values satisfy them.
+  -- The required fields exist, and the values satisfy the requirements of the fields.
   pub record AreMet (needs : Option (List (ℕ × ℕ))) (values : List Val) : Type 0 where
     pub some : IsSome needs
     pub held : (i a : ℕ) → Contains (or_none needs) (i, a) → IsSomeAnd (slice_get values i) (λ v. IsAt table all noted v a)
@@ -158,8 +158,8 @@ module _ (table : Table) (all : List ℕ) (noted : List (ℕ × ℕ)) where
         }
     by shape wildcard is = absurd (false≢true (sym wildcard))
 
-  -- If the fields of a block satisfy the requirements of the type, then the block is good, at a
-  -- wildcard too.
+  -- If the fields of a block satisfy the requirements of the type, then the block is good, also if
+  -- the type is a wildcard.
   pub asked_good : (t tag : ℕ) (values : List Val) (next : List Need) → fields_ask table t tag (length values) ≡ Some next → AreAt table all noted values next → IsGood table all noted (objects.Block tag values) t
   asked_good t tag values next is at = by (is_asked_in table t) refl is where
     by : (asked : Bool) → is_asked_in table t ≡ asked → (if asked then block_needs (shape_at table t) tag (length values) else Some (map of_type (replicate (length values) t))) ≡ Some next → IsGood table all noted (objects.Block tag values) t

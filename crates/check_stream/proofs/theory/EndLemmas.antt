@@ -1,4 +1,4 @@
--- The open positions match the values that are still to be read.
+-- The number of values for the open positions is the number of values that are still to be read.
 use Rattle.std.proofs.Common.{ℕ, ◌+◌, ◌<◌, ◌≡◌, refl, List, [], ◌∷◌, ◌++◌, map, ap, arith}
 use Rattle.std.proofs.lemmas.List.{map-append}
 use Rattle.types_spec.specs.types.Table.{Table}
@@ -20,7 +20,8 @@ values_in-append (of_type t ∷ xs) ys = let same = values_in-append xs ys in om
 values_in-append (hash_of tags ∷ xs) ys = let same = values_in-append xs ys in omega (arith, same)
 
 module _ (noted : List (ℕ × ℕ)) (table : Table) where
-  -- A token fills one position, and its fields are added on top.
+  -- If a token takes the first position, then the values of its fields replace the one value of the
+  -- token.
   asked_many : (types : List ℕ) (need : Need) (token : Token) (needs next : List Need) → Asks noted table types need token next → values_in (next ++ needs) + 1 ≡ values_in (need ∷ needs) + of_object fields (measure_of token)
   asked_many types (of_type t) (integer z) needs next asks = let is = ap (λ xs. values_in (xs ++ needs)) asks.1 in omega (arith, is)
   asked_many types (of_type t) (atom tag) needs next asks = let is = ap (λ xs. values_in (xs ++ needs)) asks.1 in omega (arith, is)

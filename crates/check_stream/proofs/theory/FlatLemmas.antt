@@ -24,7 +24,7 @@ abbrev rest_of : List Token → List Token
 rest_of [] = []
 rest_of (t ∷ ts) = ts
 
--- A flat token has no subtrees.
+-- If a token is flat, then the tree of the token has no subtrees.
 flat_none : (token : Token) (g : Forest) → IsFlat token → trees_in g ≡ of_object fields (measure_of token) → (all_made g ≡ 0) × (forest_tokens g ≡ []) × (made_by token ≡ 0)
 flat_none (integer z) none flat many = (refl, refl, refl)
 flat_none (atom tag) none flat many = (refl, refl, refl)
@@ -51,7 +51,7 @@ flat_roots (more (node token g) f) c (t ∷ ts) rest after are many flat' is =
     let position : c + (made_by token + all_made g) ≡ c = omega (arith, all', made') in
     ap (λ u. value_of u c ∷ roots f (c + (made_by token + all_made g))) same ∙ ap (λ vs. value_of t c ∷ vs) (ap (roots f) position ∙ later)
 
--- The object is at its index, or among the tokens after these trees.
+-- The object is at its index among all objects, or among the tokens after the trees.
 abbrev pub IsThere : List Obj → ℕ → ℕ → ℕ → List Token → Type 0
 IsThere all c o tag flat = (c ≤ o) × (slice_get all (o - c) ≡ Some (objects.Block tag (map (λ t. value_of t (o + 1)) flat)))
 
@@ -95,15 +95,15 @@ mutual
       (forest_stands f (c + made tree) o tag flat after are.1 stands))
       (tree_stands tree c o tag flat (forest_tokens f ++ after) are.0 h')
 
--- If a flat block is among the tokens of a tree, then the object is a block of the flat values.
+-- If a flat block is among the tokens of a tree, then object `o` is a block of the flat values.
 pub flat_object : (tree : Tree) (o tag : ℕ) (flat : List Token) → IsTree tree → Stands 0 (tokens tree) o tag flat → slice_get (objects_of tree 0) o ≡ Some (objects.Block tag (map (λ t. value_of t (o + 1)) flat))
 flat_object tree o tag flat is h =
     let h' = subst (λ ts. Stands 0 ts o tag flat) (sym (append-nil (tokens tree))) h in
     let zero' : o - 0 ≡ o = omega arith in
     ⊎_elim (λ there. ap (slice_get (objects_of tree 0)) (sym zero') ∙ there.1) (λ stands. absurd stands) (tree_stands tree 0 o tag flat [] is h')
 
--- If the tokens of a flat block's fields satisfy the requirements of a type, then the object is
--- good at this type.
+-- If the tokens of a flat block's fields satisfy the requirements of a type, then the block is good
+-- at the type.
 pub flat_noted :
     (table : Table) (all : List ℕ) (noted : List (ℕ × ℕ)) (tree : Tree) (o t tag : ℕ) (flat : List Token) (next : List Need) → IsTree tree → Stands 0 (tokens tree) o tag flat
     → block_needs (shape_at table t) tag (length (map (λ u. value_of u (o + 1)) flat)) ≡ Some next → AreAt table all noted (map (λ u. value_of u (o + 1)) flat) next

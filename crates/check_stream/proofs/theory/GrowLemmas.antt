@@ -19,7 +19,7 @@ use Rattle.check_stream.specs.theory.Asked.{Need, of_type, hash_of, Asks, type_i
 use Rattle.check_stream.specs.theory.OnePass.{start, further, IsPassing}
 use Rattle.check_stream.proofs.theory.PassLemmas.{leaf_made}
 
--- Before the first token.
+-- The invariant of the pass holds before the first token.
 pub passing_start :
     (noted : List (ℕ × ℕ)) (table : Table) (limit : ℕ) (bytes : List ℕ) (head : Head) (n : ℕ) → n ≤ length bytes → IsHeader (take n bytes)
     → head_of (take n bytes) ≡ head → length (take n bytes) ≡ n → head.w64 ≤ limit → head.length < 2 ^ 48
@@ -41,7 +41,7 @@ passing_start noted table limit bytes head n within is_header head_is begins wor
   small = small;
 }
 
--- A token creates an object if and only if it has a type for it.
+-- The number of types that a token adds is the number of objects that the token creates.
 made_in : (noted : List (ℕ × ℕ)) (table : Table) (types : List ℕ) (need : Need) (token : Token) (next : List Need) → IsToken token → Asks noted table types need token next → made_by token ≡ length (type_in need token)
 made_in noted table types (of_type t) (integer z) next is asks = refl
 made_in noted table types (of_type t) (atom tag) next is asks = refl
@@ -54,7 +54,7 @@ made_in noted table types (hash_of tags) (shared offset) next is asks = absurd a
 made_in noted table types (hash_of tags) (block tag size) next is asks = absurd asks
 made_in noted table types (hash_of tags) (leaf object) next is asks = absurd asks
 
--- After one more token.
+-- If the invariant of the pass holds before a token, then the invariant holds after the token.
 pub passing_further :
     (noted : List (ℕ × ℕ)) (table : Table) (limit : ℕ) (bytes : List ℕ) (head : Head) (first n : ℕ) (tokens : List Token) (types : List ℕ) (need : Need) (needs : List Need)
     → (p : IsPassing noted table limit bytes head first n tokens types (need ∷ needs))

@@ -23,7 +23,7 @@ module _ (table : Table) (all : List ℕ) (noted : List (ℕ × ℕ)) where
     pub fits : IsSome (object_fields (shape_at table t) object)
     pub held : (i a : ℕ) → Contains (or_none (object_fields (shape_at table t) object)) (i, a) → IsTrue (is_asked_in table a) → IsSomeAnd (slice_get (values_of object) i) (λ v. IsAt table all noted v a)
 
-  -- The objects numbered from `c` on are good, each at its type.
+  -- The objects numbered from `c` on are good, each at the object's type.
   abbrev pub AreGood : ℕ → List Obj → Type 0
   AreGood c [] = Unit {0}
   AreGood c (object ∷ objects) = ((t : ℕ) × (slice_get all c ≡ Some t) × IsGood object t) × AreGood (suc c) objects
@@ -49,8 +49,8 @@ pub some_if : (test : Bool) → IsTrue test → IsSome (none_if {T = ℕ} test)
 some_if true holds = refl
 some_if false holds = holds
 
--- The recorded second types: each object matches its second type, its required fields are held, and
--- the object is mutable at neither type.
+-- The recorded second types are valid. Each object matches its second type, the required fields of
+-- the object are held, and the object is mutable at neither type.
 pub record AreNoted (table : Table) (graph : List Obj) (all : List ℕ) (noted : List (ℕ × ℕ)) : Type 0 where
   pub good : (o t : ℕ) → Contains noted (o, t) → (object : Obj) × (slice_get graph o ≡ Some object) × IsGood table all noted object t
   pub fixed : (o t : ℕ) → Contains noted (o, t) → (table_shapes table).mutable graph o t → ⊥

@@ -1,4 +1,5 @@
--- The invariant of the pass if no position is open: the theorem.
+-- If the invariant of the pass holds and no position is open, then the bytes begin with a value of
+-- the type.
 use Rattle.std.proofs.Common.{ℕ, ◌≤◌, ◌≡◌, ◌∙◌, List, ◌∷◌, [], length, inl, inr, ⊎_elim, sym, ap, subst, subst₂, arith, ◌<◌, ◌^◌}
 use Rattle.std.specs.Prelude.{Contains, IsTrue}
 use Rattle.std.specs.List.{concat, AllZip}
@@ -40,7 +41,7 @@ states_from noted table limit bytes head start n ts types p ends = record {
   objects = ⊎_elim (λ none. inr (none, p.unshared none)) (λ same. inl (same ∙ sym p.made)) ends.count;
 }
 
--- The data bytes are those of the tokens.
+-- The header states the length of the encoded tokens as the number of data bytes.
 data_length : (noted : List (ℕ × ℕ)) (table : Table) (limit : ℕ) (bytes : List ℕ) (head : Head) (start n : ℕ) (ts : List Token) (types : List ℕ) → (p : IsPassing noted table limit bytes head start n ts types []) → Ends head start n ts types
     → head.length ≡ length (concat p.chunks)
 data_length noted table limit bytes head start n ts types p ends =
@@ -51,7 +52,6 @@ data_length noted table limit bytes head start n ts types p ends =
     let whole = ends.whole in
     omega (arith, prefix, both, same, begins, whole)
 
--- The theorem.
 pub noted_passes_type_prefixes : NotedPassesTypePrefixes
 noted_passes_type_prefixes noted table limit bytes head start n ts types lawful p ends each =
     let whole = passed_many noted table ts types [] p.passed in

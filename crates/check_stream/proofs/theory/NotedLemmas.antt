@@ -1,4 +1,5 @@
--- Records of second types stay valid if more tokens are read and more is recorded.
+-- If more tokens are read and more second types are recorded, then the records of second types stay
+-- valid.
 use Rattle.std.proofs.Common.{ℕ, ◌+◌, ◌<◌, ◌≡◌, ◌∙◌, inl, inr, List, [], ◌∷◌, ◌++◌, length, map, Some, sym, ap, subst, arith}
 use Rattle.std.specs.Prelude.{slice_get, Contains}
 use Rattle.std.proofs.lemmas.List.{append_assoc}
@@ -17,13 +18,13 @@ use Rattle.check_stream.specs.theory.Noted.{AreAt, Stands, flat_values, IsFlatNo
 use Rattle.check_stream.specs.theory.OnePass.{IsPassing}
 use Rattle.check_stream.proofs.theory.WeakerLemmas.{at_weaker, passed_weaker}
 
--- More tokens after.
+-- If tokens are appended, then a flat block stays among the tokens.
 pub stands_more : (c : ℕ) (ts us : List Token) (o tag : ℕ) (flat : List Token) → Stands c ts o tag flat → Stands c (ts ++ us) o tag flat
 stands_more c [] us o tag flat h = absurd h
 stands_more c (token ∷ ts) us o tag flat (inl h) = inl (h.0 ++ us, h.1, h.2, h.3, ap (λ xs. xs ++ us) h.4 ∙ append_assoc flat h.0 us)
 stands_more c (token ∷ ts) us o tag flat (inr h) = inr (stands_more (c + made_by token) ts us o tag flat h)
 
--- More tokens before.
+-- If tokens are prepended, then a flat block stays among the tokens.
 pub stands_after : (c : ℕ) (first ts : List Token) (o tag : ℕ) (flat : List Token) → Stands (c + objects (map measure_of first)) ts o tag flat → Stands c (first ++ ts) o tag flat
 stands_after c [] ts o tag flat h = let same : c + 0 ≡ c = omega arith in subst (λ n. Stands n ts o tag flat) same h
 stands_after c (t ∷ first) ts o tag flat h =
@@ -32,7 +33,7 @@ stands_after c (t ∷ first) ts o tag flat h =
     inr (stands_after (c + made_by t) first ts o tag flat (subst (λ n. Stands n ts o tag flat) same h))
 
 module _ (table : Table) (noted more : List (ℕ × ℕ)) (kept : (o t : ℕ) → Contains noted (o, t) → Contains more (o, t)) where
-  -- The fields if more objects follow.
+  -- If more objects follow, then the fields still satisfy their requirements.
   pub ats_more : (all later : List ℕ) (vs : List Val) (needs : List Need) → AreAt table all noted vs needs → AreAt table (all ++ later) more vs needs
   ats_more all later [] [] at = tt
   ats_more all later [] (need ∷ needs) at = absurd at
@@ -50,7 +51,7 @@ module _ (table : Table) (noted more : List (ℕ × ℕ)) (kept : (o t : ℕ) �
     ats_more all later vs (of_type at.0 ∷ needs) at.2,
   )
 
-  -- A recorded block if more tokens follow.
+  -- If more tokens and objects follow, then a recorded block stays valid.
   pub noted_more : (all later : List ℕ) (ts us : List Token) (o t : ℕ) → o < length all → IsFlatNoted table all noted ts o t → IsFlatNoted table (all ++ later) more (ts ++ us) o t
   noted_more all later ts us o t within f =
       let there = slice_get_there all o within in
@@ -67,7 +68,7 @@ module _ (table : Table) (noted more : List (ℕ × ℕ)) (kept : (o t : ℕ) �
             f.first_fixed u (subst (λ x. slice_get all o ≡ Some x) same there.1) mutable;
       }
 
-  -- The invariant holds if more is recorded.
+  -- If more second types are recorded, then the invariant of the pass still holds.
   pub passing_more :
       (limit : ℕ) (bytes : List ℕ) (head : Head) (start n : ℕ) (tokens : List Token) (types : List ℕ) (needs : List Need)
       → IsPassing noted table limit bytes head start n tokens types needs → IsPassing more table limit bytes head start n tokens types needs

@@ -1,5 +1,5 @@
 -- If the tokens of a tree satisfy the requirements of their positions, then the tree has the type.
--- The invariant at the end of the pass.
+-- The invariant of the pass at the end follows.
 use Rattle.std.proofs.Common.{ℕ, ◌≡◌, refl, inl, List, [], ◌∷◌, ◌++◌, length, sym, ap, subst, arith}
 use Rattle.std.specs.Prelude.{Some, slice_get}
 use Rattle.std.proofs.lemmas.List.{append_assoc, append-nil}
@@ -19,7 +19,7 @@ use Rattle.check_stream.proofs.theory.Kernel.{AreNoted, some_if, is_typing, obje
 use Rattle.check_stream.proofs.theory.PassLemmas.{last_at, tree_read}
 
 module _ (table : Table) (all : List ℕ) (noted : List (ℕ × ℕ)) where
-  -- If the value is an object, then it is object 0 and has the first type.
+  -- If the value is an object, then the value is object 0 and has the first type.
   rooted : (tree : Tree) → ReferBack tree 0 → Passes noted table [] (of_type 0 ∷ []) (tokens tree) all → (typing : IsTyping (table_shapes table) (objects_of tree 0) (numbered_from 0 all ++ noted)) → IsTyped (table_shapes table) (objects_of tree 0) (root tree 0) 0
   rooted (node (integer z) f) back h typing = tt
   rooted (node (atom tag) f) back h typing = tt
@@ -27,7 +27,7 @@ module _ (table : Table) (all : List ℕ) (noted : List (ℕ × ℕ)) where
   rooted (node (block tag size) f) back h typing = (numbered_from 0 all ++ noted, typing, Contains-append_left (numbered_from 0 all) noted (0, 0) (pair_there all 0 0 (last_at table all noted [] 0 (h.0 ++ []) (forest_tokens f) h.2)))
   rooted (node (leaf object) f) back h typing = (numbered_from 0 all ++ noted, typing, Contains-append_left (numbered_from 0 all) noted (0, 0) (pair_there all 0 0 (last_at table all noted [] 0 (h.0 ++ []) (forest_tokens f) h.2)))
 
-  -- The value matches the first type, whether or not it is an object.
+  -- The value matches the first type. The value may be an object, an integer or an atom.
   root_fits : (tree : Tree) → ReferBack tree 0 → Passes noted table [] (of_type 0 ∷ []) (tokens tree) all → ((o : ℕ) → slice_get all o ≡ Some 0 → (table_shapes table).fits (objects_of tree 0) (vals.Ref o) 0) → (table_shapes table).fits (objects_of tree 0) (root tree 0) 0
   root_fits (node (integer z) f) back h fits = some_if (fits_int (shape_at table 0) z) h.1.0
   root_fits (node (atom tag) f) back h fits = some_if (fits_atom (shape_at table 0) tag) h.1.0
@@ -35,7 +35,7 @@ module _ (table : Table) (all : List ℕ) (noted : List (ℕ × ℕ)) where
   root_fits (node (block tag size) f) back h fits = fits 0 (last_at table all noted [] 0 (h.0 ++ []) (forest_tokens f) h.2)
   root_fits (node (leaf object) f) back h fits = fits 0 (last_at table all noted [] 0 (h.0 ++ []) (forest_tokens f) h.2)
 
-  -- The kernel of the theorem.
+  -- If the tokens of a tree satisfy all requirements, then the objects of the tree have the types.
   pub types_of_tree : (tree : Tree) → AreLawful (table_shapes table) Everything → IsTree tree → ReferBack tree 0 → AreNoted table (objects_of tree 0) all noted → Passes noted table [] (of_type 0 ∷ []) (tokens tree) all → AreTypesOf noted table tree all
   types_of_tree tree lawful is back are_noted h =
       let h' = subst (λ ts. Passes noted table [] (of_type 0 ∷ []) ts all) (sym (append-nil (tokens tree))) h in

@@ -1,4 +1,4 @@
--- From tokens that satisfy their requirements to the objects of their tree.
+-- If the tokens of a tree satisfy their requirements, then the objects of the tree are good.
 use Rattle.std.proofs.Common.{ℕ, suc, ◌+◌, ◌-◌, ◌≡◌, ◌∙◌, refl, List, [], ◌∷◌, ◌++◌, length, inl, inr, ⊎_elim, Bool, true, false, Some, sym, ap, subst, arith}
 use Rattle.std.specs.Prelude.{slice_get, IsSome, Contains}
 use Rattle.std.proofs.lemmas.List.{append_assoc, append-nil, length-append}
@@ -43,7 +43,7 @@ leaf_made (objects.I64 z) is = refl
 leaf_made (objects.Native z) is = refl
 
 module _ (table : Table) (all : List ℕ) (noted : List (ℕ × ℕ)) where
-  -- The types so far are a prefix of the types in the end.
+  -- The types so far are a prefix of the types after the last token.
   pub prefix : (types : List ℕ) (needs : List Need) (ts : List Token) → Passes noted table types needs ts all → (later : List ℕ) × (types ++ later ≡ all)
   prefix types [] [] h = ([], append-nil types ∙ h)
   prefix types [] (t ∷ ts) h = absurd h
@@ -57,16 +57,16 @@ module _ (table : Table) (all : List ℕ) (noted : List (ℕ × ℕ)) where
       let r = prefix types needs ts h in
       subst (λ xs. slice_get xs k ≡ Some u) r.1 (slice_get-append_left types r.0 k u at_k)
 
-  -- The last object has its type.
+  -- The last type so far is the type of the last object.
   pub last_at : (types : List ℕ) (t : ℕ) (needs : List Need) (ts : List Token) → Passes noted table (types ++ t ∷ []) needs ts all → slice_get all (length types) ≡ Some t
   last_at types t needs ts h = kept_at (types ++ t ∷ []) needs ts (length types) t h (slice_get-last types t)
 
   leaf_good : (t : ℕ) (object : Obj) → IsLeaf object → IsSome (object_fields (shape_at table t) object) → IsGood table all noted object t
   leaf_good t object is fits = record { fits = fits; held = λ i a typed asked. absurd (leaf_needs (shape_at table t) object i a is typed) }
 
-  -- The tokens of a tree from object `c` on satisfy the requirement of a position of the type. Then
-  -- the value satisfies it, its objects are good, and the remaining tokens satisfy the other
-  -- requirements.
+  -- The tokens of a tree from object `c` on satisfy the requirement of a position of type `t`. The
+  -- tree's value satisfies the requirement, and the tree's objects are good. The tokens `rest`
+  -- satisfy the requirements `needs`.
   pub record IsRead (c t : ℕ) (tree : Tree) (needs : List Need) (rest : List Token) : Type 0 where
     pub after : List ℕ
     pub many : length after ≡ c + made tree

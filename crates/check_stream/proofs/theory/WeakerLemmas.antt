@@ -1,4 +1,5 @@
--- The pass stays valid if more is recorded and more objects follow.
+-- If more second types are recorded and more objects follow, then the tokens still satisfy their
+-- requirements.
 use Rattle.std.proofs.Common.{ℕ, ◌-◌, inl, inr, ⊎_elim, List, ◌∷◌, ◌++◌, length}
 use Rattle.std.specs.Prelude.{Contains}
 use Rattle.base_data.specs.declared.model.value.Val.{Val}
@@ -37,7 +38,7 @@ module _ (table : Table) (noted more : List (ℕ × ℕ)) (kept : (o t : ℕ) �
   passed_weaker ts types needs (further tokens types' need needs' next token before asks) =
       further tokens types' need needs' next token (passed_weaker tokens types' (need ∷ needs') before) (asks_weaker types' need token next asks)
 
-  -- The fields of a recorded block if more objects follow.
+  -- If more objects follow, then a field of a recorded block still satisfies its requirement.
   pub at_weaker : (types later : List ℕ) (v : Val) (t : ℕ) → IsAt table types noted v t → IsAt table (types ++ later) more v t
   at_weaker types later (vals.Int z) t at = at
   at_weaker types later (vals.Atom tag) t at = at

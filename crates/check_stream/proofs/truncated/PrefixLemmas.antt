@@ -22,20 +22,20 @@ use Rattle.marshal_spec.proofs.format.EncodeHeaders.{HeaderPasses-facts}
 use Rattle.marshal_spec.proofs.format.EncodeValues.{raw_measures-encoded, length-concat_push, bytes_of_tokens}
 use Rattle.check_stream.specs.truncated.Laws.{UnderwayIsPrefix}
 
--- After `n` bytes of data and tokens of these measures values are pending. The header has room for
--- one byte of each pending value, and for the words so far.
+-- After `n` bytes of data and tokens of these measures, values are pending. The header has room for
+-- one byte of each pending value, and for the words of the tokens.
 pub record GoesOn (head : Head) (n : ℕ) (ms : List (Option Measure)) : Type 0 where
   pub open_before : 0 < pending ms
   pub room : n + pending ms ≤ head.length
   pub w32 : head.big ≡ false → all_words32 ms ≤ head.w32
   pub w64 : all_words64 ms ≤ head.w64
 
--- A value is pending before the next token, and after the last one.
+-- If values are pending before each token and after the last token, then a value is pending now.
 open_here : (ms : List (Option Measure)) (ts : List Token) → OpenBefore ms ts → 0 < pending (ms ++ map measure_of ts) → 0 < pending ms
 open_here ms [] o p = rw (append-nil ms) at p
 open_here ms (t ∷ ts) o p = o.0
 
--- If values are pending after all tokens, then the first token fits.
+-- If values are pending after all tokens, then the header has room for the first token.
 fits_here : (head : Head) (n rest : ℕ) (ms : List (Option Measure)) (ts : List Token) → GoesOn head (n + rest) (ms ++ map measure_of ts) → OpenBefore ms ts → length ts ≤ rest → FitsUpTo head n ms
 fits_here head n rest ms ts g o l =
     let room' = g.room in
@@ -50,7 +50,7 @@ fits_here head n rest ms ts g o l =
       end = λ none. absurd (omega (arith, none, some));
     }
 
--- If values are pending after all tokens, then the encoded tokens pass.
+-- If values are pending after all tokens, then no step refuses the encoded tokens.
 pub tokens_go_on :
     (header : List ℕ) (before : List (List ℕ)) (ms : List (Option Measure)) (ts : List Token) (chunks : List (List ℕ)) → map raw_measure before ≡ ms → AllZip Encodes ts chunks → OpenBefore ms ts → EachRefersBack (objects ms) ts
     → ((head_of header).objects ≡ 0 → All IsNoReference ts) → GoesOn (head_of header) (length (concat before) + length (concat chunks)) (ms ++ map measure_of ts)
@@ -80,7 +80,6 @@ tokens_go_on header before ms (t ∷ ts) (chunk ∷ chunks) e s o r table g =
           (λ z. All-tail IsNoReference t ts (table z)) (rw there g'),
     )
 
--- The law.
 pub underway_is_prefix : UnderwayIsPrefix
 underway_is_prefix limit bytes header chunks tokens rest n few32 few64 u truncated room =
     let head = head_of header in

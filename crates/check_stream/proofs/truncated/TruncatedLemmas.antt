@@ -20,7 +20,7 @@ use Rattle.marshal_spec.proofs.format.EncodeFacts.{none_from_room}
 use Rattle.marshal_spec.proofs.format.EncodeSteps.{AllStepsPass, or_else_none, fails_if_none}
 use Rattle.check_stream.specs.truncated.Truncated.{HasRoom, IsTruncated, IsTruncatedAfter, IsSized}
 
--- If all steps of a list pass, and the steps after them do not fail, then none fails.
+-- If all steps of a list pass, and the steps after the list do not fail, then no step fails.
 none_after : (m : ℕ) (xs ys : List Step) → AllStepsPass xs → first_refusal m ys ≡ None → first_refusal m (xs ++ ys) ≡ None
 none_after m [] ys p q = q
 none_after m (x ∷ xs) ys p q =
@@ -31,12 +31,13 @@ none_after m (x ∷ xs) ys p q =
 undecided : (m k : ℕ) (r : Option ReadRefusal) (steps : List Step) → m < k → first_refusal m (step k r ∷ steps) ≡ None
 undecided m k r steps h = rw (lt-ltb m k h) refl
 
--- Before the end of the token the steps of the end are not decided.
+-- If the bytes end before the end of the token, then the steps at the end of the token are not
+-- decided.
 before_end : (m : ℕ) (c : Context) (n : ℕ) (all : Sums) (b : Bool) → m < n → first_refusal m (cond b (end_steps c n all) []) ≡ None
 before_end m c n all true h = rw (lt-ltb m n h) refl
 before_end m c n all false h = refl
 
--- If the header allows the sum of the words on 32 bits, then there is no refusal.
+-- If the header allows the sum of the words on 32 bits, then the step for the words does not fail.
 words32_allowed : (p : ℕ) (head : Head) (found : ℕ) (big : Bool) → head.big ≡ big → (big ≡ false → found ≤ head.w32) → words32_refusal ltb p head found ≡ None
 words32_allowed p head found true e h = rw e refl
 words32_allowed p head found false e h =
@@ -103,9 +104,9 @@ truncated_in_content kind rest fixed variable measure n few32 few64 f s e short 
       passes = λ c code room. known_truncated c code kind rest measure (1 + length rest) n few32 few64 short long room s.measure_is s.leaf words32' words64' (s.sound c code) (s.steps c);
     }
 
--- ---- with the code
+-- ---- tokens with their code
 
--- Case: no byte of the token.
+-- Case: the bytes contain no byte of the token.
 pub truncated_of_nothing : (bytes : List ℕ) (few32 few64 : ℕ) → length bytes ≡ 0 → IsTruncated 1 few32 few64 bytes
 unfolding token_steps
 truncated_of_nothing [] few32 few64 none' = record { some = omega arith; is_part = omega arith; passes = λ c room. refl }
@@ -127,7 +128,7 @@ truncated_with_code code kind rest n few32 few64 e truncated = record {
       steps_of_kind c code kind rest (length (code ∷ rest)) e (subst (λ m. first_refusal m (steps_after c code kind rest) ≡ None) same (truncated.passes c code room));
 }
 
--- Case: at least one byte; by the code and the bytes after it.
+-- Case: the bytes contain the code of the token.
 pub truncated_of_bytes : (bytes : List ℕ) (kind : CodeKind) (n few32 few64 : ℕ) → 0 < length bytes → kind_of (get_or bytes 0 0) ≡ Ok kind → IsTruncatedAfter kind (drop 1 bytes) n few32 few64 → IsTruncated n few32 few64 bytes
 truncated_of_bytes [] kind n few32 few64 some e truncated = absurd (omega (arith, some))
 truncated_of_bytes (code ∷ rest) kind n few32 few64 some e truncated = truncated_with_code code kind rest n few32 few64 e truncated

@@ -1,4 +1,4 @@
--- The state of the pass while it is in local variables.
+-- The state of the pass while the state is in local variables.
 use Rattle.std.specs.Prelude.{ℕ, ◌+◌, ◌≡◌, ◌++◌, ◌∷◌, []}
 use Rattle.std.specs.Global.{Vec}
 use Rattle.base_data.specs.declared.model.code.Measure.{Measure}
@@ -7,12 +7,13 @@ use Rattle.check_stream.specs.declared.checker.open_positions.BlockPositions.{Bl
 use Rattle.check_stream.specs.declared.checker.check_state.CheckState.{CheckState}
 use Rattle.check_stream.specs.declared.checker.words.Words.{Words}
 
--- The state that consists of the open positions, the types and the words.
+-- The state of the pass with these open positions, types and remaining words.
 abbrev pub held : BlockPositions → Vec BlockPositions → Vec ℕ → Words → CheckState
 held now waiting types words =
     record { positions = record { now = now; waiting = waiting }; types = types; words = words }
 
--- One more object has this type, and its words are subtracted.
+-- The type of one more object is added to the types, and the object's words are subtracted from the
+-- remaining words.
 pub record IsLeafAdded
     (type : ℕ) (measure : Measure) (old new : Vec ℕ) (before after : Words)
     : Type 0 where

@@ -16,7 +16,8 @@ abbrev pub need_of : Requirement → Need
 need_of (asked.Type t) = of_type t
 need_of (asked.Hash tags) = hash_of tags.now
 
--- The last entry of the stack comes first.
+-- The requirements of the positions on the stack. The requirements of the last entry of the stack
+-- come first.
 abbrev pub waiting_needs : List BlockPositions → List Need
 waiting_needs [] = []
 waiting_needs (open' ∷ opens') = waiting_needs opens' ++ open_needs open'

@@ -11,18 +11,19 @@ use Rattle.check_stream.specs.declared.chunks.inspect.Inspecting.{Inspecting}
 use Rattle.check_stream.specs.declared.chunks.inspect.CheckResult.{CheckResult}
 use Rattle.check_stream.specs.declared.chunks.inspect.CheckResult.TheVariants as shown
 
--- If the pass has begun, then the bytes lead to its state. If the search has begun, then the bytes
--- lead to its state.
+-- If the pass has begun, then the bytes lead to the state of the pass. If the search has begun,
+-- then the bytes lead to the state of the search.
 pub record IsInspecting (table : Table) (limit : ℕ) (bytes : List ℕ) (inspecting : Inspecting)
     : Type 0 where
   pub underway : inspecting.begun ≡ true → IsUnderway table limit bytes inspecting.passing
   pub sought : inspecting.sought ≡ true → IsSought table limit bytes inspecting.seeking
 
--- The mismatch that was found last.
+-- The mismatch that the search found last, or `None`.
 abbrev pub missed_in : Inspecting → Option FoundMismatch
 missed_in inspecting = inspecting.seeking.finding.found
 
--- What each result implies for all bytes of the value so far, and for the state of the check.
+-- What each `CheckResult` implies for all bytes of the value so far, and for the state of the
+-- check.
 abbrev pub IsShown : Table → ℕ → List ℕ → Inspecting → CheckResult → Type 0
 IsShown table limit bytes inspecting (shown.Typed n) = IsTypedPrefix table limit n bytes
 IsShown table limit bytes inspecting (shown.Missed n) =
@@ -32,8 +33,8 @@ IsShown table limit bytes inspecting shown.More =
     IsPrefix limit bytes × IsInspecting table limit bytes inspecting
 IsShown table limit bytes inspecting shown.Inconclusive = Unit {0}
 
--- After `n` bytes there is a part of a token. A header that states `stated` bytes has room for that
--- token and for `most` pending values.
+-- After `n` bytes there is a part of a token. A header that states `stated` data bytes has room for
+-- the whole token and for `most` pending values.
 pub record HasRoomAfter
     (stated start n few32 few64 : ℕ) (bytes : List ℕ) (most : ℕ)
     : Type 0 where

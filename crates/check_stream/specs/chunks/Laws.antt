@@ -1,5 +1,5 @@
--- Bytes that passed up to a part of a token are a prefix of a value, whether or not all parts match
--- their types.
+-- Bytes that passed up to a part of a token are a prefix of a value, whether or not every part
+-- matches its type.
 use Rattle.std.specs.Prelude.{ℕ, ◌+◌, ◌<◌, ◌≤◌, ◌≡◌, false, List, drop, map}
 use Rattle.base_data.specs.declared.model.header.Head.{Head}
 use Rattle.types_spec.specs.types.Table.{Table}
@@ -12,8 +12,8 @@ use Rattle.check_stream.specs.theory.OnePass.{IsPassing}
 use Rattle.check_stream.specs.mismatch_theory.PassedBut.{Position, Made, Missed, values_at}
 use Rattle.check_stream.specs.mismatch_theory.MissedPrefix.{IsPassingBut}
 
--- After `n` bytes `values` values are pending, at least one. The header has room for a token of
--- `bytes` bytes, for one byte of each other pending value, and for `few32` and `few64` words.
+-- After `n` bytes, `values` values are pending, at least one. The header has room for a token of
+-- `bytes` bytes, for one byte of each further pending value, and for `few32` and `few64` words.
 pub record HasRoomAt
     (head : Head) (start n : ℕ) (tokens : List Token) (values bytes few32 few64 : ℕ)
     : Type 0 where
@@ -31,7 +31,7 @@ PassingIsPrefix =
     → HasRoomAt head start n tokens (values_in needs) long few32 few64
     → IsPrefix limit bytes
 
--- The law for bytes that passed except for mismatches.
+-- The law that bytes that passed except for mismatches are a prefix of a value.
 abbrev pub PassingButIsPrefix : Type 0
 PassingButIsPrefix =
     (back : List ℕ) (table : Table) (limit : ℕ) (bytes : List ℕ) (head : Head) (start n : ℕ)

@@ -11,13 +11,14 @@ use Rattle.check_stream.specs.declared.chunks.stream_check.ChunkResult.{ChunkRes
 use Rattle.check_stream.specs.declared.chunks.stream_check.ChunkResult.TheVariants as answers
 use Rattle.check_stream.specs.chunks.Inspection.{IsInspecting, missed_in}
 
--- The buffered bytes are a prefix of a value, and they lead to the state of the check.
+-- The buffered bytes are a prefix of a value, and the buffered bytes lead to the state of the
+-- check.
 pub record IsStreamCheck (table : Table) (limit : ℕ) (g : StreamCheck) : Type 0 where
   pub bytes : AreBytes g.kept.items
   pub is_prefix : IsPrefix limit g.kept.items
   pub inspecting : IsInspecting table limit g.kept.items g.inspecting
 
--- The mismatch that was found last.
+-- The mismatch that the check found last, or `None`.
 abbrev pub held : StreamCheck → Option FoundMismatch
 held g = missed_in g.inspecting
 
@@ -48,7 +49,7 @@ pub record IsMissedNext
   pub none : new.kept.items ≡ []
   pub stream_check : (other : Table) (limit' : ℕ) → IsStreamCheck other limit' new
 
--- The result of a chunk.
+-- What each `ChunkResult` means for the buffered bytes, the chunk and the new state.
 abbrev pub IsChunkResult : Table → ℕ → StreamCheck → List ℕ → StreamCheck → ChunkResult → Type 0
 IsChunkResult table limit old chunk new (answers.Typed n) = IsTypedNext table limit old chunk new n
 IsChunkResult table limit old chunk new (answers.Missed n) =

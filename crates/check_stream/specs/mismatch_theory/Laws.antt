@@ -1,5 +1,5 @@
--- If only one trail leads to a mismatch, then it is the first fault. Types are the numbers of a
--- table.
+-- If only one trail leads to a mismatch, then the mismatch is the first fault. Types are the
+-- numbers of a table.
 use Rattle.std.specs.Prelude.{ℕ, ◌≡◌, List, [], ◌∷◌, Some, Contains}
 use Rattle.base_data.specs.declared.model.value.Val.{Val}
 use Rattle.base_data.specs.declared.model.value.Val.TheVariants as vals
@@ -19,7 +19,7 @@ RootMismatchIsLeast =
     → ¬ (table_shapes table).fits graph root t
     → IsLeastFault (table_shapes table) graph root t (Mismatch [])
 
--- If there are several holes, and only one trail leads to each of them, then a mismatch whose path
+-- If there are several holes, and only one trail leads to each hole, then a mismatch whose path
 -- comes first is the first fault.
 abbrev pub OnlyWaysAreLeast : Type 0
 OnlyWaysAreLeast =
@@ -31,8 +31,9 @@ OnlyWaysAreLeast =
     → HasOnlyWay (table_shapes table) graph pairs root o i path)
     → IsLeastFault (table_shapes table) graph root t (Mismatch path)
 
--- If there is one hole, this definition states which value is there, which type is required there,
--- and that the mismatch is the first fault.
+-- If there is one hole, to which only one trail leads, the value and the required type at the hole
+-- are known. If the value does not match the required type, the mismatch at the hole is the first
+-- fault.
 abbrev pub OnlyMismatchIsLeast : Type 0
 OnlyMismatchIsLeast =
     (table : Table) → AreLawful (table_shapes table) Everything

@@ -1,4 +1,4 @@
--- The first fault of a value all of whose tokens but one satisfy their requirements.
+-- The first fault of a value if all tokens of the value but one satisfy their requirements.
 use Rattle.std.specs.Prelude.{ℕ, ◌≡◌, List, [], ◌∷◌, length, slice_get, Some, All, Contains}
 use Rattle.base_data.specs.declared.model.value.Val.{Val}
 use Rattle.base_data.specs.declared.model.value.Val.TheVariants as vals
@@ -14,7 +14,7 @@ use Rattle.marshal_spec.specs.format.Tree.{Tree, IsTree, tokens, root, objects_o
 use Rattle.check_stream.specs.mismatch_theory.OnlyWay.{path_of}
 use Rattle.check_stream.specs.mismatch_theory.PassedBut.{Made, Missed, PassedBut}
 
--- The token encodes this value.
+-- The token encodes the value `w` of the graph.
 abbrev pub IsEncodedBy : List Obj → Val → Token → Type 0
 IsEncodedBy graph w (integer z) = w ≡ vals.Int z
 IsEncodedBy graph w (atom tag) = w ≡ vals.Atom tag
@@ -25,8 +25,8 @@ IsEncodedBy graph w (block tag size) =
 IsEncodedBy graph w (leaf object) =
     (o : ℕ) × (w ≡ vals.Ref o) × (slice_get graph o ≡ Some object)
 
--- The mismatch is the first fault of the value. The type and the token that were recorded are the
--- required type and the value there.
+-- The mismatch is the first fault of the value. At the mismatch, the recorded type is the required
+-- type, and the recorded token encodes the value.
 pub record IsLeastMissed (table : Table) (graph : List Obj) (root : Val) (missed : Missed)
     : Type 0 where
   pub value : Val
@@ -35,8 +35,8 @@ pub record IsLeastMissed (table : Table) (graph : List Obj) (root : Val) (missed
   pub encoded : IsEncodedBy graph value missed.token
   pub least : IsLeastFault (table_shapes table) graph root 0 (Mismatch (path_of missed.trail))
 
--- If there is one mismatch, and no reference leads back to a block of its trail, then it is the
--- first fault.
+-- If there is one mismatch, and no reference leads back to a block of the mismatch's trail, then
+-- the mismatch is the first fault.
 abbrev pub OnlyMissedIsLeast : Type 0
 OnlyMissedIsLeast =
     (table : Table) → AreLawful (table_shapes table) Everything

@@ -11,7 +11,8 @@ use Rattle.check_stream.specs.mismatch_theory.OnlyWay.{path_of}
 use Rattle.check_stream.specs.mismatch_theory.PassedBut.{Missed}
 use Rattle.check_stream.specs.mismatch_theory.MissedLaw.{IsLeastMissed}
 
--- The text of the token's kind. A reference is never the mismatch.
+-- The text of a value's kind, from the value's token. A reference has an empty text, because a
+-- reference is never the mismatch.
 abbrev pub token_text : Token → List ℕ
 token_text (integer z) = codes "int " ++ signed_decimal z
 token_text (atom tag) = codes "atom " ++ decimal tag
@@ -24,7 +25,7 @@ missed_text type_text missed =
     path_text (path_of missed.trail) ++ codes ": expected " ++ type_text missed.type
     ++ codes ", found " ++ token_text missed.token
 
--- The trail, the type and the token determine the line.
+-- The trail, the type and the token of the mismatch determine the output line of the value.
 abbrev pub MissedHasLine : Type 0
 MissedHasLine =
     (table : Table) (graph : List Obj) (root : Val) (missed : Missed) (type_text : ℕ → List ℕ)

@@ -1,5 +1,5 @@
 -- Bytes that begin with a value with exactly one mismatch, and the invariant of the streaming check
--- over them.
+-- over such bytes.
 use Rattle.std.specs.Prelude.{ℕ, ◌+◌, ◌≤◌, ◌<◌, ◌^◌, ◌≡◌, ◌⊎◌}
 use Rattle.std.specs.Prelude.{List, [], ◌∷◌, ◌++◌, length, map, take, All, Contains}
 use Rattle.std.specs.List.{concat, AllZip}
@@ -15,8 +15,8 @@ use Rattle.marshal_spec.specs.format.Encoded.{EncodedUnder, IsHeader, IsNoRefere
 use Rattle.check_stream.specs.mismatch_theory.MissedLaw.{IsLeastMissed}
 use Rattle.check_stream.specs.mismatch_theory.PassedBut.{Position, Made, Missed, PassedBut}
 
--- The first `n` bytes encode a value within the limit, and `missed` is its first fault at type 0 of
--- the table.
+-- The first `n` bytes encode a value within the limit, and `missed` is the value's first fault at
+-- type 0 of the table.
 pub record IsMissedPrefix (table : Table) (limit n : ℕ) (bytes : List ℕ) (missed : Missed)
     : Type 0 where
   pub within : n ≤ length bytes
@@ -24,8 +24,8 @@ pub record IsMissedPrefix (table : Table) (limit n : ℕ) (bytes : List ℕ) (mi
   pub encoded : EncodedUnder limit (take n bytes) tree
   pub least : IsLeastMissed table (objects_of tree 0) (root tree 0) missed
 
--- The invariant. The first `n` bytes are a header, of `start` bytes, and the encodings of the
--- tokens. The tokens lead to these objects, open positions and mismatches.
+-- The invariant of the streaming check. The first `n` bytes are a header, of `start` bytes, and the
+-- encodings of the tokens. The tokens lead to these objects, open positions and mismatches.
 pub record IsPassingBut
     (back : List ℕ) (table : Table) (limit : ℕ) (bytes : List ℕ) (head : Head) (start n : ℕ)
     (tokens : List Token) (made : List Made) (positions : List Position) (missed : List Missed)
@@ -45,8 +45,8 @@ pub record IsPassingBut
   pub words : head.w64 ≤ limit
   pub small : head.length < 2 ^ 48
 
--- The header agrees with the `n` bytes that were read: it states the number of data bytes, the
--- sizes in words, and the number of objects, or 0 instead of this number.
+-- The header states the number of data bytes that were read, and the sizes in words. The header
+-- also states the number of objects, or states 0 objects.
 pub record IsStated (head : Head) (start n : ℕ) (tokens : List Token) (many : ℕ) : Type 0 where
   pub whole : n ≡ start + head.length
   pub w32 : StatesWords32 head.big head.w32 (all_words32 (map measure_of tokens))

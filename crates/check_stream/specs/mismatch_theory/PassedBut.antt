@@ -1,5 +1,5 @@
 -- Tokens of a value that satisfy their requirements except at mismatches. At and below a mismatch
--- nothing is required. Each open position has its trail, and each object has the trail of its
+-- nothing is required. Each open position has a trail, and each object has the trail of its
 -- position.
 use Rattle.std.specs.Prelude.{ℕ, suc, ◌+◌, ◌-◌, ◌≤◌, ◌≡◌, ◌⊎◌, false, IsTrue, IsSome, ℤ}
 use Rattle.std.specs.Prelude.{List, [], ◌∷◌, ◌++◌, length, replicate, slice_get, Option, Some, None}
@@ -12,13 +12,15 @@ use Rattle.check_stream.specs.theory.Asked.{Need, of_type, hash_of, values_in, s
 use Rattle.check_stream.specs.theory.Asked.{fields_ask}
 use Rattle.check_stream.specs.theory.Noted.{IsFlatNoted}
 
--- An open position: its requirement, or `None` below a mismatch, and its trail. The trail begins
--- with the object and the field at this position. The trail of the root is empty.
+-- An open position, with its requirement and its trail. Below a mismatch, the requirement is
+-- `None`. The trail begins with the object and the field at the position. The trail of the root is
+-- empty.
 pub record Position : Type 0 where
   pub asks : Option Need
   pub trail : List (ℕ × ℕ)
 
--- The number of values to be read for a position. A hash comes before its argument.
+-- The number of values to be read for a position. A position that requires a hash takes two values:
+-- the hash and its argument.
 abbrev pub values_of : Option Need → ℕ
 values_of None = 1
 values_of (Some need) = values_in (need ∷ [])
@@ -27,13 +29,13 @@ abbrev pub values_at : List Position → ℕ
 values_at [] = 0
 values_at (position ∷ positions) = values_of position.asks + values_at positions
 
--- An object: the type that its position requires, or `None` at or below a mismatch, and the trail
--- of this position.
+-- An object, with the type that its position requires and the trail of its position. At or below a
+-- mismatch, the type is `None`.
 pub record Made : Type 0 where
   pub type : Option ℕ
   pub trail : List (ℕ × ℕ)
 
--- A mismatch: the trail of its position, the type that is required there, and the token that was
+-- A mismatch: the trail of its position, the required type at the position, and the token that was
 -- found.
 pub record Missed : Type 0 where
   pub trail : List (ℕ × ℕ)
@@ -48,12 +50,12 @@ positions_of o trail k (need ∷ needs) =
     record { asks = Some need; trail = (o, k) ∷ trail }
     ∷ positions_of o trail (k + values_in (need ∷ [])) needs
 
--- The trail of the next field.
+-- The trail of the field after the field at the head of the trail.
 abbrev pub field_after : List (ℕ × ℕ) → List (ℕ × ℕ)
 field_after [] = []
 field_after (link ∷ trail) = (link.0, suc link.1) ∷ trail
 
--- The positions of a token's fields if nothing is required of them.
+-- The positions of a token's fields if nothing is required of the fields.
 abbrev pub unasked : Token → List Position
 unasked (integer z) = []
 unasked (atom tag) = []
@@ -61,7 +63,8 @@ unasked (shared offset) = []
 unasked (block tag size) = replicate size record { asks = None; trail = [] }
 unasked (leaf object) = []
 
--- The object that a token creates at a position, if it creates one.
+-- The list with the object that a token creates at a position. If the token creates no object, the
+-- list is empty.
 abbrev pub made_in : Option ℕ → List (ℕ × ℕ) → Token → List Made
 made_in type trail (integer z) = []
 made_in type trail (atom tag) = []
@@ -69,13 +72,14 @@ made_in type trail (shared offset) = []
 made_in type trail (block tag size) = record { type = type; trail = trail } ∷ []
 made_in type trail (leaf object) = record { type = type; trail = trail } ∷ []
 
--- A hash creates no object.
+-- The type that a requirement states for the object at the position. A requirement for a hash
+-- states no type, because a hash creates no object.
 abbrev pub type_of_need : Need → Option ℕ
 type_of_need (of_type t) = Some t
 type_of_need (hash_of tags) = None
 
--- Object `o` is a flat block that also satisfies the requirements of the type `t`. No type of
--- another object is used, so its fields are integers, atoms and wildcards.
+-- Object `o` is a flat block that satisfies the requirements of the type `t`. The fields of the
+-- block are integers, atoms and wildcards, because the types of referenced objects are not used.
 abbrev pub IsPlain : Table → List Token → ℕ → ℕ → Type 0
 IsPlain table tokens o t = IsFlatNoted table [] [] tokens o t
 
@@ -86,8 +90,8 @@ pub record HasFirst (table : Table) (made : List Made) (o t : ℕ) : Type 0 wher
   pub at : slice_get made o ≡ Some record { type = Some type; trail = trail }
   pub equal : (table_shapes table).equal type t
 
--- A reference leads back to an object that has the type, as its first or as a second type. The
--- object is recorded in `back`.
+-- A reference leads back to an object whose first type or second type is `t`. The object is
+-- recorded in `back`.
 pub record IsLedBack
     (back : List ℕ) (table : Table) (Second : ℕ → ℕ → Type 0) (made : List Made) (t offset : ℕ)
     : Type 0 where
@@ -96,7 +100,7 @@ pub record IsLedBack
   pub typed : HasFirst table made (length made - offset) t ⊎ Second (length made - offset) t
   pub noted : Contains back (length made - offset)
 
--- The tag with this hash has an argument, and the argument's position is the next one.
+-- The tag with this hash has an argument, and `next` is the position of the argument.
 pub record IsTaggedBut (tags : List (PolyTag ℕ)) (z : ℤ) (trail : List (ℕ × ℕ))
     (next : List Position)
     : Type 0 where
@@ -106,8 +110,8 @@ pub record IsTaggedBut (tags : List (PolyTag ℕ)) (z : ℤ) (trail : List (ℕ 
   pub has_argument : tag.arg ≡ Some type
   pub argument : next ≡ record { asks = Some (of_type type); trail = field_after trail } ∷ []
 
--- The token satisfies the requirement of its position, given second types of objects, and opens
--- these positions.
+-- The token satisfies the requirement of its position, given the second types of objects, and opens
+-- the positions `next`.
 abbrev pub Takes :
     List ℕ → Table → (ℕ → ℕ → Type 0) → List Made → List (ℕ × ℕ) → Need → Token → List Position
     → Type 0
@@ -128,7 +132,8 @@ Takes back table Second made trail (hash_of tags) (shared offset) next = ⊥
 Takes back table Second made trail (hash_of tags) (block tag size) next = ⊥
 Takes back table Second made trail (hash_of tags) (leaf object) next = ⊥
 
--- The token certainly does not match a position of the type. For a reference this is never known.
+-- The token certainly does not match a position of the type. A reference never certainly
+-- mismatches.
 abbrev pub Misses : Table → ℕ → Token → Type 0
 Misses table t (integer z) = fits_int (shape_at table t) z ≡ false
 Misses table t (atom tag) = fits_atom (shape_at table t) tag ≡ false

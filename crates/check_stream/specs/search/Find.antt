@@ -1,5 +1,5 @@
 -- The state of the search for the only mismatch of a value, and its result.
-use Rattle.std.specs.Prelude.{ℕ, ◌+◌, ◌-◌, ◌^◌, ◌<◌, ◌≡◌, ◌⊎◌, List, [], ◌∷◌, ◌++◌, length}
+use Rattle.std.specs.Prelude.{ℕ, ◌+◌, ◌-◌, ◌^◌, ◌<◌, ◌≡◌, List, [], ◌∷◌, ◌++◌, length}
 use Rattle.std.specs.Prelude.{map, take, set, slice_get, Option, Some, None, All, Contains, Bool}
 use Rattle.std.specs.Prelude.{true, false, replicate, ℤ, IsTrue}
 use Rattle.base_data.specs.declared.model.header.Head.{Head}
@@ -14,7 +14,7 @@ use Rattle.check_stream.specs.mismatch_theory.PassedBut.{Position, Made, Missed,
 use Rattle.check_stream.specs.mismatch_theory.PassedBut.{unasked}
 use Rattle.check_stream.specs.mismatch_theory.PassedBut.{values_at}
 use Rattle.check_stream.specs.mismatch_theory.MissedPrefix.{IsPassingBut, IsMissedPrefix}
-use Rattle.check_stream.specs.checker.State.{stated32}
+use Rattle.check_stream.specs.checker.State.{IsSpent, stated32}
 use Rattle.check_stream.specs.declared.search.mismatch.SearchEnd.{SearchEnd}
 use Rattle.check_stream.specs.declared.search.mismatch.SearchEnd.TheVariants as ends
 use Rattle.check_stream.specs.declared.search.mismatch.FoundMismatch.{FoundMismatch}
@@ -22,42 +22,43 @@ use Rattle.check_stream.specs.declared.search.mismatch.Finding.{Finding}
 use Rattle.check_stream.specs.declared.search.mismatch.Fast.{Fast}
 use Rattle.check_stream.specs.declared.search.mismatch.Fast.TheVariants as fasts
 use Rattle.check_stream.specs.declared.search.mismatch.Seeking.{Seeking}
-use Rattle.check_stream.specs.declared.search.summary.Summary.{Summary}
-use Rattle.check_stream.specs.declared.search.summary.Summary.TheVariants as sayings
+use Rattle.marshal_codec.specs.declared.token.summary.Summary.{Summary}
+use Rattle.marshal_codec.specs.declared.token.summary.Summary.TheVariants as summaries
 use Rattle.check_stream.specs.declared.search.way.Expectation.{Expectation}
 use Rattle.check_stream.specs.declared.search.way.Expectation.TheVariants as asks
 use Rattle.check_stream.specs.declared.search.way.Link.{Link}
-use Rattle.check_stream.specs.search.Judge.{IsSummary, IsSummaryBy}
+use Rattle.marshal_codec.specs.token.Summary.{IsSummary, IsSummaryBy}
 use Rattle.check_stream.specs.search.Second.{IsFresh, Knows}
 use Rattle.check_stream.specs.declared.search.way.BlockExpectations.{BlockExpectations}
 use Rattle.check_stream.specs.search.Way.{trail_of, trail_in, position_of, root_position}
 use Rattle.check_stream.specs.search.Way.{way_positions, IsWay}
 use Rattle.check_stream.specs.search.Way.{left_values, opened_positions, OpensAt}
 
--- ---- the state
+-- ---- the state of the search
 
 -- No type has this number.
 abbrev pub no_type : ℕ
 no_type = 2 ^ 16 - 1
 
--- The number that is recorded for a type. At the mismatch and below it, this is `no_type`.
+-- The number that is recorded for the type of an object. At and below the mismatch, `no_type` is
+-- recorded.
 abbrev pub type_or_none : Option ℕ → ℕ
 type_or_none None = no_type
 type_or_none (Some t) = t
 
--- The recorded numbers are the types of the objects, and no type of an object is recorded as
--- `no_type`.
+-- The recorded numbers are the types of the objects, and no object has the number `no_type` as its
+-- type.
 abbrev pub AreTypes : List ℕ → List Made → Type 0
 AreTypes types made =
     (types ≡ map (λ (object : Made). type_or_none object.type) made)
     × ((o t : ℕ) (trail : List (ℕ × ℕ))
     → slice_get made o ≡ Some record { type = Some t; trail = trail } → t < no_type)
 
--- Each target of a reference has its mark.
+-- The mark of each target of a reference is set.
 abbrev pub AreMarked : List ℕ → List Bool → Type 0
 AreMarked back marks = (o : ℕ) → Contains back o → slice_get marks o ≡ Some true
 
--- The object has a mark, and no further mark is set.
+-- The list of marks is extended such that the object has a mark. The added marks are not set.
 pub record Reaches (old : List Bool) (object : ℕ) (new : List Bool) : Type 0 where
   pub more : ℕ
   pub marks : new ≡ old ++ replicate more false
@@ -73,22 +74,24 @@ pub record AlsoMarks (old : List Bool) (object : ℕ) (new : List Bool) : Type 0
 abbrev pub IsClear : List Bool → ℕ → Type 0
 IsClear marks object = ¬ (slice_get marks object ≡ Some true)
 
--- No reference leads back to the block of the link.
+-- No reference leads back to the block of the link `link`.
 abbrev pub IsAlone : List Bool → Link → Type 0
 IsAlone marks link = IsClear marks link.object
 
--- `found` is the mismatch: its path, the expected type, and its token.
+-- `found` describes the mismatch `missed`: the path, the expected type, and the summary of the
+-- token.
 pub record IsMissedAt (found : FoundMismatch) (missed : Missed) : Type 0 where
   pub trail : missed.trail ≡ trail_of found.links.items
   pub type : missed.type ≡ found.ty
   pub summary : IsSummary found.summary missed.token
 
--- There is no mismatch yet, or exactly this one.
+-- If `found` is `None`, there is no mismatch. If `found` is given, there is exactly one mismatch,
+-- which `found` describes.
 abbrev pub AreMissedAt : Option FoundMismatch → List Missed → Type 0
 AreMissedAt None missed = missed ≡ []
 AreMissedAt (Some found) missed = (one : Missed) × (missed ≡ one ∷ []) × IsMissedAt found one
 
--- The state agrees with these objects, references and mismatches.
+-- The state of the search agrees with these objects, targets of references and mismatches.
 pub record IsHeld
     (back : List ℕ) (made : List Made) (missed : List Missed) (finding : Finding)
     : Type 0 where
@@ -97,7 +100,8 @@ pub record IsHeld
   pub marked : AreMarked back finding.again.marks.items
   pub found : AreMissedAt finding.found missed
 
--- The first `n` bytes lead to this state. The positions `taken` precede the open ones.
+-- The first `n` bytes lead to this state of the search. The positions `taken` precede the open
+-- positions.
 pub record Finds
     (table : Table) (limit : ℕ) (bytes : List ℕ) (head : Head) (start n : ℕ) (taken : List Position)
     (finding : Finding)
@@ -115,7 +119,7 @@ pub record Finds
   pub w32 : finding.words.w32 + all_words32 (map measure_of tokens) ≡ stated32 head
   pub w64 : finding.words.w64 + all_words64 (map measure_of tokens) ≡ head.w64
 
--- The state before the first token.
+-- The state of the search before the first token.
 pub record Begins (head : Head) (finding : Finding) : Type 0 where
   pub is_way : IsWay finding.way
   pub positions : way_positions finding.way ≡ root_position ∷ []
@@ -126,20 +130,20 @@ pub record Begins (head : Head) (finding : Finding) : Type 0 where
   pub w32 : finding.words.w32 ≡ stated32 head
   pub w64 : finding.words.w64 ≡ head.w64
 
--- The type of the object is recorded and equal to this type.
+-- The type of the object is recorded, and the recorded type equals `type`.
 pub record IsFirst (table : Table) (types : List ℕ) (object type : ℕ) : Type 0 where
   pub own : ℕ
   pub at : slice_get types object ≡ Some own
   pub typed : ¬ (own ≡ no_type)
   pub equal : (table_shapes table).equal own type
 
--- ---- one token
+-- ---- one token of the search
 
--- The token is an integer that has the type of the first open position, and that position is
--- consumed.
+-- The token is an integer of the type that the first open position expects, and the first open
+-- position is consumed.
 pub record Passes (table : Table) (old : Finding) (summary : Summary) (new : Finding) : Type 0 where
   pub z : ℤ
-  pub its : summary ≡ sayings.Integer z
+  pub its : summary ≡ summaries.Integer z
   pub type : ℕ
   pub trail : List (ℕ × ℕ)
   pub fits : IsTrue (fits_int (shape_at table type) z)
@@ -151,17 +155,18 @@ pub record Passes (table : Table) (old : Finding) (summary : Summary) (new : Fin
   pub words : new.words ≡ old.words
   pub found : new.found ≡ old.found
 
--- The positions are those of the token's fields, and they expect nothing.
+-- The positions `left` are the positions of the token's fields, and expect nothing.
 abbrev pub unasked_in : BlockExpectations → Token → Type 0
 unasked_in left token =
     (object : ℕ) (trail : List (ℕ × ℕ)) → opened_positions object trail left ≡ unasked token
 
--- Only a token that makes an object has positions.
+-- If the token makes no object, then no value is pending in the positions `left`.
 abbrev pub HasRoom : Summary → BlockExpectations → Type 0
 HasRoom summary left =
     (token : Token) → IsSummary summary token → made_by token ≡ 0 → left_values left ≡ 0
 
--- The object that the token makes, if it makes one, has the type, and these positions are open.
+-- If the token makes an object, the object is added with the type `type`. The positions `left` are
+-- opened.
 pub record Adds (old : Finding) (type : ℕ) (summary : Summary) (left : BlockExpectations)
     (new : Finding)
     : Type 0 where
@@ -180,7 +185,7 @@ pub record Adds (old : Finding) (type : ℕ) (summary : Summary) (left : BlockEx
       (token : Token) → IsSummary summary token
       → new.words.w64 + of_object words64 (measure_of token) ≡ old.words.w64
 
--- The token leads from these tokens and objects, after the bytes `prefix`, to the new state.
+-- The token leads from the tokens and objects so far, after the bytes `prefix`, to the new state.
 pub record LeadsTo
     (back : List ℕ) (table : Table) (prefix : List ℕ) (tokens : List Token) (made : List Made)
     (token : Token) (new : Finding)
@@ -195,8 +200,8 @@ pub record LeadsTo
   pub held : IsHeld (back ++ more) (made ++ made_in type trail token) missed new
   pub known : Knows table prefix tokens new.seconds
 
--- A token with the summary `summary` is consumed after these bytes, at the first of these
--- positions. The header of the value states `stated` objects.
+-- After the bytes `prefix`, a token with the summary `summary` is consumed at the first of
+-- `positions`. The header of the value states `stated` objects.
 pub record ComesIn
     (positions : List Position) (table : Table) (stated : ℕ) (prefix : List ℕ) (old : Finding)
     (summary : Summary) (new : Finding)
@@ -216,7 +221,7 @@ pub record ComesIn
       (token : Token) → IsSummary summary token
       → new.words.w64 + of_object words64 (measure_of token) ≡ old.words.w64
 
--- The token is consumed at the position taken last, before the open ones.
+-- The token is consumed at the position taken last, which precedes the open positions.
 abbrev pub Comes : Table → ℕ → List ℕ → Finding → Expectation → Summary → Finding → Type 0
 Comes table stated prefix old asked summary new =
     ComesIn (position_of asked (trail_in old.way)
@@ -228,16 +233,16 @@ abbrev pub Follows : Table → ℕ → List ℕ → Finding → Summary → Find
 Follows table stated prefix old summary new =
     ComesIn (way_positions old.way) table stated prefix old summary new
 
--- The token is consumed at the first open position and has this length; or nothing changed; or the
--- result is inconclusive.
+-- What each `Fast` means for a token with the given summary and length. `Took`: the token is
+-- consumed at the first open position. `Kept`: nothing changed. `Inconclusive` states nothing.
 abbrev pub RunsFast : Table → Finding → Summary → ℕ → Finding → Fast → Type 0
 RunsFast table old summary len new (fasts.Took n) =
     (n ≡ len) × ((stated : ℕ) (prefix : List ℕ) → Follows table stated prefix old summary new)
 RunsFast table old summary len new fasts.Kept = new ≡ old
 RunsFast table old summary len new fasts.Inconclusive = Unit {0}
 
--- A token at the start of the bytes is consumed at the first open position and has this length; or
--- nothing changed; or the result is inconclusive.
+-- What each `Fast` means for the token at the start of the bytes. `Took`: the token is consumed at
+-- the first open position. `Kept`: nothing changed. `Inconclusive` states nothing.
 abbrev pub RunsFastBy : Table → List ℕ → Finding → Finding → Fast → Type 0
 RunsFastBy table bytes old new (fasts.Took n) =
     (summary : Summary) × IsSummaryBy bytes summary n
@@ -245,38 +250,31 @@ RunsFastBy table bytes old new (fasts.Took n) =
 RunsFastBy table bytes old new fasts.Kept = new ≡ old
 RunsFastBy table bytes old new fasts.Inconclusive = Unit {0}
 
--- ---- the end
+-- ---- the end of the value
 
--- Exactly what the header states was read.
-pub record IsSpent (head : Head) (start n : ℕ) (finding : Finding) : Type 0 where
-  pub whole : n ≡ start + head.length
-  pub w32 : head.big ≡ false → finding.words.w32 ≡ 0
-  pub w64 : finding.words.w64 ≡ 0
-  pub count : (head.objects ≡ 0) ⊎ (head.objects ≡ length finding.types.items)
-
--- Everything was read, the mismatch is `found`, and no reference leads back to a block on the path
--- to it.
+-- Everything that the header states was read, and the mismatch is `found`. No reference leads back
+-- to a block on the path to the mismatch.
 pub record Ends (head : Head) (start n : ℕ) (finding : Finding)
     (found : FoundMismatch) : Type 0 where
   pub its : finding.found ≡ Some found
   pub alone : All (IsAlone finding.again.marks.items) found.links.items
-  pub spent : IsSpent head start n finding
+  pub spent : IsSpent head start n finding.words (length finding.types.items)
 
--- The first `n` bytes are a value under the limit whose first fault is this mismatch.
+-- The first `n` bytes are a value under the limit, and `found` describes the value's first fault.
 pub record IsFound (table : Table) (limit n : ℕ) (bytes : List ℕ)
     (found : FoundMismatch) : Type 0 where
   pub missed : Missed
   pub prefix : IsMissedPrefix table limit n bytes missed
   pub at : IsMissedAt found missed
 
--- ---- bytes in chunks
+-- ---- a search over chunks
 
--- The bytes lead to the state of the search.
+-- The bytes lead to the state of the search `s`.
 abbrev pub IsSought : Table → ℕ → List ℕ → Seeking → Type 0
 IsSought table limit bytes s = Finds table limit bytes s.head s.start s.at [] s.finding
 
--- The result of a search step: either the end of a value whose first fault was found, or an offset
--- where a value is pending, or inconclusive.
+-- What each `SearchEnd` means. `Found`: a value ends here, and its first fault was found.
+-- `Truncated`: the bytes lead to an offset where a value is pending. `Inconclusive` states nothing.
 abbrev pub Seeks : Table → ℕ → List ℕ → Seeking → SearchEnd → Type 0
 Seeks table limit bytes s (ends.Found n) =
     (found : FoundMismatch) × (s.finding.found ≡ Some found) × IsFound table limit n bytes found

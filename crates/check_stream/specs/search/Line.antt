@@ -13,13 +13,13 @@ use Rattle.check_stream.specs.search.Find.{IsFound}
 abbrev pub path_in : FoundMismatch → List ℕ
 path_in found = map (λ (link : Link). link.field) found.links.items
 
--- The path to the mismatch, the expected type, and what was found.
+-- The text of the output line: the path to the mismatch, the expected type, and what was found.
 abbrev pub found_text : (ℕ → List ℕ) → FoundMismatch → List ℕ
 found_text type_text found =
     path_text (path_in found) ++ codes ": expected " ++ type_text found.ty ++ codes ", found "
     ++ summary_text found.summary
 
--- The mismatch alone determines the output line; the value is not needed.
+-- The mismatch alone determines the output line. The value itself is not needed.
 abbrev pub FoundHasLine : Type 0
 FoundHasLine =
     (table : Table) (limit n : ℕ) (bytes : List ℕ) (found : FoundMismatch) (type_text : ℕ → List ℕ)

@@ -1,5 +1,6 @@
--- The requirements of the positions in a value, token by token. A position is open until its token
--- is read. Each object has the type that the first position that refers to it requires.
+-- The requirements of the positions in a value, token by token. A position is open until the
+-- position's token is read. The type of an object is required by the first position that refers to
+-- the object.
 use Rattle.std.specs.Prelude.{ℕ, suc, ◌-◌, ◌==◌, ◌≤◌, ◌≡◌, ◌&&◌, Bool, if◌then◌else◌, false}
 use Rattle.std.specs.Prelude.{List, [], ◌∷◌, ◌++◌, length, map, replicate, slice_get}
 use Rattle.std.specs.Prelude.{Option, Some, None, IsTrue, IsSome, ℤ, ◌⊎◌, Contains}
@@ -35,7 +36,8 @@ abbrev pub constr_needs : ℕ → Option (Constr ℕ) → Option (List Need)
 constr_needs size None = None
 constr_needs size (Some constr) = needs_if (length constr.fields == size) constr.fields
 
--- The requirement for the argument of a tag is added when the hash is known.
+-- The requirements of a block's fields at a type of this shape. The requirement for the argument of
+-- a tag is added when the hash is known.
 abbrev pub block_needs : ShapeOf ℕ → ℕ → ℕ → Option (List Need)
 block_needs (shapes.Sum constants blocks) tag size = constr_needs size (slice_get blocks tag)
 block_needs (shapes.Product mutable ts) tag size = needs_if ((tag == 0) && (length ts == size)) ts
@@ -45,12 +47,12 @@ block_needs (shapes.Poly tags) tag size =
 block_needs (shapes.ArrayOfAnything t) tag size = needs_if (tag == 0) (replicate size t)
 block_needs shape tag size = None
 
--- The type is a wildcard: it requires nothing of its values.
+-- The type is a wildcard: any value has the type.
 abbrev pub IsWildcard : Table → ℕ → Type 0
 IsWildcard table t = is_asked_in table t ≡ false
 
--- The requirements of a block's fields at a type of this shape. At a wildcard, the fields have the
--- same wildcard type.
+-- The requirements of a block's fields at a type of this shape. If the type is a wildcard, the
+-- requirement of each field is the wildcard type.
 abbrev pub shape_asks : ShapeOf ℕ → ℕ → ℕ → ℕ → Option (List Need)
 shape_asks shape t tag size =
     if is_asked shape then block_needs shape tag size else Some (map of_type (replicate size t))
@@ -58,9 +60,9 @@ shape_asks shape t tag size =
 abbrev pub fields_ask : Table → ℕ → ℕ → ℕ → Option (List Need)
 fields_ask table t tag size = shape_asks (shape_at table t) t tag size
 
--- ---- a token at a position
+-- ---- the requirement of a position and a token
 
--- A reference leads back to an object whose type, or one of whose recorded second types, equals
+-- A reference leads back to an object whose first type or one of whose recorded second types equals
 -- `t`.
 pub record IsBack
     (noted : List (ℕ × ℕ)) (table : Table) (types : List ℕ) (t offset : ℕ)
@@ -73,8 +75,8 @@ pub record IsBack
       ⊎ Contains noted (length types - offset, type)
   pub equal : (table_shapes table).equal type t
 
--- A reference back satisfies the requirement of a position of the type. A wildcard requires
--- nothing.
+-- A reference back satisfies the requirement of a position of the type. If the type is a wildcard,
+-- every reference satisfies the requirement.
 abbrev pub IsBackAt : List (ℕ × ℕ) → Table → List ℕ → ℕ → ℕ → Type 0
 IsBackAt noted table types t offset = IsWildcard table t ⊎ IsBack noted table types t offset
 
@@ -87,7 +89,7 @@ pub record IsTagged (tags : List (PolyTag ℕ)) (z : ℤ) (next : List Need) : T
   pub argument : next ≡ of_type type ∷ []
 
 -- After objects of these types the token satisfies the requirement of its position. The
--- requirements `next` then precede all other open ones.
+-- requirements `next` of the token's fields precede all other open requirements.
 abbrev pub Asks : List (ℕ × ℕ) → Table → List ℕ → Need → Token → List Need → Type 0
 Asks noted table types (of_type t) (integer z) next =
     IsTrue (fits_int (shape_at table t) z) × (next ≡ [])
@@ -105,7 +107,8 @@ Asks noted table types (hash_of tags) (shared offset) next = ⊥
 Asks noted table types (hash_of tags) (block tag size) next = ⊥
 Asks noted table types (hash_of tags) (leaf object) next = ⊥
 
--- The type of the object that a token creates at a position, if it creates one.
+-- The list with the type of the object that a token creates at a position. If the token creates no
+-- object, the list is empty.
 abbrev pub type_in : Need → Token → List ℕ
 type_in (of_type t) (integer z) = []
 type_in (of_type t) (atom tag) = []
@@ -115,7 +118,8 @@ type_in (of_type t) (leaf object) = t ∷ []
 type_in (hash_of tags) token = []
 
 -- Starting with objects of these types and these open positions, the tokens satisfy all
--- requirements, and no position is open at the end. In the end the objects have the types `all`.
+-- requirements, and no position is open at the end. After the last token the objects have the types
+-- `all`.
 abbrev pub Passes :
     List (ℕ × ℕ) → Table → List ℕ → List Need → List Token → List ℕ → Type 0
 Passes noted table types [] [] all = types ≡ all

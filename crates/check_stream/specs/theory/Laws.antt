@@ -1,4 +1,4 @@
--- Soundness of the streaming check.
+-- The theorems that the streaming check is sound.
 use Rattle.std.specs.Prelude.{ℕ, List, [], Contains}
 use Rattle.base_data.specs.declared.model.header.Head.{Head}
 use Rattle.types_spec.specs.types.Lawful.{AreLawful, Everything}
@@ -7,8 +7,8 @@ use Rattle.marshal_spec.specs.format.Token.{Token}
 use Rattle.check_stream.specs.theory.Noted.{IsFlatNoted}
 use Rattle.check_stream.specs.theory.OnePass.{IsPassing, Ends, IsTypedPrefix}
 
--- If the pass reached the end and no position is open, then the bytes begin with a value of the
--- type.
+-- If the pass reached the end of a value and no position is open, then the bytes begin with a value
+-- of the type.
 abbrev pub PassesTypePrefixes : Type 0
 PassesTypePrefixes =
     (table : Table) (limit : ℕ) (bytes : List ℕ) (head : Head) (start n : ℕ) (tokens : List Token)
@@ -16,7 +16,8 @@ PassesTypePrefixes =
     → IsPassing [] table limit bytes head start n tokens types [] → Ends head start n tokens types
     → IsTypedPrefix table limit n bytes
 
--- If second types of flat blocks were recorded, then the bytes also begin with a value of the type.
+-- If the pass reached the end of a value with recorded second types of flat blocks, then the bytes
+-- begin with a value of the type.
 abbrev pub NotedPassesTypePrefixes : Type 0
 NotedPassesTypePrefixes =
     (noted : List (ℕ × ℕ)) (table : Table) (limit : ℕ) (bytes : List ℕ) (head : Head) (start n : ℕ)

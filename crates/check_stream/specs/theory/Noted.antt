@@ -1,5 +1,6 @@
--- The record of an object that is referenced at a second type: a flat block that satisfies the
--- requirements of that type too. A block is flat if its fields create no objects.
+-- Objects that are referenced at a second type. An object with a recorded second type is a flat
+-- block that satisfies the requirements of the second type. A block is flat if its fields create no
+-- objects.
 use Rattle.std.specs.Prelude.{ℕ, ◌+◌, ◌≡◌, ◌⊎◌, List, [], ◌∷◌, ◌++◌, length, map, slice_get}
 use Rattle.std.specs.Prelude.{Some, IsTrue, Contains, ℤ}
 use Rattle.base_data.specs.declared.model.value.Val.{Val}
@@ -32,7 +33,7 @@ module _ (table : Table) (all : List ℕ) (noted : List (ℕ × ℕ)) where
     pub has_hash : tag_with tags hash ≡ Some tag
     pub has_argument : tag.arg ≡ Some type
 
-  -- The values satisfy the requirements of the positions.
+  -- The values satisfy the requirements of the positions, one by one.
   abbrev pub AreAt : List Val → List Need → Type 0
   AreAt [] [] = Unit {0}
   AreAt [] (need ∷ needs) = ⊥
@@ -53,8 +54,8 @@ abbrev pub AreFlat : List Token → Type 0
 AreFlat [] = Unit {0}
 AreFlat (t ∷ ts) = IsFlat t × AreFlat ts
 
--- Among the tokens, the first of which comes after `c` objects, there is a block with this tag. It
--- is object `o`, and the flat tokens of its fields follow it directly.
+-- The tokens, which follow `c` objects, contain a block with tag `tag`. The block is object `o`,
+-- and the flat tokens of the block's fields follow directly.
 abbrev pub Stands : ℕ → List Token → ℕ → ℕ → List Token → Type 0
 Stands c [] o tag flat = ⊥
 Stands c (token ∷ ts) o tag flat =
@@ -67,7 +68,7 @@ abbrev pub flat_values : ℕ → List Token → List Val
 flat_values o flat = map (λ u. value_of u (o + 1)) flat
 
 -- Object `o` is a flat block whose fields satisfy the requirements of the type `t`. The block is
--- mutable neither at this type nor at its first type.
+-- mutable neither at the type `t` nor at its first type.
 pub record IsFlatNoted
     (table : Table) (all : List ℕ) (noted : List (ℕ × ℕ)) (ts : List Token) (o t : ℕ)
     : Type 0 where

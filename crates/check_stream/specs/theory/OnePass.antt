@@ -1,4 +1,4 @@
--- The result of the streaming check of a value at a type, and its invariant.
+-- The result of the streaming check of a value at a type, and the invariant of the streaming check.
 use Rattle.std.specs.Prelude.{ℕ, ◌+◌, ◌≤◌, ◌<◌, ◌^◌, ◌≡◌, ◌⊎◌}
 use Rattle.std.specs.Prelude.{List, [], ◌∷◌, ◌++◌, length, map, take, All}
 use Rattle.std.specs.List.{concat, AllZip}
@@ -21,7 +21,7 @@ pub record IsTypedPrefix (table : Table) (limit n : ℕ) (bytes : List ℕ) : Ty
   pub encoded : EncodedUnder limit (take n bytes) tree
   pub typed : HasType (table_shapes table) (objects_of tree 0) (root tree 0) 0
 
--- The value has type 0 of the table, and `types` are the types of its objects by number.
+-- The value has type 0 of the table, and `types` are the types of the value's objects by number.
 pub record AreTypesOf
     (noted : List (ℕ × ℕ)) (table : Table) (tree : Tree) (types : List ℕ)
     : Type 0 where
@@ -29,7 +29,7 @@ pub record AreTypesOf
   pub typing : IsTyping (table_shapes table) (objects_of tree 0) (numbered_from 0 types ++ noted)
   pub typed : HasType (table_shapes table) (objects_of tree 0) (root tree 0) 0
 
--- The tokens lead from the start to objects of these types and to these open positions.
+-- From the start, the tokens lead to objects of these types and to these open positions.
 pub data Passed
     (noted : List (ℕ × ℕ)) (table : Table)
     : List Token → List ℕ → List Need → Type 0 where
@@ -40,8 +40,8 @@ pub data Passed
       → Passed noted table (tokens ++ token ∷ []) (types ++ type_in need token) (next ++ needs)
 
 -- The invariant of the pass. The first `n` bytes are a header, of `start` bytes, and the encodings
--- of the tokens. The objects created so far have the types, and the open positions have the
--- requirements.
+-- of the tokens. The objects so far have the types `types`, and the open positions have the
+-- requirements `needs`.
 pub record IsPassing
     (noted : List (ℕ × ℕ)) (table : Table) (limit : ℕ) (bytes : List ℕ) (head : Head) (start n : ℕ)
     (tokens : List Token) (types : List ℕ) (needs : List Need)
@@ -61,8 +61,8 @@ pub record IsPassing
   pub words : head.w64 ≤ limit
   pub small : head.length < 2 ^ 48
 
--- The header agrees with the `n` bytes that were read: it states the number of data bytes, the
--- sizes in words, and the number of objects, or 0 instead of this number.
+-- The header states the number of data bytes that were read, and the sizes in words. The header
+-- also states the number of objects, or states 0 objects.
 pub record Ends (head : Head) (start n : ℕ) (tokens : List Token) (types : List ℕ) : Type 0 where
   pub whole : n ≡ start + head.length
   pub w32 : StatesWords32 head.big head.w32 (all_words32 (map measure_of tokens))

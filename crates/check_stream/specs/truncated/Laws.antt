@@ -1,4 +1,4 @@
--- If bytes lead to an offset inside a value, then they are a prefix of that value.
+-- Bytes that lead to an offset inside a value are a prefix of the value.
 use Rattle.std.specs.Prelude.{ℕ, ◌^◌, ◌<◌, ◌≤◌, ◌≡◌, List, [], ◌++◌, All}
 use Rattle.std.specs.List.{concat, AllZip}
 use Rattle.marshal_spec.specs.format.Header.{head_of}
@@ -8,7 +8,8 @@ use Rattle.marshal_spec.specs.format.Encoded.{IsHeader, IsNoReference}
 use Rattle.marshal_spec.specs.format.Prefix.{IsPrefix, context}
 use Rattle.check_stream.specs.truncated.Truncated.{HasRoom, IsTruncated}
 
--- The bytes are a header under the limit, encodings of tokens that may follow it, and the rest.
+-- The bytes are a header under the limit, encodings of tokens that may follow the header, and the
+-- bytes `rest`.
 pub record IsUnderway
     (limit : ℕ) (bytes header : List ℕ) (chunks : List (List ℕ)) (tokens : List Token)
     (rest : List ℕ)
@@ -22,7 +23,8 @@ pub record IsUnderway
   pub refer_back : EachRefersBack 0 tokens
   pub unshared : (head_of header).objects ≡ 0 → All IsNoReference tokens
 
--- If the rest is a part of a token for which there is room, then the bytes are a prefix of a value.
+-- If `rest` is a part of a token for which the header has room, then the bytes are a prefix of a
+-- value.
 abbrev pub UnderwayIsPrefix : Type 0
 UnderwayIsPrefix =
     (limit : ℕ) (bytes header : List ℕ) (chunks : List (List ℕ)) (tokens : List Token)

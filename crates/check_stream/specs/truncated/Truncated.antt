@@ -10,17 +10,16 @@ use Rattle.marshal_spec.specs.format.Words.{of_object, fields}
 use Rattle.marshal_spec.specs.format.Step.{Context, step, overlong, first_refusal, field_refusal}
 use Rattle.marshal_spec.specs.format.Step.{variable_steps, steps_after, token_steps}
 
--- A value is pending at this offset. The sizes that the header states leave room for a token of `n`
--- bytes and for one byte of each other pending value. They also leave room for `few32` and `few64`
--- words.
+-- A value is pending at the offset. The header leaves room for a token of `n` bytes, for one byte
+-- of each further pending value, and for `few32` and `few64` words.
 pub record HasRoom (c : Context) (n few32 few64 : ℕ) : Type 0 where
   pub open_before : 0 < c.sums.pending
   pub room : c.taken + n + c.sums.pending ≤ c.head.length + 1
   pub w32 : c.head.big ≡ false → c.sums.w32 + few32 ≤ c.head.w32
   pub w64 : c.sums.w64 + few64 ≤ c.head.w64
 
--- A proper prefix of a token that has at least `n` bytes. If there is room for the token, then no
--- step that the prefix decides fails.
+-- The bytes are a proper prefix of a token that has at least `n` bytes. If there is room for the
+-- token, then no step that the prefix decides fails.
 pub record IsTruncated (n few32 few64 : ℕ) (part : List ℕ) : Type 0 where
   pub some : 0 < n
   pub is_part : IsPart part
@@ -28,7 +27,7 @@ pub record IsTruncated (n few32 few64 : ℕ) (part : List ℕ) : Type 0 where
       (c : Context) → HasRoom c n few32 few64
       → first_refusal (length part) (token_steps c part) ≡ None
 
--- `IsTruncated` for a token of this kind, stated on the bytes after its code.
+-- The bytes that follow a code of this kind satisfy `IsTruncated`.
 pub record IsTruncatedAfter (kind : CodeKind) (rest : List ℕ) (n few32 few64 : ℕ) : Type 0 where
   pub some : 0 < n
   pub is_part : length rest < fixed_bytes kind + variable_bytes kind rest
@@ -36,8 +35,8 @@ pub record IsTruncatedAfter (kind : CodeKind) (rest : List ℕ) (n few32 few64 :
       (c : Context) (code : ℕ) → HasRoom c n few32 few64
       → first_refusal (1 + length rest) (steps_after c code kind rest) ≡ None
 
--- A token of this kind has `variable` bytes after the fixed ones. It makes an object of this
--- measure without fields, or no object. Its fields are sound in every context.
+-- A token of this kind has `variable` bytes after the fixed bytes. The token makes an object of
+-- this measure without fields, or no object. The fields of the token are sound in every context.
 pub record IsSized (kind : CodeKind) (rest : List ℕ) (variable : ℕ) (measure : Option Measure)
     : Type 0 where
   pub variable_is : variable ≡ variable_bytes kind rest

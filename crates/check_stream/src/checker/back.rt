@@ -1,4 +1,4 @@
-//! References back, and one token at the first open position.
+//! Checks references back, and checks one token at the first open position.
 
 ghost use Rattle.std.specs.Prelude.{◌≤◌, ◌<◌, length, take, drop, IfOk, OnOk};
 ghost use Rattle.types_table.specs.type_table.Made.{table_of};
@@ -24,8 +24,8 @@ pub fn mark(marks: &mut Vec<usize>, at: usize, made: usize) -> Result<(), Memory
     Ok(())
 }
 
-/// Checks a reference at this byte against the requirement. Returns its length in bytes, or 0 if
-/// the check fails or is inconclusive.
+/// Checks the reference at this byte against the requirement. Returns the length of the reference
+/// in bytes. If the check fails or is inconclusive, returns 0.
 #[inline(always)]
 fn back(
     table: &TypeTable,
@@ -67,8 +67,8 @@ fn back(
     if known { Ok(n) } else { Ok(0) }
 }
 
-/// Checks the token at this byte against the requirement, and adds it to the state. Returns its
-/// length in bytes, or 0 if the check fails or is inconclusive.
+/// Checks the token at this byte against the requirement, and adds the token to the state. Returns
+/// the length of the token in bytes. If the check fails or is inconclusive, returns 0.
 #[inline(never)]
 pub fn turn<'a>(
     table: &'a TypeTable,

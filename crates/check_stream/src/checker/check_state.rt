@@ -1,24 +1,24 @@
-//! The state of the pass, and the effect of each token on it.
+//! The state of the streaming check, and the effect of each token on the state.
 
 ghost use Rattle.std.specs.Prelude.{◌≡◌, ◌<◌, ◌^◌, ◌++◌, ◌∷◌, [], ℕ, List, Some, length};
 ghost use Rattle.std.specs.Prelude.{IfOk, ℤ};
 ghost use Rattle.std.specs.Bool.{OnTrue};
 ghost use Rattle.base_data.specs.declared.model.value.Obj.TheVariants as objects;
 ghost use Rattle.types_table.specs.type_table.Made.{table_of};
-ghost use Rattle.marshal_spec.specs.format.Token.{integer, atom, block, leaf, block_or_atom};
+ghost use Rattle.marshal_spec.specs.format.Token.{integer, atom, block, leaf};
 ghost use Rattle.marshal_codec.specs.headers.Counting.{IsCountable};
 ghost use Rattle.check_stream.specs.theory.Asked.{hash_of};
 ghost use Rattle.check_stream.specs.checker.Positions.{need_of};
-ghost use Rattle.check_stream.specs.checker.State.{Took, TookLeaf, IfTook, custom_leaf};
+ghost use Rattle.check_stream.specs.checker.State.{Took, TookLeaf, IfTook};
+ghost use Rattle.marshal_codec.specs.token.Summary.{custom_leaf};
 
-use crate::checker::fits::{
-    fits_atom, fits_doubles, fits_int, positions_at, shape_of, tag_of_hash,
-};
+use crate::checker::fits::{positions_at, shape_of};
 use crate::checker::open_positions::{BlockPositions, OpenPositions, Requirement};
 use crate::checker::words::Words;
 use base_data::model::Memory;
 use base_data::model::code::{CustomKind, Measure};
 use types_spec::types::shape::{PolyTag, ShapeOf};
+use types_table::fits::{fits_atom, fits_doubles, fits_int, tag_of_hash};
 use types_table::type_table::TypeTable;
 
 /// The open positions, the types of the objects so far, and the words that the header states for
@@ -47,7 +47,7 @@ fn add_type(types: &mut Vec<u16>, ty: usize) -> Result<bool, Memory>
 }
 
 impl<'a> CheckState<'a> {
-    /// Reads an integer.
+    /// Reads an integer token, if the integer satisfies the requirement.
     #[inline(always)]
     pub fn integer(
         &mut self,
@@ -67,7 +67,8 @@ impl<'a> CheckState<'a> {
         }
     }
 
-    /// Reads the hash of a tag. The argument of the tag is required next.
+    /// Reads the hash of a tag. After the hash, the first open position requires the argument of
+    /// the tag.
     fn hash(
         &mut self,
         table: &'a TypeTable,
@@ -89,8 +90,8 @@ impl<'a> CheckState<'a> {
         }
     }
 
-    /// Reads an atom.
-    fn atom(&self, table: &TypeTable, asked: Requirement<'_>, tag: u8) -> bool
+    /// Reads an atom. Returns true only if the atom satisfies the requirement.
+    pub fn atom(&self, table: &TypeTable, asked: Requirement<'_>, tag: u8) -> bool
         ensures { OnTrue result
             (Took (table_of table.now) self.now self.now (need_of asked.entry) (atom tag)) }
     {
@@ -103,9 +104,10 @@ impl<'a> CheckState<'a> {
         }
     }
 
-    /// Reads a block. The positions of its fields are open next.
+    /// Reads a block, if the block satisfies the requirement. The positions of the block's fields
+    /// are opened before all others.
     #[inline(always)]
-    fn block(
+    pub fn block(
         &mut self,
         table: &'a TypeTable,
         asked: Requirement<'a>,
@@ -132,27 +134,6 @@ impl<'a> CheckState<'a> {
         Ok(true)
     }
 
-    /// Reads a block, or an atom if the size is 0.
-    #[inline(always)]
-    pub fn block_or_atom(
-        &mut self,
-        table: &'a TypeTable,
-        asked: Requirement<'a>,
-        tag: u8,
-        size: u64,
-    ) -> Result<bool, Memory>
-        requires { size < 2 ^ 60 }
-        ensures { IfTook result
-            (Took (table_of table.now) self.old self.new
-            (need_of asked.entry) (block_or_atom tag size)) }
-    {
-        if size == 0 {
-            Ok(self.atom(table, asked, tag))
-        } else {
-            self.block(table, asked, tag, size)
-        }
-    }
-
     /// Reads an object without fields that matches the type.
     #[inline(always)]
     fn leaf(&mut self, ty: usize, measure: Measure) -> Result<bool, Memory>
@@ -165,7 +146,7 @@ impl<'a> CheckState<'a> {
         add_type(&mut self.types, ty)
     }
 
-    /// Reads a string of `size` bytes.
+    /// Reads a string of `size` bytes, if strings satisfy the requirement.
     #[inline(always)]
     pub fn bytes(
         &mut self,
@@ -188,7 +169,7 @@ impl<'a> CheckState<'a> {
         }
     }
 
-    /// Reads a double.
+    /// Reads a double, if doubles satisfy the requirement.
     #[inline(always)]
     pub fn double(&mut self, table: &TypeTable, asked: Requirement<'_>) -> Result<bool, Memory>
         ensures { IfTook result
@@ -206,7 +187,7 @@ impl<'a> CheckState<'a> {
         }
     }
 
-    /// Reads an array of `size` doubles.
+    /// Reads an array of `size` doubles, if the array satisfies the requirement.
     pub fn doubles(
         &mut self,
         table: &TypeTable,
@@ -229,7 +210,7 @@ impl<'a> CheckState<'a> {
         }
     }
 
-    /// Reads a custom block.
+    /// Reads a custom block, if the custom block satisfies the requirement.
     pub fn custom(
         &mut self,
         table: &TypeTable,

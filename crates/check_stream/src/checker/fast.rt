@@ -1,7 +1,7 @@
 //! The fast path for common tokens. The open positions and the remaining words stay in local
 //! variables, and nothing is allocated.
 
-ghost use Rattle.std.specs.Prelude.{◌≡◌, ◌<◌, ◌≤◌, ◌+◌, ◌++◌, [], ◌^◌, ℕ, List, length, Ok};
+ghost use Rattle.std.specs.Prelude.{◌≡◌, ◌<◌, ◌≤◌, ◌+◌, ◌%◌, ◌++◌, [], ◌^◌, ℕ, List, length, Ok};
 ghost use Rattle.std.specs.Prelude.{◌∷◌, map, IfSome, IsTrue, MatchOption, slice_index};
 ghost use Rattle.std.specs.Prelude.{vec_len, vec_capacity};
 ghost use Rattle.std.specs.Bool.{OnTrue};
@@ -9,7 +9,7 @@ ghost use Rattle.base_data.specs.declared.model.value.Obj.TheVariants as objects
 ghost use Rattle.types_spec.specs.types.Fitting as fitting;
 ghost use Rattle.marshal_spec.specs.format.Code.{IsKind, kind_of};
 ghost use Rattle.marshal_spec.specs.format.Raw.{fixed_bytes, variable_bytes};
-ghost use Rattle.marshal_spec.specs.format.Token.{block, leaf};
+ghost use Rattle.marshal_spec.specs.format.Token.{block, leaf, word_token};
 ghost use Rattle.marshal_codec.specs.headers.Counting.{IsCountable};
 ghost use Rattle.types_table.specs.type_table.Made.{table_of};
 ghost use Rattle.check_stream.specs.theory.Asked.{of_type, shape_at, IsBackAt};
@@ -21,14 +21,15 @@ ghost use Rattle.check_stream.specs.checker.Positions.{open_needs, need_of, wait
 ghost use Rattle.check_stream.specs.declared.checker.open_positions.BlockPositions.TheVariants as
     opens;
 
-use crate::checker::chunk::chunk_len;
 use crate::checker::fits::{
     fast_positions, fits_fast_int, is_equal, is_wildcard, shape_of, type_at,
 };
 use crate::checker::open_positions::{BlockPositions, Requirement, is_done};
-use crate::checker::words::{Words, offset_of, signed_few};
+use crate::checker::words::Words;
 use base_data::model::code::{CodeKind, Measure};
+use marshal_codec::token::{chunk_len, number_of, signed_of};
 use types_spec::types::shape::ShapeOf;
+use types_table::fits::fits_atom;
 use types_table::type_table::TypeTable;
 
 /// Returns true if the type of one more object can be stored without allocation, and no mark is
@@ -62,7 +63,7 @@ fn keep_reserved<'a>(waiting: &mut Vec<BlockPositions<'a>>, others: BlockPositio
     true
 }
 
-/// Reads a block. The positions of its fields precede all others.
+/// Reads a block. The positions of the block's fields are opened before all others.
 #[inline(always)]
 fn fast_block<'a>(
     table: &'a TypeTable,
@@ -99,6 +100,45 @@ fn fast_block<'a>(
     Some(inside)
 }
 
+/// Reads the block with this header word. If the header word is that of an atom, the general path
+/// reads the atom.
+#[inline(always)]
+fn fast_word<'a>(
+    table: &'a TypeTable,
+    ty: usize,
+    others: BlockPositions<'a>,
+    word: u64,
+    types: &mut Vec<u16>,
+    waiting: &mut Vec<BlockPositions<'a>>,
+    words: &mut Words,
+) -> Option<BlockPositions<'a>>
+    ensures { MatchOption result
+        (held others.entry waiting.new types.new words.new
+        ≡ held others.entry waiting.old types.old words.old)
+        (λ now. (word % 256 ≤ 243)
+        × Took (table_of table.now) (held others.entry waiting.old types.old words.old)
+        (held now waiting.new types.new words.new) (of_type ty) (word_token word)) }
+{
+    let tag = word % 256;
+    let size = word / 1024;
+    if tag > 243 || size == 0 {
+        return None;
+    }
+    fast_block(table, ty, others, tag as u8, size, types, waiting, words)
+}
+
+/// Returns true if an atom with this tag has the type.
+#[inline(always)]
+fn is_fast_atom(table: &TypeTable, ty: usize, tag: u8) -> bool
+    ensures { OnTrue result
+        (IsTrue (fitting.fits_atom (shape_at (table_of table.now) ty) tag)) }
+{
+    match shape_of(table, ty) {
+        Some(shape) => fits_atom(shape, tag),
+        None => false,
+    }
+}
+
 /// Returns true if an integer has the type.
 #[inline(always)]
 fn is_fast_int(table: &TypeTable, ty: usize, z: i64) -> bool
@@ -110,7 +150,7 @@ fn is_fast_int(table: &TypeTable, ty: usize, z: i64) -> bool
     }
 }
 
-/// Reads an object without fields, if there is room for it.
+/// Reads an object without fields, if the memory and the remaining words have room for the object.
 #[inline(always)]
 fn fast_leaf(ty: usize, measure: Measure, types: &mut Vec<u16>, words: &mut Words) -> bool
     requires { IsCountable measure }
@@ -128,7 +168,7 @@ fn fast_leaf(ty: usize, measure: Measure, types: &mut Vec<u16>, words: &mut Word
     true
 }
 
-/// Reads a string of `size` bytes.
+/// Reads a string of `size` bytes, if the type allows strings.
 #[inline(always)]
 fn fast_bytes(
     table: &TypeTable,
@@ -153,7 +193,7 @@ fn fast_bytes(
     }
 }
 
-/// Reads a double.
+/// Reads a double, if the type allows doubles.
 #[inline(always)]
 fn fast_double(table: &TypeTable, ty: usize, types: &mut Vec<u16>, words: &mut Words) -> bool
     ensures took { IsTrue result
@@ -186,8 +226,9 @@ fn is_fast_back(table: &TypeTable, types: &[u16], ty: usize, offset: u64) -> boo
     is_equal(table, type_at(types, (made - offset) as usize), ty) || is_wildcard(table, ty)
 }
 
-/// Reads a token of this kind from the bytes after its code. Returns the positions that are then
-/// open in the innermost block, or `None` if the token was not accepted.
+/// Reads a token of this kind from the bytes that follow the token's code. Returns the positions
+/// that are open in the innermost block after the token. If the token is not accepted, returns
+/// `None`.
 #[inline(always)]
 fn fast_chunk<'a>(
     table: &'a TypeTable,
@@ -212,6 +253,9 @@ fn fast_chunk<'a>(
     match kind {
         CodeKind::SmallBlock(tag, size) => {
             if size == 0 {
+                if is_fast_atom(table, ty, tag) {
+                    return Some(others);
+                }
                 return None;
             }
             fast_block(
@@ -240,7 +284,7 @@ fn fast_chunk<'a>(
             }
         }
         CodeKind::Int(_) => {
-            let z = signed_few(chunk);
+            let z = signed_of(chunk);
             if z >= -(1 << 62) && z < 1 << 62 && is_fast_int(table, ty, z) {
                 Some(others)
             } else {
@@ -248,12 +292,16 @@ fn fast_chunk<'a>(
             }
         }
         CodeKind::Shared(_) => {
-            let offset = offset_of(chunk);
+            let offset = number_of(chunk);
             if stated > 0 && is_fast_back(table, types.as_slice(), ty, offset) {
                 Some(others)
             } else {
                 None
             }
+        }
+        CodeKind::Block(_) => {
+            let word = number_of(chunk);
+            fast_word(table, ty, others, word, types, waiting, words)
         }
         CodeKind::Double(_) => {
             if fast_double(table, ty, types, words) {
@@ -274,8 +322,9 @@ fn fast_chunk<'a>(
     }
 }
 
-/// Reads the token of this kind at the beginning of `rest`. Returns its length in bytes and the
-/// positions that are then open in the innermost block, or `None` if the token was not accepted.
+/// Reads the token of this kind at the beginning of `rest`. Returns the token's length in bytes and
+/// the positions that are open in the innermost block after the token. If the token is not
+/// accepted, returns `None`.
 #[inline(always)]
 fn fast_kind<'a>(
     table: &'a TypeTable,
@@ -318,8 +367,8 @@ fn fast_kind<'a>(
     }
 }
 
-/// Reads the first token of `rest` for the other codes below 0x20. Like `fast_typed`, this function
-/// has one caller for each value of `LISTED`.
+/// Reads the first token of `rest`, if the token's code is below 0x20 and has no branch in
+/// `fast_typed`. Each value of `LISTED` has one caller.
 #[tactic(auto, unfolding(marshal_spec::specs::format::Code::kind_of))]
 #[inline(always)]
 fn fast_large<'a, const LISTED: bool>(
@@ -355,6 +404,10 @@ fn fast_large<'a, const LISTED: bool>(
             let kind = CodeKind::Int(4);
             fast_kind(table, stated, ty, others, kind, rest, types, waiting, words)
         }
+        0x03 => {
+            let kind = CodeKind::Int(8);
+            fast_kind(table, stated, ty, others, kind, rest, types, waiting, words)
+        }
         0x04 => {
             let kind = CodeKind::Shared(1);
             fast_kind(table, stated, ty, others, kind, rest, types, waiting, words)
@@ -367,6 +420,10 @@ fn fast_large<'a, const LISTED: bool>(
             let kind = CodeKind::Shared(4);
             fast_kind(table, stated, ty, others, kind, rest, types, waiting, words)
         }
+        0x08 => {
+            let kind = CodeKind::Block(4);
+            fast_kind(table, stated, ty, others, kind, rest, types, waiting, words)
+        }
         0x09 => {
             let kind = CodeKind::Str(1);
             fast_kind(table, stated, ty, others, kind, rest, types, waiting, words)
@@ -375,9 +432,9 @@ fn fast_large<'a, const LISTED: bool>(
     }
 }
 
-/// Reads the first token of `rest` if it is a common one and has the type. `LISTED` distinguishes
-/// the two callers. This function is large, so the compiler inlines it only if each instance has
-/// one caller.
+/// Reads the first token of `rest` if the token is common and has the type. `LISTED` distinguishes
+/// the two callers. The function is large, and the compiler inlines an instance only if the
+/// instance has one caller.
 #[tactic(auto, unfolding(marshal_spec::specs::format::Code::kind_of))]
 #[inline(always)]
 fn fast_typed<'a, const LISTED: bool>(
@@ -401,9 +458,9 @@ fn fast_typed<'a, const LISTED: bool>(
         return None;
     }
     let code = rest[0];
-    // Each of these codes has its own branch, and blocks come first. The test of the length in
-    // between keeps the compiler from merging the test for a double with the choice among the other
-    // codes.
+    // Each of these codes has a separate branch, and blocks are tested first. The test of the
+    // length between the branches keeps the compiler from merging the test for a double with the
+    // choice among the remaining codes.
     if code >= 0x80 {
         let kind = CodeKind::SmallBlock(code % 16, code / 16 % 8);
         fast_kind(table, stated, ty, others, kind, rest, types, waiting, words)
@@ -423,7 +480,7 @@ fn fast_typed<'a, const LISTED: bool>(
     }
 }
 
-/// Reads the first token of `rest` if it is a common one and satisfies the requirement.
+/// Reads the first token of `rest` if the token is common and satisfies the requirement.
 #[inline(always)]
 pub fn fast<'a>(
     table: &'a TypeTable,
@@ -448,7 +505,7 @@ pub fn fast<'a>(
     fast_typed::<false>(table, stated, ty, others, rest, types, waiting, words)
 }
 
-/// Returns the type of the first of these positions, and the others.
+/// Returns the type of the first position in the list, and the remaining positions.
 #[inline(always)]
 fn split_listed<'a>(positions: &'a [usize]) -> Option<(usize, BlockPositions<'a>)>
     ensures { IfSome result
@@ -460,8 +517,8 @@ fn split_listed<'a>(positions: &'a [usize]) -> Option<(usize, BlockPositions<'a>
     Some((positions[0], BlockPositions::Listed(&positions[1..])))
 }
 
-/// Reads the first token of `rest` if it is a common one and the innermost block has a list of
-/// types for its positions. This case has its own copy of the code.
+/// Reads the first token of `rest` if the token is common and the innermost block has a list of
+/// types for its positions. Blocks with a list of types have a separate copy of the code.
 #[inline(always)]
 pub fn fast_listed<'a>(
     table: &'a TypeTable,

@@ -4,7 +4,6 @@ ghost use Rattle.std.specs.Prelude.{◌≡◌, ◌<◌, List, Some, length, IfSo
 ghost use Rattle.base_data.specs.declared.model.value.Val.{Val};
 ghost use Rattle.base_data.specs.declared.model.value.Obj.TheVariants as objects;
 ghost use Rattle.types_spec.specs.types.Fitting as fitting;
-ghost use Rattle.types_spec.specs.types.Fitting.{tag_with};
 ghost use Rattle.types_table.specs.type_table.Made.{table_of};
 ghost use Rattle.types_spec.specs.types.Table.{table_shapes};
 ghost use Rattle.std.specs.Bool.{OnTrue};
@@ -14,7 +13,8 @@ ghost use Rattle.check_stream.specs.theory.Asked.{IsWildcard};
 ghost use Rattle.check_stream.specs.checker.Positions.{open_needs};
 
 use crate::checker::open_positions::BlockPositions;
-use types_spec::types::shape::{Constr, PolyTag, ShapeOf};
+use types_spec::types::shape::{Constr, ShapeOf};
+use types_table::fits::{fits_int, is_below};
 use types_table::type_table::TypeTable;
 
 /// Returns the shape of a type, or `None` if the table has no such type.
@@ -29,26 +29,8 @@ pub fn shape_of(table: &TypeTable, ty: usize) -> Option<&ShapeOf<usize>>
     }
 }
 
-/// Returns true if an integer matches the shape.
-#[inline(always)]
-pub fn fits_int(shape: &ShapeOf<usize>, z: i64) -> bool
-    ensures { result ≡ fitting.fits_int shape.now z }
-{
-    match shape {
-        ShapeOf::AnyInt => true,
-        ShapeOf::Below(limit) => is_below(*limit, z),
-        ShapeOf::Sum(constants, _) => is_below(*constants, z),
-        ShapeOf::Poly(tags) => match tag_of_hash(tags.as_slice(), z) {
-            Some(tag) => tag.arg.is_none(),
-            None => false,
-        },
-        ShapeOf::Anything => true,
-        _ => false,
-    }
-}
-
-/// Returns true if an integer matches the shape. This is the fast path of `fits_int`: a chain of
-/// tests with common shapes first.
+/// Returns true if an integer matches the shape. The function is the fast path of `fits_int`: a
+/// chain of tests with common shapes first.
 #[inline(always)]
 pub fn fits_fast_int(shape: &ShapeOf<usize>, z: i64) -> bool
     ensures { result ≡ fitting.fits_int shape.now z }
@@ -59,8 +41,8 @@ pub fn fits_fast_int(shape: &ShapeOf<usize>, z: i64) -> bool
     }
 }
 
-/// Returns true if an integer matches the shape. The fast path calls this function for shapes other
-/// than sums.
+/// Returns true if an integer matches the shape. The fast path calls `fits_plain_int` for shapes
+/// other than sums.
 #[inline(always)]
 fn fits_plain_int(shape: &ShapeOf<usize>, z: i64) -> bool
     ensures { result ≡ fitting.fits_int shape.now z }
@@ -71,8 +53,8 @@ fn fits_plain_int(shape: &ShapeOf<usize>, z: i64) -> bool
     }
 }
 
-/// Returns true if an integer matches the shape. The fast path calls this function for shapes that
-/// rarely have integers, and it is not inlined.
+/// Returns true if an integer matches the shape. The fast path calls `fits_other_int`, which is not
+/// inlined, for shapes that rarely have integers.
 #[inline(never)]
 fn fits_other_int(shape: &ShapeOf<usize>, z: i64) -> bool
     ensures { result ≡ fitting.fits_int shape.now z }
@@ -80,56 +62,7 @@ fn fits_other_int(shape: &ShapeOf<usize>, z: i64) -> bool
     fits_int(shape, z)
 }
 
-/// Returns true if an integer is at least 0 and less than the limit.
-#[inline(always)]
-fn is_below(limit: u64, z: i64) -> bool
-    ensures { result ≡ fitting.is_below limit z }
-{
-    z >= 0 && (z as u64) < limit
-}
-
-/// Returns the tag with this hash.
-pub fn tag_of_hash(tags: &[PolyTag<usize>], hash: i64) -> Option<&PolyTag<usize>>
-    ensures { option_map (λ tag. tag.now) result ≡ tag_with tags.now hash }
-{
-    tags.iter().find(|tag| is_hash(tag.hash, hash))
-}
-
-/// Returns true if a tag has this hash.
-fn is_hash(own: i64, hash: i64) -> bool
-    ensures { result ≡ fitting.is_number own hash }
-{
-    own == hash
-}
-
-/// Returns true if an atom matches the shape.
-pub fn fits_atom(shape: &ShapeOf<usize>, tag: u8) -> bool
-    ensures { result ≡ fitting.fits_atom shape.now tag }
-{
-    match shape {
-        ShapeOf::ArrayOf(_) => tag == 0,
-        ShapeOf::FloatArray => tag == 0,
-        ShapeOf::ArrayOfVariable => tag == 0,
-        ShapeOf::ArrayOfAnything(_) => tag == 0,
-        ShapeOf::Anything => true,
-        _ => false,
-    }
-}
-
-/// Returns true if an array of `size` doubles matches the shape.
-pub fn fits_doubles(shape: &ShapeOf<usize>, size: u64) -> bool
-    ensures { result ≡ fitting.has_doubles shape.now size }
-{
-    match shape {
-        ShapeOf::FloatArray => true,
-        ShapeOf::FlatFloats(_, fields) => *fields == size,
-        ShapeOf::ArrayOfAnything(_) => true,
-        ShapeOf::Anything => true,
-        _ => false,
-    }
-}
-
-/// Returns the positions of a block's fields if the block matches the shape. For wildcards use
+/// Returns the positions of a block's fields if the block matches the shape. For wildcards, use
 /// `positions_at`.
 #[inline(always)]
 pub fn block_positions(shape: &ShapeOf<usize>, tag: u8, size: u64) -> Option<BlockPositions<'_>>
@@ -149,8 +82,8 @@ pub fn block_positions(shape: &ShapeOf<usize>, tag: u8, size: u64) -> Option<Blo
     }
 }
 
-/// Returns the positions of a block's fields if the block matches the shape. At a wildcard, the
-/// fields are wildcards too.
+/// Returns the positions of a block's fields if the block matches the shape. If the type is a
+/// wildcard, the types of the fields are wildcards too.
 #[inline(always)]
 pub fn positions_at(
     shape: &ShapeOf<usize>,
@@ -166,8 +99,8 @@ pub fn positions_at(
     }
 }
 
-/// Returns the positions of a block's fields if the block matches the shape. This is the fast path
-/// of `positions_at`: a chain of tests with common shapes first.
+/// Returns the positions of a block's fields if the block matches the shape. `fast_positions` is
+/// the fast path of `positions_at`: a chain of tests that begins with the common shapes.
 #[inline(always)]
 pub fn fast_positions(
     shape: &ShapeOf<usize>,
@@ -184,7 +117,7 @@ pub fn fast_positions(
 }
 
 /// Returns the positions of a block's fields if the block matches the shape. The fast path calls
-/// this function for shapes other than sums.
+/// `product_positions` for shapes other than sums.
 #[inline(always)]
 fn product_positions(
     shape: &ShapeOf<usize>,
@@ -207,7 +140,7 @@ fn product_positions(
 }
 
 /// Returns the positions of a block's fields if the block matches the shape. The fast path calls
-/// this function for shapes that rarely have blocks, and it is not inlined.
+/// `other_positions`, which is not inlined, for shapes that rarely have blocks.
 #[inline(never)]
 fn other_positions(
     shape: &ShapeOf<usize>,
@@ -248,7 +181,8 @@ fn constr_positions(blocks: &[Constr<usize>], tag: u8, size: u64) -> Option<Bloc
     }
 }
 
-/// Returns true if two types are equal: they have the same number or the same class.
+/// Returns true if two types have equal numbers or equal classes. Types with equal classes are
+/// equal.
 #[inline(always)]
 pub fn is_equal(table: &TypeTable, first: usize, second: usize) -> bool
     ensures { OnTrue result ((table_shapes (table_of table.now)).equal first second) }
@@ -291,7 +225,7 @@ fn is_mutable_at(blocks: &[Constr<usize>], tag: u8) -> bool
     blocks[tag as usize].mutable
 }
 
-/// Returns the type of an object.
+/// Returns the type of the object with number `object`.
 #[inline(always)]
 pub fn type_at(types: &[u16], object: usize) -> usize
     requires { object < length types.now }

@@ -1,5 +1,5 @@
 //! Objects that are referenced at a second type. The pass accepts the second type if the object is
-//! a flat block: its fields are integers, atoms and references back.
+//! a flat block: a block whose fields are integers, atoms and references back.
 
 ghost use Rattle.std.specs.Prelude.{◌≡◌, ◌≤◌, ◌+◌, ◌-◌, ℕ, List, [], length, drop, IfOk, OnOk};
 ghost use Rattle.std.specs.Prelude.{slice_get, Some, Contains, false};
@@ -13,18 +13,20 @@ ghost use Rattle.marshal_spec.specs.format.Tree.{value_of};
 ghost use Rattle.types_table.specs.type_table.Made.{table_of};
 ghost use Rattle.check_stream.specs.theory.Asked.{shape_at};
 ghost use Rattle.check_stream.specs.theory.Noted.{IsAt, IsFlat, IsFlatNoted};
-ghost use Rattle.check_stream.specs.checker.Again.{IsSeen, EncodeAll, AreMarks, AreFields, IsKnown};
+ghost use Rattle.marshal_codec.specs.token.Summary.{IsSummary};
+ghost use Rattle.check_stream.specs.checker.Again.{EncodeAll, AreMarks, AreFields, IsKnown};
 ghost use Rattle.check_stream.specs.checker.Again.{AreNotes};
 
-use crate::checker::again::{SeenToken, block_at, inspect};
-use crate::checker::fits::{
-    block_positions, fits_atom, fits_int, is_equal, is_wildcard, may_change, shape_of, type_at,
-};
+use crate::checker::again::{block_at, inspect};
+use crate::checker::fits::{block_positions, is_equal, is_wildcard, may_change, shape_of, type_at};
 use crate::checker::open_positions::BlockPositions;
 use base_data::model::Memory;
+use marshal_codec::token::Summary;
+use types_table::fits::{fits_atom, fits_int};
 use types_table::type_table::TypeTable;
 
-/// The maximum number of notes that are kept.
+/// The maximum number of notes in the list of notes. A note is a pair of an object and a second
+/// type of the object.
 const MOST_NOTES: usize = 16;
 
 /// Checks a reference with this offset in a field of `object`. Returns true if the field is a
@@ -47,14 +49,8 @@ fn fits_back(table: &TypeTable, types: &[u16], object: usize, ty: usize, offset:
 }
 
 /// Returns true if a field of an object is flat and has the type.
-fn is_flat_field(
-    table: &TypeTable,
-    types: &[u16],
-    object: usize,
-    ty: usize,
-    seen: SeenToken,
-) -> bool
-    ensures { OnTrue result ((token : Token) → IsSeen seen token
+fn is_flat_field(table: &TypeTable, types: &[u16], object: usize, ty: usize, seen: Summary) -> bool
+    ensures { OnTrue result ((token : Token) → IsSummary seen token
         → IsFlat token
         × IsAt (table_of table.now) types.now [] (value_of token (object + 1)) ty) }
 {
@@ -62,11 +58,10 @@ fn is_flat_field(
         return false;
     };
     match seen {
-        SeenToken::Integer(z) => fits_int(shape, z),
-        SeenToken::Atom(tag) => fits_atom(shape, tag),
-        SeenToken::Shared(offset) => fits_back(table, types, object, ty, offset),
-        SeenToken::Block(_, _) => false,
-        SeenToken::Leaf => false,
+        Summary::Integer(z) => fits_int(shape, z),
+        Summary::Atom(tag) => fits_atom(shape, tag),
+        Summary::Shared(offset) => fits_back(table, types, object, ty, offset),
+        _ => false,
     }
 }
 
@@ -98,7 +93,7 @@ fn are_fields(
 }
 
 /// Returns true if the first type of the object is known, and a block with this tag is immutable at
-/// it.
+/// the first type.
 fn is_fixed_at_first(table: &TypeTable, types: &[u16], object: usize, tag: u8) -> bool
     ensures { OnTrue result
         ((u : ℕ) → slice_get types.now object ≡ Some u → (values : List Val)
@@ -114,9 +109,9 @@ fn is_fixed_at_first(table: &TypeTable, types: &[u16], object: usize, tag: u8) -
     !may_change(first, tag)
 }
 
-/// Returns true if an object is a flat block that also has type `ty`, and is immutable. The list
-/// `types` has the first types of the objects so far. Subtracts the number of re-read tokens from
-/// `left`.
+/// Returns true if an object is an immutable flat block that has type `ty` as a second type. The
+/// list `types` has the first types of the objects so far. Subtracts the number of re-read tokens
+/// from `left`.
 #[inline(never)]
 pub fn is_flat(
     table: &TypeTable,
@@ -161,8 +156,8 @@ pub fn is_noted(notes: &[(usize, usize)], object: usize, ty: usize) -> bool
     notes.iter().any(|note| note.0 == object && note.1 == ty)
 }
 
-/// Records a note that an object has a type. If `MOST_NOTES` notes are kept already, they are
-/// dropped first.
+/// Adds a note that an object has a type. If the list already has `MOST_NOTES` notes, all old notes
+/// are dropped first.
 pub fn note(notes: &mut Vec<(usize, usize)>, object: usize, ty: usize) -> Result<(), Memory>
     ensures { OnOk result (AreNotes notes.old.items object ty notes.new.items) }
 {
@@ -173,8 +168,8 @@ pub fn note(notes: &mut Vec<(usize, usize)>, object: usize, ty: usize) -> Result
     Ok(())
 }
 
-/// Returns true if the reference with this offset leads to an object that has type `ty`, as its
-/// first or as a second type.
+/// Returns true if the reference with this offset leads to an object whose first type or second
+/// type is `ty`.
 #[inline(always)]
 pub fn is_known(
     table: &TypeTable,

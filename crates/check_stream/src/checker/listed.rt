@@ -22,7 +22,7 @@ fn hold<'a>(state: &mut CheckState<'a>, now: BlockPositions<'a>, words: Words)
 }
 
 /// Reads common tokens as long as the innermost block has a list of types. Returns the remaining
-/// bytes. This function is not inlined, so that its loop has few live values.
+/// bytes. `run_listed` is not inlined, because its loop then has few live values.
 #[inline(never)]
 pub fn run_listed<'a, 'b>(
     table: &'a TypeTable,
@@ -67,7 +67,8 @@ pub fn run_listed<'a, 'b>(
     }
 }
 
-/// Calls `run_listed` if the innermost block has a list of types. Otherwise returns all bytes.
+/// If the innermost block has a list of types, calls `run_listed`. If the innermost block has no
+/// list of types, returns all bytes.
 #[inline(always)]
 pub fn take_listed<'a, 'b>(
     table: &'a TypeTable,

@@ -1,4 +1,4 @@
-//! The open positions and their requirements.
+//! The open positions of a value, and the requirement of each open position.
 
 ghost use Rattle.std.specs.Prelude.{◌≡◌, ◌≤◌, ◌∷◌, ◌++◌, [], MatchOption, OnOk};
 ghost use Rattle.std.specs.Bool.{OnTrue};
@@ -15,20 +15,21 @@ use types_spec::types::shape::PolyTag;
 pub enum BlockPositions<'a> {
     /// One position for each of these types.
     Listed(&'a [usize]),
-    /// A number of positions of the same type.
+    /// This many positions, each of which has this type.
     Each(u64, usize),
-    /// The hash of one of these tags, and then its argument.
+    /// Two positions: the hash of one of these tags, and the argument of the tag.
     Tagged(&'a [PolyTag<usize>]),
 }
 
-/// The requirement of a position.
+/// What a position requires: a value of a type, or the hash of one of these tags.
 #[derive(Clone, Copy)]
 pub enum Requirement<'a> {
     Type(usize),
     Hash(&'a [PolyTag<usize>]),
 }
 
-/// Splits off the first open position. Returns `None` if there is none.
+/// Returns the requirement of the first open position, and the remaining positions. If no position
+/// is open, returns `None`.
 #[inline(always)]
 fn split<'a>(open: BlockPositions<'a>) -> Option<(Requirement<'a>, BlockPositions<'a>)>
     ensures { MatchOption result
@@ -67,9 +68,9 @@ pub fn is_done(open: BlockPositions<'_>) -> bool
     }
 }
 
-/// Returns the number of values that are still to be read for these positions. A hash and its
-/// argument count as two.
-fn values_of(block: BlockPositions<'_>) -> u64
+/// Returns the number of values that are still to be read for these positions. A hash and the
+/// argument of the hash are two values.
+pub fn values_of(block: BlockPositions<'_>) -> u64
     ensures { result ≡ values_in (open_needs block.entry) }
 {
     match block {
@@ -79,8 +80,8 @@ fn values_of(block: BlockPositions<'_>) -> u64
     }
 }
 
-/// The open positions of all blocks: those of the innermost block, and a stack of those of the
-/// enclosing blocks that have any.
+/// The open positions of all blocks. `now` contains the open positions of the innermost block.
+/// `waiting` is a stack of the open positions of the enclosing blocks.
 #[derive(Drop)]
 pub struct OpenPositions<'a> {
     pub now: BlockPositions<'a>,
@@ -98,7 +99,7 @@ impl<'a> OpenPositions<'a> {
         }
     }
 
-    /// Replaces all positions by that of another root, and reuses the memory.
+    /// Replaces all positions by the position of another value's root, and reuses the memory.
     pub fn restart(&mut self)
         ensures { positions_needs self.new ≡ of_type 0 ∷ [] }
     {
@@ -128,7 +129,7 @@ impl<'a> OpenPositions<'a> {
         true
     }
 
-    /// Pushes the open positions of the innermost block on the stack, if it has any.
+    /// If the innermost block has open positions, pushes the open positions on the stack.
     #[tactic(auto, using(crate::proofs::checker::PositionLemmas::waiting_needs_push))]
     #[inline(always)]
     fn keep(&mut self) -> Result<(), Memory>
@@ -172,7 +173,8 @@ pub fn innermost<'a>(
     }
 }
 
-/// Returns the requirement of the first open position, and the other open positions of its block.
+/// Returns the requirement of the first open position, and the remaining open positions of the
+/// position's block.
 #[inline(always)]
 pub fn first_position<'a>(
     now: BlockPositions<'a>,
@@ -189,8 +191,9 @@ pub fn first_position<'a>(
     first_waiting(waiting)
 }
 
-/// Returns the requirement of the first open position on the stack, and the other open positions of
-/// its block. The innermost block has no open position.
+/// Returns the requirement of the first open position on the stack, and the remaining open
+/// positions of the position's block. The caller guarantees that the innermost block has no open
+/// position.
 #[tactic(auto, using(crate::proofs::checker::PositionLemmas::waiting_needs_push))]
 #[inline(always)]
 fn first_waiting<'a>(

@@ -13,8 +13,8 @@ use base_data::model::header::Head;
 use std::alloc::Global;
 use types_table::type_table::TypeTable;
 
-/// The state of the check: the header, the offset of the first token, and the offset and state that
-/// were reached.
+/// The state of a streaming check: the header, the offset of the first token, the offset that was
+/// reached, and the check state at the reached offset.
 #[derive(Drop)]
 pub struct Passing<'a> {
     pub head: Head,
@@ -22,17 +22,17 @@ pub struct Passing<'a> {
     pub at: usize,
     pub state: CheckState<'a>,
     pub marks: Vec<usize>,
-    /// Objects and second types that they have.
+    /// Each note is a pair of an object and a second type of the object.
     pub notes: Vec<(usize, usize)>,
-    /// The number of bytes that have arrived.
+    /// The number of bytes of the value that have arrived.
     pub seen: usize,
-    /// The budget for re-reading tokens and for inspecting open blocks. It grows with the bytes
-    /// that arrive.
+    /// The budget for re-reading tokens and for inspecting open blocks. The bytes that arrive
+    /// increase the budget.
     pub left: u64,
 }
 
-/// Returns the number of object types for which memory is reserved: the number of objects that the
-/// header states, and at most the number of bytes.
+/// Returns the number of object types for which memory is reserved. The result is the number of
+/// objects that the header states, but at most the number of bytes.
 fn room_for(head: &Head, bytes: usize) -> usize {
     head.objects.min(bytes as u64) as usize
 }
@@ -42,15 +42,9 @@ impl<'a> Passing<'a> {
     ghost use Rattle.types_spec.specs.types.Table.{Table};
     ghost use Rattle.check_stream.specs.checker.State.{IsUnderway, Stops};
 
-    /// Returns a check that has not begun. This call does not allocate.
+    /// Returns a check that has not begun, without allocating memory.
     pub fn new(alloc: Global) -> Passing<'a> {
-        let head = Head {
-            big: false,
-            length: 0,
-            objects: 0,
-            w32: 0,
-            w64: 0,
-        };
+        let head = Head::empty();
         Passing {
             start: 20,
             at: 20,
@@ -67,8 +61,9 @@ impl<'a> Passing<'a> {
         }
     }
 
-    /// Begins the check of the value at the beginning of `bytes`, and reuses the memory. Returns
-    /// false if the header is incomplete or invalid, or states more than the limits allow.
+    /// Begins the check of the value at the beginning of `bytes`, and reuses the memory of the last
+    /// check. If the header is incomplete or invalid, or states more than the limits allow, returns
+    /// false.
     pub fn begin(&mut self, bytes: &[u8], limit: u64) -> Result<bool, Memory>
         ensures { IfOk result
             (λ begun. OnTrue begun
@@ -93,8 +88,8 @@ impl<'a> Passing<'a> {
         Ok(true)
     }
 
-    /// Continues the check. `bytes` are all bytes of the value so far, including those that were
-    /// checked already.
+    /// Continues the check. `bytes` are all bytes of the value that have arrived, including the
+    /// bytes that were already checked.
     pub fn go(&mut self, table: &'a TypeTable, limit: u64, bytes: &[u8]) -> Result<PassStop, Memory>
         requires leads { IsUnderway (table_of table.now) limit bytes.now self.old }
         ensures { IfOk result (Stops (table_of table.now) limit bytes.now self.new) }
@@ -129,9 +124,9 @@ impl<'a> Passing<'a> {
     }
 }
 
-/// Checks a value at the beginning of `bytes` in one pass. Returns its length in bytes if it has
-/// the table's first type and takes at most `limit` words. Returns `None` if the pass is
-/// inconclusive. If the value is truncated, it returns `None` at once.
+/// Checks a value at the beginning of `bytes` in one pass. If the value has the table's first type
+/// and takes at most `limit` words, returns the value's length in bytes. If the pass is
+/// inconclusive, returns `None`. If the value is truncated, returns `None` without reading tokens.
 pub fn pass(
     alloc: Global,
     table: &TypeTable,

@@ -1,14 +1,12 @@
 //! The loop over the tokens of a value.
 
-ghost use Rattle.std.specs.Prelude.{◌≡◌, ◌≤◌, ◌∷◌, [], IfOk, IfSome};
-ghost use Rattle.std.specs.Bool.{OnTrue};
+ghost use Rattle.std.specs.Prelude.{◌≡◌, ◌∷◌, [], IfOk, IfSome};
 ghost use Rattle.types_table.specs.type_table.Made.{table_of};
 ghost use Rattle.check_stream.specs.checker.Positions.{need_of, open_needs};
-ghost use Rattle.check_stream.specs.checker.State.{Leads, IsSpent, BeginsAs, StopsAt};
+ghost use Rattle.check_stream.specs.checker.State.{Leads, BeginsAs, StopsAt};
 
 use crate::checker::back::{mark, turn};
 use crate::checker::check_state::CheckState;
-use crate::checker::chunk::chunk_len;
 use crate::checker::fast::fast;
 use crate::checker::listed::take_listed;
 use crate::checker::open_positions::{BlockPositions, Requirement, first_position};
@@ -16,10 +14,11 @@ use base_data::model::Memory;
 use base_data::model::header::Head;
 use marshal_codec::codes::code_kind;
 use marshal_codec::headers::{HeaderStep, parse};
+use marshal_codec::token::chunk_len;
 use types_table::type_table::TypeTable;
 
-/// Parses the header. Returns `None` if it is incomplete or invalid, or states more words or data
-/// than the limits allow.
+/// Parses the header at the beginning of `bytes`. If the header is incomplete or invalid, or states
+/// more words or data than the limits allow, returns `None`.
 #[inline(always)]
 pub fn head_of(bytes: &[u8], limit: u64) -> Option<Head>
     ensures { IfSome result (λ head. BeginsAs limit bytes.now head) }
@@ -30,21 +29,10 @@ pub fn head_of(bytes: &[u8], limit: u64) -> Option<Head>
     }
 }
 
-/// Returns true if the value has all the data, words and objects that the header states.
-fn is_spent(head: &Head, start: usize, at: usize, state: &CheckState<'_>) -> bool
-    requires { start ≤ at }
-    ensures { OnTrue result (IsSpent head.now start at state.now) }
-{
-    (at - start) as u64 == head.length
-        && (head.big || state.words.w32 == 0)
-        && state.words.w64 == 0
-        && (head.objects == 0 || head.objects == state.types.len() as u64)
-}
-
 /// The reason why the pass stopped.
 #[derive(Clone, Copy)]
 pub enum PassStop {
-    /// A value of the type ends here. The number is its length in bytes.
+    /// A value of the type ends here, and has this length in bytes.
     Typed(usize),
     /// The token at this offset is truncated.
     Truncated(usize),
@@ -52,7 +40,7 @@ pub enum PassStop {
     Inconclusive(usize),
 }
 
-/// Returns true if no complete token begins the bytes, but they may be the beginning of one.
+/// Returns true if the bytes end within the token that they begin with.
 #[inline(never)]
 fn is_truncated(bytes: &[u8]) -> bool {
     if bytes.is_empty() {
@@ -64,7 +52,7 @@ fn is_truncated(bytes: &[u8]) -> bool {
     }
 }
 
-/// Returns a position with this requirement.
+/// Returns one position with this requirement, as the open positions of a block.
 fn again(asked: Requirement<'_>) -> BlockPositions<'_>
     ensures { open_needs result ≡ need_of asked.entry ∷ [] }
 {
@@ -74,9 +62,9 @@ fn again(asked: Requirement<'_>) -> BlockPositions<'_>
     }
 }
 
-/// Reads tokens from offset `first` on, up to the end of the value, a truncated token, or a token
-/// for which the check is inconclusive. Subtracts re-read tokens and inspected blocks from `left`.
-/// This function is not inlined, so that its loop can use all registers.
+/// Reads tokens from offset `first` on, until the value ends, a token is truncated, or the check is
+/// inconclusive. Subtracts the number of re-read tokens and inspected blocks from `left`. `run` is
+/// not inlined, because its loop can then use all registers.
 #[inline(never)]
 pub fn run<'a>(
     table: &'a TypeTable,
@@ -113,7 +101,8 @@ pub fn run<'a>(
         let now = state.positions.now;
         let Some((asked, others)) = first_position(now, &mut state.positions.waiting) else {
             let at = bytes.len() - rest.len();
-            if is_spent(head, start, at, state) {
+            let objects = state.types.len();
+            if state.words.is_spent(head, start, at, objects) {
                 return Ok(PassStop::Typed(at));
             }
             return Ok(PassStop::Inconclusive(at));

@@ -1,7 +1,6 @@
-//! Checks the current value. First a pass over its bytes tests whether the value has the type. If
-//! the pass is inconclusive, a search for the only mismatch starts at the first byte. After several
-//! values with one mismatch each, and none with the type between them, small values are searched
-//! first.
+//! Checks the current value. First a pass over the value's bytes tests whether the value has the
+//! type. If the pass is inconclusive, a search for the only mismatch starts at the value's first
+//! byte. If the last values had one mismatch each, small values are searched before the pass.
 
 ghost use Rattle.std.specs.Prelude.{ℕ, ◌<◌, length, IfSome};
 ghost use Rattle.std.specs.Bool.{OnTrue};
@@ -30,20 +29,20 @@ pub enum CheckResult {
     Missed(usize),
     /// The bytes are a prefix of a value.
     More,
-    /// The result is inconclusive.
+    /// The check cannot decide whether the value has the type.
     Inconclusive,
 }
 
-/// Returns true if the bytes are a part of a header and no step refuses them.
+/// Returns true if the bytes are an incomplete header and no step of the reader refuses the bytes.
 fn is_header_truncated(bytes: &[u8]) -> bool
     ensures { OnTrue result ((limit : ℕ) → IsPrefix limit bytes.now) }
 {
     matches!(parse(bytes), Ok(HeaderStep::More(_)))
 }
 
-/// Returns the maximum number of pending values if an incomplete token follows the first `at`
-/// bytes. The result depends on the data bytes that the header states (`stated`) and on the
-/// remaining words. Returns `None` if there is no room.
+/// If an incomplete token follows the first `at` bytes, returns the maximum number of values that
+/// may still be pending. The result depends on the data bytes that the header states (`stated`) and
+/// on the remaining words. If the header leaves no room for the token, returns `None`.
 fn room_after(stated: u64, words: Words, start: usize, at: usize, bytes: &[u8]) -> Option<u64>
     ensures { IfSome result (HasRoomAfter stated start at words.w32 words.w64 bytes.now) }
 {
@@ -57,8 +56,8 @@ fn room_after(stated: u64, words: Words, start: usize, at: usize, bytes: &[u8]) 
     others.checked_add(1)
 }
 
-/// Returns true if the bytes are surely a prefix of a value, after the pass ended before an
-/// incomplete token. Subtracts the blocks that it counts from `left`.
+/// If the pass ended before an incomplete token, returns true only if the bytes are a prefix of a
+/// value. Subtracts the number of counted blocks from `left`.
 fn is_prefix(passing: &Passing<'_>, left: &mut u64, bytes: &[u8]) -> bool
     ensures { OnTrue result ((table : Table) (limit : ℕ)
         → IsUnderway table limit bytes.now passing.now → 0 < length (needs_in passing.now.state)
@@ -72,7 +71,8 @@ fn is_prefix(passing: &Passing<'_>, left: &mut u64, bytes: &[u8]) -> bool
     passing.state.positions.are_within(most, left)
 }
 
-/// As `is_prefix`, after the search ended before an incomplete token.
+/// If the search ended before an incomplete token, returns true only if the bytes are a prefix of a
+/// value. Subtracts the number of counted blocks from `left`.
 fn is_prefix_but(seeking: &Seeking<'_>, left: &mut u64, bytes: &[u8]) -> bool
     ensures { OnTrue result ((table : Table) (limit : ℕ)
         → IsSought table limit bytes.now seeking.now
@@ -87,8 +87,7 @@ fn is_prefix_but(seeking: &Seeking<'_>, left: &mut u64, bytes: &[u8]) -> bool
     seeking.are_within(most, left)
 }
 
-/// After this many values with one mismatch each, and none with the type between them, a small
-/// value is searched first.
+/// If `misses` is at least this number, a small value is searched before the pass.
 const MISSES: u8 = 8;
 
 /// A value is small if its header states at most this many data bytes.
@@ -100,8 +99,8 @@ fn is_reference(bytes: &[u8], at: usize) -> bool {
 }
 
 /// The state of the check: the pass over the current value and, if the pass was inconclusive, the
-/// search for its mismatch. `misses` counts the values with one mismatch since a value had the
-/// type, or since a value was searched first without a result.
+/// search for the value's mismatch. `misses` counts the values with one mismatch. The count
+/// restarts at 0 if a value has the type, or if a value was searched first without a result.
 #[derive(Drop)]
 pub struct Inspecting<'a> {
     pub begun: bool,
@@ -118,7 +117,7 @@ impl<'a> Inspecting<'a> {
     ghost use Rattle.check_stream.specs.search.Find.{IsSought};
     ghost use Rattle.check_stream.specs.chunks.Inspection.{IsInspecting, IsShown, missed_in};
 
-    /// Creates a check that has read nothing. It allocates no memory.
+    /// Creates a check that has read nothing, without allocating memory.
     pub fn new(alloc: Global) -> Inspecting<'a>
         ensures { (table : Table) (limit : ℕ) (bytes : List ℕ)
             → IsInspecting table limit bytes result }
@@ -132,8 +131,8 @@ impl<'a> Inspecting<'a> {
         }
     }
 
-    /// Returns the mismatch that was found last, until the next search starts. It belongs to the
-    /// value that was checked last only if the result was `Missed`.
+    /// Returns the mismatch that was found last, until the next search starts. The mismatch belongs
+    /// to the value that was checked last only if the result was `Missed`.
     pub fn missed(&self) -> Option<&FoundMismatch>
         ensures { MatchOption result (missed_in self.now ≡ None)
             (λ found. missed_in self.now ≡ Some found.now) }
@@ -141,7 +140,13 @@ impl<'a> Inspecting<'a> {
         self.seeking.finding.found.as_ref()
     }
 
-    /// Starts the next check at the first byte of a value. It keeps its memory and the mismatch.
+    /// Returns true if the search of the current value found a mismatch.
+    pub fn found_mismatch(&self) -> bool {
+        self.sought && self.seeking.finding.found.is_some()
+    }
+
+    /// Starts the next check at the first byte of a value. The memory and the last mismatch are
+    /// kept.
     pub fn restart(&mut self)
         ensures inspecting { (table : Table) (limit : ℕ) (bytes : List ℕ)
             → IsInspecting table limit bytes self.new }
@@ -152,8 +157,8 @@ impl<'a> Inspecting<'a> {
         self.sought = false;
     }
 
-    /// Starts the next check at the first byte of a value, and releases the memory of the search
-    /// with the mismatch.
+    /// Starts the next check at the first byte of a value. The memory of the search and the last
+    /// mismatch are released.
     pub fn forget(&mut self, alloc: Global)
         ensures { (table : Table) (limit : ℕ) (bytes : List ℕ)
             → IsInspecting table limit bytes self.new }
@@ -162,8 +167,8 @@ impl<'a> Inspecting<'a> {
         self.restart();
     }
 
-    /// Checks the value at the start of the bytes, and continues where the last check of it ended.
-    /// Fails with `Memory` if memory runs out.
+    /// Checks the value at the start of the bytes, from the offset that the last call reached. If
+    /// memory runs out, fails with `Memory`.
     pub fn inspect(
         &mut self,
         alloc: Global,
@@ -188,8 +193,8 @@ impl<'a> Inspecting<'a> {
         self.pass(alloc, table, limit, bytes)
     }
 
-    /// Starts or continues the pass. If the pass is inconclusive, starts the search, except at a
-    /// reference: the search would rarely decide more there.
+    /// Starts or continues the pass. If the pass is inconclusive, starts the search. If the pass is
+    /// inconclusive at a reference, no search starts, because a search would rarely decide more.
     fn pass(
         &mut self,
         alloc: Global,
@@ -234,8 +239,8 @@ impl<'a> Inspecting<'a> {
         }
     }
 
-    /// Starts the search at the first byte of the value, if its header states at most `most` data
-    /// bytes.
+    /// If the value's header states at most `most` data bytes, starts the search at the first byte
+    /// of the value.
     fn search(
         &mut self,
         alloc: Global,

@@ -6,7 +6,7 @@ use base_data::model::Memory;
 use std::alloc::Global;
 use types_table::type_table::TypeTable;
 
-/// The result of a chunk.
+/// The result of feeding a chunk to the check.
 #[derive(Clone, Copy)]
 pub enum ChunkResult {
     /// This many bytes of the chunk complete a value that has the type.
@@ -16,15 +16,17 @@ pub enum ChunkResult {
     Missed(usize),
     /// The whole chunk was consumed, and the value needs more bytes.
     More,
-    /// The result is inconclusive, and nothing of the chunk was consumed. The next chunk is checked
-    /// from the value's first byte on.
+    /// The check cannot decide, and no byte of the chunk was consumed. The next call checks from
+    /// the value's first byte on.
     Inconclusive,
 }
 
-/// The buffered bytes of the current value, and the state of the check.
+/// The buffered bytes of the current value, and the state of the check. `mismatched` is true if the
+/// last check was inconclusive after it found a type mismatch.
 #[derive(Drop)]
 pub struct StreamCheck<'a> {
     kept: Vec<u8>,
+    mismatched: bool,
     inspecting: Inspecting<'a>,
 }
 
@@ -34,13 +36,14 @@ impl<'a> StreamCheck<'a> {
     ghost use Rattle.types_table.specs.type_table.Made.{table_of};
     ghost use Rattle.check_stream.specs.chunks.StreamCheck.{IsStreamCheck, IsChunkResult, held};
 
-    /// Creates a check without buffered bytes. It allocates no memory.
+    /// Creates a check without buffered bytes, without allocating memory.
     pub fn new(alloc: Global) -> StreamCheck<'a>
         ensures none { result.kept.items ≡ [] }
         ensures stream_check { (table : Table) (limit : ℕ) → IsStreamCheck table limit result }
     {
         StreamCheck {
             kept: Vec::new(alloc),
+            mismatched: false,
             inspecting: Inspecting::new(alloc),
         }
     }
@@ -52,7 +55,7 @@ impl<'a> StreamCheck<'a> {
         self.kept.as_slice()
     }
 
-    /// Returns the mismatch that was found last, if it is still available.
+    /// Returns the mismatch that was found last, if the mismatch is still available.
     pub fn missed(&self) -> Option<&FoundMismatch>
         ensures { MatchOption result (held self.now ≡ None)
             (λ found. held self.now ≡ Some found.now) }
@@ -60,7 +63,13 @@ impl<'a> StreamCheck<'a> {
         self.inspecting.missed()
     }
 
-    /// Ends a value and starts the next one. It keeps its memory.
+    /// Returns true if the last check was inconclusive after it found a type mismatch. Callers may
+    /// use the result only to save time, because no contract promises it.
+    pub fn mismatched(&self) -> bool {
+        self.mismatched
+    }
+
+    /// Ends a value and starts the next value. The memory is kept.
     fn end(&mut self)
         ensures none { self.new.kept.items ≡ [] }
         ensures found { held self.new ≡ held self.old }
@@ -98,6 +107,7 @@ impl<'a> StreamCheck<'a> {
                 Ok(ChunkResult::More)
             }
             _ => {
+                self.mismatched = self.inspecting.found_mismatch();
                 self.inspecting.forget(alloc);
                 Ok(ChunkResult::Inconclusive)
             }
@@ -134,15 +144,16 @@ impl<'a> StreamCheck<'a> {
             CheckResult::More => Ok(ChunkResult::More),
             _ => {
                 self.kept.truncate(before);
+                self.mismatched = self.inspecting.found_mismatch();
                 self.inspecting.forget(alloc);
                 Ok(ChunkResult::Inconclusive)
             }
         }
     }
 
-    /// Feeds a chunk. Consumes it up to the end of the current value, or all of it, or nothing.
-    /// Does not copy the bytes of a value that lies completely in the chunk. Fails with `Memory` if
-    /// memory runs out.
+    /// Feeds a chunk. Consumes the bytes up to the end of the current value, or the whole chunk, or
+    /// nothing. If the chunk contains a whole value, the bytes of the value are not copied. If
+    /// memory runs out, fails with `Memory`.
     #[inline(always)]
     pub fn feed(
         &mut self,

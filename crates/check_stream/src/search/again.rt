@@ -8,8 +8,9 @@ use crate::search::way::Link;
 use base_data::model::Memory;
 use std::alloc::Global;
 
-/// One mark for each of the first objects: whether a reference at a position with an expected type
-/// leads back to the object. No such reference leads to an object without a mark.
+/// A mark for each object of a prefix of the objects. If a reference at a position with an expected
+/// type leads back to an object, the mark of the object is true. A reference at a position with an
+/// expected type never leads to an object without a mark.
 #[derive(Drop)]
 pub struct Again {
     pub marks: Vec<bool>,
@@ -25,15 +26,15 @@ impl Again {
         }
     }
 
-    /// Resets the record: it contains no references. It keeps its memory.
+    /// Removes all marks and keeps the memory.
     pub fn restart(&mut self)
         ensures { self.new.marks.items ≡ [] }
     {
         self.marks.clear();
     }
 
-    /// Extends the marks so that the object, one of `made` objects, has a mark. Fails with `Memory`
-    /// if memory runs out.
+    /// Extends the list of marks such that the object, one of `made` objects, has a mark. If memory
+    /// runs out, fails with `Memory`.
     fn reach(&mut self, object: usize, made: usize) -> Result<(), Memory>
         requires { object < made }
         ensures { OnOk result (Reaches self.old.marks.items object self.new.marks.items) }
@@ -45,8 +46,8 @@ impl Again {
         Ok(())
     }
 
-    /// Marks the object, one of `made` objects, as the target of a reference. Fails with `Memory`
-    /// if memory runs out.
+    /// Marks the object, one of `made` objects, as the target of a reference. If memory runs out,
+    /// fails with `Memory`.
     pub fn mark(&mut self, object: usize, made: usize) -> Result<(), Memory>
         requires { object < made }
         ensures { OnOk result (AlsoMarks self.old.marks.items object self.new.marks.items) }

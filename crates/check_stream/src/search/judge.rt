@@ -4,14 +4,16 @@ ghost use Rattle.std.specs.Prelude.{◌≡◌};
 ghost use Rattle.types_spec.specs.types.Fitting as fitting;
 ghost use Rattle.marshal_spec.specs.format.Token.{Token};
 ghost use Rattle.types_table.specs.type_table.Made.{table_of};
-ghost use Rattle.check_stream.specs.search.Judge.{IsSummary, IsApt, IsJudged, has_custom};
+ghost use Rattle.check_stream.specs.search.Judge.{IsApt, IsJudged, has_custom};
+ghost use Rattle.marshal_codec.specs.token.Summary.{IsSummary};
 ghost use Rattle.check_stream.specs.search.Judge.{judged_by};
 
 use crate::checker::BlockPositions;
-use crate::checker::fits::{fits_atom, fits_doubles, fits_int, positions_at, shape_of};
-use crate::search::summary::Summary;
+use crate::checker::fits::{positions_at, shape_of};
 use base_data::model::code::CustomKind;
+use marshal_codec::token::Summary;
 use types_spec::types::shape::ShapeOf;
+use types_table::fits::{fits_atom, fits_doubles, fits_int};
 use types_table::type_table::TypeTable;
 
 /// The result of testing a token against an expected type.
@@ -19,13 +21,14 @@ use types_table::type_table::TypeTable;
 pub enum TokenJudgement<'a> {
     /// The token matches the type and has no fields.
     Fits,
-    /// The token is a block that matches the type. Its fields have these expected types.
+    /// The token is a block that matches the type, and the block's fields have these expected
+    /// types.
     Opens(BlockPositions<'a>),
     /// The token is a reference with this offset.
     Back(u64),
     /// The token does not match the type.
     Misses,
-    /// The result is inconclusive.
+    /// The test cannot decide whether the token matches the type.
     Unknown,
 }
 
@@ -95,7 +98,7 @@ fn fits_custom(shape: &ShapeOf<usize>, kind: CustomKind) -> bool
     }
 }
 
-/// Returns `Fits` or `Misses`.
+/// Returns `Fits` if the token matches the type, and `Misses` if the token does not match the type.
 fn by<'a>(fits: bool) -> TokenJudgement<'a>
     ensures { result ≡ judged_by fits }
 {
@@ -106,7 +109,7 @@ fn by<'a>(fits: bool) -> TokenJudgement<'a>
     }
 }
 
-/// Tests a token, given by its summary, against the type `ty` of the table.
+/// Tests the token with this summary against the type `ty` of the table.
 #[inline(always)]
 pub fn judge<'a>(table: &'a TypeTable, ty: usize, summary: Summary) -> TokenJudgement<'a>
     ensures apt { IsApt summary result }

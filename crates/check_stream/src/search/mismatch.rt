@@ -1,4 +1,4 @@
-//! Searches for the only mismatch of a value, token by token up to its end.
+//! Searches for the only mismatch of a value, token by token up to the end of the value.
 
 ghost use Rattle.std.specs.Prelude.{◌≡◌, ◌<◌, ◌≤◌, ℕ, List, length, IfOk, IsTrue, Ok};
 ghost use Rattle.std.specs.Prelude.{slice_index};
@@ -8,39 +8,42 @@ ghost use Rattle.types_spec.specs.types.Table.{Table};
 ghost use Rattle.marshal_spec.specs.format.Code.{kind_of};
 ghost use Rattle.marshal_spec.specs.format.Token.{Token};
 ghost use Rattle.check_stream.specs.mismatch_theory.PassedBut.{Misses, values_at};
-ghost use Rattle.check_stream.specs.declared.search.summary.Summary.TheVariants as sayings;
+ghost use Rattle.marshal_codec.specs.declared.token.summary.Summary.TheVariants as summaries;
 ghost use Rattle.check_stream.specs.declared.search.way.Expectation.TheVariants as asks;
-ghost use Rattle.check_stream.specs.search.Judge.{IsSummary, IsFair, summary_fields};
+ghost use Rattle.marshal_codec.specs.token.Summary.{IsSummary, IsFair, summary_fields};
 ghost use Rattle.check_stream.specs.search.Way.{IsWay, IsAfterHash, IsSplit, OnHash, left_values};
 ghost use Rattle.check_stream.specs.search.Way.{way_positions};
-ghost use Rattle.check_stream.specs.search.Find.{Begins, HasRoom, Passes, Adds, Comes, IsSpent};
+ghost use Rattle.check_stream.specs.search.Find.{Begins, HasRoom, Passes, Adds, Comes};
 ghost use Rattle.check_stream.specs.search.Find.{Ends};
 ghost use Rattle.check_stream.specs.search.Find.{unasked_in, IsFirst, IsSought, Seeks, RunsFast};
 ghost use Rattle.check_stream.specs.search.Find.{RunsFastBy};
 
 use crate::checker::Words;
-use crate::checker::fits::{fits_int, is_equal, is_wildcard, shape_of, tag_of_hash, type_at};
+use crate::checker::first::first_token;
+use crate::checker::fits::{is_equal, is_wildcard, shape_of, type_at};
 use crate::checker::whole::head_of;
 use crate::search::again::Again;
 use crate::search::judge::{TokenJudgement, judge};
 use crate::search::push::push;
 use crate::search::second::SecondReads;
-use crate::search::summary::{Summary, fields_of, first_token, measure_of, summary_kind};
 use crate::search::way::{
     BlockExpectations, Expectation, Link, Way, copy_to, first_type, split_listed,
 };
 use base_data::model::Memory;
 use base_data::model::code::CodeKind;
 use base_data::model::header::Head;
+use marshal_codec::token::{Summary, TokenStep, decode_kind, fields_of, is_countable, measure_of};
 use std::alloc::Global;
 use std::mem;
 use types_spec::types::shape::PolyTag;
+use types_table::fits::{fits_int, tag_of_hash};
 use types_table::type_table::TypeTable;
 
-/// A number that stands for "no type".
+/// A number that is recorded for an object without a type.
 const NO_TYPE: usize = 65535;
 
-/// A mismatch: the links of the path to it, the expected type, and the summary of its token.
+/// A mismatch: the links of the path to the mismatch, the expected type, and the summary of the
+/// mismatched token.
 #[derive(Drop)]
 pub struct FoundMismatch {
     pub links: Vec<Link>,
@@ -48,10 +51,10 @@ pub struct FoundMismatch {
     pub summary: Summary,
 }
 
-/// The state of the search. It contains the open positions, the types of the objects so far, and
-/// the objects that are targets of references. It also contains what is known about objects with a
-/// second type, the remaining words, and the mismatch, if one was found. The last field is spare
-/// memory for the links of a mismatch.
+/// The state of the search. The state contains the open positions, the types of the objects so far,
+/// and the objects that are targets of references. The state also contains what is known about
+/// objects with a second type, the remaining words, and the mismatch, if one was found. The last
+/// field is spare memory for the links of a mismatch.
 #[derive(Drop)]
 pub struct Finding<'a> {
     pub way: Way<'a>,
@@ -66,15 +69,16 @@ pub struct Finding<'a> {
 /// The result of the fast path for one token.
 #[derive(Clone, Copy)]
 pub enum Fast {
-    /// The token was consumed. It has this many bytes.
+    /// The token was consumed, and has this length in bytes.
     Took(usize),
-    /// The token was not consumed, and nothing changed.
+    /// The token was not consumed, and the state did not change.
     Kept,
-    /// The result is inconclusive.
+    /// The search cannot decide.
     Inconclusive,
 }
 
-/// Returns the fields of a token below a mismatch. They have no expected types.
+/// Returns the positions of a token's fields below a mismatch. Positions below a mismatch have no
+/// expected types.
 #[inline(always)]
 fn unasked<'a>(summary: Summary) -> BlockExpectations<'a>
     ensures fields { (token : Token) → IsSummary summary token → unasked_in result token }
@@ -100,7 +104,7 @@ impl<'a> Finding<'a> {
         }
     }
 
-    /// Resets the state to the one before the first token of another value. It keeps its memory.
+    /// Resets the state to the state before the first token of another value. The memory is kept.
     fn restart(&mut self, head: &Head)
         ensures { Begins head.now self.new }
     {
@@ -114,8 +118,8 @@ impl<'a> Finding<'a> {
         }
     }
 
-    /// Consumes the token if it is an integer of the type that the first open position expects. The
-    /// links do not point to that position afterwards.
+    /// Consumes the token if the token is an integer of the type that the first open position
+    /// expects. After the call, the links do not point to the consumed position.
     #[inline(always)]
     fn fill(
         &mut self,
@@ -144,8 +148,9 @@ impl<'a> Finding<'a> {
         true
     }
 
-    /// Consumes the token if it is an integer of the type that the first open position expects.
-    /// Returns whether it did; otherwise nothing changes.
+    /// Consumes the token and returns true if the token is an integer of the type that the first
+    /// open position expects. If the token is not consumed, nothing changes and the result is
+    /// false.
     #[inline(always)]
     fn pass(&mut self, table: &TypeTable, summary: Summary) -> bool
         requires { IsWay self.old.way }
@@ -161,9 +166,9 @@ impl<'a> Finding<'a> {
         self.fill(table, ty, others, values, summary)
     }
 
-    /// Adds the object that the token makes, if it makes one, with this type, and opens the
-    /// positions of its fields, in which `values` values are pending. Returns false if the words or
-    /// the numbers do not suffice.
+    /// If the token makes an object, adds the object with this type. Opens the positions of the
+    /// token's fields, in which `values` values are pending. If the remaining words or the 32-bit
+    /// numbers do not suffice, returns false.
     #[inline(always)]
     fn add(
         &mut self,
@@ -187,7 +192,7 @@ impl<'a> Finding<'a> {
         if !self.words.spend(measure) {
             return Ok(false);
         }
-        // The positions are opened first, while the position taken last is still the current one.
+        // The positions are opened while the position taken last is still the current position.
         let object = self.types.len();
         let opened = self.way.open(object, left, values)?;
         if !opened {
@@ -197,11 +202,17 @@ impl<'a> Finding<'a> {
         Ok(true)
     }
 
-    /// Consumes the token at the first open position: it matches the expected type, or it is the
-    /// mismatch. Does not consume references, integers that do not match, objects at types whose
-    /// numbers are not recorded, and every 64th object, whose offset must be marked. (The first
-    /// object's offset is marked at the start.) If the words do not suffice, or if there already is
-    /// a mismatch, then the result is inconclusive.
+    /// Consumes the token at the first open position, either because the token matches the expected
+    /// type or as the mismatch. Some tokens are not consumed:
+    ///
+    /// - references,
+    /// - integers that do not match,
+    /// - objects at types whose numbers are not recorded,
+    /// - every 64th object, whose offset must be marked. The first object's offset is marked at the
+    ///   start.
+    ///
+    /// If the words do not suffice, or if a mismatch was already found, then the result is
+    /// inconclusive.
     #[inline(always)]
     fn settle(
         &mut self,
@@ -257,7 +268,7 @@ impl<'a> Finding<'a> {
         Ok(Fast::Inconclusive)
     }
 
-    /// Consumes the token of this kind at the start of the bytes, if `settle` consumes it.
+    /// Consumes the token of this kind at the start of the bytes, if `settle` consumes the token.
     #[inline(always)]
     fn fast_kind(
         &mut self,
@@ -275,14 +286,18 @@ impl<'a> Finding<'a> {
         ensures { IfOk result
             (λ fast. RunsFastBy (table_of table.now) rest.now self.old self.new fast) }
     {
-        let Some((summary, len)) = summary_kind(kind, rest) else {
+        let TokenStep::Token(summary, len) = decode_kind(kind, rest) else {
             return Ok(Fast::Kept);
         };
+        if !is_countable(summary) {
+            return Ok(Fast::Kept);
+        }
         let fast = self.settle(alloc, table, ty, others, summary, len)?;
         Ok(fast)
     }
 
-    /// As `fast_kind`, for the codes of doubles and of integers of several bytes.
+    /// Does what `fast_kind` does, for the codes of doubles, of header words of four bytes and of
+    /// integers.
     #[tactic(auto, unfolding(marshal_spec::specs::format::Code::kind_of))]
     #[inline(always)]
     fn fast_large(
@@ -303,12 +318,16 @@ impl<'a> Finding<'a> {
         match code {
             0x00 => self.fast_kind(alloc, table, ty, others, CodeKind::Int(1), rest),
             0x01 => self.fast_kind(alloc, table, ty, others, CodeKind::Int(2), rest),
+            0x02 => self.fast_kind(alloc, table, ty, others, CodeKind::Int(4), rest),
+            0x03 => self.fast_kind(alloc, table, ty, others, CodeKind::Int(8), rest),
+            0x08 => self.fast_kind(alloc, table, ty, others, CodeKind::Block(4), rest),
             0x0c => self.fast_kind(alloc, table, ty, others, CodeKind::Double(true), rest),
             _ => Ok(Fast::Kept),
         }
     }
 
-    /// As `fast_kind`, for the codes below those of small blocks.
+    /// Consumes the token at the start of the bytes, whose code is below the codes of small blocks,
+    /// if `settle` consumes the token.
     #[tactic(auto, unfolding(marshal_spec::specs::format::Code::kind_of))]
     #[inline(always)]
     fn fast_other(
@@ -350,9 +369,9 @@ impl<'a> Finding<'a> {
         }
     }
 
-    /// Fast path. Consumes the first token of the bytes, if `settle` consumes it. The token must be
-    /// common, and the types of the innermost block's fields must be listed one by one. Each kind
-    /// gets specialized code.
+    /// Consumes the first token of the bytes, if `settle` consumes the token. `run_fast` is the
+    /// fast path for common tokens in a block whose field types are listed one by one. Each kind of
+    /// token has specialized code.
     #[tactic(auto, unfolding(marshal_spec::specs::format::Code::kind_of))]
     #[inline(always)]
     fn run_fast(&mut self, alloc: Global, table: &'a TypeTable, rest: &[u8]) -> Result<Fast, Memory>
@@ -388,8 +407,8 @@ impl<'a> Finding<'a> {
         is_equal(table, own, ty)
     }
 
-    /// Consumes a reference at a position that expects type `ty`. Returns false if the result is
-    /// inconclusive.
+    /// Consumes a reference at a position that expects type `ty`. If the search cannot decide,
+    /// returns false.
     #[inline(never)]
     fn back(
         &mut self,
@@ -402,7 +421,7 @@ impl<'a> Finding<'a> {
         ensures { IfOk result
             (λ came. OnTrue came
             (Comes (table_of table.now) stated prefix.now self.old (asks.Type ty)
-            (sayings.Shared offset) self.new)) }
+            (summaries.Shared offset) self.new)) }
     {
         let made = self.types.len();
         if stated == 0 || offset == 0 || offset > made as u64 {
@@ -419,8 +438,8 @@ impl<'a> Finding<'a> {
         self.seconds.show(table, prefix, object, ty)
     }
 
-    /// Consumes a token at a position without an expected type. Returns false if the result is
-    /// inconclusive.
+    /// Consumes a token at a position without an expected type. If the search cannot decide,
+    /// returns false.
     #[inline(always)]
     fn below(&mut self, stated: u64, summary: Summary) -> Result<bool, Memory>
         requires { IsFair summary }
@@ -439,8 +458,8 @@ impl<'a> Finding<'a> {
         self.add(NO_TYPE, summary, unasked(summary), fields_of(summary))
     }
 
-    /// Consumes a token that does not match the expected type. It becomes the mismatch. Returns
-    /// false if there already is one.
+    /// Consumes a token that does not match the expected type, and records the token as the
+    /// mismatch. If a mismatch was already found, returns false.
     #[inline(never)]
     fn miss(&mut self, alloc: Global, ty: usize, summary: Summary) -> Result<bool, Memory>
         requires { IsFair summary }
@@ -459,8 +478,8 @@ impl<'a> Finding<'a> {
         self.add(NO_TYPE, summary, unasked(summary), fields_of(summary))
     }
 
-    /// Consumes the hash of a tag (`btype.ml`, `hash_variant`). The next position expects the
-    /// argument of that tag.
+    /// Consumes the hash of a tag (`btype.ml`, `hash_variant`). The position after the hash expects
+    /// the argument of the tag.
     fn hash(&mut self, tags: &'a [PolyTag<usize>], summary: Summary) -> bool
         requires { IsAfterHash self.old.way }
         ensures { OnTrue result
@@ -480,8 +499,8 @@ impl<'a> Finding<'a> {
         true
     }
 
-    /// Consumes the token at a position that expects a type. Returns false if the result is
-    /// inconclusive.
+    /// Consumes the token at a position that expects a type. If the search cannot decide, returns
+    /// false.
     #[inline(always)]
     fn typed(
         &mut self,
@@ -517,7 +536,7 @@ impl<'a> Finding<'a> {
         }
     }
 
-    /// Consumes the token at the position taken last. Returns false if the result is inconclusive.
+    /// Consumes the token at the position taken last. If the search cannot decide, returns false.
     #[inline(always)]
     fn come(
         &mut self,
@@ -536,7 +555,7 @@ impl<'a> Finding<'a> {
     {
         match asked {
             Expectation::Type(ty) => match summary {
-                // Blocks get specialized code.
+                // Blocks have a specialized copy of the code.
                 Summary::Block(tag, size) => {
                     let block = Summary::Block(tag, size);
                     self.typed(alloc, table, stated, prefix, ty, block)
@@ -548,31 +567,21 @@ impl<'a> Finding<'a> {
         }
     }
 
-    /// Tests the state at the end, when no position is open. Returns true if there is a mismatch,
-    /// if all that the header states was read, and if no reference leads back to a block on its
-    /// path.
+    /// Tests the state at the end, when no position is open. Returns true if a mismatch was found,
+    /// everything that the header states was read, and no reference leads back to a block on the
+    /// mismatch's path.
     fn end(&self, head: &Head, start: usize, at: usize) -> bool
         requires { start ≤ at }
         ensures { OnTrue result ((found : FoundMismatch) × Ends head.now start at self.now found) }
     {
-        if !self.is_spent(head, start, at) {
+        let objects = self.types.len();
+        if !self.words.is_spent(head, start, at, objects) {
             return false;
         }
         let Some(found) = &self.found else {
             return false;
         };
         self.again.are_alone(found.links.as_slice())
-    }
-
-    /// Returns true if exactly what the header states was read.
-    fn is_spent(&self, head: &Head, start: usize, at: usize) -> bool
-        requires { start ≤ at }
-        ensures { OnTrue result (IsSpent head.now start at self.now) }
-    {
-        (at - start) as u64 == head.length
-            && (head.big || self.words.w32 == 0)
-            && self.words.w64 == 0
-            && (head.objects == 0 || head.objects == self.types.len() as u64)
     }
 }
 
@@ -585,36 +594,30 @@ pub struct Seeking<'a> {
     pub start: usize,
     pub at: usize,
     pub finding: Finding<'a>,
-    /// The number of bytes received.
+    /// The number of bytes of the value that have arrived.
     pub seen: usize,
-    /// The number of open blocks that may still be counted again. It grows by one for each byte
-    /// received.
+    /// The number of open blocks that may still be counted again. Each byte that arrives increases
+    /// the number by one.
     pub left: u64,
 }
 
 /// The result of a search step.
 #[derive(Clone, Copy)]
 pub enum SearchEnd {
-    /// The value has this many bytes, and its only mismatch was found. It is the value's first
-    /// fault: all other parts have their types, and no reference leads back to a block on the path
-    /// to it.
+    /// The value has this many bytes, and the only mismatch was found. The mismatch is the value's
+    /// first fault: all other parts have their types, and no reference leads back to a block on the
+    /// path to the mismatch.
     Found(usize),
-    /// The bytes end before a complete token, or no token begins there.
+    /// At the offset that was reached, no complete token begins.
     Truncated,
-    /// The result is inconclusive.
+    /// The search cannot decide.
     Inconclusive,
 }
 
 impl<'a> Seeking<'a> {
-    /// Creates a search that has read nothing. It allocates no memory.
+    /// Creates a search that has read nothing, without allocating memory.
     pub fn new(alloc: Global) -> Seeking<'a> {
-        let head = Head {
-            big: false,
-            length: 0,
-            objects: 0,
-            w32: 0,
-            w64: 0,
-        };
+        let head = Head::empty();
         Seeking {
             start: 20,
             at: 20,
@@ -625,8 +628,9 @@ impl<'a> Seeking<'a> {
         }
     }
 
-    /// Starts a search at the value whose header begins the bytes, and reuses the memory. Returns
-    /// false if the header is incomplete or states more than the limit of 64-bit words allows.
+    /// Starts a search at the value whose header begins the bytes, and reuses the memory of the
+    /// last search. If the header is incomplete or states more than the limit of 64-bit words
+    /// allows, returns false.
     pub fn begin(&mut self, bytes: &[u8], limit: u64) -> Result<bool, Memory>
         ensures { IfOk result
             (λ begun. OnTrue begun ((table : Table) → IsSought table limit bytes.now self.new)) }
@@ -645,7 +649,7 @@ impl<'a> Seeking<'a> {
         Ok(true)
     }
 
-    /// Continues the search. `bytes` are all bytes of the value so far.
+    /// Continues the search. `bytes` are all bytes of the value that have arrived.
     pub fn go(
         &mut self,
         alloc: Global,
@@ -678,9 +682,12 @@ impl<'a> Seeking<'a> {
                 Fast::Kept => {}
                 Fast::Inconclusive => return Ok(SearchEnd::Inconclusive),
             }
-            let Some((first, len)) = first_token(rest) else {
+            let TokenStep::Token(first, len) = first_token(rest) else {
                 return Ok(SearchEnd::Truncated);
             };
+            if !is_countable(first) {
+                return Ok(SearchEnd::Inconclusive);
+            }
             if self.finding.pass(table, first) {
                 self.at += len;
                 continue;
@@ -699,8 +706,8 @@ impl<'a> Seeking<'a> {
         }
     }
 
-    /// Returns true if at most `most` values are pending. Subtracts the blocks that it counts from
-    /// `left`, and returns false if `left` does not suffice.
+    /// Returns true if at most `most` values are pending. Subtracts the number of counted blocks
+    /// from `left`. If `left` does not suffice, returns false.
     pub fn are_within(&self, most: u64, left: &mut u64) -> bool
         ensures { OnTrue result (values_at (way_positions self.now.finding.way) ≤ most) }
     {

@@ -4,8 +4,8 @@ ghost use Rattle.std.specs.Prelude.{◌≡◌, ◌++◌, ◌∷◌, [], OnOk};
 
 use base_data::model::Memory;
 
-/// Appends the item. If the capacity suffices, it calls no function. Fails with `Memory` if memory
-/// runs out.
+/// Appends the item. If the capacity suffices, `push` calls no function. If memory runs out, fails
+/// with `Memory`.
 #[inline(always)]
 pub fn push<T: Copy>(items: &mut Vec<T>, item: T) -> Result<(), Memory>
     ensures { OnOk result (items.new.items ≡ items.old.items ++ item ∷ []) }
@@ -17,7 +17,7 @@ pub fn push<T: Copy>(items: &mut Vec<T>, item: T) -> Result<(), Memory>
     push_more(items, item)
 }
 
-/// Appends the item when the capacity does not suffice.
+/// Appends the item if the capacity does not suffice.
 #[inline(never)]
 fn push_more<T: Copy>(items: &mut Vec<T>, item: T) -> Result<(), Memory>
     ensures { OnOk result (items.new.items ≡ items.old.items ++ item ∷ []) }

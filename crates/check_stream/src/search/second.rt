@@ -1,4 +1,4 @@
-//! Objects that are referenced at a second type.
+//! What the search knows about objects that are referenced at a second type.
 
 ghost use Rattle.std.specs.Prelude.{IfOk, OnOk};
 ghost use Rattle.std.specs.Bool.{OnTrue};
@@ -11,8 +11,8 @@ use base_data::model::Memory;
 use std::alloc::Global;
 use types_table::type_table::TypeTable;
 
-/// The offsets of every 64th object, some objects with second types that they are known to have,
-/// and the number of tokens that may be read again.
+/// The offset of every 64th object, pairs of an object and a known second type of the object, and
+/// the number of tokens that may be read again.
 #[derive(Drop)]
 pub struct SecondReads {
     pub marks: Vec<usize>,
@@ -32,7 +32,7 @@ impl SecondReads {
         }
     }
 
-    /// Resets the state: there are no objects. It keeps its memory.
+    /// Removes all marks and notes, and keeps the memory.
     pub fn restart(&mut self)
         ensures { IsFresh self.new }
     {
@@ -41,8 +41,8 @@ impl SecondReads {
         self.left = 0;
     }
 
-    /// Marks the offset `at` if the number of objects before it, `made`, calls for a mark (every 64
-    /// objects). Fails with `Memory` if memory runs out.
+    /// Marks the offset `at` if `made`, the number of objects before the offset, calls for a mark
+    /// (every 64 objects). If memory runs out, fails with `Memory`.
     pub fn mark(&mut self, at: usize, made: usize) -> Result<(), Memory>
         ensures { OnOk result (Marks self.old at made self.new) }
     {
@@ -50,8 +50,8 @@ impl SecondReads {
         Ok(())
     }
 
-    /// Returns true if the tokens up to this offset prove that the object has the type, too. The
-    /// answer false is inconclusive.
+    /// Returns true if the tokens up to this offset prove that the object has the second type. If
+    /// the result is false, nothing is known.
     pub fn show(
         &mut self,
         table: &TypeTable,

@@ -1,10 +1,8 @@
-//! The open positions of a value, and the path to each.
+//! The open positions of a value, and the path to each open position.
 
 ghost use Rattle.std.specs.Prelude.{◌≡◌, ◌<◌, ◌≤◌, ◌∷◌, [], MatchBool, MatchOption, IfOk, OnOk};
 ghost use Rattle.std.specs.Prelude.{IfSome};
 ghost use Rattle.std.specs.Bool.{OnTrue};
-ghost use Rattle.check_stream.specs.theory.Asked.{values_in};
-ghost use Rattle.check_stream.specs.checker.Positions.{open_needs};
 ghost use Rattle.check_stream.specs.mismatch_theory.PassedBut.{field_after, values_at};
 ghost use Rattle.check_stream.specs.declared.search.way.Expectation.TheVariants as asks;
 ghost use Rattle.check_stream.specs.declared.search.way.BlockExpectations.TheVariants as lefts;
@@ -14,13 +12,14 @@ ghost use Rattle.check_stream.specs.search.Way.{IsWay, IsSplit, PointsTo, IsAfte
 ghost use Rattle.check_stream.specs.search.Way.{Keeps};
 ghost use Rattle.check_stream.specs.search.Way.{OnHash};
 
-use crate::checker::BlockPositions;
+use crate::checker::{BlockPositions, values_of};
 use crate::search::push::push;
 use base_data::model::Memory;
 use std::alloc::Global;
 use types_spec::types::shape::PolyTag;
 
-/// What a position expects: a type, the hash of a tag, or nothing (below a mismatch).
+/// What a position expects: a type or the hash of a tag. A position below a mismatch expects
+/// nothing.
 #[derive(Clone, Copy)]
 pub enum Expectation<'a> {
     Type(usize),
@@ -32,7 +31,8 @@ pub enum Expectation<'a> {
 #[derive(Clone, Copy)]
 pub enum BlockExpectations<'a> {
     Asked(BlockPositions<'a>),
-    /// This many positions expect nothing: the block is the mismatch or is below it.
+    /// This many positions expect nothing, because the block is the mismatch or is below the
+    /// mismatch.
     Unasked(u64),
 }
 
@@ -43,9 +43,9 @@ pub struct Link {
     pub field: u32,
 }
 
-/// The open positions of one block. `depth` is the number of links that lead to them; the last of
-/// these links belongs to this block. `next` is the index of the first open position, and `left` is
-/// what the positions expect.
+/// The open positions of one block. `depth` is the number of links that lead to the positions, and
+/// the last of these links belongs to the block. `next` is the index of the first open position,
+/// and `left` is what the positions expect.
 #[derive(Clone, Copy)]
 pub struct Wait<'a> {
     pub depth: usize,
@@ -53,9 +53,10 @@ pub struct Wait<'a> {
     pub left: BlockExpectations<'a>,
 }
 
-/// The open positions of all blocks. `now` contains those of the innermost block, `waiting` those
-/// of the enclosing blocks. `links` leads from the root to the position taken last. The link of a
-/// block without open positions stays as long as a block inside it has some.
+/// The open positions of all blocks. `now` contains the positions of the innermost block, and
+/// `waiting` the positions of the enclosing blocks. `links` leads from the root to the position
+/// taken last. The link of a block without open positions stays as long as a block inside has an
+/// open position.
 #[derive(Drop)]
 pub struct Way<'a> {
     pub now: Wait<'a>,
@@ -63,8 +64,8 @@ pub struct Way<'a> {
     pub links: Vec<Link>,
 }
 
-/// Returns what the first remaining position expects, the other positions, and the number of values
-/// before them.
+/// Returns what the first remaining position expects, the positions after the first, and the number
+/// of values of the first position.
 fn split<'a>(left: BlockExpectations<'a>) -> Option<(Expectation<'a>, BlockExpectations<'a>, u32)>
     ensures { MatchOption result
         (left_values left.entry ≡ 0)
@@ -85,7 +86,8 @@ fn split<'a>(left: BlockExpectations<'a>) -> Option<(Expectation<'a>, BlockExpec
     }
 }
 
-/// As `split`, for positions with expected types.
+/// Splits positions with expected types. Returns what the first position expects, the positions
+/// after the first, and the number of values of the first position.
 fn split_asked<'a>(
     positions: BlockPositions<'a>,
 ) -> Option<(Expectation<'a>, BlockExpectations<'a>, u32)>
@@ -116,8 +118,8 @@ fn split_asked<'a>(
     }
 }
 
-/// If the first remaining position expects a type, returns that type, the other positions, and the
-/// number of values before them.
+/// If the first remaining position expects a type, returns the expected type, the positions after
+/// the first, and the number of values of the first position.
 #[inline(always)]
 pub fn first_type<'a>(left: BlockExpectations<'a>) -> Option<(usize, BlockExpectations<'a>, u32)>
     ensures { IfSome result (λ first. IsSplit left.entry (asks.Type first.0) first.1 first.2) }
@@ -128,8 +130,8 @@ pub fn first_type<'a>(left: BlockExpectations<'a>) -> Option<(usize, BlockExpect
     }
 }
 
-/// If the types of the remaining positions are listed one by one, returns the first of these types
-/// and the other positions.
+/// If the types of the remaining positions are listed one by one, returns the first type and the
+/// positions after the first.
 #[inline(always)]
 pub fn split_listed<'a>(left: BlockExpectations<'a>) -> Option<(usize, BlockExpectations<'a>)>
     ensures { IfSome result (λ first. IsSplit left.entry (asks.Type first.0) first.1 1) }
@@ -146,8 +148,8 @@ pub fn split_listed<'a>(left: BlockExpectations<'a>) -> Option<(usize, BlockExpe
     ))
 }
 
-/// Returns true if values are pending in the remaining positions. Tests the frequent case of listed
-/// types first.
+/// Returns true if values are pending in the remaining positions. The frequent case of listed types
+/// is tested first.
 #[tactic(auto, using(crate::proofs::theory::BlockLemmas::values_of_types))]
 #[inline(always)]
 fn is_open(left: BlockExpectations<'_>) -> bool
@@ -167,19 +169,8 @@ pub fn values_left(left: BlockExpectations<'_>) -> u64
     ensures { result ≡ left_values left.entry }
 {
     match left {
-        BlockExpectations::Asked(positions) => values_asked(positions),
+        BlockExpectations::Asked(positions) => values_of(positions),
         BlockExpectations::Unasked(count) => count,
-    }
-}
-
-/// As `values_left`, for positions with expected types.
-fn values_asked(positions: BlockPositions<'_>) -> u64
-    ensures { result ≡ values_in (open_needs positions.entry) }
-{
-    match positions {
-        BlockPositions::Listed(types) => types.len() as u64,
-        BlockPositions::Each(count, _) => count,
-        BlockPositions::Tagged(_) => 2,
     }
 }
 
@@ -195,7 +186,7 @@ pub fn copy_to(copy: &mut Vec<Link>, links: &[Link]) -> Result<(), Memory>
 }
 
 impl<'a> Way<'a> {
-    /// Creates the position of the root, which expects type 0. No link leads to it.
+    /// Creates the position of the root, which expects type 0. No link leads to the root.
     pub fn root(alloc: Global) -> Way<'a>
         ensures is_way { IsWay result }
         ensures positions { way_positions result ≡ root_position ∷ [] }
@@ -225,7 +216,7 @@ impl<'a> Way<'a> {
         self.links[depth - 1].field = field;
     }
 
-    /// Resets to the position of the root of another value. It keeps its memory.
+    /// Resets the way to the position of another value's root. The memory is kept.
     pub fn restart(&mut self)
         ensures is_way { IsWay self.new }
         ensures positions { way_positions self.new ≡ root_position ∷ [] }
@@ -239,7 +230,7 @@ impl<'a> Way<'a> {
         self.links.clear();
     }
 
-    /// Returns true if a position is open. Discards blocks without open positions.
+    /// Discards innermost blocks without open positions. Returns true if a position is open.
     #[inline(always)]
     pub fn ready(&mut self) -> bool
         requires { IsWay self.old }
@@ -260,8 +251,8 @@ impl<'a> Way<'a> {
         }
     }
 
-    /// Takes the first open position and returns what it expects. The links lead to that position
-    /// afterwards.
+    /// Takes the first open position and returns what the position expects. After the call, the
+    /// links lead to the taken position.
     #[inline(always)]
     pub fn take(&mut self) -> Expectation<'a>
         requires is_way { IsWay self.old }
@@ -284,8 +275,8 @@ impl<'a> Way<'a> {
         asked
     }
 
-    /// Takes the first open position, which expects the type. The links lead to that position
-    /// afterwards.
+    /// Takes the first open position, which expects the type. After the call, the links lead to the
+    /// taken position.
     #[inline(always)]
     pub fn take_type(&mut self, ty: usize, others: BlockExpectations<'a>)
         requires is_way { IsWay self.old }
@@ -301,7 +292,7 @@ impl<'a> Way<'a> {
     }
 
     /// Returns true if at most `most` values are pending in the open positions. Subtracts the
-    /// blocks that it counts from `left`, and returns false if `left` does not suffice.
+    /// number of counted blocks from `left`. If `left` does not suffice, returns false.
     pub fn are_within(&self, most: u64, left: &mut u64) -> bool
         ensures { OnTrue result (values_at (way_positions self.entry.now) ≤ most) }
     {
@@ -322,7 +313,8 @@ impl<'a> Way<'a> {
         true
     }
 
-    /// Moves the open positions of the innermost block to `waiting`, if it has any.
+    /// If the innermost block has open positions, moves the open positions of the innermost block
+    /// to `waiting`.
     #[inline(always)]
     fn keep(&mut self) -> Result<(), Memory>
         ensures { OnOk result (IsWay self.old → Keeps self.old self.new) }
@@ -338,7 +330,8 @@ impl<'a> Way<'a> {
         self.keep_more()
     }
 
-    /// As `keep`, when the capacity does not suffice.
+    /// Moves the open positions of the innermost block to `waiting` if the capacity does not
+    /// suffice.
     #[inline(never)]
     fn keep_more(&mut self) -> Result<(), Memory>
         ensures { OnOk result (IsWay self.old → Keeps self.old self.new) }
@@ -347,9 +340,9 @@ impl<'a> Way<'a> {
         Ok(())
     }
 
-    /// Places the object with this number at the position taken last, and opens its positions, in
-    /// which `values` values are pending, before all others. Returns false if the numbers do not
-    /// fit in 32 bits.
+    /// Adds the object with this number at the position taken last. Opens the positions of the
+    /// object, in which `values` values are pending, before all others. If the numbers do not fit
+    /// in 32 bits, returns false.
     #[inline(always)]
     pub fn open(
         &mut self,
@@ -382,8 +375,8 @@ impl<'a> Way<'a> {
         Ok(true)
     }
 
-    /// Opens the position of the argument of a tag, next. It is the field after the hash, which was
-    /// taken last.
+    /// Opens the position of the argument of a tag before all others. The position is the field
+    /// after the hash, and the hash was taken last.
     pub fn argument(&mut self, ty: usize)
         requires { IsAfterHash self.old }
         ensures is_way { IsWay self.old → IsWay self.new }

@@ -2,9 +2,9 @@
 
 ghost use Rattle.check_stream.specs.truncated.Laws.{UnderwayIsPrefix};
 
-/// Proves that certain bytes are a prefix of a value. They consist of a header, complete tokens and
-/// a part of a token, and the header has room for that token. This is a lemma function: it does
-/// nothing at run time.
+/// Proves that bytes are a prefix of a value. The bytes must consist of a header, complete tokens
+/// and a part of a token for which the header has room. `underway_is_prefix` is a lemma function,
+/// which does nothing at run time.
 pub fn underway_is_prefix()
     ensures { UnderwayIsPrefix }
 {}

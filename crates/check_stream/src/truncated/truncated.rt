@@ -1,76 +1,22 @@
 //! Checks the incomplete token at the end of the bytes.
 
-ghost use Rattle.std.specs.Prelude.{◌≡◌, ◌≤◌, ◌<◌, ◌^◌, length, take, IfSome};
+ghost use Rattle.std.specs.Prelude.{◌≤◌, ◌<◌, ◌^◌, length, IfSome};
 ghost use Rattle.std.specs.Bool.{OnTrue};
 ghost use Rattle.std.specs.Option.{ForSome};
-ghost use Rattle.base_data.specs.model.Bytes.{number};
-ghost use Rattle.marshal_spec.specs.format.Code.{IsKind, custom_of};
-ghost use Rattle.marshal_spec.specs.format.Raw.{fixed_bytes, field_bytes};
+ghost use Rattle.marshal_spec.specs.format.Code.{IsKind};
+ghost use Rattle.marshal_spec.specs.format.Raw.{field_bytes};
 ghost use Rattle.marshal_spec.specs.format.Words.{of_object, words32, words64};
 ghost use Rattle.marshal_codec.specs.headers.Counting.{IsCountable};
 ghost use Rattle.check_stream.specs.truncated.Truncated.{IsTruncated, IsTruncatedAfter, IsSized};
 
-use base_data::model::bytes::big_endian;
 use base_data::model::code::{CodeKind, CustomKind, Measure};
 use marshal_codec::codes::code_kind;
-use marshal_codec::customs::ident;
 use marshal_codec::headers::words_of;
+use marshal_codec::token::{custom_at, field_len, fixed_len, number_at};
 
-/// Returns the number of bytes that every token of the kind has after its code.
-fn fixed_len(kind: CodeKind) -> u64
-    ensures is { result ≡ fixed_bytes kind }
-    ensures few { result < 2 ^ 8 }
-{
-    match kind {
-        CodeKind::SmallBlock(_, _) | CodeKind::SmallInt(_) | CodeKind::SmallString(_) => 0,
-        CodeKind::Int(width)
-        | CodeKind::Shared(width)
-        | CodeKind::Block(width)
-        | CodeKind::Str(width)
-        | CodeKind::Doubles(width, _) => u64::from(width),
-        CodeKind::Double(_) => 8,
-        CodeKind::Custom(_) => 3,
-    }
-}
-
-/// Returns how many of the fixed bytes the steps read: none for a double or a short integer.
-fn field_len(kind: CodeKind) -> usize
-    ensures { result ≡ field_bytes kind }
-{
-    match kind {
-        CodeKind::SmallBlock(_, _)
-        | CodeKind::SmallInt(_)
-        | CodeKind::SmallString(_)
-        | CodeKind::Double(_) => 0,
-        CodeKind::Int(width) => { if width == 8 { 8 } else { 0 } }
-        CodeKind::Shared(width)
-        | CodeKind::Block(width)
-        | CodeKind::Str(width)
-        | CodeKind::Doubles(width, _) => usize::from(width),
-        CodeKind::Custom(_) => 3,
-    }
-}
-
-/// Returns the number that the first `width` bytes encode, most significant byte first.
-fn number_at(rest: &[u8], width: u8) -> u64
-    requires few { width ≤ 8 }
-    requires whole { width ≤ length rest.now }
-    ensures { result ≡ number (take width rest.now) }
-{
-    big_endian(&rest[..usize::from(width)])
-}
-
-/// Returns the custom kind that the first three bytes identify.
-fn custom_at(rest: &[u8]) -> Option<CustomKind>
-    requires { 3 ≤ length rest.now }
-    ensures { result ≡ custom_of (take 3 rest.now) }
-{
-    ident([rest[0], rest[1], rest[2]])
-}
-
-/// Returns the number of bytes after the fixed ones, and the measure of the token's object. Returns
-/// `None` if the token is a block or a `Nativeint`, or if its fields are not sound. The caller
-/// guarantees that the fields are complete.
+/// Returns the number of bytes after the fixed bytes, and the measure of the token's object. If the
+/// token is a block or a `Nativeint`, or if the token's fields are not sound, returns `None`. The
+/// caller guarantees that the fields are complete.
 #[tactic(auto, using(crate::proofs::truncated::TruncatedLemmas::sized_small_string, crate::proofs::truncated::TruncatedLemmas::sized_int, crate::proofs::truncated::TruncatedLemmas::sized_str, crate::proofs::truncated::TruncatedLemmas::sized_double, crate::proofs::truncated::TruncatedLemmas::sized_doubles, crate::proofs::truncated::TruncatedLemmas::sized_int32, crate::proofs::truncated::TruncatedLemmas::sized_int64))]
 fn content(kind: CodeKind, rest: &[u8]) -> Option<(u64, Option<Measure>)>
     requires known { IsKind kind }
@@ -125,8 +71,8 @@ fn has_words(measure: Option<Measure>, w32: u64, w64: u64) -> bool
     true
 }
 
-/// Returns a lower bound of the length of an incomplete token of this kind, if the bytes that are
-/// there surely pass every step that they decide.
+/// Returns a lower bound of the length of an incomplete token of this kind. If a step that the
+/// present bytes decide may fail, returns `None`.
 #[tactic(auto, using(crate::proofs::truncated::TruncatedLemmas::truncated_in_fields, crate::proofs::truncated::TruncatedLemmas::truncated_in_content))]
 fn kind_truncated_len(kind: CodeKind, rest: &[u8], w32: u64, w64: u64) -> Option<u64>
     requires { IsKind kind }
@@ -150,10 +96,10 @@ fn kind_truncated_len(kind: CodeKind, rest: &[u8], w32: u64, w64: u64) -> Option
     Some(n)
 }
 
-/// Checks `bytes`, a proper prefix of a token. If the prefix surely passes every step that it
-/// decides, returns a lower bound of the token's length in bytes. The object of the token may have
-/// at most `w32` words on 32 bits and `w64` words on 64 bits. Returns `None` if the result is
-/// inconclusive.
+/// Checks `bytes`, a proper prefix of a token. If the prefix surely passes every step that the
+/// prefix decides, returns a lower bound of the token's length in bytes. The object of the token
+/// may have at most `w32` words on 32 bits and `w64` words on 64 bits. If the check is
+/// inconclusive, returns `None`.
 pub fn truncated_len(bytes: &[u8], w32: u64, w64: u64) -> Option<u64>
     ensures { IfSome result (λ n. IsTruncated n w32 w64 bytes.now) }
 {

@@ -1,4 +1,4 @@
--- The bounds on the numbers of a kind are a proposition: they have at most one proof.
+-- The bounds on the numbers of a kind are a proposition: two proofs of the bounds are equal.
 use Rattle.std.specs.Coded.{×_prop, Unit-prop, le_prop}
 use Rattle.base_data.specs.declared.model.code.CodeKind.{CodeKind}
 use Rattle.base_data.specs.declared.model.code.CodeKind.TheVariants as kinds

@@ -12,14 +12,14 @@ abbrev pub number_step : ℕ → List ℕ → NativeStep
 number_step n bytes =
     if nat_lt (length bytes) n then More (n - length bytes) else Value (signed (take n bytes))
 
--- A kind byte, and the number that it announces.
+-- The step for the kind byte and the number whose length the kind byte states.
 abbrev pub native_step : List ℕ → NativeStep
 native_step [] = More 1
 native_step (kind ∷ rest) =
     if native_bytes kind == 0 then BadNative kind else number_step (native_bytes kind) rest
 
--- The number of bytes that the kind byte announces: 0 if there is no kind byte, or if it is neither
--- 1 nor 2. The definition after it says what each result means.
+-- The number of bytes that the kind byte states. The number is 0 if there is no kind byte, or if
+-- the kind byte is neither 1 nor 2.
 abbrev pub announced : List ℕ → ℕ
 announced bytes = native_bytes (slice_index bytes 0)
 

@@ -4,7 +4,8 @@ use Rattle.base_data.specs.declared.model.code.Measure.{Measure}
 use Rattle.base_data.specs.declared.model.code.Measure.TheVariants.{Block, Bytes, Double, Doubles}
 use Rattle.base_data.specs.declared.model.code.Measure.TheVariants.{Custom}
 
--- The number is less than 2 ^ 60, and a custom block has at most eight bytes of data.
+-- The number of fields or bytes is less than 2^60, and a custom block has at most eight bytes of
+-- data.
 abbrev pub IsCountable : Measure → Type 0
 IsCountable (Block n) = n < 2 ^ 60
 IsCountable (Bytes n) = n < 2 ^ 60

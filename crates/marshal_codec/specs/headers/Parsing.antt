@@ -9,14 +9,15 @@ use Rattle.marshal_spec.specs.format.Header.{magic, small_magic, big_magic, comp
 use Rattle.marshal_spec.specs.format.Header.{header_length}
 use Rattle.marshal_spec.specs.format.Header.{head_of}
 
--- The header, or the number of bytes that are missing to its end.
+-- The header, or the number of bytes that are missing up to the end of the header.
 abbrev pub rest_step : List ℕ → HeaderStep
 rest_step bytes =
     if nat_lt (length bytes) (header_length bytes)
     then steps.More (header_length bytes - length bytes)
     else steps.Head (head_of bytes)
 
--- The magic number is checked as soon as it is complete.
+-- The result of decoding a header. The magic number is checked as soon as its four bytes are
+-- complete.
 abbrev pub header_step : List ℕ → Result HeaderStep HeadFault
 header_step bytes =
     if nat_lt (length bytes) 4 then Ok (steps.More (4 - length bytes))
@@ -29,8 +30,8 @@ header_step bytes =
 abbrev pub HasMagic : List ℕ → Type 0
 HasMagic bytes = (magic bytes ≡ small_magic) ⊎ (magic bytes ≡ big_magic)
 
--- The number of bytes needed: those of the magic number, and then those of the header that it
--- begins.
+-- The number of bytes needed. If the magic number is incomplete, four bytes are needed; if not, all
+-- bytes of the header that begins with the magic number.
 abbrev pub wanted : List ℕ → ℕ
 wanted bytes = if nat_lt (length bytes) 4 then 4 else header_length bytes
 

@@ -6,7 +6,7 @@ ghost use Rattle.marshal_spec.specs.format.Code.{kind_of, IsKind};
 use base_data::model::code::{CodeFault, CodeKind};
 
 /// Returns the kind of the token that begins with this code (`intext.h`), or why no token begins
-/// with it.
+/// with this code.
 #[tactic(auto, unfolding(marshal_spec::specs::format::Code::kind_of))]
 pub fn code_kind(code: u8) -> Result<CodeKind, CodeFault>
     ensures kind { result ≡ kind_of code }

@@ -5,8 +5,8 @@ ghost use Rattle.marshal_codec.specs.codes.Known.{IsKind-prop};
 
 use base_data::model::code::CodeKind;
 
-/// The kind of some token. Its numbers fit into the bits that the code has for them, and a width is
-/// from one byte to eight.
+/// The kind of a token. The numbers of the kind fit into the bits that the code has for them, and a
+/// width is from one byte to eight.
 #[derive(Clone, Copy)]
 pub struct KnownKind {
     pub kind: CodeKind,

@@ -8,8 +8,8 @@ use base_data::model::code::Custom;
 
 const CODE: u8 = 0x19;
 
-/// Returns the bytes of a custom block, beginning with its code, and their count. A `Nativeint` has
-/// four bytes if it fits into them, otherwise eight.
+/// Returns the bytes of a custom block, beginning with the code, and the number of these bytes. A
+/// `Nativeint` has four bytes if its number fits into four bytes, and otherwise eight.
 #[tactic(auto, unfolding(marshal_spec::specs::format::Canonical::custom_encoding))]
 pub fn encode(c: Custom) -> ([u8; 13], usize)
     ensures encoded { take result.1 result.0 ≡ custom_encoding c }

@@ -6,7 +6,7 @@ ghost use Rattle.marshal_spec.specs.format.Code.{custom_of};
 use base_data::model::code::CustomKind;
 
 /// Returns the kind of the custom block with this identifier (`ints.c`), or `None` if the tool does
-/// not support it.
+/// not support that kind.
 #[tactic(auto, unfolding(marshal_spec::specs::format::Code::custom_of))]
 pub fn ident(bytes: [u8; 3]) -> Option<CustomKind>
     ensures { result ≡ custom_of bytes }

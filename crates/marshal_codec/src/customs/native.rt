@@ -8,8 +8,8 @@ use base_data::model::bytes::signed;
 /// The result of decoding the first bytes of a `Nativeint`'s data.
 #[derive(Clone, Copy)]
 pub enum NativeStep {
-    /// The number of bytes that are missing: up to the end of the kind byte if it is missing,
-    /// otherwise up to the end of the number.
+    /// The number of bytes that are missing. The missing bytes end with the kind byte if the kind
+    /// byte is missing, and otherwise with the number.
     More(usize),
     /// The number.
     Value(i64),

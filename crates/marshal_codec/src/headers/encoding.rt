@@ -1,4 +1,4 @@
-//! Encodes a header as the runtime writes it (`extern.c`).
+//! Encodes a header as the runtime writes headers (`extern.c`).
 
 ghost use Rattle.std.specs.Prelude.{◌≡◌, ◌≤◌, ◌∷◌, ◌++◌, [], take, flat_map};
 ghost use Rattle.std.specs.Int.{bytes_high_first};
@@ -8,8 +8,8 @@ ghost use Rattle.marshal_spec.specs.format.Canonical.{header_encoding};
 use crate::headers::magic::{BIG_MAGIC, SMALL_MAGIC};
 use base_data::model::header::Head;
 
-/// Returns the bytes of a header and their count. If the header is small, its numbers must be less
-/// than 2^32.
+/// Returns the bytes of a header, and the number of these bytes. If the header is small, its
+/// numbers must be less than 2^32.
 #[tactic(auto, unfolding(marshal_spec::specs::format::Canonical::header_encoding))]
 pub fn encode(head: Head) -> ([u8; 32], usize)
     requires { FitsSmall head }

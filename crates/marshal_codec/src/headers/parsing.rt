@@ -11,8 +11,8 @@ use base_data::model::header::Head;
 /// The result of decoding the first bytes of a value: the header, or the number of missing bytes.
 #[derive(Clone, Copy)]
 pub enum HeaderStep {
-    /// The number of bytes that are missing: up to the end of the magic number if it is incomplete,
-    /// otherwise up to the end of the header.
+    /// The number of bytes that are missing. The missing bytes end with the magic number if the
+    /// magic number is incomplete, and otherwise with the header.
     More(usize),
     /// The header is complete.
     Head(Head),
@@ -28,7 +28,7 @@ pub enum HeadFault {
 }
 
 /// Decodes the header at the beginning of `bytes` (`intern.c`). Bytes may follow the header. The
-/// magic number is checked as soon as it is complete.
+/// magic number is checked as soon as its four bytes are complete.
 #[tactic(auto, unfolding(marshal_spec::specs::format::Header::head_of))]
 #[inline(always)]
 pub fn parse(bytes: &[u8]) -> Result<HeaderStep, HeadFault>

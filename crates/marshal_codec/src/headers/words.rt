@@ -6,8 +6,9 @@ ghost use Rattle.marshal_codec.specs.headers.Counting.{IsCountable};
 
 use base_data::model::code::Measure;
 
-/// Returns the size of an object in words, including its header word: on a 32-bit and on a 64-bit
-/// platform (`extern.c`).
+/// Returns the size of an object in words, including the header word: on a 32-bit platform and on a
+/// 64-bit platform (`extern.c`).
+#[inline(always)]
 pub fn words_of(measure: Measure) -> (u64, u64)
     requires { IsCountable measure }
     ensures { result ≡ (words32 measure, words64 measure) }

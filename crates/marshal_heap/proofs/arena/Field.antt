@@ -1,4 +1,4 @@
--- A block has one field, its pointer, which has no parts of its own.
+-- The struct `Block` has one field, a pointer. The pointer has no parts of its own.
 use Rattle.std.proofs.Common.{refl, [], ◌∷◌}
 use seplogic.Ra.Ura.{Ura}
 use base.Logic.{ent, emp}

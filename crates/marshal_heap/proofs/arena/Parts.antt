@@ -1,4 +1,4 @@
--- A list split into three parts, and the list with another middle part.
+-- A list split into three parts, and the list with its middle part replaced.
 use Rattle.std.proofs.Common.{◌≡◌, ℕ, ◌+◌, ◌<◌, ◌≤◌, List, [], ◌∷◌, ◌++◌, length, take, drop, refl, sym, ap, ◌∙◌, arith, length-append, take-append-drop}
 use Rattle.std.proofs.lemmas.List.{drop-drop, take_all, append_assoc, length-take-le, length-drop}
 use Rattle.std.specs.Prelude.{◌-◌, slice_range, slice_set}

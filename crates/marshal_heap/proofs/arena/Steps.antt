@@ -1,4 +1,4 @@
--- The names that the walks use.
+-- The names that the proofs about `Block`'s functions use.
 pub use Rattle.std.proofs.Common.{◌≡◌, ℕ, ◌+◌, ◌-◌, ◌*◌, ◌^◌, ◌<◌, ◌≤◌, List, [], ◌∷◌, ◌++◌, length, refl, sym, ap, subst, ◌∙◌, arith, lit<, w64, MutBor, length-append}
 pub use Rattle.std.proofs.raw_atomic.Walks.{proved}
 pub use seplogic.Ra.Ura.{Ura}

@@ -1,5 +1,5 @@
--- Lemmas on the fields of a `Heap`: reading them, and their state after an object is appended or
--- changed, or after objects are removed.
+-- Lemmas on the fields of a `Heap` when the fields are read, when an object is appended or changed,
+-- and when objects are removed.
 use Rattle.std.proofs.Common.{◌≡◌, ℕ, suc, ◌+◌, ◌-◌, ◌/◌, ◌%◌, ◌^◌, ◌<◌, ◌≤◌, List, [], ◌∷◌, ◌++◌, length, get_or, set, take, drop, map, sym, ap, ap₂, subst, ◌∙◌, arith, length-set, length-take-le, take-append-drop, take_at, append-nil, append_assoc, take_all}
 use Rattle.std.specs.Prelude.{All, pos}
 use Rattle.std.specs.List.{range_with_len}
@@ -21,7 +21,8 @@ use Rattle.marshal_heap.proofs.heap.CodeLemmas.{length-code, length-encode, code
 use Rattle.marshal_heap.proofs.heap.StoredLemmas.{Holds, held, seen, stored, length-positions_of, get_or-positions_of, tag_small, header_in}
 use Rattle.marshal_heap.proofs.heap.NewLemmas.{IsNew, words-fields, body-fields}
 
--- If two functions agree on the first `n` numbers, then their lists of values are equal.
+-- If two functions agree on the numbers below `n`, then the two lists of the functions' values are
+-- equal.
 pub map_range_same : (f g : ℕ → ℕ) (n : ℕ) → ((k : ℕ) → k < n → f k ≡ g k) → map f (range_with_len 0 n) ≡ map g (range_with_len 0 n)
 map_range_same f g n same =
     map_same f g (range_with_len 0 n) (All-from_get_or (λ k. f k ≡ g k) (range_with_len 0 n) 0 (λ i inside.
@@ -29,7 +30,8 @@ map_range_same f g n same =
     let here : i ≡ get_or (range_with_len 0 n) i 0 = omega (arith, get_or-range_with_len 0 n i 0 few) in
     subst (λ (k : ℕ). f k ≡ g k) here (same i few)))
 
--- The invariant after one more object.
+-- If a valid and small object is appended and the words are within the bound, then the graph stays
+-- a heap.
 pub IsHeap-append : (graph : List Obj) (new : Obj) → IsObject (length graph) new → IsSmall new → heap_words graph + object_words new < 2 ^ 60 → IsHeap graph → IsHeap (graph ++ new ∷ [])
 IsHeap-append graph new valid small room heap =
     let more : length graph ≤ length (graph ++ new ∷ []) = omega (arith, length_push graph new) in
@@ -64,7 +66,8 @@ module _ (words positions : List ℕ) (graph : List Obj) (holds : Holds words po
   header_at : (k : ℕ) → k < length graph → get_or words (position graph k) 0 ≡ header (tag_of (object_at graph k)) (length (body_with (position graph) (object_at graph k)))
   header_at k inside = ap (λ (ws : List ℕ). get_or ws (position graph k) 0) holds.encoded ∙ header_in graph k inside (object_valid k inside)
 
-  -- The words of object `k`, whose header is at offset `p`.
+  -- If the header of object `k` is at offset `p`, then the words at `p` are the header and the body
+  -- of object `k`.
   module _ (k p : ℕ) (inside : k < length graph) (at : p ≡ position graph k) where
     header_read : get_or words p 0 ≡ header (tag_of (object_at graph k)) (length (body_with (position graph) (object_at graph k)))
     header_read = ap (λ (p : ℕ). get_or words p 0) at ∙ header_at k inside
@@ -92,7 +95,7 @@ module _ (words positions : List ℕ) (graph : List Obj) (holds : Holds words po
         ∙ ap (λ (ws : List ℕ). take (length (body_with (position graph) (object_at graph k))) (drop (position graph k + 1) ws)) holds.encoded
         ∙ body_in graph k inside
 
-  -- All words of object `k`.
+  -- From the offset of object `k` on, the arena contains all words of object `k`.
   pub code_at : (k : ℕ) → k < length graph → take (object_words (object_at graph k)) (drop (position graph k) words) ≡ code_with (position graph) (object_at graph k)
   code_at k inside =
       let at : position graph k ≡ position graph k + 0 = omega arith in
@@ -101,17 +104,17 @@ module _ (words positions : List ℕ) (graph : List Obj) (holds : Holds words po
       ∙ words_in graph k inside 0 (object_words (object_at graph k)) (omega arith)
       ∙ take_all (object_words (object_at graph k)) (code_with (position graph) (object_at graph k)) (omega arith)
 
-  -- Word `j` of object `k`.
+  -- Word `j` after the offset of object `k` is word `j` of the object.
   pub word_at : (k j : ℕ) → k < length graph → j < object_words (object_at graph k) → get_or words (position graph k + j) 0 ≡ get_or (code_with (position graph) (object_at graph k)) j 0
   word_at k j inside few = ap (λ (ws : List ℕ). get_or ws (position graph k + j) 0) holds.encoded ∙ word_in graph k inside j few
 
-  -- Word `i` after the header.
+  -- Word `i` after the header of object `k` is word `i` of the object's body.
   pub body_word : (k i p : ℕ) → k < length graph → i + 1 < object_words (object_at graph k) → p ≡ position graph k → get_or words (p + 1 + i) 0 ≡ get_or (body_with (position graph) (object_at graph k)) i 0
   body_word k i p inside few at =
       let here : p + 1 + i ≡ position graph k + suc i = omega arith in
       ap (λ (p : ℕ). get_or words p 0) here ∙ word_at k (suc i) inside (omega arith)
 
-  -- The word of field `i`.
+  -- Word `i` after the header of a block is the word of field `i`.
   pub field_word : (k i p w : ℕ) → k < length graph → i < length (fields_of (object_at graph k)) → p ≡ position graph k → w ≡ get_or words (p + 1 + i) 0
       → w ≡ word_with (position graph) (get_or (fields_of (object_at graph k)) i (vals.Int (pos 0)))
   field_word k i p w inside few at read =
@@ -120,7 +123,7 @@ module _ (words positions : List ℕ) (graph : List Obj) (holds : Holds words po
       ∙ ap (λ (ws : List ℕ). get_or ws i 0) (body-fields (position graph) (object_at graph k) (omega arith))
       ∙ get_or-map (word_with (position graph)) (fields_of (object_at graph k)) i (vals.Int (pos 0)) 0 few
 
-  -- The offset of this word is within the arena.
+  -- The offset of word `i` after an object's header is within the arena.
   pub word_inside : (k i p : ℕ) → k < length graph → i + 1 < object_words (object_at graph k) → p ≡ position graph k → p + 1 + i < length words
   word_inside k i p inside few at = omega (arith, object_inside k inside)
 
@@ -130,7 +133,8 @@ module _ (words positions : List ℕ) (graph : List Obj) (holds : Holds words po
       let inside : k < length graph = omega (arith, many_positions) in
       omega (arith, position_at k d inside, object_inside k inside, two_words (length graph) (object_at graph k) (object_valid k inside))
 
-  -- One more object, whose words are at the end.
+  -- If an object's words and offset are appended, then the arena stores the graph with the object
+  -- appended.
   pub appended : (words' positions' : List ℕ) (new : Obj) → IsObject (length graph) new → IsSmall new → length words + object_words new < 2 ^ 60
       → words' ≡ words ++ code_with (position graph) new → positions' ≡ positions ++ length words ∷ [] → Holds words' positions' (graph ++ new ∷ [])
   unfolding positions_of
@@ -149,7 +153,8 @@ module _ (words positions : List ℕ) (graph : List Obj) (holds : Holds words po
             ∙ sym (ap (λ (n : ℕ). map (position graph') (range_with_len 0 n)) (length_push graph new) ∙ map-range_with_len_more (position graph') 0 (length graph) (length graph) (omega arith));
       }
 
-  -- Word `j` of object `o` is replaced.
+  -- If word `j` of object `o` is replaced, then the arena stores the graph with object `o`
+  -- replaced.
   pub changed : (words' : List ℕ) (o j w : ℕ) (new : Obj) → o < length graph → Replaces (length graph) (object_at graph o) new
       → code_with (position graph) new ≡ set (code_with (position graph) (object_at graph o)) j w → j < object_words (object_at graph o)
       → words' ≡ set words (position graph o + j) w → Holds words' positions (set graph o new)
@@ -167,7 +172,8 @@ module _ (words positions : List ℕ) (graph : List Obj) (holds : Holds words po
             ∙ ap (λ (n : ℕ). map (position (set graph o new)) (range_with_len 0 n)) (sym (length-set graph o new));
       }
 
-  -- The objects from number `n` on are removed.
+  -- If the objects from number `n` on are removed, then the arena stores the graph of the first `n`
+  -- objects.
   pub dropped : (n : ℕ) → n ≤ length graph → IsGraph (take n graph) → Holds (take (position graph n) words) (take n positions) (take n graph)
   unfolding positions_of
   dropped n few closed =
@@ -187,7 +193,7 @@ module _ (words positions : List ℕ) (graph : List Obj) (holds : Holds words po
             ∙ ap (λ (m : ℕ). map (position (take n graph)) (range_with_len 0 m)) (sym many);
       }
 
--- The fields after a call that appends an object: its header, and then its words.
+-- The fields of a `Heap` after a call that appends an object's header and then the object's words.
 module _ (words positions : List ℕ) (graph : List Obj) (is_stored : IsStored words positions) (view : decode words positions ≡ graph) where
   pub made_code : (begun words' positions' code : List ℕ) (new : Obj) → IsObject (length graph) new → IsSmall new → length words + object_words new < 2 ^ 60
       → begun ≡ words → words' ≡ begun ++ code → code ≡ code_with (position graph) new → positions' ≡ positions ++ length words ∷ []
@@ -207,7 +213,7 @@ module _ (words positions : List ℕ) (graph : List Obj) (is_stored : IsStored w
       made_code begun words' positions' (h ∷ body) new is_new.valid is_new.small (omega (arith, is_new.words)) begin
       (end ∙ ap (λ (xs : List ℕ). xs ++ body) middle ∙ append_assoc begun (h ∷ []) body) code position_is
 
--- The fields after a call that replaces word `j` of object `o`.
+-- The fields of a `Heap` after a call that replaces one word of object `o`.
 module _ (words positions : List ℕ) (graph : List Obj) (is_stored : IsStored words positions) (view : decode words positions ≡ graph) where
   pub remade : (words' : List ℕ) (o i p w : ℕ) (new : Obj) → o < length graph → Replaces (length graph) (object_at graph o) new
       → code_with (position graph) new ≡ set (code_with (position graph) (object_at graph o)) (suc i) w → i + 1 < object_words (object_at graph o) → p ≡ position graph o

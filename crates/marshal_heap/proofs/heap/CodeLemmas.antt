@@ -1,4 +1,5 @@
--- Lemmas on the words of a graph: its parts, one object replaced, and objects appended or removed.
+-- Lemmas on the words of a graph when the graph is split, when one object is replaced, and when
+-- objects are appended or removed.
 use Rattle.std.proofs.Common.{◌≡◌, ℕ, zero, suc, ◌+◌, ◌-◌, ◌*◌, ◌<◌, ◌≤◌, List, [], ◌∷◌, ◌++◌, length, get_or, set, take, drop, refl, sym, ap, ap₂, ◌∙◌, arith, length-append, length-drop, take-append-drop, take_all}
 use Rattle.std.specs.Prelude.{All, flat_map, pos}
 use Rattle.std.proofs.lemmas.List.{length-map, drop_more, drop-drop, drop_at, drop-append-le, take-append-le, set-append_left, set-append_right}
@@ -17,7 +18,7 @@ use Rattle.marshal_heap.proofs.heap.PositionLemmas.{position_is, position-append
 use Rattle.marshal_heap.proofs.heap.WordLemmas.{map_same}
 use Rattle.marshal_heap.proofs.heap.StringLemmas.{length-string_words}
 
--- The number of an object's words is its size.
+-- The code of an object has as many words as the object.
 pub length-code : (at : ℕ → ℕ) (object : Obj) → length (code_with at object) ≡ object_words object
 length-code at (objects.Block tag values) = omega (arith, length-map values (word_with at))
 length-code at (objects.Bytes bytes) = omega (arith, length-string_words bytes)
@@ -39,8 +40,8 @@ length-encode graph = length-codes (position graph) graph
 pub length-prefix : (graph : List Obj) (o : ℕ) → length (flat_map (code_with (position graph)) (take o graph)) ≡ position graph o
 length-prefix graph o = length-codes (position graph) (take o graph) ∙ sym (position_is graph o)
 
--- If the offsets of the first `n` objects agree, then the words of values and objects over them
--- agree.
+-- If two functions give the first `n` objects the same offsets, then values and objects over these
+-- objects have the same words.
 module _ (at at' : ℕ → ℕ) (n : ℕ) (same : (k : ℕ) → k < n → at k ≡ at' k) where
   pub word-same : (v : Val) → IsValue n v → word_with at v ≡ word_with at' v
   word-same (vals.Int z) valid = refl
@@ -64,7 +65,7 @@ module _ (at at' : ℕ → ℕ) (n : ℕ) (same : (k : ℕ) → k < n → at k �
   codes-same (x ∷ graph) valid =
       ap₂ (λ xs ys. xs ++ ys) (code-same x (All-head (IsObject n) x graph valid)) (codes-same graph (All-tail (IsObject n) x graph valid))
 
--- More objects after a graph.
+-- If objects are appended to a graph, then the earlier objects keep their words.
 module _ (graph more : List Obj) where
   pub code-more : (object : Obj) → IsObject (length graph) object → code_with (position (graph ++ more)) object ≡ code_with (position graph) object
   code-more object valid = code-same (position (graph ++ more)) (position graph) (length graph) (λ k inside. position-append graph more k (omega arith)) object valid
@@ -75,7 +76,7 @@ module _ (graph more : List Obj) where
       flat_map-append (code_with (position (graph ++ more))) graph more
       ∙ ap (λ (ws : List ℕ). ws ++ flat_map (code_with (position (graph ++ more))) more) (codes-same (position (graph ++ more)) (position graph) (length graph) (λ k inside. position-append graph more k (omega arith)) graph valid)
 
--- The words of object `o`.
+-- The words of object `o` are at the offset of `o` in the words of the graph.
 module _ (graph : List Obj) (o : ℕ) (inside : o < length graph) where
   abbrev object : Obj
   object = object_at graph o
@@ -92,7 +93,8 @@ module _ (graph : List Obj) (o : ℕ) (inside : o < length graph) where
       ap (flat_map (code_with (position graph))) (sym (take-append-drop o graph) ∙ ap (λ (xs : List Obj). take o graph ++ xs) (drop_more graph o (objects.I32 (pos 0)) inside))
       ∙ flat_map-append (code_with (position graph)) (take o graph) (object ∷ drop (o + 1) graph)
 
-  -- The words of object `o` from word `j` on.
+  -- From word `j` of object `o` on, the graph's words are the object's words from `j` on and the
+  -- words after the object.
   pub words_from : (j : ℕ) → j ≤ object_words object → drop (position graph o + j) (encode graph) ≡ drop j code ++ after
   words_from j few =
       ap (drop (position graph o + j)) split
@@ -116,7 +118,7 @@ module _ (graph : List Obj) (o : ℕ) (inside : o < length graph) where
       words_in 1 (length (body_with (position graph) object)) (omega (arith, length-code (position graph) object))
       ∙ take_all (length (body_with (position graph) object)) (body_with (position graph) object) (omega arith)
 
--- The words of a graph if word `j` of one object is replaced.
+-- If word `j` of one object is replaced, then exactly one word of the graph's words is replaced.
 pub flat_map-set : {X : Type 0} (f : X → List ℕ) (xs : List X) (o j w : ℕ) (y d : X) → o < length xs → f y ≡ set (f (get_or xs o d)) j w → j < length (f (get_or xs o d))
     → flat_map f (set xs o y) ≡ set (flat_map f xs) (length (flat_map f (take o xs)) + j) w
 flat_map-set f [] o j w y d inside changed few = absurd (omega arith)

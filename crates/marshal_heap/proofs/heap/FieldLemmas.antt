@@ -1,4 +1,4 @@
--- The fields of objects, and a field that is written.
+-- Lemmas on the fields of objects, and on a field that is written.
 use Rattle.std.proofs.Common.{ℕ, ◌<◌, ◌≡◌, ◌∙◌, List, [], ◌∷◌, ◌++◌, length, Some, get_or, set, ap, length-set}
 use Rattle.std.specs.Prelude.{pos, slice_get}
 use Rattle.std.proofs.lemmas.List.{get_or_append_left, set-append_left, get_or_at, set_at}
@@ -32,7 +32,7 @@ set_field_at xs tag values b i v e =
     (get_or_at xs (objects.Block tag values) [] (objects.I32 (pos 0)) b e)
     ∙ set_at xs (objects.Block tag values) [] (objects.Block tag (set values i v)) b e
 
--- Each field of an object is a value.
+-- Each field of a valid object is a valid value.
 pub values_there :
     (n : ℕ) (object : Obj) (i : ℕ) (v : Val) → IsObject n object
     → slice_get (fields_of object) i ≡ Some v → IsValue n v

@@ -1,4 +1,5 @@
--- Lemmas on graphs: more objects, one object replaced, and objects removed from the end.
+-- Lemmas on graphs to which objects are appended, in which one object is replaced, and whose last
+-- objects are removed.
 use Rattle.std.proofs.Common.{◌≡◌, ℕ, ◌+◌, ◌^◌, ◌<◌, ◌≤◌, List, length, set, take, refl, sym, ap, subst, arith, length-set}
 use Rattle.std.specs.Prelude.{All, pos}
 use Rattle.std.proofs.lemmas.List.Elements.{All-set, All-take, All-weaker}
@@ -10,7 +11,8 @@ use Rattle.base_data.specs.declared.model.value.Obj.TheVariants as objects
 use Rattle.base_data.specs.model.Graph.{IsValue, IsObject, IsGraph}
 use Rattle.marshal_heap.specs.heap.Heap.{object_at, with_field, with_byte, with_double, object_words, heap_words, IsSmall, IsHeap}
 
--- If a value is valid among `m` objects, then it is valid among more.
+-- If a value is valid among `m` objects and `m` is at most `n`, then the value is valid among `n`
+-- objects.
 pub IsValue-more : (m n : ℕ) (v : Val) → m ≤ n → IsValue m v → IsValue n v
 IsValue-more m n (vals.Int z) more valid = valid
 IsValue-more m n (vals.Atom tag) more valid = valid
@@ -21,7 +23,7 @@ IsObject-more m n (objects.Block tag values) more valid =
     (valid.0, valid.1, All-weaker (IsValue m) (IsValue n) (λ v h. IsValue-more m n v more h) values valid.2)
 IsObject-more m n object more valid = valid
 
--- An object that can replace another: it is valid and has as many words.
+-- The object `new` can replace the object `old`: `new` is valid and has as many words as `old`.
 pub record Replaces (n : ℕ) (old new : Obj) : Type 0 where
   pub valid : IsObject n new
   pub words : object_words new ≡ object_words old
@@ -59,7 +61,8 @@ module _ (graph : List Obj) (o : ℕ) (new : Obj) (in_range : o < length graph) 
     words = subst (λ k. k < 2 ^ 60) (sym heap_words-set) heap.words;
   }
 
--- A prefix of a heap is a heap if its objects do not refer beyond its end.
+-- If the first `n` objects of a heap refer only to each other, then the first `n` objects are a
+-- heap.
 pub IsHeap-take : (n : ℕ) (graph : List Obj) → IsGraph (take n graph) → IsHeap graph → IsHeap (take n graph)
 IsHeap-take n graph closed heap = record {
   is_graph = closed;

@@ -1,4 +1,4 @@
--- Lemmas on the objects that a heap's calls make or change, and on their words.
+-- Lemmas on the objects that a heap's methods append or change, and on the words of these objects.
 use Rattle.std.proofs.Common.{◌≡◌, ℕ, zero, suc, ◌+◌, ◌/◌, ◌%◌, ◌^◌, ◌<◌, ◌≤◌, ℤ, pos, List, [], ◌∷◌, length, inl, inr, get_or, set, map, replicate, refl, sym, ap, ap₂, subst, ◌∙◌, arith, length-set}
 use Rattle.std.specs.Prelude.{All}
 use Rattle.std.proofs.lemmas.List.{length-map, length-replicate, map-set, get_or_past}
@@ -20,7 +20,7 @@ use Rattle.marshal_heap.proofs.heap.WordLemmas.{signed_back}
 use Rattle.marshal_heap.proofs.heap.StringLemmas.{string_words-set, string_length_is}
 use Rattle.marshal_heap.proofs.heap.StoredLemmas.{other_tags, wider}
 
--- An object that can be appended to `n` objects, with the words after its header.
+-- An object that can be appended to `n` objects, with the words after the object's header.
 pub record IsNew (n size : ℕ) (at : ℕ → ℕ) (object : Obj) (body : List ℕ) : Type 0 where
   pub valid : IsObject n object
   pub small : object_words object < 2 ^ 54
@@ -41,7 +41,7 @@ IsNew-block n at tag size small_tag some few =
       body_is = sym (map_replicate (word_with at) size (vals.Int (pos 0)));
     }
 
--- The values that words represent.
+-- If each word represents some value, then the words are the words of a list of values.
 pub values_of : (n : ℕ) (at : ℕ → ℕ) (words : List ℕ) → All (λ w. (v : Val) × IsValue n v × (w ≡ word_with at v)) words → (values : List Val) × All (IsValue n) values × (words ≡ map (word_with at) values)
 values_of n at [] valid = ([], All-nil (IsValue n), refl)
 values_of n at (w ∷ words) valid =
@@ -87,7 +87,7 @@ custom_tag (customs.I32 z) = refl
 custom_tag (customs.I64 z) = refl
 custom_tag (customs.Native z) = refl
 
--- The words of a block.
+-- The words of a block after the header are the words of the block's fields.
 pub body-fields : (at : ℕ → ℕ) (object : Obj) → 0 < length (fields_of object) → body_with at object ≡ map (word_with at) (fields_of object)
 body-fields at (objects.Block tag values) some = refl
 body-fields at (objects.Bytes bytes) some = absurd (omega arith)
@@ -124,7 +124,7 @@ body-doubles at (objects.I32 z) some = absurd (omega arith)
 body-doubles at (objects.I64 z) some = absurd (omega arith)
 body-doubles at (objects.Native z) some = absurd (omega arith)
 
--- The words of an object with one part replaced.
+-- If a part of an object is replaced, then the part's word is replaced in the object's words.
 pub code-field : (at : ℕ → ℕ) (object : Obj) (i : ℕ) (v : Val) → i < length (fields_of object) → code_with at (with_field object i v) ≡ set (code_with at object) (suc i) (word_with at v)
 code-field at (objects.Block tag values) i v inside =
     ap (λ (ws : List ℕ). header tag (length ws) ∷ ws) (map-set (word_with at) values i v)
@@ -179,7 +179,7 @@ custom_fits n at (objects.I32 z) valid e = (refl, λ one. subst (IsSigned 31) (s
 custom_fits n at (objects.I64 z) valid e = (refl, λ one. absurd (omega arith))
 custom_fits n at (objects.Native z) valid e = (refl, λ one. absurd (omega arith))
 
--- Each part and its words are within the object.
+-- The word of each part is among the words of the object.
 pub words-fields : (object : Obj) (i : ℕ) → i < length (fields_of object) → i + 1 < object_words object
 words-fields (objects.Block tag values) i inside = omega arith
 words-fields (objects.Bytes bytes) i inside = absurd (omega arith)
@@ -216,7 +216,8 @@ fields_valid n (objects.I32 z) i d inside valid = absurd (omega arith)
 fields_valid n (objects.I64 z) i d inside valid = absurd (omega arith)
 fields_valid n (objects.Native z) i d inside valid = absurd (omega arith)
 
--- If an object has parts, then it is an object of the graph.
+-- If an object number has an object with parts, then the number is below the number of objects in
+-- the graph.
 pub inside_if : {X : Type 0} (f : Obj → List X) (graph : List Obj) (o i : ℕ) → f (objects.I32 (pos 0)) ≡ [] → i < length (f (object_at graph o)) → o < length graph
 inside_if f graph o i none some = elim (cases_lt o (length graph)) [
   | inl inside ↦ inside

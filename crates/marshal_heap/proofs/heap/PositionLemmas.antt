@@ -1,4 +1,5 @@
--- Lemmas on the offsets of headers: they increase, and distinct objects have distinct offsets.
+-- Lemmas on the offsets of headers: the offsets increase, and distinct objects have distinct
+-- offsets.
 use Rattle.std.proofs.Common.{◌≡◌, ℕ, zero, suc, ◌+◌, ◌<◌, ◌≤◌, List, [], ◌∷◌, ◌++◌, length, set, take, refl, ap, subst, inl, inr, arith, take-take, take_all}
 use Rattle.std.specs.Prelude.{pos}
 use Rattle.std.proofs.lemmas.List.{take-append-le}
@@ -18,7 +19,7 @@ pub position-append : (graph more : List Obj) (k : ℕ) → k ≤ length graph �
 unfolding position
 position-append graph more k inside = ap heap_words (take-append-le k graph more inside)
 
--- The offset after all objects.
+-- The offset after all objects is the number of words of the graph.
 pub position-all : (graph : List Obj) → position graph (length graph) ≡ heap_words graph
 unfolding position
 position-all graph = ap heap_words (take_all (length graph) graph (omega arith))
@@ -31,7 +32,7 @@ pub position-next : (graph : List Obj) (k : ℕ) → k < length graph → positi
 unfolding position
 position-next graph k inside = sum_by_more object_words graph k (objects.I32 (pos 0)) inside
 
--- If an object is replaced by one with as many words, then all offsets stay the same.
+-- If an object is replaced by an object with as many words, then all offsets stay the same.
 pub position-set : (graph : List Obj) (o k : ℕ) (new : Obj) → object_words new ≡ object_words (object_at graph o) → position (set graph o new) k ≡ position graph k
 unfolding position
 position-set [] o k new same = refl
@@ -59,7 +60,7 @@ pub position_grows : (graph : List Obj) (k m : ℕ) → IsGraph graph → k < m 
 position_grows graph k m valid before inside =
     omega (arith, position-next graph k inside, two_words (length graph) (object_at graph k) (valid k (objects.I32 (pos 0)) inside), position_le graph (k + 1) m (omega arith))
 
--- If two objects have the same offset or the same key, then they are the same object.
+-- If two objects have the same offset or the same key, then the two objects are the same object.
 pub same_from_position : (graph : List Obj) (k m : ℕ) → IsGraph graph → k < length graph → m < length graph → position graph k ≡ position graph m → k ≡ m
 same_from_position graph k m valid k_inside m_inside same = elim (cases_order k m) [
   | inl e ↦ e
@@ -69,6 +70,6 @@ same_from_position graph k m valid k_inside m_inside same = elim (cases_order k 
   ]
 ]
 
--- Each object is within the arena.
+-- All words of each object are within the words of the graph.
 pub position_inside : (graph : List Obj) (k : ℕ) → IsGraph graph → k < length graph → position graph k + object_words (object_at graph k) ≤ heap_words graph
 position_inside graph k valid inside = omega (arith, position-next graph k inside, position_le graph (k + 1) (length graph) (omega arith), position-all graph)

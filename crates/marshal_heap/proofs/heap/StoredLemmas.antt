@@ -17,7 +17,7 @@ use Rattle.marshal_heap.proofs.heap.WordLemmas.{map_back, value_back, signed_bac
 use Rattle.marshal_heap.proofs.heap.StringLemmas.{bytes_back}
 use Rattle.marshal_heap.proofs.heap.CodeLemmas.{word_in, body_in}
 
--- The list of header offsets and its elements.
+-- A graph has one header offset for each object.
 pub length-positions_of : (graph : List Obj) → length (positions_of graph) ≡ length graph
 unfolding positions_of
 length-positions_of graph = length-map-range_with_len (position graph) 0 (length graph)
@@ -54,7 +54,7 @@ other_tags tag a b c d e small =
     ∙ cond-false (eqb tag 254) _ _ (ne_eqb tag 254 (λ h. omega arith))
     ∙ cond-false (eqb tag 255) _ _ (ne_eqb tag 255 (λ h. omega arith))
 
--- The tag and the words determine an object.
+-- The tag and the words of an object determine the object.
 module _ (graph : List Obj) (valid : IsGraph graph) where
   pub object_back : (object : Obj) → IsObject (length graph) object → object_from (positions_of graph) (tag_of object) (body_with (position graph) object) ≡ object
   object_back (objects.Block tag values) fits =
@@ -68,7 +68,7 @@ module _ (graph : List Obj) (valid : IsGraph graph) where
   object_back (objects.I64 z) fits = ap objects.I64 (signed_back z fits)
   object_back (objects.Native z) fits = ap objects.Native (signed_back z fits)
 
--- The header of object `o`.
+-- The word at the offset of object `o` is the header of `o`.
 module _ (graph : List Obj) (o : ℕ) (inside : o < length graph) (valid : IsObject (length graph) (object_at graph o)) where
   pub header_in : get_or (encode graph) (position graph o) 0 ≡ header (tag_of (object_at graph o)) (length (body_with (position graph) (object_at graph o)))
   header_in =
@@ -95,7 +95,7 @@ decode-encode graph valid =
     ∙ object_back graph valid (object_at graph k) fits
     ∙ get_or_default graph k (objects.I32 (pos 0)) d inside)
 
--- The words and the offsets encode this graph.
+-- The words and the offsets encode the graph, which is a heap.
 pub record Holds (words positions : List ℕ) (graph : List Obj) : Type 0 where
   pub heap : IsHeap graph
   pub encoded : words ≡ encode graph

@@ -1,4 +1,4 @@
--- Lemmas on strings as words.
+-- Lemmas on strings that are stored as words.
 use Rattle.std.proofs.Common.{◌≡◌, ℕ, ◌+◌, ◌-◌, ◌*◌, ◌/◌, ◌%◌, ◌<◌, List, [], ◌∷◌, ◌++◌, length, get_or, set, take, drop, map, replicate, refl, sym, ap, ap₂, ◌∙◌, inl, inr, arith, length-set, length-drop, length-append, length-take-le, get_or-take, get_or-drop, append_assoc, take_all}
 use Rattle.std.specs.List.{range_with_len}
 use Rattle.std.proofs.Math.Seq.{take-set-lt}
@@ -11,7 +11,7 @@ use Rattle.base_data.specs.model.Bytes.{AreBytes}
 use Rattle.marshal_heap.specs.heap.Stored.{string_length, bytes_from}
 use Rattle.marshal_heap.specs.heap.Words.{padded, word_of_bytes, bytes_of_word, word_at, string_words, byte_in}
 
--- The bytes of a word that was made of eight bytes.
+-- If a word is made of eight bytes, then the bytes of the word are these eight bytes.
 pub word_back : (bytes : List ℕ) → length bytes ≡ 8 → AreBytes bytes → bytes_of_word (word_of_bytes bytes) ≡ bytes
 unfolding word_of_bytes bytes_of_word
 word_back bytes eight valid =
@@ -36,14 +36,14 @@ pub get_or-string_words : (bytes : List ℕ) (j : ℕ) → j < length bytes / 8 
 unfolding string_words
 get_or-string_words bytes j inside = get_or-map-range_with_len (word_at (padded bytes)) 0 (length bytes / 8 + 1) j j 0 inside (omega arith)
 
--- The bytes of word `j`.
+-- The bytes of word `j` are the eight bytes from 8 * `j` on of the padded string.
 pub word_bytes : (bytes : List ℕ) (j : ℕ) → AreBytes bytes → j < length bytes / 8 + 1 → bytes_of_word (get_or (string_words bytes) j 0) ≡ take 8 (drop (8 * j) (padded bytes))
 word_bytes bytes j valid inside =
     ap bytes_of_word (get_or-string_words bytes j inside)
     ∙ word_back (take 8 (drop (8 * j) (padded bytes))) (length-take-le 8 (drop (8 * j) (padded bytes)) (omega (arith, length-drop (8 * j) (padded bytes), length-padded bytes)))
     (All-take (λ b. b < 256) 8 _ (All-drop (λ b. b < 256) (8 * j) (padded bytes) (padded_bytes bytes valid)))
 
--- Each byte is in its word.
+-- Byte `i` of a string's words is byte `i` of the padded string.
 pub byte_in_words : (bytes : List ℕ) (i : ℕ) → AreBytes bytes → i < 8 * (length bytes / 8 + 1) → byte_in (string_words bytes) i ≡ get_or (padded bytes) i 0
 byte_in_words bytes i valid inside =
     let at : 8 * (i / 8) + i % 8 ≡ i = omega arith in
@@ -56,7 +56,7 @@ pub byte_in_string : (bytes : List ℕ) (i : ℕ) → AreBytes bytes → i < len
 byte_in_string bytes i valid inside =
     byte_in_words bytes i valid (omega arith) ∙ get_or_append_left bytes _ 0 i inside
 
--- The last byte determines the length.
+-- The last byte of a string's words is the number of padding bytes before it.
 pub last_byte : (bytes : List ℕ) → AreBytes bytes → byte_in (string_words bytes) (8 * (length bytes / 8 + 1) - 1) ≡ 7 - length bytes % 8
 last_byte bytes valid =
     let prefix : List ℕ = bytes ++ replicate (7 - length bytes % 8) 0 in
@@ -77,13 +77,13 @@ bytes_back bytes valid =
     ap (λ (n : ℕ). map (byte_in (string_words bytes)) (range_with_len 0 n)) (string_length_is bytes valid)
     ∙ sym (fill_by_all (byte_in (string_words bytes)) bytes (length bytes) 0 refl (λ k inside. sym (byte_in_string bytes k valid inside)))
 
--- Each word before the last consists of eight bytes of the string.
+-- Each word before the last word consists of eight bytes of the string.
 pub eight_bytes : (bytes : List ℕ) (j : ℕ) → j < length bytes / 8 → take 8 (drop (8 * j) (padded bytes)) ≡ take 8 (drop (8 * j) bytes)
 eight_bytes bytes j inside =
     ap (take 8) (drop-append-le (8 * j) bytes _ (omega arith))
     ∙ take-append-le 8 (drop (8 * j) bytes) _ (omega (arith, length-drop (8 * j) bytes))
 
--- The last word contains the remaining bytes.
+-- The last word contains the remaining bytes of the string and the padding.
 pub last_bytes : (bytes : List ℕ) → take 8 (drop (8 * (length bytes / 8)) (padded bytes)) ≡ drop (8 * (length bytes / 8)) bytes ++ (replicate (7 - length bytes % 8) 0 ++ (7 - length bytes % 8) ∷ [])
 last_bytes bytes =
     let m = 8 * (length bytes / 8) in
@@ -91,14 +91,15 @@ last_bytes bytes =
     ap (take 8) (drop-append-le m bytes ending (omega arith))
     ∙ take_all 8 (drop m bytes ++ ending) (omega (arith, length-append (drop m bytes) ending, length-drop m bytes, length-append (replicate (7 - length bytes % 8) 0) ((7 - length bytes % 8) ∷ []), length-replicate {A = ℕ} (7 - length bytes % 8) 0))
 
--- The words of a string, with the last word separate.
+-- The words of a string are the words filled with the string's bytes, and the last word.
 pub string_words_are : (bytes : List ℕ) → string_words bytes ≡ map (word_at (padded bytes)) (range_with_len 0 (length bytes / 8)) ++ word_of_bytes (drop (8 * (length bytes / 8)) bytes ++ (replicate (7 - length bytes % 8) 0 ++ (7 - length bytes % 8) ∷ [])) ∷ []
 unfolding string_words
 string_words_are bytes =
     map-range_with_len_more (word_at (padded bytes)) 0 (length bytes / 8) (length bytes / 8) (omega arith)
     ∙ ap (λ (w : ℕ). map (word_at (padded bytes)) (range_with_len 0 (length bytes / 8)) ++ w ∷ []) (ap word_of_bytes (last_bytes bytes))
 
--- A string with byte `i` replaced.
+-- If byte `i` of a string is replaced, then byte `i` of the padded string and of its words is
+-- replaced.
 module _ (bytes : List ℕ) (i b : ℕ) (inside : i < length bytes) where
   padded-set : padded (set bytes i b) ≡ set (padded bytes) i b
   padded-set =
@@ -148,7 +149,7 @@ zero_word : word_of_bytes (replicate 8 0) ≡ 0
 unfolding word_of_bytes
 zero_word = refl
 
--- The words of a string of zero bytes.
+-- The words of a string of zero bytes are zero words and the last word.
 pub zero_words : (len : ℕ) → string_words (replicate len 0) ≡ replicate (len / 8) 0 ++ word_of_bytes (replicate (len % 8) 0 ++ (replicate (7 - len % 8) 0 ++ (7 - len % 8) ∷ [])) ∷ []
 zero_words len =
     let zeros : List ℕ = replicate len 0 in

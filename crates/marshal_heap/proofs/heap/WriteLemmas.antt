@@ -1,5 +1,5 @@
--- Lemmas for callers: reading and writing an object between other objects, and a list that is
--- filled from its beginning.
+-- Lemmas for callers on an object that is read and written between other objects, and on a list
+-- that is filled from the beginning.
 use Rattle.std.proofs.Common.{◌≡◌, ◌≢◌, ℕ, ◌+◌, ◌<◌, List, [], ◌∷◌, ◌++◌, length, set, replicate, refl, sym, ap, ◌∙◌, add-one, append_assoc}
 use Rattle.std.proofs.lemmas.List.{get_or_at, get_or_append_left, get_or-set_same, get_or-set_other, set_at}
 use Rattle.std.proofs.lemmas.List.Sums.{sum_by-append}
@@ -8,7 +8,7 @@ use Rattle.base_data.specs.declared.model.value.Obj.{Obj}
 use Rattle.base_data.specs.declared.model.value.Obj.TheVariants as objects
 use Rattle.marshal_heap.specs.heap.Heap.{object_at, with_field, with_byte, with_double, set_field, set_byte, set_double, fields_of, bytes_of, object_words, heap_words}
 
--- An object between others.
+-- If an object stands between other objects, then its number is the number of objects before it.
 module _ (before : List Obj) (object : Obj) (after : List Obj) (o : ℕ) (here : o ≡ length before) where
   pub object_at_here : object_at (before ++ object ∷ after) o ≡ object
   object_at_here = get_or_at before object after _ o (sym here)
@@ -29,7 +29,8 @@ module _ (before : List Obj) (object : Obj) (after : List Obj) (o : ℕ) (here :
 pub object_at-append : (graph more : List Obj) (o : ℕ) → o < length graph → object_at (graph ++ more) o ≡ object_at graph o
 object_at-append graph more o in_range = get_or_append_left graph more _ o in_range
 
--- After a write: the object itself, and another object.
+-- If a field of object `o` is written, then `o` has the new field, and each other object is
+-- unchanged.
 module _ (graph : List Obj) (o i : ℕ) (v : Val) where
   pub object_at-set_field : o < length graph → object_at (set_field graph o i v) o ≡ with_field (object_at graph o) i v
   object_at-set_field in_range = get_or-set_same graph o _ _ in_range
@@ -48,11 +49,11 @@ bytes_of-with_byte object i b = refl
 pub heap_words-append : (graph more : List Obj) → heap_words (graph ++ more) ≡ heap_words graph + heap_words more
 heap_words-append graph more = sum_by-append object_words graph more
 
--- The first element that is not filled yet is filled.
+-- If the first element that is not filled yet is set, then one more element is filled.
 pub fill_next : {X : Type 0} (done : List X) (i k n : ℕ) (y v : X) → i ≡ length done → n ≡ k + 1 → set (done ++ replicate n y) i v ≡ (done ++ v ∷ []) ++ replicate k y
 fill_next done i k n y v here more =
     rw (more, add-one) (set_at done y (replicate k y) v i (sym here) ∙ sym (append_assoc done (v ∷ []) (replicate k y)))
 
--- The rules for callers: use them in `grind (arith, common_steps, heap_steps)`, or by `using` on a
+-- The rules for callers, for `grind (arith, common_steps, heap_steps)` or for `using` on a
 -- function.
 pub ruleset heap_steps = (fill_next, object_at_here, set_field_here, set_byte_here, set_double_here, object_at-append, object_at-set_field, object_at-set_field_other, fields_of-with_field, bytes_of-with_byte, heap_words-append)

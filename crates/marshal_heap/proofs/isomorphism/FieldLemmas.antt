@@ -1,4 +1,4 @@
--- Fields that are compared one after another, and the comparison of contents.
+-- Lemmas on fields that are compared one after another, and on the comparison of contents.
 use Rattle.std.proofs.Common.{ℕ, zero, suc, ◌≡◌, ◌≢◌, ◌+◌, ◌<◌, ◌≤◌, ◌∙◌, Bool, true, false, List, [], ◌∷◌, ◌++◌, length, map, take, get_or, set, refl, sym, ap, subst, arith, add-one, append-nil}
 use Rattle.std.specs.Prelude.{MatchBool, Result, Ok, Err}
 use Rattle.std.specs.List.{AllZip}
@@ -36,14 +36,15 @@ same_content xs ys n left right each = ext_get_or 0 xs ys (sym left ∙ right) (
 
 -- ---- fields
 
--- If the first `i` fields are related, and field `i` is, then the first `i + 1` fields are.
+-- If the first `i` fields are related and field `i` is related, then the first `i + 1` fields are
+-- related.
 more_fields : {X : Type 0} (R : X → X → Type 0) (xs ys : List X) (i : ℕ) (d e : X) → i < length xs → i < length ys → AllZip R (take i xs) (take i ys) → R (get_or xs i d) (get_or ys i e) → AllZip R (take (suc i) xs) (take (suc i) ys)
 more_fields R [] ys i d e less less' all one = absurd (omega arith)
 more_fields R (x ∷ xs) [] i d e less less' all one = absurd (omega arith)
 more_fields R (x ∷ xs) (y ∷ ys) zero d e less less' all one = (one, tt)
 more_fields R (x ∷ xs) (y ∷ ys) (suc i) d e less less' all one = (all.0, more_fields R xs ys i d e (omega arith) (omega arith) all.1 one)
 
--- If all fields are related, then the first `i` fields are, and field `i` is.
+-- If all fields are related, then the first `i` fields are related and field `i` is related.
 pub some_fields : {X : Type 0} (R : X → X → Type 0) (xs ys : List X) (i : ℕ) (d e : X) → i < length xs → i < length ys → AllZip R xs ys → AllZip R (take i xs) (take i ys) × R (get_or xs i d) (get_or ys i e)
 some_fields R [] ys i d e less less' all = absurd (omega arith)
 some_fields R (x ∷ xs) [] i d e less less' all = absurd (omega arith)
@@ -56,7 +57,7 @@ fewer_fields R (x ∷ xs) [] i d e less less' all = absurd (omega arith)
 fewer_fields R (x ∷ xs) (y ∷ ys) zero d e less less' all = (tt, all.0)
 fewer_fields R (x ∷ xs) (y ∷ ys) (suc i) d e less less' all = let r = fewer_fields R xs ys i d e (omega arith) (omega arith) all.1 in ((all.0, r.0), r.1)
 
--- The fields of two blocks agree.
+-- The fields of two blocks agree under the pairs.
 abbrev pub AgreeFields : List Val → List Val → List (ℕ × ℕ) → Type 0
 AgreeFields vs ws pairs = AllZip (Agree pairs) vs ws
 
@@ -86,7 +87,7 @@ fields_all old new vs ws i past past' met =
 
 -- ---- objects
 
--- If two objects agree, then they have the same kind.
+-- If two objects agree, then the two objects have the same kind.
 agree_kinds : (pairs : List (ℕ × ℕ)) (a b : Obj) → AgreeObjects pairs a b → kind_of a ≡ kind_of b
 agree_kinds pairs (objects.Block tag values) (objects.Block tag' values') agree =
     ap (λ t. kinds.Block t (length values)) agree.0 ∙ ap (λ n. kinds.Block tag' n) (AllZip-length (Agree pairs) values values' agree.1)
@@ -110,7 +111,7 @@ Meets-same old new A B (Ok true) to from met = record {
 Meets-same old new A B (Ok false) to from cannot = λ all one_to_one among agree. cannot all one_to_one among (from all agree)
 Meets-same old new A B (Err memory) to from met = met
 
--- A test that needs no pairs.
+-- The Boolean `r` decides the proposition `P`, without any pairs.
 abbrev IsTested : Bool → Type 0 → Type 0
 IsTested r P = MatchBool r P (P → ⊥)
 
@@ -118,7 +119,7 @@ meets_tested : (old : List (ℕ × ℕ)) (P : Type 0) (r : Bool) → IsTested r 
 meets_tested old P true holds = record { kept = ([], sym (append-nil old)); agree_now = holds; needed = λ all one_to_one among agree. among }
 meets_tested old P false fails = λ all one_to_one among agree. fails agree
 
--- Case: blocks.
+-- Case: the compared objects are blocks.
 pub blocks_meet : (old new : List (ℕ × ℕ)) (a b : Obj) (tag : ℕ) (r : Result Bool Memory) → a ≡ objects.Block tag (fields_of a) → b ≡ objects.Block tag (fields_of b) → Meets old new (AgreeFields (fields_of a) (fields_of b)) r → Meets old new (λ all. AgreeObjects all a b) r
 blocks_meet old new a b tag r is is' met =
     Meets-same old new (AgreeFields (fields_of a) (fields_of b)) (λ all. AgreeObjects all a b) r
@@ -126,7 +127,7 @@ blocks_meet old new a b tag r is is' met =
     (λ all agree. (let both : AgreeObjects all (objects.Block tag (fields_of a)) (objects.Block tag (fields_of b)) = subst (λ y. AgreeObjects all (objects.Block tag (fields_of a)) y) is' (subst (λ x. AgreeObjects all x b) is agree) in both.1))
     met
 
--- Case: objects without fields.
+-- Case: the compared objects have no fields.
 leaf_meet : (old : List (ℕ × ℕ)) (a b x : Obj) (r : Bool) → a ≡ x → ((all : List (ℕ × ℕ)) → AgreeObjects all x b → x ≡ b) → ((all : List (ℕ × ℕ)) → x ≡ b → AgreeObjects all x b) → IsTested r (x ≡ b) → Meets old old (λ all. AgreeObjects all a b) (Ok r)
 leaf_meet old a b x r is from to tested =
     Meets-same old old (λ _. x ≡ b) (λ all. AgreeObjects all a b) (Ok r)
@@ -166,7 +167,7 @@ customs_meet old a b (customs.I32 z) is is' = leaf_meet old a b (objects.I32 z) 
 customs_meet old a b (customs.I64 z) is is' = leaf_meet old a b (objects.I64 z) true is (λ all e. e) (λ all e. e) (sym is')
 customs_meet old a b (customs.Native z) is is' = leaf_meet old a b (objects.Native z) true is (λ all e. e) (λ all e. e) (sym is')
 
--- Two objects of the same kind.
+-- If the test of two kinds succeeds, then the two objects have the same kind.
 pub both_of_kind : (k l m : Kind) (a b : Obj) (r : Bool) → IsOfKind k a → IsOfKind l b → MatchBool r (k ≡ l) (k ≢ l) → r ≡ true → k ≡ m → IsOfKind m a × IsOfKind m b
 both_of_kind k l m a b r of_a of_b test yes' is =
     let same : k ≡ l = subst (λ t. MatchBool t (k ≡ l) (k ≢ l)) yes' test in

@@ -1,4 +1,4 @@
--- Tables from a number to its pair.
+-- Lemmas on tables from an object's number to the object's pair.
 use Rattle.std.proofs.Common.{ℕ, zero, suc, ◌≡◌, ◌≢◌, ◌+◌, ◌<◌, ◌∙◌, ◌⊎◌, inl, inr, ⊎_elim, cond, eqb, List, [], ◌∷◌, ◌++◌, length, map, get_or, set, Some, refl, sym, ap, subst, arith, get_or-set_other, get_or-set_same, append-nil, ne_eqb, false}
 use Rattle.std.specs.Prelude.{slice_get, Contains, option_map}
 use Rattle.std.proofs.lemmas.Bool.{cases_lt}
@@ -76,7 +76,7 @@ left_key pairs i k l is = slice_get-map left_of pairs i ∙ ap (option_map left_
 pub right_key : (pairs : List (ℕ × ℕ)) (i k l : ℕ) → slice_get pairs i ≡ Some (k, l) → slice_get (map right_of pairs) i ≡ Some l
 right_key pairs i k l is = slice_get-map right_of pairs i ∙ ap (option_map right_of) is
 
--- The pair of a key.
+-- If `k` is the left number at position `i`, then position `i` has a pair with `k` on the left.
 pair_of_left : (pairs : List (ℕ × ℕ)) (i k : ℕ) → slice_get (map left_of pairs) i ≡ Some k → (l : ℕ) × (slice_get pairs i ≡ Some (k, l))
 pair_of_left [] i k is = absurd (none-some k is)
 pair_of_left (p ∷ pairs) zero k is = let e : p.0 ≡ k = same_Some p.0 k is in (p.1, ap (λ (n : ℕ). let q : ℕ × ℕ = (n, p.1) in Some q) e)
@@ -110,7 +110,7 @@ one_to_one_of left right pairs by_left by_right k l m n first second =
 
 -- ---- pairing two objects
 
--- If both objects have the same position, then they are a pair.
+-- If two objects have the same positive table entry, then the two objects are a pair.
 pub met_already : (left right : List ℕ) (pairs : List (ℕ × ℕ)) (k l : ℕ) → IsIndex left (map left_of pairs) → IsIndex right (map right_of pairs) → get_or left k 0 ≡ get_or right l 0 → get_or left k 0 ≢ 0 → AreMet pairs pairs (λ all. Contains all (k, l))
 met_already left right pairs k l by_left by_right same some =
     let there = by_position (get_or left k 0) refl same some in record {
@@ -126,7 +126,7 @@ met_already left right pairs k l by_left by_right same some =
           let same = same_position pairs i k a.0 b.0 l a.1 b.1 in
           slice_get-Contains pairs i (k, l) (rw same.1 at a.1)
 
--- If neither object has a pair, then they become one.
+-- If neither of two objects has a pair, then pairing the two objects makes them agree.
 pub met_anew : (pairs : List (ℕ × ℕ)) (k l : ℕ) → AreMet pairs (pairs ++ (k, l) ∷ []) (λ all. Contains all (k, l))
 met_anew pairs k l = record {
   kept = ((k, l) ∷ [], refl);
@@ -137,7 +137,8 @@ met_anew pairs k l = record {
       (Contains-push_cases pairs (k, l) (m, n) has);
 }
 
--- If the two positions differ, then no one-to-one pairing contains the pair.
+-- If the table entries of two objects differ, then no one-to-one pairing that extends the pairs
+-- contains the two objects as a pair.
 pub cannot_meet : (left right : List ℕ) (pairs : List (ℕ × ℕ)) (k l : ℕ) → IsIndex left (map left_of pairs) → IsIndex right (map right_of pairs) → get_or left k 0 ≢ get_or right l 0 → CannotMeet pairs (λ all. Contains all (k, l))
 cannot_meet left right pairs k l by_left by_right differ all one_to_one among agree =
     by_positions (get_or left k 0) (get_or right l 0) refl refl where

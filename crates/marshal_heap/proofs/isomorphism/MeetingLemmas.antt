@@ -1,4 +1,4 @@
--- Two comparison steps, one after the other.
+-- Lemmas on two comparison steps, one after the other.
 use Rattle.std.proofs.Common.{ℕ, ◌∙◌, List, ◌++◌, ap, append_assoc}
 use Rattle.marshal_heap.specs.isomorphism.Meeting.{AreAmong, StandInPrefix, AreMet, CannotMeet}
 use Rattle.std.specs.Prelude.{Contains}
@@ -11,7 +11,8 @@ prefix-then a b c first second = (first.0 ++ second.0, second.1 ∙ ap (λ x. x 
 pub among_prefix : (old new : List (ℕ × ℕ)) → StandInPrefix old new → AreAmong old new
 among_prefix old new prefix k l among = subst (λ all. Contains all (k, l)) (sym prefix.1) (Contains-append_left old prefix.0 (k, l) among)
 
--- A second step after a first: the hypotheses on both.
+-- If a first step makes `A` hold and a second step makes `B` hold, then the two steps together make
+-- `C` hold.
 pub met_then : (old mid new : List (ℕ × ℕ)) (A B C : List (ℕ × ℕ) → Type 0) → ((all : List (ℕ × ℕ)) → C all → A all × B all) → (A mid → AreAmong mid new → B new → C new) → AreMet old mid A → AreMet mid new B → AreMet old new C
 met_then old mid new A B C parts join first second = record {
   kept = prefix-then old mid new first.kept second.kept;

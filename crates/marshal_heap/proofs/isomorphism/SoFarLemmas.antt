@@ -1,4 +1,4 @@
--- The comparison of two values object by object.
+-- Lemmas on the comparison of two values object by object.
 use Rattle.std.proofs.Common.{ℕ, ◌≡◌, ◌+◌, ◌<◌, ◌≤◌, ◌∙◌, ◌⊎◌, inl, inr, List, [], length, get_or, Some, sym, ap, subst, arith, pos}
 use Rattle.std.specs.Prelude.{slice_get, Contains}
 use Rattle.std.proofs.lemmas.Bool.{cases_lt}
@@ -16,7 +16,7 @@ use Rattle.marshal_heap.proofs.isomorphism.IndexLemmas.{pair_contained}
 use Rattle.marshal_heap.proofs.isomorphism.MeetingLemmas.{among_prefix}
 use Rattle.marshal_spec.proofs.canonical.IsomorphismLemmas.{Agree-more, AgreeObjects-more, objects_of_pair, agree_at}
 
--- If a pairing contains a pair, then the objects of that pair agree.
+-- If a pairing contains a pair, then the two objects of the pair agree.
 pair_agree : (g h : List Obj) (all : List (ℕ × ℕ)) (k l : ℕ) → IsPairing g h all → Contains all (k, l) → AgreeObjects all (object_at g k) (object_at h l)
 pair_agree g h all k l pairing among =
     let o = objects_of_pair g h all k l pairing among in
@@ -24,7 +24,7 @@ pair_agree g h all k l pairing among =
     let right : o.right ≡ object_at h l = same_Some o.right (object_at h l) (sym o.right_is ∙ slice_get-get_or h l (objects.I32 (pos 0)) (slice_get_within h l o.right o.right_is)) in
     subst (λ x. AgreeObjects all x (object_at h l)) left (subst (λ y. AgreeObjects all o.left y) right o.agree)
 
--- The state before the first pair.
+-- If the roots agree under the first pairs, then `IsSoFar` holds for zero compared pairs.
 pub so_far_first : (g h : List Obj) (v w : Val) (pairs : List (ℕ × ℕ)) → AreMet [] pairs (λ all. Agree all v w) → IsSoFar g v h w pairs 0
 so_far_first g h v w pairs met = record {
   root = met.agree_now;
@@ -45,7 +45,8 @@ done_more g h v w old new n k l far at_n prefix agree i p q (inr past) below is 
     let same : ◌≡◌ {A = ℕ × ℕ} (k, l) (p, q) = same_Some (k, l) (p, q) (sym moved ∙ ap (slice_get new) (sym here) ∙ is) in
     subst (λ (r : ℕ × ℕ). AgreeObjects new (object_at g r.0) (object_at h r.1)) same agree
 
--- The state after one more pair.
+-- If the objects of pair `n` agree under the new pairs, then `IsSoFar` holds for `n + 1` compared
+-- pairs.
 pub so_far_more : (g h : List Obj) (v w : Val) (old new : List (ℕ × ℕ)) (n k l : ℕ) → IsSoFar g v h w old n → slice_get old n ≡ Some (k, l) → AreMet old new (λ all. AgreeObjects all (object_at g k) (object_at h l)) → IsSoFar g v h w new (n + 1)
 so_far_more g h v w old new n k l far at_n met = record {
   root = Agree-more old new v w (among_prefix old new met.kept) far.root;

@@ -1,4 +1,4 @@
--- Lemmas on cells: more cells, one more offset, and offsets removed from the end.
+-- Lemmas on cells: more cells are added, an offset is added, and offsets are removed from the end.
 use Rattle.std.proofs.Common.{◌≡◌, ℕ, ◌+◌, ◌-◌, ◌*◌, ◌/◌, ◌%◌, ◌^◌, ◌<◌, ◌≤◌, inl, inr, List, [], ◌∷◌, ◌++◌, length, get_or, take, replicate, All, count_ones, refl, sym, ap, subst, ◌∙◌, arith, pow_pos, pow_mono, mod-eq_of_lt, length-set, length-take, length-append, get_or-take, get_or-set_same, get_or-set_other}
 use Rattle.std.proofs.lemmas.List.{length-replicate, get_or-replicate, get_or_append_left, get_or-append_right, length_push, get_or_push}
 use Rattle.std.proofs.lemmas.Nat.{mod_below}
@@ -15,7 +15,7 @@ empty before = record { bits = 0; before = before }
 abbrev rank_in : ℕ → Cell → ℕ
 rank_in x cell = cell.before + count_ones (cell.bits % 2 ^ (x % 64))
 
--- The rank of an offset is its index.
+-- The rank of an offset in the set is the offset's index in the list.
 pub rank_is : (cells : List Cell) (positions : List ℕ) → IsIndexed cells positions → (k : ℕ) → k < length positions → rank cells (get_or positions k 0) ≡ k
 rank_is cells positions indexed k inside =
     let p : ℕ = get_or positions k 0 in
@@ -29,7 +29,8 @@ rank_is cells positions indexed k inside =
       ]
     ]
 
--- The cells up to the cell of `p`. New cells are empty.
+-- If the cells are extended to the cell of `p` by empty cells, then the cells still represent the
+-- offsets.
 module _ (cells : List Cell) (positions : List ℕ) (p : ℕ) (indexed : IsIndexed cells positions) (below : All (λ q. q < p) positions) where
   abbrev covers : List Cell
   covers = take (p / 64 + 1) cells ++ replicate (p / 64 + 1 - length cells) (empty (length positions))
@@ -70,7 +71,8 @@ module _ (cells : List Cell) (positions : List ℕ) (p : ℕ) (indexed : IsIndex
     ];
   }
 
--- The same for cells that were made in this way, with `n` as the number of offsets.
+-- If `covered` are the cells extended to the cell of `p` for `n` offsets, then `covered` still
+-- represents the offsets.
 pub covers_all : (cells covered : List Cell) (positions : List ℕ) (p n : ℕ) → IsIndexed cells positions → All (λ q. q < p) positions → n ≡ length positions
     → covered ≡ take (p / 64 + 1) cells ++ replicate (p / 64 + 1 - length cells) (empty n) → IsIndexed covered positions × (length covered ≡ p / 64 + 1)
 covers_all cells covered positions p n indexed below count made =
@@ -78,7 +80,7 @@ covers_all cells covered positions p n indexed below count made =
     made ∙ ap (λ (m : ℕ). take (p / 64 + 1) cells ++ replicate (p / 64 + 1 - length cells) (empty m)) count in
     (subst (λ (cs : List Cell). IsIndexed cs positions) (sym e) (IsIndexed-covers cells positions p indexed below), ap length e ∙ length-covers cells positions p indexed below)
 
--- One more offset in the last cell.
+-- If the bit of `p` is set in the last cell, then the cells represent the offsets and `p`.
 module _ (cells : List Cell) (positions : List ℕ) (p : ℕ) (indexed : IsIndexed cells positions) (below : All (λ q. q < p) positions) (last : length cells ≡ p / 64 + 1) where
   abbrev more : List ℕ
   more = positions ++ p ∷ []
@@ -164,7 +166,8 @@ module _ (cells : List Cell) (positions : List ℕ) (p : ℕ) (indexed : IsIndex
         ];
   }
 
--- The offsets from index `n` on are removed.
+-- If the bits from the offset `p` at index `n` on are cleared, then the cells represent the first
+-- `n` offsets.
 module _ (cells : List Cell) (positions : List ℕ) (n : ℕ) (indexed : IsIndexed cells positions) (inside : n < length positions) where
   abbrev p : ℕ
   p = get_or positions n 0
@@ -218,15 +221,15 @@ module _ (cells : List Cell) (positions : List ℕ) (n : ℕ) (indexed : IsIndex
   rank_p : rank cells p ≡ n
   rank_p = rank_is cells positions indexed n inside
 
-  -- The number of offsets that the last cell counts before `p`.
+  -- The number of offsets that the last cell counts before `p` is `n`.
   last_rank : (x : ℕ) → x / 64 ≡ p / 64 → (cell_at cells x).before + count_ones ((cell_at cells x).bits % 2 ^ (p % 64)) ≡ n
   last_rank x e = subst (λ (i : ℕ). (get_or cells i (empty 0)).before + count_ones ((get_or cells i (empty 0)).bits % 2 ^ (p % 64)) ≡ n) (sym e) rank_p
 
   inside_cells : (x : ℕ) → x / 64 < p / 64 + 1 → x < 64 * length cells
   inside_cells x near = omega (arith, indexed.covered n inside)
 
-  -- If all remaining offsets of the last cell are less than `x`, then its remaining bits are below
-  -- `x`.
+  -- If all remaining offsets of the last cell are less than `x`, then the remaining bits of the
+  -- cell are below `x`.
   last_clear : (x : ℕ) → x / 64 ≡ p / 64 → ((k : ℕ) → k < n → get_or positions k 0 / 64 ≡ x / 64 → get_or positions k 0 < x) → (cell_at cells x).bits % 2 ^ (p % 64) < 2 ^ (x % 64)
   last_clear x e h =
       let c : Cell = cell_at cells x in

@@ -17,6 +17,7 @@ with_part b i part = record {
       (length_refill (length b.words) b.words (take i b.words ++ part) refl) b.room;
 }
 
--- From word `i` on, the block has the words that were last written through `part`.
+-- From word `i` on, the block has the words that were written last through the borrowed slice
+-- `part`.
 abbrev pub borrows_words : MutBor Block → ℕ → MutBor (List ℕ) → Fml
 borrows_words b i part = Lends the_row (Array u64 0) b part (with_part b.now i)

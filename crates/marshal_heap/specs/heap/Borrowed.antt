@@ -1,4 +1,4 @@
--- Being a value of a heap is a proposition: it has at most one proof.
+-- "The value is a value of the heap" is a proposition: there is at most one proof.
 use Rattle.std.specs.Prelude.{ℕ, pos, negsuc}
 use Rattle.std.specs.Coded.{le_prop}
 use Rattle.base_data.specs.model.Graph.{IsValue}

@@ -1,4 +1,4 @@
--- The encoding of a graph as words and header offsets, and its inverse.
+-- The encoding of a graph as words and header offsets, and the inverse of the encoding.
 use Rattle.std.specs.Prelude.{ℕ, ◌+◌, ◌-◌, ◌*◌, ◌/◌, ◌%◌, ◌^◌, ◌≡◌, List, length, map, take, drop}
 use Rattle.std.specs.Prelude.{flat_map, slice_index, ℤ, pos, negsuc, nat_lt, ◌==◌, if◌then◌else◌}
 use Rattle.std.specs.List.{range_with_len, position_or_len}
@@ -13,14 +13,14 @@ use Rattle.marshal_heap.specs.declared.heap.kind.Kind.TheVariants as kinds
 use Rattle.marshal_heap.specs.heap.Heap.{position, custom_object, IsHeap}
 use Rattle.marshal_heap.specs.heap.Words.{code_with, byte_in}
 
--- All words of a graph, and the offsets of its headers.
+-- All words of a graph, one object after another.
 unfoldable pub encode : List Obj → List ℕ
 encode graph = flat_map (code_with (position graph)) graph
 
 unfoldable pub positions_of : List Obj → List ℕ
 positions_of graph = map (position graph) (range_with_len 0 (length graph))
 
--- Decoding: an integer, the value of a word, the bytes of words, a custom block.
+-- The integer that a word represents.
 abbrev pub integer_from : ℕ → ℤ
 integer_from word =
     if nat_lt word (2 ^ 63) then pos (word / 2) else negsuc ((2 ^ 64 - 1 - word) / 2)
@@ -46,7 +46,7 @@ custom_from id word =
     else (if id == 2 then customs.I64 (signed_from word)
     else customs.Native (signed_from word))
 
--- The object with this tag and these words.
+-- The object with the tag `tag` and the words `body` after the header.
 abbrev pub object_from : List ℕ → ℕ → List ℕ → Obj
 object_from positions tag body =
     if tag == 252 then objects.Bytes (bytes_from body)
@@ -55,7 +55,7 @@ object_from positions tag body =
     else (if tag == 255 then custom_object (custom_from (slice_index body 0) (slice_index body 1))
     else objects.Block tag (map (value_from positions) body))))
 
--- The kind and the size of the object with this tag and these words.
+-- The kind and the size of the object with the tag `tag` and the words `body` after the header.
 abbrev pub kind_from : ℕ → List ℕ → Kind
 kind_from tag body =
     if tag == 252 then kinds.Bytes (string_length body)
@@ -73,7 +73,7 @@ object_in words positions p =
 unfoldable pub decode : List ℕ → List ℕ → List Obj
 decode words positions = map (object_in words positions) positions
 
--- The words and the offsets encode one graph.
+-- The words and the header offsets encode one graph, which is a heap.
 pub record IsStored (words positions : List ℕ) : Type 0 where
   pub heap : IsHeap (decode words positions)
   pub encoded : words ≡ encode (decode words positions)

@@ -15,11 +15,11 @@ signed_word (pos n) = n
 signed_word (negsuc n) = 2 ^ 64 - 1 - n
 
 -- The bytes of a string, padded to whole words. The last byte is the number of zero bytes before
--- it.
+-- the last byte.
 abbrev pub padded : List ℕ → List ℕ
 padded bytes = bytes ++ (replicate (7 - length bytes % 8) 0 ++ (7 - length bytes % 8) ∷ [])
 
--- Eight bytes as a word, least significant byte first, and the inverse.
+-- The word of eight bytes, least significant byte first.
 unfoldable pub word_of_bytes : List ℕ → ℕ
 word_of_bytes bytes = from_le_bytes w64 bytes
 
@@ -32,13 +32,14 @@ word_at bytes j = word_of_bytes (take 8 (drop (8 * j) bytes))
 unfoldable pub string_words : List ℕ → List ℕ
 string_words bytes = map (word_at (padded bytes)) (range_with_len 0 (length bytes / 8 + 1))
 
--- The words of a custom block: a number for its kind, and its data.
+-- The words of a custom block after the header: a number for the block's kind, and the block's
+-- data.
 abbrev pub custom_words : Custom → List ℕ
 custom_words (customs.I32 z) = 1 ∷ signed_word z ∷ []
 custom_words (customs.I64 z) = 2 ∷ signed_word z ∷ []
 custom_words (customs.Native z) = 3 ∷ signed_word z ∷ []
 
--- The tag in the header; the words after the header, given the offsets of headers.
+-- The tag in the header of an object.
 abbrev pub tag_of : Obj → ℕ
 tag_of (objects.Block tag values) = tag
 tag_of (objects.Bytes bytes) = 252
@@ -65,10 +66,10 @@ abbrev pub code_with : (ℕ → ℕ) → Obj → List ℕ
 code_with positions object =
     header (tag_of object) (length (body_with positions object)) ∷ body_with positions object
 
--- The header of an object.
+-- The header word of an object: its tag, and the number of words after the header.
 abbrev pub header_of : Obj → ℕ
 header_of object = header (tag_of object) (object_words object - 1)
 
--- Byte `i` of a string in words.
+-- Byte `i` of the string that the words store.
 abbrev pub byte_in : List ℕ → ℕ → ℕ
 byte_in words i = slice_index (bytes_of_word (slice_index words (i / 8))) (i % 8)

@@ -1,5 +1,5 @@
--- The effect of one comparison step: it adds exactly the pairs that the two values need in order to
--- agree.
+-- The effect of one comparison step. The step adds exactly the pairs that the two compared values
+-- need in order to agree.
 use Rattle.std.specs.Prelude.{ℕ, ◌<◌, ◌≡◌, ◌↔◌, Bool, true, false, List, ◌++◌, Result, Ok, Err}
 use Rattle.std.specs.Prelude.{Contains, ⊤}
 use Rattle.base_data.specs.declared.model.out_of_memory.Memory.{Memory}
@@ -9,26 +9,27 @@ abbrev pub AreOneToOne : List (ℕ × ℕ) → Type 0
 AreOneToOne pairs =
     (k l m n : ℕ) → Contains pairs (k, l) → Contains pairs (m, n) → (k ≡ m) ↔ (l ≡ n)
 
--- The numbers of each pair are below these bounds.
+-- The numbers of each pair are below the bounds `lefts` and `rights`.
 abbrev pub AreInRange : List (ℕ × ℕ) → ℕ → ℕ → Type 0
 AreInRange pairs lefts rights = (k l : ℕ) → Contains pairs (k, l) → (k < lefts) × (l < rights)
 
 abbrev pub AreAmong : List (ℕ × ℕ) → List (ℕ × ℕ) → Type 0
 AreAmong pairs others = (k l : ℕ) → Contains pairs (k, l) → Contains others (k, l)
 
--- The earlier pairs are a prefix of the later ones.
+-- The list of old pairs is a prefix of the list of new pairs.
 abbrev pub StandInPrefix : List (ℕ × ℕ) → List (ℕ × ℕ) → Type 0
 StandInPrefix old new = (more : List (ℕ × ℕ)) × (new ≡ old ++ more)
 
--- The two things agree under the new pairs. Each one-to-one pairing that contains the old pairs and
--- makes the two agree contains every new pair.
+-- Two compared values, fields or objects agree under the new pairs. Each one-to-one pairing that
+-- contains the old pairs and makes the two agree contains every new pair.
 pub record AreMet (old new : List (ℕ × ℕ)) (agree : List (ℕ × ℕ) → Type 0) : Type 0 where
   pub kept : StandInPrefix old new
   pub agree_now : agree new
   pub needed : (pairs : List (ℕ × ℕ)) → AreOneToOne pairs → AreAmong old pairs → agree pairs
       → AreAmong new pairs
 
--- No one-to-one pairing that contains the old pairs makes the two things agree.
+-- No one-to-one pairing that contains the old pairs makes the two compared values, fields or
+-- objects agree.
 abbrev pub CannotMeet : List (ℕ × ℕ) → (List (ℕ × ℕ) → Type 0) → Type 0
 CannotMeet old agree =
     (pairs : List (ℕ × ℕ)) → AreOneToOne pairs → AreAmong old pairs → agree pairs → ⊥

@@ -1,4 +1,4 @@
--- Collected pairs, and tables from a number to its pair.
+-- Lists of pairs, and tables from an object's number to the object's pair.
 use Rattle.std.specs.Prelude.{ℕ, suc, ◌+◌, ◌≡◌, ◌==◌, List, length, Some, slice_get, slice_index}
 use Rattle.std.specs.Prelude.{count_by}
 
@@ -14,12 +14,12 @@ left_of p = p.0
 abbrev pub right_of : ℕ × ℕ → ℕ
 right_of p = p.1
 
--- The number is not among the keys.
+-- The number `k` is not among the keys.
 abbrev pub IsNew : List ℕ → ℕ → Type 0
 IsNew keys k = (i : ℕ) → slice_get keys i ≡ Some k → ⊥
 
--- The table contains at each key the position of the key, counted from 1, and 0 at every other
--- number.
+-- If a number is a key, then the table's entry is the key's position, counted from 1. If a number
+-- is no key, then the table's entry is 0.
 pub record IsIndex (table keys : List ℕ) : Type 0 where
   pub found : (i k : ℕ) → slice_get keys i ≡ Some k → slice_index table k ≡ suc i
   pub named : (i k : ℕ) → slice_index table k ≡ suc i → slice_get keys i ≡ Some k

@@ -1,9 +1,9 @@
--- A set of offsets as cells of 64 bits, each with the number of offsets before it.
+-- A set of offsets as cells of 64 bits. Each cell also has the number of offsets before the cell.
 use Rattle.std.specs.Prelude.{ℕ, ◌+◌, ◌*◌, ◌/◌, ◌%◌, ◌^◌, ◌<◌, ◌≤◌, ◌≡◌, List, length, slice_index}
 use Rattle.std.specs.Prelude.{slice_index_or, slice_set, count_ones}
 use Rattle.marshal_heap.specs.declared.offsets.cells.Cell.{Cell}
 
--- The cell of offset `p`.
+-- The cell that contains the bit of offset `p`.
 abbrev pub cell_at : List Cell → ℕ → Cell
 cell_at cells p = slice_index_or cells (p / 64) (record { bits = 0; before = 0 })
 
@@ -29,7 +29,7 @@ pub record IsRank (positions : List ℕ) (p n : ℕ) : Type 0 where
   pub before : (k : ℕ) → k < n → slice_index positions k < p
   pub after : (k : ℕ) → n ≤ k → k < length positions → p ≤ slice_index positions k
 
--- The cells represent these offsets, which increase.
+-- The cells represent the increasing offsets of the list.
 pub record IsIndexed (cells : List Cell) (positions : List ℕ) : Type 0 where
   pub increasing : (j k : ℕ) → j < k → k < length positions
       → slice_index positions j < slice_index positions k

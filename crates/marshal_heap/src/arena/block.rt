@@ -1,4 +1,5 @@
-//! A block of memory for 64-bit words. This module contains all code that uses pointers.
+//! Defines `Block`, a block of memory for 64-bit words. The module `block` contains all code of the
+//! crate that uses pointers.
 ghost use Rattle.std.specs.Prelude.{◌≡◌, ℕ, ◌+◌, ◌^◌, ◌<◌, ◌≤◌, List, [], ◌∷◌, ◌++◌, length, take};
 ghost use Rattle.std.specs.Prelude.{replicate, slice_range, if◌then◌else◌};
 ghost use Rattle.std.specs.Borrow.{sem};
@@ -8,7 +9,8 @@ use std::alloc::{Allocator, Global};
 use std::marker::Model;
 use std::slice;
 
-/// Room for `cap` words, of which the first are written. If `cap` is 0, there is no memory.
+/// Memory for `cap` words. The words at the beginning are written. If `cap` is 0, the block has no
+/// memory.
 pub(crate) struct Block {
     at: *mut u64,
     ghost cap: { ℕ },
@@ -97,7 +99,7 @@ impl Block {
         }
     }
 
-    /// Returns a slice of the words.
+    /// Returns a slice of the `len` written words.
     pub(crate) fn words(&self, len: usize) -> &[u64]
         requires { len ≡ length self.now.words }
         ensures { result.now ≡ self.now.words }

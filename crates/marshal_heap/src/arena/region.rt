@@ -1,4 +1,4 @@
-//! The arena: 64-bit words side by side in one block of memory.
+//! An arena stores 64-bit words side by side in one block of memory.
 
 ghost use Rattle.std.specs.Prelude.{◌≡◌, ◌↔◌, ◌+◌, ◌-◌, ◌*◌, ◌^◌, ◌<◌, ◌≤◌, [], ◌∷◌, ◌++◌, length};
 ghost use Rattle.std.specs.Prelude.{take, replicate, slice_index, slice_set, slice_range, IsTrue};
@@ -10,8 +10,9 @@ use base_data::model::Memory;
 use std::alloc::Global;
 use std::marker::Model;
 
-/// An arena of 64-bit words. Contracts see its contents as the list `words`, and the number of
-/// words that can be appended without allocation as `spare`. Dropping the arena frees its memory.
+/// An arena of 64-bit words. Contracts see the arena's contents as the list `words`, and the number
+/// of words that can be appended without allocation as `spare`. Dropping the arena frees the
+/// arena's memory.
 pub struct Region {
     block: Block,
     len: usize,
@@ -42,12 +43,12 @@ impl Drop for Region {
     }
 }
 
-/// An arena with room for this many words is not enlarged, because no memory has room for twice as
-/// many.
+/// The capacity in words from which an arena does not grow, because no memory has room for twice as
+/// many words.
 const LARGEST: usize = 1 << 59;
 
 impl Region {
-    /// Returns an empty arena. This call does not allocate.
+    /// Returns an empty arena, without allocating memory.
     pub fn new(alloc: Global) -> Region
         ensures { result.words ≡ [] }
     {
@@ -60,6 +61,7 @@ impl Region {
     }
 
     /// Makes room for `n` more words. If the room was insufficient, the capacity at least doubles.
+    /// Fails with `Memory` if memory runs out.
     pub fn reserve(&mut self, n: usize) -> Result<(), Memory>
         ensures words { self.new.words ≡ self.old.words }
         ensures room { OnOk result (n ≤ self.new.spare) }
@@ -81,7 +83,7 @@ impl Region {
         n <= self.cap - self.len
     }
 
-    /// Allocates memory for `n` more words.
+    /// Allocates memory for `n` more words. Fails with `Memory` if memory runs out.
     #[cold]
     fn grow(&mut self, n: usize) -> Result<(), Memory>
         requires { self.old.spare < n }
@@ -107,7 +109,7 @@ impl Region {
         Ok(())
     }
 
-    /// Appends a word. There must be room for it.
+    /// Appends a word. The arena must have room for the word.
     pub fn append_reserved(&mut self, w: u64)
         requires { 0 < self.old.spare }
         ensures words { self.new.words ≡ self.old.words ++ w ∷ [] }
@@ -143,7 +145,7 @@ impl Region {
         &self.block.words(self.len)[i..i + n]
     }
 
-    /// Appends `n` copies of a word. There must be room for them.
+    /// Appends `n` copies of a word. The arena must have room for the copies.
     pub fn append_run(&mut self, n: usize, w: u64)
         requires { n ≤ self.old.spare }
         ensures words { self.new.words ≡ self.old.words ++ replicate n w }
@@ -153,7 +155,7 @@ impl Region {
         self.len += n;
     }
 
-    /// Appends words. There must be room for them.
+    /// Appends a slice of words. The arena must have room for the words.
     pub fn append_slice(&mut self, words: &[u64])
         requires { length words.now ≤ self.old.spare }
         ensures words { self.new.words ≡ self.old.words ++ words.now }

@@ -1,4 +1,4 @@
-//! The heap: the 64-bit words of all objects in one arena, and the offsets of their headers.
+//! The heap: the 64-bit words of all objects in one arena, and the offsets of the objects' headers.
 
 ghost use Rattle.std.specs.Prelude.{◌≡◌, ℕ, ◌+◌, ◌*◌, ◌/◌, ◌<◌, ◌≤◌, ◌^◌, List, [], length, map};
 ghost use Rattle.std.specs.Prelude.{take, All, vec_len, replicate, pos};
@@ -34,12 +34,12 @@ use base_data::model::value::Val;
 use std::alloc::Global;
 use std::marker::Model;
 
-/// A graph of objects. Contracts see the list of its objects, and an object's number is its index
-/// in this list.
+/// A graph of objects. Contracts see the list of the graph's objects, and an object's number is its
+/// index in the list.
 ///
-/// A call that appends an object returns its number. If there is not enough memory, the call
-/// returns `Memory` and changes nothing. It also returns `Memory` if the objects would have 2^60 or
-/// more words in total, counted as on a 64-bit platform.
+/// A call that appends an object returns the object's number. If memory runs out, the call returns
+/// `Memory` and changes nothing. If all objects together would have 2^60 or more words, counted as
+/// on a 64-bit platform, the call also returns `Memory`.
 #[derive(Drop)]
 pub struct Heap {
     region: Region,
@@ -70,7 +70,8 @@ impl Heap {
         }
     }
 
-    /// Returns the number of objects. Its contract also states the invariant of each heap.
+    /// Returns the number of objects. The contract of `count` also states the invariant of each
+    /// heap.
     pub fn count(&self) -> u64
         ensures count { result ≡ length self.now }
         ensures heap { IsHeap self.now }
@@ -85,7 +86,7 @@ impl Heap {
         self.region.len() as u64
     }
 
-    /// Reserves memory for `words` more words, if there is enough memory.
+    /// Reserves memory for `words` more words. If memory runs out, nothing changes.
     pub fn make_room(&mut self, words: u64)
         ensures { self.new ≡ self.old }
     {
@@ -108,8 +109,8 @@ impl Heap {
         Ok(number)
     }
 
-    /// Appends a block whose fields are the integer 0, if no allocation is needed. Returns the word
-    /// of a reference to it, or `None`.
+    /// Appends a block whose fields are the integer 0, if the block needs no allocation. Returns
+    /// the word of a reference to the block, or `None` if the block would need an allocation.
     #[inline(always)]
     pub fn add_block_in_room(&mut self, tag: u8, size: u64) -> Option<u64>
         requires tag { tag ≤ 243 }
@@ -128,8 +129,8 @@ impl Heap {
         Some(8 * position)
     }
 
-    /// Appends a string with these bytes, if no allocation is needed. Returns the word of a
-    /// reference to it, or `None`.
+    /// Appends a string with these bytes, if the string needs no allocation. Returns the word of a
+    /// reference to the string, or `None` if the string would need an allocation.
     #[inline(always)]
     pub fn add_bytes_in_room(&mut self, content: &[u8]) -> Option<u64>
         requires small { words64 (measures.Bytes (length content.now)) < 2 ^ 54 }
@@ -145,8 +146,8 @@ impl Heap {
         Some(8 * position)
     }
 
-    /// Appends a double with these bits, if no allocation is needed. Returns the word of a
-    /// reference to it, or `None`.
+    /// Appends a double with these bits, if the double needs no allocation. Returns the word of a
+    /// reference to the double, or `None` if the double would need an allocation.
     #[inline(always)]
     pub fn add_double_in_room(&mut self, bits: u64) -> Option<u64>
         ensures { AppendsInRoom self.old self.new (objects.Double bits) result }
@@ -160,7 +161,7 @@ impl Heap {
         Some(8 * position)
     }
 
-    /// Appends a block with fields that are given as words.
+    /// Appends a block whose fields are given as words.
     pub fn add_block_of(&mut self, tag: u8, words: &[u64]) -> Result<u64, Memory>
         requires tag { tag ≤ 243 }
         requires nonempty { 0 < length words.now }
@@ -289,7 +290,7 @@ impl Heap {
         self.fields_at(self.word(Val::Ref(o)))
     }
 
-    /// Decodes a word to the value that it represents.
+    /// Decodes a word to the value that the word represents.
     pub fn value_of(&self, word: u64) -> Val
         requires { IsFieldWord self.now word }
         ensures word { word ≡ word_of self.now result }
@@ -381,8 +382,8 @@ impl Heap {
         body_in(&self.region, (word / 8) as usize)
     }
 
-    /// Writes `v` to field `i` of a block. A reference may refer to any object of the heap, even to
-    /// one that is not completely filled yet.
+    /// Writes `v` to field `i` of a block. If `v` is a reference, `v` may refer to any object of
+    /// the heap, even to an object that is not completely filled yet.
     #[inline(always)]
     pub fn set(&mut self, o: u64, i: u64, v: Val)
         requires position { i < length (fields_of (object_at self.old o)) }
@@ -456,7 +457,8 @@ impl Heap {
         self.region.set(at, bits);
     }
 
-    /// Removes the objects from number `count` on. The remaining objects must not refer to them.
+    /// Removes the objects from number `count` on. The remaining objects must not refer to a
+    /// removed object.
     pub fn truncate(&mut self, count: u64)
         requires in_range { count ≤ length self.old }
         requires closed { IsGraph (take count self.old) }
@@ -469,7 +471,7 @@ impl Heap {
         }
     }
 
-    /// Removes all objects. Their memory is kept for new objects.
+    /// Removes all objects. The heap keeps the memory for new objects.
     pub fn clear(&mut self)
         ensures { self.new ≡ [] }
     {

@@ -1,9 +1,9 @@
-//! Kinds of objects.
+//! Defines the kinds of objects.
 
 use base_data::model::code::Custom;
 
-/// The kind and the size of an object: the tag and the number of fields of a block, the number of
-/// bytes of a string, or the number of doubles of an array.
+/// The kind and the size of an object. A block has a tag and a number of fields. A string has a
+/// number of bytes, and an array of doubles has a number of doubles.
 #[derive(Clone, Copy, Debug, PartialEq, Eq)]
 pub enum Kind {
     Block(u8, u64),

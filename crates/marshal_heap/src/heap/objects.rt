@@ -1,4 +1,4 @@
-//! Objects as words of the arena.
+//! Stores objects as words of the arena.
 
 ghost use Rattle.std.specs.Prelude.{◌≡◌, ◌+◌, ◌/◌, ◌<◌, ◌≤◌, ◌^◌, [], ◌∷◌, ◌++◌, length, take};
 ghost use Rattle.std.specs.Prelude.{drop, replicate, All, MatchResult, MatchBool, OnOk};
@@ -12,8 +12,8 @@ use crate::offsets::offset_list::OffsetList;
 use base_data::model::Memory;
 use base_data::model::code::Custom;
 
-/// Makes room for an object of `words` words, and records the end of the arena as the offset of its
-/// header. Returns the object's number.
+/// Makes room for an object of `words` words, and records the end of the arena as the offset of the
+/// object's header. Returns the object's number. Fails with `Memory` if memory runs out.
 #[inline(always)]
 pub fn begin(region: &mut Region, positions: &mut OffsetList, words: u64) -> Result<u64, Memory>
     requires { All (λ p. p < length region.old.words) positions.old }
@@ -32,7 +32,8 @@ pub fn begin(region: &mut Region, positions: &mut OffsetList, words: u64) -> Res
     Ok(number)
 }
 
-/// Does what `begin` does if no allocation is needed. Otherwise returns false and changes nothing.
+/// If no allocation is needed, does what `begin` does and returns true. If an allocation is needed,
+/// returns false and changes nothing.
 #[inline(always)]
 pub fn begin_in_room(region: &Region, positions: &mut OffsetList, words: u64) -> bool
     requires { All (λ p. p < length region.now.words) positions.old }
@@ -45,13 +46,13 @@ pub fn begin_in_room(region: &Region, positions: &mut OffsetList, words: u64) ->
     region.has_room(words as usize) && positions.push_in_room(region.len() as u64)
 }
 
-/// Appends the fields of a new block, which are the integer 0.
+/// Appends the fields of a new block. All fields are the integer 0.
 #[inline(always)]
 pub fn append_fields(region: &mut Region, size: usize)
     requires { size ≤ region.old.spare }
     ensures { region.new.words ≡ region.old.words ++ replicate size 1 }
 {
-    // Small blocks need no loop.
+    // The code for small blocks has no loop.
     match size {
         0 => {}
         1 => region.append_reserved(1),

@@ -1,5 +1,5 @@
-//! Strings as words: eight bytes each, least significant byte first. The last byte of the last word
-//! is the number of zero bytes before it that pad the string.
+//! Stores strings as words: eight bytes each, least significant byte first. Zero bytes pad the
+//! string. The last byte of the last word is the number of padding bytes before the last byte.
 
 ghost use Rattle.std.specs.Prelude.{◌≡◌, ◌+◌, ◌-◌, ◌*◌, ◌/◌, ◌%◌, ◌^◌, ◌<◌, ◌≤◌, [], ◌∷◌, ◌++◌};
 ghost use Rattle.std.specs.Prelude.{length, take, drop, replicate, slice_set};
@@ -9,7 +9,7 @@ ghost use Rattle.marshal_heap.specs.heap.Words.{byte_in};
 
 use crate::arena::region::Region;
 
-/// Appends the words of a string.
+/// Appends the words of a string with the bytes `content`.
 #[inline(always)]
 pub fn append_string(region: &mut Region, content: &[u8])
     requires { length content.now / 8 + 1 ≤ region.old.spare }
@@ -22,7 +22,7 @@ pub fn append_string(region: &mut Region, content: &[u8])
     region.append_reserved(last_word(&content[8 * whole..]));
 }
 
-/// Appends the words of a string of zero bytes.
+/// Appends the words of a string of `len` zero bytes.
 pub fn append_zeros(region: &mut Region, len: usize)
     requires { len / 8 + 1 ≤ region.old.spare }
     ensures { region.new.words ≡ region.old.words ++ string_words (replicate len 0) }
@@ -32,7 +32,7 @@ pub fn append_zeros(region: &mut Region, len: usize)
     region.append_reserved(last_word(&zeros[..len % 8]));
 }
 
-/// Returns word `j` of the words that are filled with bytes of the string.
+/// Returns word `j` of a string. All eight bytes of the word are bytes of the string.
 #[inline(always)]
 fn whole_word(content: &[u8], j: usize) -> u64
     requires { j < length content.now / 8 }
@@ -43,8 +43,9 @@ fn whole_word(content: &[u8], j: usize) -> u64
     u64::from_le_bytes(bytes)
 }
 
-/// Returns the last word, which contains the remaining bytes. Each number of remaining bytes has
-/// code of its own, because a loop would be compiled to a call that copies memory.
+/// Returns the last word of a string, which contains the string's remaining bytes. Each number of
+/// remaining bytes has code of its own, because a loop would be compiled to a call that copies
+/// memory.
 #[tactic(auto, unfolding(crate::specs::heap::Words::word_of_bytes))]
 #[inline(always)]
 fn last_word(rest: &[u8]) -> u64
@@ -67,7 +68,7 @@ fn last_word(rest: &[u8]) -> u64
     }
 }
 
-/// Returns the length in bytes of the string in these words.
+/// Returns the length in bytes of the string that these words store.
 pub fn string_len(words: &[u64]) -> u64
     requires some { 0 < length words.now }
     requires few { length words.now < 2 ^ 54 }
@@ -78,7 +79,7 @@ pub fn string_len(words: &[u64]) -> u64
     (bytes as u64 - 1).saturating_sub(u64::from(zeros))
 }
 
-/// Returns byte `i` of these words.
+/// Returns byte `i` of the string that these words store.
 #[tactic(auto, unfolding(crate::specs::heap::Words::word_of_bytes, crate::specs::heap::Words::bytes_of_word))]
 pub fn byte_of(words: &[u64], i: usize) -> u8
     requires { i / 8 < length words.now }
@@ -87,7 +88,7 @@ pub fn byte_of(words: &[u64], i: usize) -> u8
     words[i / 8].to_le_bytes()[i % 8]
 }
 
-/// Returns the word with byte `k` replaced.
+/// Returns the word with byte `k` replaced by `b`.
 #[tactic(auto, unfolding(crate::specs::heap::Words::word_of_bytes, crate::specs::heap::Words::bytes_of_word))]
 pub fn with_byte(word: u64, k: usize, b: u8) -> u64
     requires { k < 8 }

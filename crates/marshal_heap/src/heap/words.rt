@@ -1,4 +1,4 @@
-//! Headers, integers and custom blocks as words.
+//! Converts headers, integers and custom blocks to words and back.
 
 ghost use Rattle.std.specs.Prelude.{◌≡◌, ◌^◌, ◌<◌, length, slice_index};
 ghost use Rattle.base_data.specs.model.Graph.{IsInteger, IsSigned};

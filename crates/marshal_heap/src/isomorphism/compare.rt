@@ -14,10 +14,10 @@ use base_data::model::Memory;
 use base_data::model::value::Val;
 use std::alloc::Global;
 
-/// Returns true if the two values are isomorphic: a one-to-one pairing of objects takes one root to
-/// the other, and the objects of each pair agree. Compares doubles by their bits. Compares each
-/// pair of objects once, so shared and cyclic values need no repeated work. Fails with `Memory` if
-/// memory runs out.
+/// Returns true if the two values are isomorphic. Two values are isomorphic if a one-to-one pairing
+/// of objects takes one root to the other root, and the objects of each pair agree. Compares
+/// doubles by their bits. Compares each pair of objects once, and therefore repeats no work for
+/// shared or cyclic values. Fails with `Memory` if memory runs out.
 pub fn same(alloc: Global, left: &Heap, v: Val, right: &Heap, w: Val) -> Result<bool, Memory>
     requires left { IsValue (length left.now) v }
     requires right { IsValue (length right.now) w }
@@ -56,7 +56,8 @@ fn same_from(
     Ok(true)
 }
 
-// Pairs the objects to which objects `k` and `l` refer. Returns true if the two objects then agree.
+// Pairs the objects to which objects `k` and `l` refer. Returns true if objects `k` and `l` agree
+// under the new pairs.
 fn meet_contents(
     pairing: &mut Pairing,
     left: &Heap,
@@ -88,7 +89,7 @@ fn meet_contents(
 }
 
 // Pairs the objects to which the fields of two blocks with `n` fields refer. Returns true if the
-// fields then agree.
+// fields agree under the new pairs.
 fn meet_fields(
     pairing: &mut Pairing,
     left: &Heap,

@@ -5,8 +5,8 @@ ghost use Rattle.marshal_heap.specs.heap.Heap.{object_at, bytes_of, doubles_of};
 
 use crate::heap::{Heap, Kind};
 
-/// Returns true if two objects have the same kind and size. The kind of a custom includes its
-/// value, so customs must also be equal.
+/// Returns true if two objects have the same kind and size. The kind of a custom block includes its
+/// value. Therefore, two custom blocks have the same kind only if the two values are equal.
 pub fn same_kind(left: Kind, right: Kind) -> bool
     ensures { MatchBool result (left ≡ right) (left ≢ right) }
 {
@@ -30,7 +30,7 @@ pub fn same_bytes(left: &Heap, k: u64, right: &Heap, l: u64, n: u64) -> bool
 }
 
 /// Returns true if two arrays of `n` doubles are equal bit by bit. A single double counts as an
-/// array with index 0 only.
+/// array of one double.
 pub fn same_doubles(left: &Heap, k: u64, right: &Heap, l: u64, n: u64) -> bool
     requires left { n ≡ length (doubles_of (object_at left.now k)) }
     requires right { n ≡ length (doubles_of (object_at right.now l)) }

@@ -12,12 +12,13 @@ use base_data::model::value::Val;
 use std::alloc::Global;
 use std::marker::Model;
 
-/// A one-to-one pairing of the objects of two graphs: no number occurs twice on one side. Its model
-/// is the list of pairs in their order, with the number of objects of each graph.
+/// A one-to-one pairing of the objects of two graphs: no number occurs twice on one side. The model
+/// of a pairing is the list of pairs in their order, with the number of objects of each graph.
 #[derive(Drop)]
 pub struct Pairing {
     pairs: Vec<(u64, u64)>,
-    // The entry of each object is the position of its pair, counted from 1, or 0 if it has no pair.
+    // The entry of an object is the position of the object's pair, counted from 1. If the object
+    // has no pair, the entry is 0.
     left: Vec<u64>,
     right: Vec<u64>,
 }
@@ -53,8 +54,8 @@ impl Pairing {
         })
     }
 
-    /// Returns the number of pairs. The contract also states that the pairing is one-to-one and
-    /// that its numbers are in range.
+    /// Returns the number of pairs. The contract of `len` also states that the pairing is
+    /// one-to-one and that the numbers of each pair are in range.
     pub fn len(&self) -> usize
         ensures len { result ≡ length self.now.pairs }
         ensures few { result ≤ self.now.lefts }
@@ -74,8 +75,9 @@ impl Pairing {
         self.pairs[i]
     }
 
-    /// Pairs two objects if neither has a pair yet. Returns true if they are paired with each other
-    /// now, and false if one of them has another pair. Fails with `Memory` if memory runs out.
+    /// Pairs two objects if neither object has a pair yet. Returns true if the two objects are
+    /// paired with each other, and false if one of them has another pair. Fails with `Memory` if
+    /// memory runs out.
     pub fn meet_objects(&mut self, left: u64, right: u64) -> Result<bool, Memory>
         requires left { left < self.old.lefts }
         requires right { right < self.old.rights }
@@ -94,7 +96,7 @@ impl Pairing {
         Ok(true)
     }
 
-    // Adds a pair of two objects that have no pair yet.
+    // Adds a pair of two objects that have no pair yet. Fails with `Memory` if memory runs out.
     fn add(&mut self, left: u64, right: u64) -> Result<(), Memory>
         requires left { left < self.old.lefts }
         requires right { right < self.old.rights }
@@ -111,8 +113,9 @@ impl Pairing {
         Ok(())
     }
 
-    /// Compares two values of fields. Pairs the objects of two references as `meet_objects` does.
-    /// Integers and atoms agree if they are equal. Returns true if the values agree now.
+    /// Compares two values of fields and returns true if the values agree. If both values are
+    /// references, pairs their objects as `meet_objects` does. Two integers or two atoms agree if
+    /// they are equal.
     pub fn meet_values(&mut self, left: Val, right: Val) -> Result<bool, Memory>
         requires left { IsValue self.old.lefts left }
         requires right { IsValue self.old.rights right }

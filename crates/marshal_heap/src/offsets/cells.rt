@@ -6,16 +6,17 @@ ghost use Rattle.marshal_heap.specs.offsets.Cells.{cell_at, rank, marked, cut};
 
 use base_data::model::Memory;
 
-/// Describes 64 consecutive words: one bit for each word that is in the set, and the number of
-/// offsets in the set before the first of these words.
+/// Describes 64 consecutive words of the arena. The field `bits` has one bit for each word whose
+/// offset is in the set. The field `before` is the number of offsets in the set before the first of
+/// the 64 words.
 #[derive(Clone, Copy)]
 pub struct Cell {
     pub bits: u64,
     pub before: u64,
 }
 
-/// Changes the number of cells to `count`: drops later cells, or adds cells without bits. New cells
-/// have `before` offsets before them.
+/// Changes the number of cells to `count`: drops the cells from `count` on, or adds cells without
+/// bits. Each new cell has `before` offsets before it. Fails with `Memory` if memory runs out.
 pub fn cover(cells: &mut Vec<Cell>, count: usize, before: u64) -> Result<(), Memory>
     ensures { MatchResult result
         (λ _. cells.new.items
@@ -34,8 +35,8 @@ pub fn cover(cells: &mut Vec<Cell>, count: usize, before: u64) -> Result<(), Mem
     Ok(())
 }
 
-/// Appends the missing cell if exactly one is missing and no allocation is needed. Returns true if
-/// there are then exactly `count` cells. Otherwise changes nothing.
+/// Appends one cell if exactly one cell is missing and no allocation is needed. Returns true if the
+/// number of cells is `count` at the end. If the result is false, nothing changes.
 #[inline(always)]
 pub fn cover_in_room(cells: &mut Vec<Cell>, count: usize, before: u64) -> bool
     ensures { MatchBool result
@@ -56,7 +57,7 @@ pub fn cover_in_room(cells: &mut Vec<Cell>, count: usize, before: u64) -> bool
     true
 }
 
-/// Sets the bit of offset `p`, which must be clear.
+/// Sets the bit of offset `p`. Before the call, the bit must be clear.
 pub fn mark(cells: &mut Vec<Cell>, p: u64)
     requires covered { p / 64 < length cells.old.items }
     requires clear { (cell_at cells.old.items p).bits + 2 ^ (p % 64) < 2 ^ 64 }

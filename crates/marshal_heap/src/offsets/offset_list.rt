@@ -1,4 +1,4 @@
-//! An increasing list of offsets.
+//! Defines `OffsetList`, an increasing list of offsets.
 
 ghost use Rattle.std.specs.Prelude.{◌≡◌, ◌<◌, ◌≤◌, [], ◌∷◌, ◌++◌, length, take, All, Contains};
 ghost use Rattle.std.specs.Prelude.{slice_index, MatchResult, MatchBool};
@@ -9,8 +9,8 @@ use base_data::model::Memory;
 use std::alloc::Global;
 use std::marker::Model;
 
-/// An increasing list of offsets, in 64-bit words. Contracts see the list. An offset below 2^32
-/// takes half as much memory as a larger one.
+/// An increasing list of offsets in an arena, counted in 64-bit words. Contracts see the list. An
+/// offset below 2^32 takes half as much memory as a larger offset.
 #[derive(Drop)]
 pub struct OffsetList {
     low: Vec<u32>,
@@ -71,7 +71,8 @@ impl OffsetList {
         cells::count_before(&self.cells, p) as usize
     }
 
-    /// Appends an offset, which must be greater than all others. On `Memory` the list is unchanged.
+    /// Appends an offset, which must be greater than all offsets in the list. If memory runs out,
+    /// returns `Memory` and leaves the list unchanged.
     pub fn push(&mut self, p: u64) -> Result<(), Memory>
         requires { All (λ q. q < p) self.old }
         ensures { MatchResult result (λ _. self.new ≡ self.old ++ p ∷ [])
@@ -84,8 +85,8 @@ impl OffsetList {
         Ok(())
     }
 
-    /// Appends an offset if it is less than 2^32 and no allocation is needed. Otherwise returns
-    /// false and changes nothing.
+    /// Appends an offset and returns true, if the offset is less than 2^32 and no allocation is
+    /// needed. If the result is false, nothing changes.
     #[inline(always)]
     pub fn push_in_room(&mut self, p: u64) -> bool
         requires { All (λ q. q < p) self.old }
@@ -117,8 +118,8 @@ impl OffsetList {
     }
 }
 
-/// Appends `p` to the first list if `p` fits and the second list is empty, otherwise to the second
-/// list.
+/// Appends `p` to the list `low` if `p` fits 32 bits and the list `high` is empty. If `p` does not
+/// fit or `high` is not empty, appends `p` to `high`. Fails with `Memory` if memory runs out.
 fn append(low: &mut Vec<u32>, high: &mut Vec<u64>, p: u64) -> Result<(), Memory>
     ensures { MatchResult result
         (λ _. low.new.items ++ high.new.items ≡ (low.old.items ++ high.old.items) ++ p ∷ [])

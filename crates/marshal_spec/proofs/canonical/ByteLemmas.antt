@@ -24,7 +24,7 @@ power-positive : (k : ℕ) → 0 < 256 ^ k
 power-positive zero = omega arith
 power-positive (suc k) = rw (pow-suc 256 k) (omega (arith, power-positive k))
 
--- One more digit.
+-- The number `n` modulo 256 ^ (`k` + 1) is digit `k` times 256 ^ `k`, plus `n` modulo 256 ^ `k`.
 mod-more : (n k : ℕ) → n % 256 ^ suc k ≡ (n / 256 ^ k % 256) * 256 ^ k + n % 256 ^ k
 mod-more n k = ap (λ m. n % m) (pow-suc 256 k ∙ mul_comm (256 ^ k) 256) ∙ mod-mul n (omega arith) (power-positive k)
 

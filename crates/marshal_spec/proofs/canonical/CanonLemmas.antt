@@ -46,8 +46,7 @@ block_some tag size =
     cond_some (ltb tag 16 && ltb size 8) (0x80 + 16 * size + tag) [] wide
     (cond_some (ltb word (2 ^ 32)) 0x08 (bytes_high_first 4 word) (0x13 ∷ bytes_high_first 8 word) (omega arith))
 
--- A prefix has at least one byte with the code for numbers below 2 ^ 32 and with the code for eight
--- bytes.
+-- The prefix with a code and number of either width has at least one byte.
 wide_prefix : (n code width last : ℕ) → 1 ≤ length (cond (ltb n (2 ^ 32)) (code ∷ bytes_high_first width n) (last ∷ bytes_high_first 8 n))
 wide_prefix n code width last = cond_some (ltb n (2 ^ 32)) code (bytes_high_first width n) (last ∷ bytes_high_first 8 n) (omega arith)
 
@@ -138,7 +137,8 @@ has_encoding (shared offset) f c h count back below few short = omega (arith, ba
 has_encoding (block tag size) f c h count back below few short = omega (arith, count, trees_in-le f)
 has_encoding (leaf o) f c h count back below few short = leaf_has_encoding o h short
 
--- The tree begins after `c` objects, and there are at most `n` tokens in all.
+-- If `c` objects and a tree's tokens are at most `n` together, then the canonical encodings of the
+-- tree's tokens encode the tokens.
 mutual
   encoded_tree : (tree : Tree) (c n : ℕ) → IsTree tree → ReferBack tree c → c + length (tokens tree) ≤ n → n < 2 ^ 48 → length (data_encoding (tokens tree)) < 2 ^ 48 → AllZip Encodes (tokens tree) (map encoding (tokens tree))
   encoded_tree (node t f) c n h back few small short =

@@ -19,7 +19,8 @@ use Rattle.marshal_spec.proofs.format.EncodeNumbers.{IsSigned-wider}
 use Rattle.marshal_spec.specs.canonical.Laws.{LeafHasEncoding, HasEncoding}
 use Rattle.marshal_spec.proofs.canonical.ByteLemmas.{length-bytes, number-bytes, length-signed_bytes, signed-signed_bytes, little-double_bytes, EncodesDoubles-double_bytes}
 
--- By the kind of the code.
+-- If a code has the kind `kind` and bytes encode a token after `kind`, then the code and the bytes
+-- encode the token.
 by_kind : (t : Token) (code : ℕ) (kind : CodeKind) (rest : List ℕ) → kind_of code ≡ Ok kind → IsToken t → EncodesAfter kind rest t → Encodes t (code ∷ rest)
 by_kind t code kind rest is h encodes = (h, subst (λ k. EncodesFrom k rest t) (sym is) encodes)
 
@@ -50,7 +51,8 @@ is_signed-true : (k : ℕ) (z : ℤ) → is_signed k z ≡ true → IsSigned k z
 is_signed-true k (pos n) e = ltb-true n (2 ^ k) e
 is_signed-true k (negsuc n) e = ltb-true n (2 ^ k) e
 
--- A code that the bytes of the integer follow.
+-- If a code has the kind `Int (suc k)`, then the code and the integer's `k` + 1 bytes encode the
+-- integer.
 int_of : (z : ℤ) (code k : ℕ) → kind_of code ≡ Ok (kinds.Int (suc k)) → IsInteger z → IsSigned (8 * suc k - 1) z → Encodes (integer z) (code ∷ signed_bytes (suc k) z)
 int_of z code k is h fits =
     by_kind (integer z) code (kinds.Int (suc k)) (signed_bytes (suc k) z) is h

@@ -7,13 +7,13 @@ use Rattle.marshal_spec.specs.format.Header.{small_magic, big_magic, head_of}
 use Rattle.marshal_spec.specs.format.Encoded.{IsHeader}
 use Rattle.marshal_spec.proofs.canonical.ByteLemmas.{number-bytes}
 
--- The numbers of the header are below the limit.
+-- The length, the objects and the words on 64 bits of the header are below the limit.
 pub record FitsHeader (head : Head) (limit : ℕ) : Type 0 where
   pub length : head.length < limit
   pub objects : head.objects < limit
   pub w64 : head.w64 < limit
 
--- The bytes are a header that states these numbers.
+-- The bytes are a header that states the length `n`, the number `objects` and the words `w64`.
 pub record EncodesHead (big : Bool) (n objects w64 : ℕ) (bytes : List ℕ) : Type 0 where
   pub is_header : IsHeader bytes
   pub big_is : (head_of bytes).big ≡ big

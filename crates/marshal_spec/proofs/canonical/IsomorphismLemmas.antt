@@ -17,7 +17,7 @@ use Rattle.marshal_spec.proofs.canonical.ListLemmas.{Contains-cond, cond-Contain
 abbrev pub AreAmong : List (ℕ × ℕ) → List (ℕ × ℕ) → Type 0
 AreAmong pairs more = (k l : ℕ) → Contains pairs (k, l) → Contains more (k, l)
 
--- If values agree under some pairs, then they agree under more pairs.
+-- If two values agree under some pairs, then the two values agree under more pairs.
 pub Agree-more : (pairs more : List (ℕ × ℕ)) (v w : Val) → AreAmong pairs more → Agree pairs v w → Agree more v w
 Agree-more pairs more (vals.Int x) (vals.Int y) among agree = agree
 Agree-more pairs more (vals.Atom x) (vals.Atom y) among agree = agree
@@ -103,7 +103,7 @@ same_symmetric g h v w (pairs, pairing, agree) = (map turned pairs, IsPairing-tu
 abbrev joined_pair : ℕ × ℕ → ℕ × ℕ → List (ℕ × ℕ)
 joined_pair p q = cond (p.1 == q.0) ((p.0, q.1) ∷ []) []
 
--- The composition of two pairings: it relates `p.0` to `q.1` if `p.1` equals `q.0`.
+-- The composition of two pairings relates `p.0` to `q.1` if `p.1` equals `q.0`.
 abbrev joined : List (ℕ × ℕ) → List (ℕ × ℕ) → List (ℕ × ℕ)
 joined ps qs = flat_map (λ p. flat_map (joined_pair p) qs) ps
 

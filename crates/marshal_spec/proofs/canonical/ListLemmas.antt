@@ -14,7 +14,7 @@ IsSomeAnd-weaker (Some x) P Q weaker holds = weaker x holds
 
 -- ---- elements of a list
 
--- One more element at the end.
+-- If an element is appended to a list, then the element is at the position `length ks`.
 pub slice_get_push : (ks : List ℕ) (k : ℕ) → slice_get (ks ++ k ∷ []) (length ks) ≡ Some k
 slice_get_push [] k = refl
 slice_get_push (m ∷ ks) k = slice_get_push ks k
@@ -25,7 +25,7 @@ slice_get_push_cases [] k (suc i) m is = absurd (none-some m is)
 slice_get_push_cases (n ∷ ks) k zero m is = inl is
 slice_get_push_cases (n ∷ ks) k (suc i) m is = ⊎_elim (λ before. inl before) (λ last. inr (ap suc last.0, last.1)) (slice_get_push_cases ks k i m is)
 
--- A list with at most one element.
+-- If a list of at most one element contains `x`, then the condition is true and the element is `x`.
 pub Contains-cond : {X : Type 0} (b : Bool) (z x : X) → Contains (cond b (z ∷ []) []) x → (b ≡ true) × (z ≡ x)
 Contains-cond true z x among = (refl, ⊎_elim (λ here. here) (λ later. absurd (Contains-none x later)) (Contains-cases z [] x among))
 Contains-cond false z x among = absurd (Contains-none x among)
@@ -38,7 +38,7 @@ cond-Contains b z is = subst (λ c. Contains (cond c (z ∷ []) []) z) (sym is) 
 greatest_or_less : (n k : ℕ) → k < suc n → (n ≡ k) ⊎ (k < n)
 greatest_or_less n k less = elim (same_or_not n k) [ inl e ↦ inl e | inr e ↦ inr (omega arith) ]
 
--- The numbers below `n`, the greatest first.
+-- The numbers below `n`, in descending order.
 abbrev pub below : ℕ → List ℕ
 below zero = []
 below (suc n) = n ∷ below n
@@ -65,14 +65,15 @@ AllZip-weaker R S [] (y ∷ ys) weaker all = all
 AllZip-weaker R S (x ∷ xs) [] weaker all = all
 AllZip-weaker R S (x ∷ xs) (y ∷ ys) weaker all = (weaker x y all.0, AllZip-weaker R S xs ys weaker all.1)
 
--- If two lists are related, then the converse relation relates them in the other order.
+-- If `R` relates two lists, then the converse relation `S` relates the lists in the other order.
 pub AllZip-swapped : {A B : Type 0} (R : A → B → Type 0) (S : B → A → Type 0) (xs : List A) (ys : List B) → ((x : A) (y : B) → R x y → S y x) → AllZip R xs ys → AllZip S ys xs
 AllZip-swapped R S [] [] turns all = all
 AllZip-swapped R S [] (y ∷ ys) turns all = all
 AllZip-swapped R S (x ∷ xs) [] turns all = all
 AllZip-swapped R S (x ∷ xs) (y ∷ ys) turns all = (turns x y all.0, AllZip-swapped R S xs ys turns all.1)
 
--- The composition of two relations.
+-- If `R` relates `xs` to `ys` and `S` relates `ys` to `zs`, then the composition `T` relates `xs`
+-- to `zs`.
 pub AllZip-composed : {A B C : Type 0} (R : A → B → Type 0) (S : B → C → Type 0) (T : A → C → Type 0) (xs : List A) (ys : List B) (zs : List C) → ((x : A) (y : B) (z : C) → R x y → S y z → T x z) → AllZip R xs ys → AllZip S ys zs → AllZip T xs zs
 AllZip-composed R S T [] [] [] joins all more = tt
 AllZip-composed R S T [] [] (z ∷ zs) joins all more = more
@@ -87,12 +88,13 @@ AllZip-append R [] xs' (y ∷ ys) ys' all more = absurd all
 AllZip-append R (x ∷ xs) xs' [] ys' all more = absurd all
 AllZip-append R (x ∷ xs) xs' (y ∷ ys) ys' all more = (all.0, AllZip-append R xs xs' ys ys' all.1 more)
 
--- If each element is related to itself, then the list is related to itself.
+-- If `R` relates each element of a list to itself, then `R` relates the list to itself element by
+-- element.
 pub AllZip-same : {A : Type 0} (R : A → A → Type 0) (xs : List A) → ((x : A) → Contains xs x → R x x) → AllZip R xs xs
 AllZip-same R [] each = tt
 AllZip-same R (x ∷ xs) each = (each x (Contains-first x xs), AllZip-same R xs (λ y among. each y (Contains-later x xs y among)))
 
--- The element at a position.
+-- If `R` relates two lists element by element, then `R` relates the elements at each position.
 pub AllZip-at : {A B : Type 0} (R : A → B → Type 0) (xs : List A) (ys : List B) (i : ℕ) (x : A) → AllZip R xs ys → slice_get xs i ≡ Some x → IsSomeAnd (slice_get ys i) (λ y. R x y)
 AllZip-at R [] ys i x all is = absurd (cc)
 AllZip-at R (z ∷ xs) [] i x all is = absurd all

@@ -18,7 +18,7 @@ use Rattle.marshal_spec.proofs.canonical.IsomorphismLemmas.{objects_of_pair, sam
 
 -- ---- objects at a position
 
--- The objects are in the graph from position `c` on.
+-- The objects of the list are in the graph, from position `c` on.
 abbrev StandsAt : List Obj → ℕ → List Obj → Type 0
 StandsAt graph c objects = (i : ℕ) (o : Obj) → slice_get objects i ≡ Some o → slice_get graph (c + i) ≡ Some o
 
@@ -45,7 +45,7 @@ fields_stand graph c t f h stands =
 abbrev ArePaired : List (ℕ × ℕ) → ℕ → Type 0
 ArePaired pairs c = (k : ℕ) → k < c → Contains pairs (k, k)
 
--- If an atom agrees with an object, then the two are equal.
+-- If an object without fields agrees with another object, then the two objects are equal.
 agree_leaf : (pairs : List (ℕ × ℕ)) (a b : Obj) → IsLeaf a → AgreeObjects pairs a b → a ≡ b
 agree_leaf pairs (objects.Block tag values) b h agree = absurd h
 agree_leaf pairs (objects.Bytes bytes) b h agree = agree
@@ -67,7 +67,7 @@ pub none_from_count : (f : Forest) → trees_in f ≡ 0 → f ≡ none
 none_from_count none e = refl
 none_from_count (more t f) e = absurd (omega arith)
 
--- The two objects of a pair, if both are known.
+-- If a pairing contains `(k, l)`, then the objects at `k` and at `l` agree.
 pair_at : (g h : List Obj) (pairs : List (ℕ × ℕ)) (k l : ℕ) (a b : Obj) → IsPairing g h pairs → Contains pairs (k, l) → slice_get g k ≡ Some a → slice_get h l ≡ Some b → AgreeObjects pairs a b
 pair_at g h pairs k l a b pairing among at_k at_l =
     let o = objects_of_pair g h pairs k l pairing among in
@@ -75,7 +75,7 @@ pair_at g h pairs k l a b pairing among at_k at_l =
     let right : o.right ≡ b = same_Some o.right b (sym o.right_is ∙ at_l) in
     subst (λ x. AgreeObjects pairs x b) left (subst (λ y. AgreeObjects pairs o.left y) right o.agree)
 
--- A new object is not paired with an earlier one.
+-- The object `c` is not paired with an object before `c`.
 not_earlier : (g h : List Obj) (pairs : List (ℕ × ℕ)) (c d : ℕ) → IsPairing g h pairs → ArePaired pairs c → 1 ≤ d → d ≤ c → Contains pairs (c, c - d) → ⊥
 not_earlier g h pairs c d pairing paired some few among =
     let same : c ≡ c - d = (pairing.one_to_one c (c - d) (c - d) (c - d) among (paired (c - d) (omega arith))).1 refl in
@@ -104,7 +104,7 @@ one_token pairs c t u none none e m n paired = (ap (λ x. node x none) e, rw add
 one_token pairs c t u none (more x h) e m n paired = absurd (omega arith)
 one_token pairs c t u (more x f) h e m n paired = absurd (omega arith)
 
--- If the first objects of two trees are paired, then they agree.
+-- If the first objects of two trees are paired, then the two objects agree.
 first_objects : (g h : List Obj) (pairs : List (ℕ × ℕ)) (c : ℕ) (a b : Obj) (more_a more_b : List Obj) → IsPairing g h pairs → Contains pairs (c, c) → StandsAt g c (a ∷ more_a) → StandsAt h c (b ∷ more_b) → AgreeObjects pairs a b
 first_objects g h pairs c a b more_a more_b pairing among left right =
     let at_g : slice_get g c ≡ Some a = rw add-zero at (left 0 a refl) in
@@ -133,13 +133,14 @@ record AreSameForests (g h : List Obj) (pairs : List (ℕ × ℕ)) (c : ℕ) (f 
   paired : ArePaired pairs c
   agree : AllZip (Agree pairs) (roots f c) (roots k c)
 
--- Case: two references.
+-- If two references lead to paired objects, then the references have the same offset.
 same_references : (g h : List Obj) (pairs : List (ℕ × ℕ)) (c d e : ℕ) → IsPairing g h pairs → ArePaired pairs c → 1 ≤ d → d ≤ c → e ≤ c → Contains pairs (c - d, c - e) → d ≡ e
 same_references g h pairs c d e pairing paired some few few' among =
     let same : c - e ≡ c - d = (pairing.one_to_one (c - d) (c - e) (c - d) (c - d) among (paired (c - d) (omega arith))).0 refl in
     omega arith
 
--- Case: two blocks. If their fields agree, then the fields are equal.
+-- If the fields of two agreeing blocks are equal whenever the fields agree, then the trees of the
+-- two blocks are equal.
 same_blocks : (g h : List Obj) (pairs : List (ℕ × ℕ)) (c tag tag' m n : ℕ) (f k : Forest) → IsPairing g h pairs → AreSame g h pairs c (node (block tag m) f) (node (block tag' n) k) → (AreSameForests g h pairs (c + 1) f k → AreOneForest pairs (c + 1) f k) → AreOne pairs c (node (block tag m) f) (node (block tag' n) k)
 same_blocks g h pairs c tag tag' m n f k pairing s deeper =
     let agree = first_objects g h pairs c (objects.Block tag (roots f (c + 1))) (objects.Block tag' (roots k (c + 1))) (all_objects f (c + 1)) (all_objects k (c + 1)) pairing s.agree s.stands s.stands' in
@@ -157,7 +158,7 @@ same_blocks g h pairs c tag tag' m n f k pairing s deeper =
     let position : c + 1 + all_made f ≡ c + (1 + all_made f) = omega arith in
     (ap₂ node (ap₂ block agree.0 size) r.0, rw position at r.1)
 
--- Case: two atoms.
+-- If two objects without fields agree, then the trees of the two objects are equal.
 same_leaves : (g h : List Obj) (pairs : List (ℕ × ℕ)) (c : ℕ) (a b : Obj) (f k : Forest) → IsPairing g h pairs → AreSame g h pairs c (node (leaf a) f) (node (leaf b) k) → AreOne pairs c (node (leaf a) f) (node (leaf b) k)
 same_leaves g h pairs c a b f k pairing s =
     let agree = first_objects g h pairs c a b (all_objects f (c + made_by (leaf a))) (all_objects k (c + made_by (leaf b))) pairing s.agree s.stands s.stands' in
@@ -165,7 +166,7 @@ same_leaves g h pairs c a b f k pairing s =
     one_token pairs c (leaf a) (leaf b) f k (ap leaf same) (s.is_tree.1 ∙ leaf_fields a) (s.is_tree'.1 ∙ leaf_fields b)
     (rw (made_by_leaf a s.is_tree.0) (one_more pairs c s.paired s.agree))
 
--- Case: an atom and a block.
+-- An object without fields and a block do not agree.
 leaf_and_block : (g h : List Obj) (pairs : List (ℕ × ℕ)) (c tag n : ℕ) (a : Obj) (f k : Forest) → IsPairing g h pairs → AreSame g h pairs c (node (leaf a) f) (node (block tag n) k) → ⊥
 leaf_and_block g h pairs c tag n a f k pairing s =
     let agree = first_objects g h pairs c a (objects.Block tag (roots k (c + 1))) (all_objects f (c + made_by (leaf a))) (all_objects k (c + 1)) pairing s.agree s.stands s.stands' in
@@ -176,7 +177,8 @@ block_and_leaf g h pairs c tag n b f k pairing s =
     let agree = first_objects g h pairs c (objects.Block tag (roots f (c + 1))) b (all_objects f (c + 1)) (all_objects k (c + made_by (leaf b))) pairing s.agree s.stands s.stands' in
     no_block_agrees_leaf pairs tag (roots f (c + 1)) b s.is_tree'.0 agree
 
--- By cases on the two tokens.
+-- If two trees have isomorphic values, then the trees are equal, by cases on the first tokens of
+-- the trees.
 same_by_tokens : (g h : List Obj) (pairs : List (ℕ × ℕ)) (c : ℕ) (t u : Token) (f k : Forest) → IsPairing g h pairs → AreSame g h pairs c (node t f) (node u k) → (AreSameForests g h pairs (c + 1) f k → AreOneForest pairs (c + 1) f k) → AreOne pairs c (node t f) (node u k)
 same_by_tokens g h pairs c (integer y) (integer z) f k pairing s deeper =
     one_token pairs c (integer y) (integer z) f k (ap integer s.agree) s.is_tree.1 s.is_tree'.1 (rw add-zero s.paired)
@@ -195,7 +197,8 @@ same_by_tokens g h pairs c (leaf a) (block tag n) f k pairing s deeper = absurd 
 same_by_tokens g h pairs c (block tag n) (leaf b) f k pairing s deeper = absurd (block_and_leaf g h pairs c tag n b f k pairing s)
 same_by_tokens g h pairs c t u f k pairing s deeper = absurd s.agree
 
--- The rest of two lists of trees, if their first trees are equal.
+-- If the first trees of two lists are equal, then the hypotheses on the lists hold for the lists
+-- without the first trees.
 rest_of_forests : (g h : List Obj) (pairs : List (ℕ × ℕ)) (c : ℕ) (t u : Tree) (f k : Forest) → AreSameForests g h pairs c (more t f) (more u k) → AreOne pairs c t u → AreSameForests g h pairs (c + made t) f k
 rest_of_forests g h pairs c t u f k s one =
     let same : made u ≡ made t = ap made (sym one.0) in record {
@@ -239,7 +242,7 @@ mutual
       let one = same_trees g h pairs c t u pairing (first_of_forests g h pairs c t u f k s) in
       join_forests pairs c t u f k one (same_forests g h pairs (c + made t) f k pairing (rest_of_forests g h pairs c t u f k s one))
 
--- If two trees are trees of one value, then they are equal.
+-- If two trees are trees of one value, then the two trees are equal.
 pub one_tree_only : (g : List Obj) (v : Val) (t u : Tree) → IsTreeOf g v t → IsTreeOf g v u → t ≡ u
 one_tree_only g v t u is other =
     let r = same_transitive (objects_of t 0) g (objects_of u 0) (root t 0) v (root u 0) (same_symmetric g (objects_of t 0) v (root t 0) is.same) other.same in

@@ -1,5 +1,5 @@
--- The objects of a tree form a graph, its root is a value of that graph, and the root is isomorphic
--- to itself.
+-- The objects of a tree form a graph. The root of a tree is a value of the tree's graph. The root
+-- of a tree is isomorphic to itself.
 use Rattle.std.proofs.Common.{ℕ, ◌+◌, ◌≤◌, length, arith}
 use Rattle.std.specs.List.{AllByRecursion}
 use Rattle.std.proofs.lemmas.List.Elements.{All-from_recursion}

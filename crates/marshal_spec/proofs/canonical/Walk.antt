@@ -1,5 +1,5 @@
--- Each value of a graph has a tree. A depth-first walk visits the objects, and each later visit of
--- an object becomes a reference.
+-- Each value of a graph has a tree. A depth-first walk visits the objects of the graph. Each
+-- repeated visit of an object becomes a reference.
 use Rattle.std.proofs.Common.{ℕ, zero, suc, ◌≡◌, ◌≢◌, ◌+◌, ◌-◌, ◌<◌, ◌≤◌, ◌∙◌, ◌⊎◌, inl, inr, ⊎_elim, List, [], ◌∷◌, ◌++◌, length, Some, refl, sym, ap, subst, arith, add-zero, append_assoc, append-nil, length-append}
 use Rattle.std.specs.Prelude.{slice_get, Contains, All}
 use Rattle.std.specs.List.{AllZip}
@@ -114,8 +114,8 @@ without (m ∷ ks) k among = ⊎_elim
     })
     (Contains-cases m ks k among)
 
--- The state before a value: the visited objects in their order, and the objects that may still be
--- visited.
+-- The state of the walk before a value: the visited objects in the order of their visits, and the
+-- objects not yet visited.
 record IsReady (g : List Obj) (met unmet : List ℕ) (c fuel : ℕ) : Type 0 where
   count : length met ≡ c
   distinct : AreDistinct met
@@ -130,7 +130,8 @@ IsReady-more g met unmet news c fuel n ready distinct many = record {
   few = ready.few;
 }
 
--- An object that is visited for the first time is no longer unvisited.
+-- If the walk visits the object `k` for the first time, then the state holds with `k` moved to the
+-- visited objects.
 IsReady-new : (g : List Obj) (met unmet : List ℕ) (c fuel k : ℕ) → IsReady g met unmet c (suc fuel) → k < length g → IsNew met k → (others : List ℕ) × IsReady g (met ++ k ∷ []) others (c + 1) fuel
 IsReady-new g met unmet c fuel k ready less new =
     let among : Contains unmet k = ⊎_elim (λ (m : IsMet met k). absurd (new m.0 m.1)) (λ later. later) (ready.covered k less) in
@@ -238,7 +239,8 @@ new_block g met c k tag values count at_k low some w =
       value = first_number met w.news c k count;
     }
 
--- By cases on the object.
+-- If each field of a new object can be walked, then a reference to the object can be walked, by
+-- cases on the object.
 new_object : (g : List Obj) (met : List ℕ) (c k n : ℕ) (o : Obj) → length met ≡ c → AreDistinct met → IsNew met k → slice_get g k ≡ Some o → IsObject n o → ((values : List Val) → All (IsValue n) values → WalkedAll g (met ++ k ∷ []) (c + 1) values) → Walked g met c (vals.Ref k)
 new_object g met c k n (objects.Block tag values) count distinct new at_k h deeper = new_block g met c k tag values count at_k h.0 h.1 (deeper values h.2)
 new_object g met c k n (objects.Bytes bytes) count distinct new at_k h deeper = new_leaf g met c k (objects.Bytes bytes) count distinct new at_k h
@@ -250,7 +252,7 @@ new_object g met c k n (objects.Native z) count distinct new at_k h deeper = new
 
 -- ---- the walk
 
--- By cases on the value, if a walk from each new object is given.
+-- If each new object can be walked, then each value can be walked, by cases on the value.
 walked_value : (g : List Obj) (met unmet : List ℕ) (c fuel : ℕ) (v : Val) → IsReady g met unmet c fuel → IsValue (length g) v → ((k : ℕ) → k < length g → IsNew met k → Walked g met c (vals.Ref k)) → Walked g met c v
 walked_value g met unmet c fuel (vals.Int z) ready h fresh = nothing_new g met c (vals.Int z) (integer z) ready.distinct (h, refl, tt) (tt, tt) refl refl refl
 walked_value g met unmet c fuel (vals.Atom tag) ready h fresh = nothing_new g met c (vals.Atom tag) (atom tag) ready.distinct (h, refl, tt) (tt, tt) refl refl refl
@@ -259,11 +261,11 @@ walked_value g met unmet c fuel (vals.Ref k) ready h fresh = ⊎_elim
     (λ new. fresh k h new)
     (met_or_new met k)
 
--- Each value can be walked with this much fuel.
+-- Each value can be walked with the number `fuel` as the bound on unvisited objects.
 abbrev Walks : List Obj → ℕ → Type 0
 Walks g fuel = (met unmet : List ℕ) (c : ℕ) (v : Val) → IsReady g met unmet c fuel → IsValue (length g) v → Walked g met c v
 
--- Lists of values can be walked, too.
+-- An empty list of values can be walked.
 walked_none : (g : List Obj) (met : List ℕ) (c : ℕ) → AreDistinct met → WalkedAll g met c []
 walked_none g met c distinct = record {
   forest = none;

@@ -10,7 +10,7 @@ use Rattle.marshal_spec.specs.format.Words.{of_object, fields, objects}
 use Rattle.marshal_spec.specs.format.Token.{Token, integer, atom, shared, block, leaf, IsToken, IsLeaf, measure_of, leaf_measure}
 use Rattle.marshal_spec.specs.format.Tree.{Tree, Forest, node, none, more, trees_in, IsTree, AreTrees, tokens, forest_tokens, made, made_by, all_made, object_of, objects_of, all_objects, roots}
 
--- The objects of consecutive tokens.
+-- The number of objects of two lists of tokens is the sum of the two numbers.
 
 pub objects-append : (ms ns : List (Option Measure)) → objects (ms ++ ns) ≡ objects ms + objects ns
 objects-append ms ns = sum_by-append (of_object (λ _. 1)) ms ns
@@ -21,7 +21,7 @@ objects-tokens-cons t ts = sum_by-cons (of_object (λ _. 1)) (measure_of t) (map
 pub objects-tokens-append : (xs ys : List Token) → objects (map measure_of (xs ++ ys)) ≡ objects (map measure_of xs) + objects (map measure_of ys)
 objects-tokens-append xs ys = ap objects (map-append measure_of xs ys) ∙ objects-append (map measure_of xs) (map measure_of ys)
 
--- A tree makes as many objects as its tokens.
+-- A tree makes as many objects as all its tokens together.
 mutual
   pub objects-tokens : (tree : Tree) → objects (map measure_of (tokens tree)) ≡ made tree
   objects-tokens (node t f) = objects-tokens-cons t (forest_tokens f) ∙ ap (λ n. made_by t + n) (objects-forest_tokens f)
@@ -40,7 +40,7 @@ leaf_fields (objs.I32 z) = refl
 leaf_fields (objs.I64 z) = refl
 leaf_fields (objs.Native z) = refl
 
--- A token makes the object of its measure.
+-- A token makes one object if the token has a measure, and no object if it has none.
 pub length-object_of : (t : Token) (values : List Val) → IsToken t → length (object_of t values) ≡ made_by t
 length-object_of (integer z) values h = refl
 length-object_of (atom tag) values h = refl
@@ -57,7 +57,7 @@ length-object_of (leaf (objs.Native z)) values h = refl
 pub made_by_leaf : (o : Obj) → IsLeaf o → made_by (leaf o) ≡ 1
 made_by_leaf o h = sym (length-object_of (leaf o) [] h)
 
--- A tree has as many objects as it makes.
+-- The list of a tree's objects has as many objects as the tree makes.
 mutual
   pub length-objects_of : (tree : Tree) (c : ℕ) → IsTree tree → length (objects_of tree c) ≡ made tree
   length-objects_of (node t f) c h =
@@ -70,12 +70,12 @@ mutual
       length-append (objects_of tree c) (all_objects f (c + made tree))
       ∙ ap₂ ◌+◌ (length-objects_of tree c h.0) (length-all_objects f (c + made tree) h.1)
 
--- A forest has as many roots as trees.
+-- A forest has one root value for each tree.
 pub length-roots : (f : Forest) (c : ℕ) → length (roots f c) ≡ trees_in f
 length-roots none c = refl
 length-roots (more tree f) c = ap suc (length-roots f (c + made tree))
 
--- Every tree has a token.
+-- Every tree has at least one token.
 pub some_tokens : (tree : Tree) → 1 ≤ length (tokens tree)
 some_tokens (node t f) = omega arith
 

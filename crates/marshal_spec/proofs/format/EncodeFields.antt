@@ -1,4 +1,4 @@
--- The fields of a raw token are valid if and only if its bytes encode a token.
+-- The fields of a raw token are valid if and only if the token's bytes encode a token.
 use Rattle.std.proofs.Common.{ℕ, ℤ, pos, negsuc, zero, suc, ◌+◌, ◌*◌, ◌/◌, ◌%◌, ◌^◌, ◌<◌, ◌≤◌, ◌≡◌, Bool, true, List, [], ◌∷◌, length, take, drop, slice_index, All, Option, Some, None, ◌⊎◌, inl, inr, refl, ap, subst, ◌∙◌, arith, length-drop, length-take-le, take_all, lt-ltb, ltb-true, ne_eqb, drop-cons, pos_of_ne-zero}
 use Rattle.std.proofs.lemmas.Bool.{cases_eq}
 use Rattle.std.proofs.lemmas.List.{nil_from_length}
@@ -20,14 +20,15 @@ use Rattle.marshal_spec.proofs.format.EncodeNumbers.{number_in_lt-at, IsSigned-s
 use Rattle.marshal_spec.proofs.format.EncodeCustoms.{custom_letter, custom_of_parts}
 use Rattle.marshal_spec.proofs.format.EncodeLemmas.{custom_of_int32, custom_of_int64, custom_of_native}
 
--- The data of a known identifier. The number of a `Nativeint` has four or eight bytes.
+-- The data of a known identifier are valid. The number of a `Nativeint` has four or eight bytes.
 abbrev pub IsKnownData : Option CustomKind → ℕ → Type 0
 IsKnownData None kind = ⊥
 IsKnownData (Some customs.Int32) kind = Unit {0}
 IsKnownData (Some customs.Int64) kind = Unit {0}
 IsKnownData (Some customs.Native) kind = 0 < native_bytes kind
 
--- The fields are valid for a token after `n` objects, under a header that counts `stated` objects.
+-- The fields are valid for a token before which `n` objects are made, under a header that counts
+-- `stated` objects.
 abbrev pub AreSoundFields : CodeKind → List ℕ → ℕ → ℕ → Type 0
 AreSoundFields (kinds.SmallBlock tag size) rest n stated = Unit {0}
 AreSoundFields (kinds.SmallInt i) rest n stated = Unit {0}
@@ -40,7 +41,7 @@ AreSoundFields (kinds.Double little) rest n stated = Unit {0}
 AreSoundFields (kinds.Doubles width little) rest n stated = 0 < number (take width rest)
 AreSoundFields (kinds.Custom old) rest n stated = IsKnownData (custom_of (take 3 rest)) (slice_index rest 3)
 
--- A token that is allowed at this point.
+-- The token is allowed after `n` objects, under a header that counts `stated` objects.
 pub record IsTokenThere (t : Token) (n stated : ℕ) : Type 0 where
   pub is_token : IsToken t
   pub refers_back : RefersBack t n
@@ -53,12 +54,13 @@ pub IsInteger-is_integer : (z : ℤ) → is_integer z ≡ true → IsInteger z
 IsInteger-is_integer (pos n) e = ltb-true n (2 ^ 62) e
 IsInteger-is_integer (negsuc n) e = ltb-true n (2 ^ 62) e
 
--- A block or an atom is allowed anywhere.
+-- A block or an atom is allowed after any number of objects.
 block_there : (tag size n stated : ℕ) → tag ≤ 243 → IsTokenThere (block_or_atom tag size) n stated
 block_there tag zero n stated h = record { is_token = h; refers_back = tt; table = λ _. tt }
 block_there tag (suc size) n stated h = record { is_token = (h, omega arith); refers_back = tt; table = λ _. tt }
 
--- An integer of at most eight bytes is valid, if the test succeeds for an integer of eight bytes.
+-- An integer of fewer than eight bytes is valid. An integer of eight bytes is valid if the test for
+-- 63 bits succeeds.
 width_integer : (width : ℕ) (rest : List ℕ) → width ≤ 8 → length rest ≡ width → AreBytes rest → (width ≡ 8 → is_integer (signed (take 8 rest)) ≡ true) → IsInteger (signed rest)
 width_integer width rest k l a f =
     elim (cases_eq width 8) [
@@ -68,7 +70,7 @@ width_integer width rest k l a f =
       | inr n ↦ IsSigned-signed_at 62 rest (omega arith) a
     ]
 
--- Bytes encode `n` doubles if their number is 8 * `n`.
+-- If the number of bytes is 8 * `n`, then the bytes encode `n` doubles.
 pub doubles_of : (little : Bool) (n : ℕ) (bytes : List ℕ) → AreBytes bytes → length bytes ≡ 8 * n → (all : List ℕ) × (length all ≡ n) × EncodesDoubles little all bytes × All (λ bits. bits < 2 ^ 64) all
 doubles_of little zero bytes a e = ([], refl, nil_from_length bytes e, All-nil (λ bits. bits < 2 ^ 64))
 doubles_of little (suc n) bytes a e =
@@ -78,11 +80,12 @@ doubles_of little (suc n) bytes a e =
     let first : number_in little (take 8 bytes) < 2 ^ 64 = number_in_lt-at little 8 (2 ^ 64) (take 8 bytes) refl (length-take-le 8 bytes long) (All-take (λ b. b < 256) 8 bytes a) in
     (number_in little (take 8 bytes) ∷ rest.0, ap suc rest.1, (long, refl, rest.2), All-cons (λ bits. bits < 2 ^ 64) (number_in little (take 8 bytes)) rest.0 first rest.3)
 
--- Some token is encoded by the bytes after a code of this kind.
+-- The bytes after a code of this kind encode some token that is allowed after `n` objects.
 abbrev pub EncodesSome : CodeKind → List ℕ → ℕ → ℕ → Type 0
 EncodesSome kind rest n stated = (t : Token) × EncodesAfter kind rest t × IsTokenThere t n stated
 
--- The identifier of a custom block is its first three bytes, and the content follows.
+-- If the first three bytes are an identifier, then `_`, the kind's letter and 0 begin the bytes,
+-- and the content follows.
 prefix_of_three : (rest : List ℕ) (kind : CustomKind) → 3 ≤ length rest → custom_of (take 3 rest) ≡ Some kind → rest ≡ 95 ∷ custom_letter kind ∷ 0 ∷ drop 3 rest
 prefix_of_three [] kind l e = absurd (omega arith)
 prefix_of_three (a ∷ []) kind l e = absurd (omega arith)
@@ -91,7 +94,7 @@ prefix_of_three (a ∷ b ∷ c ∷ content) kind l e =
     let parts = custom_of_parts a b c kind e in
     cc (parts.0, parts.1, parts.2)
 
--- The two kind bytes of a `Nativeint`.
+-- The kind byte of a `Nativeint` is 1 for four bytes, or 2 for eight bytes.
 pub native_cases : (kind : ℕ) → 0 < native_bytes kind → ((kind ≡ 1) × (native_bytes kind ≡ 4)) ⊎ ((kind ≡ 2) × (native_bytes kind ≡ 8))
 native_cases kind h =
     elim (cases_eq kind 1) [
@@ -102,7 +105,7 @@ native_cases kind h =
       ]
     ]
 
--- A `Nativeint` is allowed.
+-- If the content has the length that the kind byte requires, then the bytes encode a `Nativeint`.
 native_there : (old : Bool) (kind : ℕ) (content rest : List ℕ) (n stated : ℕ) → rest ≡ 95 ∷ 110 ∷ 0 ∷ kind ∷ content → AreBytes content → length content ≡ native_bytes kind → 0 < native_bytes kind → EncodesSome (kinds.Custom old) rest n stated
 native_there old kind content rest n stated e a l s =
     elim (native_cases kind s) [
@@ -120,7 +123,7 @@ native_there old kind content rest n stated e a l s =
           )
     ]
 
--- A custom block is allowed, by its identifier.
+-- If a custom block has a known identifier and valid data, then the bytes encode the custom block.
 custom_there : (old : Bool) (known : Option CustomKind) (rest : List ℕ) (n stated : ℕ) → custom_of (take 3 rest) ≡ known → AreBytes rest → length rest ≡ 3 + custom_bytes known (slice_index rest 3) → IsKnownData known (slice_index rest 3) → EncodesSome (kinds.Custom old) rest n stated
 custom_there old None rest n stated e a l s = absurd s
 custom_there old (Some customs.Int32) rest n stated e a l s =
@@ -170,7 +173,7 @@ encoded_of (kinds.Custom old) rest n stated k a l s = custom_there old (custom_o
 
 -- ---- from tokens to fields
 
--- If the integer fits 63 bits, then the test succeeds.
+-- If an integer fits 63 bits, then the test for 63 bits succeeds.
 is_integer-IsInteger : (z : ℤ) → IsInteger z → is_integer z ≡ true
 is_integer-IsInteger (pos n) e = lt-ltb n (2 ^ 62) e
 is_integer-IsInteger (negsuc n) e = lt-ltb n (2 ^ 62) e
@@ -180,14 +183,15 @@ tag_of_block : (tag size : ℕ) → IsToken (block_or_atom tag size) → tag ≤
 tag_of_block tag zero t = t
 tag_of_block tag (suc n) t = t.0
 
--- If bytes encode a custom block, then its identifier is known and has its data.
+-- If bytes encode a custom block, then the block's identifier is known and the block's data are
+-- valid.
 custom_sound : (rest : List ℕ) (t : Token) → EncodesCustom rest t → IsKnownData (custom_of (take 3 rest)) (slice_index rest 3)
 custom_sound rest t (inl s) = rw (s.1, custom_of_int32) tt
 custom_sound rest t (inr (inl s)) = rw (s.1, custom_of_int64) tt
 custom_sound rest t (inr (inr (inl s))) = rw (s.1, custom_of_native) (omega arith)
 custom_sound rest t (inr (inr (inr s))) = rw (s.1, custom_of_native) (omega arith)
 
--- If bytes encode a token, then the fields are valid.
+-- If the bytes after a code encode a token, then the token's fields are valid.
 pub sound_of : (kind : CodeKind) (rest : List ℕ) (t : Token) (n stated : ℕ) → EncodesAfter kind rest t → IsTokenThere t n stated → AreSoundFields kind rest n stated
 sound_of (kinds.SmallBlock tag size) rest t n stated s there = tt
 sound_of (kinds.SmallInt i) rest t n stated s there = tt

@@ -1,5 +1,5 @@
--- The steps of a header pass if and only if it is a header whose length and words are within the
--- limits.
+-- The steps of a header pass if and only if the bytes are a header whose length and words are
+-- within the limits.
 use Rattle.std.proofs.Common.{ℕ, ◌^◌, ◌<◌, ◌≤◌, ◌≡◌, not, ◌||◌, ltb, eqb, List, length, None, ◌⊎◌, inl, inr, refl, sym, arith, ltb-false, le-ltb, eqb-true, ne_eqb, pos_of_ne-zero, le_of_eq}
 use Rattle.std.proofs.lemmas.Bool.{cases_Bool, eqb-false, not-false, or_cases}
 use Rattle.base_data.specs.declared.model.refusal.ReadRefusal.TheVariants.{BadMagic, TooLarge, Overlong}
@@ -11,7 +11,7 @@ use Rattle.marshal_spec.specs.format.Encoded.{IsHeader}
 use Rattle.marshal_spec.proofs.format.TokenStepLemmas.{header_length-from, header_steps_of, header_steps_is}
 use Rattle.marshal_spec.proofs.format.EncodeSteps.{AllStepsPass, no_refusal, steps_pass, fails_if_none, none_fails_if}
 
--- The facts of a header that passes.
+-- The facts of a header that passes its steps.
 pub record HeaderFacts (limit : ℕ) (header : List ℕ) : Type 0 where
   pub is_header : IsHeader header
   pub words : (head_of header).w64 ≤ limit
@@ -20,7 +20,7 @@ pub record HeaderFacts (limit : ℕ) (header : List ℕ) : Type 0 where
 
 -- ---- the magic number
 
--- If a magic number is not refused, then it is one of the two.
+-- If no step refuses a magic number, then the number is the small or the big magic number.
 magic_from_none : (m : ℕ) → magic_refusal m ≡ None → (m ≡ small_magic) ⊎ (m ≡ big_magic)
 magic_from_none m e =
     elim (cases_Bool (eqb m compressed_magic)) [
@@ -33,14 +33,14 @@ magic_from_none m e =
           ]
     ]
 
--- The converse holds.
+-- The small and the big magic numbers are not refused.
 pub none_from_magic : (m : ℕ) → (m ≡ small_magic) ⊎ (m ≡ big_magic) → magic_refusal m ≡ None
 none_from_magic m (inl e) = rw e refl
 none_from_magic m (inr e) = rw e refl
 
 -- ---- the steps
 
--- If the steps of a whole header pass, then its facts hold.
+-- If all steps of a whole header pass, then the facts of the header hold.
 facts_of_steps : (limit : ℕ) (header : List ℕ) → length header ≡ header_length header → AllStepsPass (header_steps_of limit (magic header) (header_length header) (head_of header)) → HeaderFacts limit header
 facts_of_steps limit header e p =
     let head = head_of header in
@@ -52,7 +52,7 @@ facts_of_steps limit header e p =
       some = pos_of_ne-zero (eqb-false head.length 0 (none_fails_if (eqb head.length 0) (Overlong n 1 0) p.1.1.1.0));
     }
 
--- The converse holds.
+-- If the facts of a header hold, then all steps of the header pass.
 steps_of_facts : (limit : ℕ) (header : List ℕ) → HeaderFacts limit header → AllStepsPass (header_steps_of limit (magic header) (header_length header) (head_of header))
 steps_of_facts limit header f =
     let head = head_of header in
@@ -67,7 +67,7 @@ steps_of_facts limit header f =
       ),
     )
 
--- If a header passes its steps, then its facts hold.
+-- If a header passes its steps, then the facts of the header hold.
 pub HeaderFacts-passes : (limit : ℕ) (header : List ℕ) → HeaderPasses limit header → HeaderFacts limit header
 HeaderFacts-passes limit header p =
     let n = header_length header in
@@ -76,7 +76,7 @@ HeaderFacts-passes limit header p =
     (omega (arith, header_length-from header, p.raw), (le_of_eq (sym p.raw), (le_of_eq (sym p.raw), (le_of_eq (sym p.raw), tt))))
     (rw header_steps_is at p.passes))
 
--- If the facts of a header hold, then it passes its steps.
+-- If the facts of a header hold, then the header passes its steps.
 pub HeaderPasses-facts : (limit : ℕ) (header : List ℕ) → HeaderFacts limit header → HeaderPasses limit header
 HeaderPasses-facts limit header f = record {
   raw = f.is_header.whole;

@@ -1,4 +1,5 @@
--- An encoded value passes its steps, and bytes that pass their steps encode the value of one tree.
+-- An encoded value passes its steps. If bytes pass their steps, then the bytes encode the value of
+-- one tree.
 use Rattle.std.proofs.Common.{ℕ, ◌+◌, ◌<◌, ◌≡◌, Bool, true, false, List, [], ◌∷◌, ◌++◌, length, map, All, inl, inr, refl, arith, length-append}
 use Rattle.std.specs.List.{concat, AllZip}
 use Rattle.base_data.specs.declared.model.header.Head.{Head}
@@ -18,7 +19,7 @@ use Rattle.marshal_spec.proofs.format.EncodeTokens.{EndsAt, FitsUpTo}
 use Rattle.marshal_spec.proofs.format.EncodeHeaders.{HeaderFacts, HeaderFacts-passes, HeaderPasses-facts}
 use Rattle.marshal_spec.proofs.format.EncodeValues.{raw_measures-encoded, tokens-same, some_bytes, table_from_states, ends_from_states, tokens_pass, EncodedTokens, encoded_tokens, AreBytes-rest}
 
--- A value that these bytes encode, with this header and these chunks.
+-- A value that the bytes encode with the header `header` and the chunks `chunks`.
 pub record EncodedBy (limit : ℕ) (bytes header : List ℕ) (chunks : List (List ℕ)) : Type 0 where
   pub tree : Tree
   pub encoded : EncodedUnder limit bytes tree
@@ -26,27 +27,27 @@ pub record EncodedBy (limit : ℕ) (bytes header : List ℕ) (chunks : List (Lis
   pub chunks_are : encoded.chunks ≡ chunks
   pub encodes : AllZip Encodes (tokens tree) chunks
 
--- The steps that an encoded value passes.
+-- The header and the chunks pass all steps of a whole value.
 pub record PassesWhole (limit : ℕ) (header : List ℕ) (chunks : List (List ℕ)) : Type 0 where
   pub header_passes : HeaderPasses limit header
   pub tokens_pass : TokensPass header [] chunks
   pub whole : pending (map raw_measure chunks) ≡ 0
 
--- A tree has a token, which has a byte.
+-- The chunks of a tree's tokens have at least one byte in total.
 some_data : (tree : Tree) (chunks : List (List ℕ)) → AllZip Encodes (tokens tree) chunks → 0 < length (concat chunks)
 some_data (node t forest) [] s = absurd s
 some_data (node t forest) (chunk ∷ chunks) s = omega (arith, some_bytes t chunk s.0, length-append chunk (concat chunks))
 
--- The facts before any token is read.
+-- If the header's data length is positive, then the empty list of tokens fits the header.
 fits_at_start : (head : Head) → 0 < head.length → FitsUpTo head 0 []
 fits_at_start head h = record { within = omega arith; room = omega arith; w32 = λ b. omega arith; w64 = omega arith; end = λ e. absurd (omega arith) }
 
--- The words on 32 bits, which a big header does not have.
+-- If the words on 32 bits agree in a small header, then the header states the words on 32 bits.
 states_words32 : (big : Bool) (stated found : ℕ) → (big ≡ false → stated ≡ found) → StatesWords32 big stated found
 states_words32 true stated found e = tt
 states_words32 false stated found e = e refl
 
--- If the header agrees with the tokens read, then it states their sums.
+-- If the header agrees with the tokens, then the header states the sums of the tokens.
 states_from_ends : (head : Head) (n : ℕ) (ts : List Token) → EndsAt head n (map measure_of ts) → (head.objects ≡ 0 → All IsNoReference ts) → States head ts
 states_from_ends head n ts e table = record {
   w32 = states_words32 head.big head.w32 (all_words32 (map measure_of ts)) e.w32;
@@ -54,7 +55,8 @@ states_from_ends head n ts e table = record {
   objects = elim e.count [ inl z ↦ inr (z, table z) | inr o ↦ inl o ];
 }
 
--- A value, from its tokens and its tree.
+-- If chunks encode the tokens of a tree and the header agrees with the tokens, then the bytes
+-- encode the tree's value.
 encoded_by : (limit : ℕ) (bytes header : List ℕ) (chunks : List (List ℕ)) → bytes ≡ header ++ concat chunks → HeaderFacts limit header → (r : EncodedTokens header [] [] chunks) → pending (map measure_of r.all) ≡ 0 → (t : TreeOf r.all) → ReferBack t.tree 0 → EncodedBy limit bytes header chunks
 encoded_by limit bytes header chunks e h r none t back =
     let head = head_of header in
@@ -76,11 +78,11 @@ encoded_by limit bytes header chunks e h r none t back =
       encodes = encodes;
     }
 
--- After a tree's tokens, no value is to come.
+-- After the tokens of a tree, no value is expected.
 none_to_come : (tree : Tree) → IsTree tree → pending (map measure_of (tokens tree)) ≡ 0
 none_to_come tree h = omega (arith, pending-tokens [] tree h (omega arith))
 
--- An encoded value passes its steps.
+-- An encoded value passes all steps of its header and tokens.
 pub PassesWhole-encoded : (limit : ℕ) (bytes : List ℕ) (tree : Tree) (s : EncodedUnder limit bytes tree) → PassesWhole limit s.header s.chunks
 PassesWhole-encoded limit bytes tree s =
     let v = s.encodes in
@@ -95,7 +97,8 @@ PassesWhole-encoded limit bytes tree s =
       whole = rw (raw_measures-encoded ts s.chunks v.encodes) none;
     }
 
--- If bytes pass their steps, then they encode a value.
+-- If the header and the tokens pass and no value is expected at the end, then the bytes encode a
+-- value.
 pub EncodedBy-passes : (limit : ℕ) (bytes header : List ℕ) (chunks : List (List ℕ)) → AreBytes bytes → bytes ≡ header ++ concat chunks → HeaderPasses limit header → TokensPass header [] chunks → pending (map raw_measure chunks) ≡ 0 → EncodedBy limit bytes header chunks
 EncodedBy-passes limit bytes header chunks a e h p none =
     let facts = HeaderFacts-passes limit header h in
@@ -105,7 +108,7 @@ EncodedBy-passes limit bytes header chunks a e h p none =
     let t : TreeOf r.all = tree_from_tokens r.all r.are_tokens r.opens none' in
     encoded_by limit bytes header chunks e facts r none' t ((ReferBack-each t.tree 0).1 (rw t.tokens_are r.refers_back))
 
--- One header and its chunks encode one tree.
+-- If two trees are encoded by the same chunks, then the trees are equal.
 pub tree-same : (limit limit' : ℕ) (bytes bytes' : List ℕ) (tree tree' : Tree) (s : EncodedUnder limit bytes tree) (s' : EncodedUnder limit' bytes' tree') → s.chunks ≡ s'.chunks → tree ≡ tree'
 tree-same limit limit' bytes bytes' tree tree' s s' e =
     let encodes : AllZip Encodes (tokens tree) s'.chunks = rw e at s.encodes.encodes in

@@ -1,5 +1,5 @@
--- An encoded value passes the steps of its header and its tokens, and a header and tokens that pass
--- encode a value.
+-- An encoded value passes the steps of its header and tokens. If a header and tokens pass, then the
+-- header and the tokens encode a value.
 use Rattle.std.proofs.Common.{ℕ, ◌+◌, ◌<◌, ◌≤◌, ◌≡◌, Bool, true, false, List, [], ◌∷◌, ◌++◌, length, map, All, Option, inl, inr, refl, sym, ◌∙◌, subst₂, arith, append-nil, append_assoc, length-append, add-zero, take_at, drop_at}
 use Rattle.std.proofs.lemmas.List.{map_push, length-map}
 use Rattle.std.proofs.lemmas.List.Sums.{sum_by_push, sum_by-append, sum_by-cons}
@@ -22,25 +22,26 @@ use Rattle.marshal_spec.proofs.format.EncodeTokens.{EndsAt, FitsUpTo, FitsAfter,
 
 -- ---- chunks and their tokens
 
--- The number of bytes with one more chunk.
+-- If a chunk is appended to a list of chunks, then the total number of bytes grows by the chunk's
+-- length.
 pub length-concat_push : (chunks : List (List ℕ)) (chunk : List ℕ) → length (concat (chunks ++ chunk ∷ [])) ≡ length (concat chunks) + length chunk
 length-concat_push [] chunk = omega (arith, length-append chunk [])
 length-concat_push (p ∷ chunks) chunk =
     omega (arith, length-append p (concat (chunks ++ chunk ∷ [])), length-append p (concat chunks), length-concat_push chunks chunk)
 
--- Each chunk has at least one byte.
+-- A chunk that encodes a token has at least one byte.
 pub some_bytes : (t : Token) (chunk : List ℕ) → Encodes t chunk → 0 < length chunk
 some_bytes t [] s = absurd s
 some_bytes t (code ∷ rest) s = omega arith
 
--- Tokens take at least as many bytes as there are tokens.
+-- The encodings of tokens have at least as many bytes as there are tokens.
 pub bytes_of_tokens : (ts : List Token) (chunks : List (List ℕ)) → AllZip Encodes ts chunks → length ts ≤ length (concat chunks)
 bytes_of_tokens [] chunks s = omega arith
 bytes_of_tokens (t ∷ ts) [] s = absurd s
 bytes_of_tokens (t ∷ ts) (chunk ∷ chunks) s =
     omega (arith, some_bytes t chunk s.0, bytes_of_tokens ts chunks s.1, length-append chunk (concat chunks))
 
--- The chunks of tokens have the tokens' measures.
+-- The chunks that encode tokens have the measures of the tokens.
 pub raw_measures-encoded : (ts : List Token) (chunks : List (List ℕ)) → AllZip Encodes ts chunks → map raw_measure chunks ≡ map measure_of ts
 raw_measures-encoded [] [] s = refl
 raw_measures-encoded [] (chunk ∷ chunks) s = absurd s
@@ -63,17 +64,17 @@ tokens-same (t ∷ ts) (u ∷ us) (chunk ∷ chunks) s v =
     let rest = tokens-same ts us chunks s.1 v.1 in
     cc (first, rest)
 
--- The measures with one more chunk.
+-- If a chunk is appended to a list of chunks, then its measure is appended to the list of measures.
 measures_push : (before : List (List ℕ)) (ms : List (Option Measure)) (chunk : List ℕ) (m : Option Measure) → map raw_measure before ≡ ms → raw_measure chunk ≡ m → map raw_measure (before ++ chunk ∷ []) ≡ ms ++ m ∷ []
 measures_push before ms chunk m e f = map_push raw_measure before chunk ∙ cc (e, f)
 
--- A measure may be the last of the first ones or the first of the others.
+-- A measure between two lists may be appended to the first list or prepended to the second list.
 measures_cons : (ms : List (Option Measure)) (m : Option Measure) (ns : List (Option Measure)) → (ms ++ m ∷ []) ++ ns ≡ ms ++ (m ∷ ns)
 measures_cons ms m ns = append_assoc ms (m ∷ []) ns
 
 -- ---- from a value to steps
 
--- A token after no objects is not a reference.
+-- If no object precedes a token, then the token is not a reference.
 no_reference : (t : Token) (c : ℕ) → RefersBack t c → c ≡ 0 → IsNoReference t
 no_reference (integer z) c r e = tt
 no_reference (atom tag) c r e = tt
@@ -81,7 +82,7 @@ no_reference (shared offset) c r e = omega (arith, r.0, r.1)
 no_reference (block tag size) c r e = tt
 no_reference (leaf object) c r e = tt
 
--- If no object is made, then no token is a reference.
+-- If the tokens make no object, then no token is a reference.
 no_references : (c : ℕ) (ts : List Token) → EachRefersBack c ts → c + objects (map measure_of ts) ≡ 0 → All IsNoReference ts
 no_references c [] r e = All-nil IsNoReference
 no_references c (t ∷ ts) r e =
@@ -96,12 +97,12 @@ table_from_states head ts s r z =
       | inr n ↦ n.1
     ]
 
--- The words on 32 bits, if the header has them.
+-- If a small header states the words on 32 bits, then the stated number equals the sum.
 states32 : (big : Bool) (stated found : ℕ) → StatesWords32 big stated found → big ≡ false → stated ≡ found
 states32 true stated found s b = absurd (cc)
 states32 false stated found s b = s
 
--- The header of an encoded value agrees with its tokens.
+-- The header of an encoded value agrees with the value's tokens.
 pub ends_from_states : (head : Head) (n : ℕ) (ts : List Token) → head.length ≡ n → States head ts → EndsAt head n (map measure_of ts)
 ends_from_states head n ts e s = record {
   length = e;
@@ -110,7 +111,8 @@ ends_from_states head n ts e s = record {
   count = elim s.objects [ inl o ↦ inr o | inr o ↦ inl o.0 ];
 }
 
--- If the header agrees with all tokens, then the end facts hold for the first tokens.
+-- If the header agrees with all tokens and no value is expected after the first tokens, then the
+-- header agrees with the first tokens.
 ends_here : (head : Head) (n rest : ℕ) (ms : List (Option Measure)) (ts : List Token) → EndsAt head (n + rest) (ms ++ map measure_of ts) → OpenBefore ms ts → (ts ≡ [] → rest ≡ 0) → pending ms ≡ 0 → EndsAt head n ms
 ends_here head n rest ms [] e o none p =
     let all : ms ++ [] ≡ ms = append-nil ms in
@@ -118,7 +120,7 @@ ends_here head n rest ms [] e o none p =
     record { length = omega (arith, f.length, none refl); w32 = f.w32; w64 = f.w64; count = f.count }
 ends_here head n rest ms (t ∷ ts) e o none p = absurd (omega (arith, o.0))
 
--- If the header agrees with all tokens, then the first tokens fit.
+-- If the header agrees with all tokens, then each initial list of the tokens fits the header.
 fits_here : (head : Head) (n rest : ℕ) (ms : List (Option Measure)) (ts : List Token) → EndsAt head (n + rest) (ms ++ map measure_of ts) → pending (ms ++ map measure_of ts) ≡ 0 → OpenBefore ms ts → length ts ≤ rest → (ts ≡ [] → rest ≡ 0) → FitsUpTo head n ms
 fits_here head n rest ms ts e p o l none = record {
   within = omega (arith, e.length);
@@ -128,13 +130,14 @@ fits_here head n rest ms ts e p o l none = record {
   end = ends_here head n rest ms ts e o none;
 }
 
--- No tokens have no bytes.
+-- If the list of tokens is empty, then its chunks have no bytes.
 no_bytes : (ts : List Token) (chunks : List (List ℕ)) → AllZip Encodes ts chunks → ts ≡ [] → length (concat chunks) ≡ 0
 no_bytes [] [] s e = refl
 no_bytes [] (chunk ∷ chunks) s e = absurd s
 no_bytes (t ∷ ts) chunks s e = absurd (cc)
 
--- If the header agrees with all tokens, then encoded tokens after others pass.
+-- If the header agrees with all tokens, then the encoded tokens `ts` pass after the tokens
+-- `before`.
 pub tokens_pass : (header : List ℕ) (before : List (List ℕ)) (ms : List (Option Measure)) (ts : List Token) (chunks : List (List ℕ)) → map raw_measure before ≡ ms → AllZip Encodes ts chunks → OpenBefore ms ts → EachRefersBack (objects ms) ts → ((head_of header).objects ≡ 0 → All IsNoReference ts) → pending (ms ++ map measure_of ts) ≡ 0 → EndsAt (head_of header) (length (concat before) + length (concat chunks)) (ms ++ map measure_of ts) → TokensPass header before chunks
 tokens_pass header before ms [] [] e s o r table p ends = tt
 tokens_pass header before ms [] (chunk ∷ chunks) e s o r table p ends = absurd s
@@ -163,8 +166,8 @@ tokens_pass header before ms (t ∷ ts) (chunk ∷ chunks) e s o r table p ends 
 
 -- ---- from steps to a value
 
--- The tokens that `chunks` encode. The chunks `before` precede them, and `ms` has the measures of
--- the tokens before.
+-- The tokens that `chunks` encode. The chunks `before` come first, and `ms` lists the measures of
+-- `before`.
 pub record EncodedTokens (header : List ℕ) (before : List (List ℕ)) (ms : List (Option Measure)) (chunks : List (List ℕ)) : Type 0 where
   pub all : List Token
   pub encodes : AllZip Encodes all chunks
@@ -174,7 +177,7 @@ pub record EncodedTokens (header : List ℕ) (before : List (List ℕ)) (ms : Li
   pub table : (head_of header).objects ≡ 0 → All IsNoReference all
   pub fits : FitsUpTo (head_of header) (length (concat before) + length (concat chunks)) (ms ++ map measure_of all)
 
--- Only tokens are encoded.
+-- If a chunk encodes a token, then the token is valid.
 pub IsToken-encoded : (t : Token) (chunk : List ℕ) → Encodes t chunk → IsToken t
 IsToken-encoded t [] s = absurd s
 IsToken-encoded t (code ∷ rest) s = s.0
@@ -186,14 +189,15 @@ IsToken-all_encoded (t ∷ ts) [] s = absurd s
 IsToken-all_encoded (t ∷ ts) (p ∷ chunks) s =
     All-cons IsToken t ts (IsToken-encoded t p s.0) (IsToken-all_encoded ts chunks s.1)
 
--- The first bytes of bytes are bytes, and so are the others.
+-- If the elements of a concatenation are bytes, then the elements of both parts are bytes.
 pub AreBytes-prefix : (xs ys : List ℕ) → AreBytes (xs ++ ys) → AreBytes xs
 AreBytes-prefix xs ys a = rw (take_at xs ys (length xs) refl) at (All-take (λ b. b < 256) (length xs) (xs ++ ys) a)
 
 pub AreBytes-rest : (xs ys : List ℕ) → AreBytes (xs ++ ys) → AreBytes ys
 AreBytes-rest xs ys a = rw (drop_at xs ys (length xs) refl) at (All-drop (λ b. b < 256) (length xs) (xs ++ ys) a)
 
--- The tokens with one more at the beginning.
+-- If `chunk` encodes a token and `chunks` encode tokens after it, then `chunk` and `chunks`
+-- together encode tokens.
 encoded_cons : (header : List ℕ) (before : List (List ℕ)) (ms : List (Option Measure)) (chunk : List ℕ) (chunks : List (List ℕ)) → map raw_measure before ≡ ms → 0 < pending ms → (there : EncodedThere header before chunk) → EncodedTokens header (before ++ chunk ∷ []) (ms ++ measure_of there.token ∷ []) chunks → EncodedTokens header before ms (chunk ∷ chunks)
 encoded_cons header before ms chunk chunks e k there r =
     let t = there.token in
@@ -209,13 +213,14 @@ encoded_cons header before ms chunk chunks e k there r =
       fits = subst₂ (λ n ns. FitsUpTo (head_of header) n ns) here (measures_cons ms (measure_of t) (map measure_of r.all)) r.fits;
     }
 
--- If a chunk fits after other chunks, then it fits after their measures.
+-- If a chunk fits after other chunks, then the chunk fits after tokens with the measures of these
+-- chunks.
 fits_after : (header : List ℕ) (before : List (List ℕ)) (ms : List (Option Measure)) (chunk : List ℕ) (m : Option Measure) → map raw_measure before ≡ ms → raw_measure chunk ≡ m → FitsAfter (head_of header) before chunk → FitsUpTo (head_of header) (length (concat (before ++ chunk ∷ []))) (ms ++ m ∷ [])
 fits_after header before ms chunk m e f fits =
     let same : map raw_measure before ++ raw_measure chunk ∷ [] ≡ ms ++ m ∷ [] = cc (e, f) in
     subst₂ (λ n ns. FitsUpTo (head_of header) n ns) (sym (length-concat_push before chunk)) same fits
 
--- If tokens pass after others that fit, then they are encoded tokens.
+-- If chunks pass after chunks that fit, then the chunks encode tokens.
 pub encoded_tokens : (header : List ℕ) (before : List (List ℕ)) (ms : List (Option Measure)) (chunks : List (List ℕ)) → map raw_measure before ≡ ms → AreBytes (concat chunks) → FitsUpTo (head_of header) (length (concat before)) ms → TokensPass header before chunks → EncodedTokens header before ms chunks
 encoded_tokens header before ms [] e a f p = record {
   all = [];

@@ -1,4 +1,5 @@
--- No encoding of a token is a proper prefix of another, and each encodes one token.
+-- No encoding of a token is a proper prefix of another encoding of a token, and each encoding
+-- encodes one token.
 use Rattle.std.proofs.Common.{◌≡◌, [], ◌++◌, sym, ◌∙◌, subst, append-nil}
 use Rattle.std.proofs.lemmas.List.{append_cancel_left}
 use Rattle.marshal_spec.specs.format.Token.{Encodes}

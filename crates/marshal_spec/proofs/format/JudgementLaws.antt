@@ -23,22 +23,22 @@ encoded_some limit bytes tree s =
       ap length s.bytes_are ∙ length-append s.header (concat s.chunks),
     )
 
--- An encoded value is closed.
+-- An encoded value is a header and the tokens of one value, all of which pass (`Closed`).
 pub Closed-encoded : (limit : ℕ) (bytes : List ℕ) (tree : Tree) (s : EncodedUnder limit bytes tree) → Closed limit bytes s.header s.chunks
 Closed-encoded limit bytes tree s =
     let w : PassesWhole limit s.header s.chunks = PassesWhole-encoded limit bytes tree s in
     record { bytes_are = s.bytes_are; header_passes = w.header_passes; tokens_pass = w.tokens_pass; none_pending = w.whole }
 
--- If bytes are incomplete, then they do not begin with a value.
+-- If bytes are incomplete, then the bytes do not begin with a value.
 pub prefix_or_value : (limit : ℕ) (bytes : List ℕ) (n : ℕ) (tree : Tree) → IsPrefix limit bytes → EncodedUnder limit (take n bytes) tree → ⊥
 prefix_or_value limit bytes n tree f s = prefix_or_closed limit bytes n s.header s.chunks f (Closed-encoded limit (take n bytes) tree s)
 
--- If bytes begin with a value, then they are not refused.
+-- If bytes begin with a value, then the bytes do not begin with refused bytes.
 pub value_or_refused : (limit : ℕ) (bytes : List ℕ) (n m : ℕ) (tree : Tree) (r : ReadRefusal) → EncodedUnder limit (take n bytes) tree → IsRefused limit (take m bytes) r → ⊥
 value_or_refused limit bytes n m tree r s f =
     closed_or_refused limit bytes n m s.header s.chunks r (Closed-encoded limit (take n bytes) tree s) f
 
--- If bytes begin with a value, then they begin with only one.
+-- If bytes begin with two values, then the two values are equal.
 pub value_at_once : (limit : ℕ) (bytes : List ℕ) (n m : ℕ) (t u : Tree) → n ≤ length bytes → m ≤ length bytes
     → EncodedUnder limit (take n bytes) t → EncodedUnder limit (take m bytes) u → (n ≡ m) × (t ≡ u)
 value_at_once limit bytes n m t u p q s v =
@@ -46,7 +46,7 @@ value_at_once limit bytes n m t u p q s v =
     (Closed-encoded limit (take n bytes) t s) (Closed-encoded limit (take m bytes) u v) in
     (same.0, tree-same limit limit (take n bytes) (take m bytes) t u s v same.2)
 
--- Two judgements that hold are equal.
+-- If two judgements hold for bytes, then the judgements are equal.
 pub Judges-same : (limit : ℕ) (bytes : List ℕ) (j k : Judgement) → Judges limit bytes j → Judges limit bytes k → j ≡ k
 Judges-same limit bytes prefix prefix p q = refl
 Judges-same limit bytes prefix (value m u) p q = absurd (prefix_or_value limit bytes m u p q.1)
@@ -60,7 +60,7 @@ Judges-same limit bytes (refused n r) (value m u) p q = absurd (value_or_refused
 Judges-same limit bytes (refused n r) (refused m s) p q =
     let same = refused_at_once limit bytes n m r s p.0 q.0 p.1 q.1 in λ i. refused (same.0 i) (same.1 i)
 
--- If a judgement holds, then it is the only one.
+-- If a judgement holds for bytes, then no other judgement holds for the bytes.
 pub IsJudgement-holds : (limit : ℕ) (bytes : List ℕ) (j : Judgement) → Judges limit bytes j → IsJudgement limit bytes j
 IsJudgement-holds limit bytes j p = record { holds = p; only = λ k q. Judges-same limit bytes k j q p }
 

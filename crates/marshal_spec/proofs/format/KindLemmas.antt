@@ -10,13 +10,14 @@ use Rattle.base_data.specs.declared.model.code.CodeFault.{CodeFault}
 use Rattle.base_data.specs.declared.model.code.CodeFault.TheVariants.{BadCode}
 use Rattle.marshal_spec.specs.format.Code.{kind_of, large_kinds, IsKind}
 
--- If a predicate holds for each entry and for the default, then it holds for the entry found.
+-- If a predicate holds for each entry of a table and for the default, then the predicate holds for
+-- each entry found.
 found : {X : Type 0} (P : X → Type 0) (d : X) → P d → (xs : List X) → AllByRecursion P xs → (i : ℕ) → P (get_or xs i d)
 found P d h [] all i = h
 found P d h (x ∷ xs) all zero = all.0
 found P d h (x ∷ xs) all (suc i) = found P d h xs all.1 i
 
--- If the entry is a kind, then its numbers are in range.
+-- If the table's entry is a kind, then the kind's numbers are in range.
 abbrev pub InRange : Result CodeKind CodeFault → Type 0
 InRange result = IfOk result IsKind
 
@@ -87,7 +88,7 @@ choose : (b : Bool) (x y : Result CodeKind CodeFault) → InRange x → InRange 
 choose true x y p q = p
 choose false x y p q = q
 
--- The kind of each code has its numbers in range.
+-- The kind of each code has numbers in range.
 pub kind_of-in_range : (code : ℕ) → InRange (kind_of code)
 unfolding kind_of
 kind_of-in_range code =
@@ -106,7 +107,7 @@ kind_of-in_range code =
 pub IsKind-kind_of : (code : ℕ) (kind : CodeKind) → kind_of code ≡ Ok kind → IsKind kind
 IsKind-kind_of code kind e = subst InRange e (kind_of-in_range code)
 
--- The table ends at 26.
+-- If a code is from 26 to 31, then the code is a `BadCode`.
 pub past_the_table : (code : ℕ) → 26 ≤ code → code < 32 → kind_of code ≡ Err BadCode
 unfolding kind_of
 past_the_table code past below =

@@ -1,4 +1,4 @@
--- The first part of the bytes: a header or token that passes, a proper prefix of one, or a refusal
+-- What the bytes begin with: a header or token that passes, a proper prefix of one, or a refusal
 -- with the least number of bytes.
 use Rattle.std.proofs.Common.{◌≡◌, ℕ, ◌+◌, ◌-◌, ◌<◌, ◌≤◌, List, [], ◌∷◌, ◌++◌, length, take, Some, None, inl, inr, refl, sym, ◌∙◌, ap, arith, slice_index, length-append, length-take, length-take-le, take_at, append_assoc}
 use Rattle.std.proofs.lemmas.Bool.{cases_lt}
@@ -14,7 +14,7 @@ use Rattle.marshal_spec.proofs.format.RawLemmas.{IsPart-take, IsRaw-take, raw_me
 use Rattle.marshal_spec.proofs.format.StepLemmas.{LeastRefusal, least_refusal, least_refusal-within, first_refusal-more, first_refusal-fewer}
 use Rattle.marshal_spec.proofs.format.TokenStepLemmas.{token_steps-within, token_steps-take, header_steps-within, header_steps-take, header_length-take, header_length-from}
 
--- The first `n` bytes are the first `n` - 1 bytes and one more.
+-- The first `n` bytes are the first `n` - 1 bytes and one more byte.
 pub take-last : (n : ℕ) (bytes : List ℕ) → 1 ≤ n → n ≤ length bytes → take n bytes ≡ take (n - 1) bytes ++ slice_index bytes (n - 1) ∷ []
 take-last n bytes p l =
     let e : n ≡ n - 1 + 1 = omega arith in
@@ -22,7 +22,8 @@ take-last n bytes p l =
 
 -- ---- refusals of prefixes
 
--- The refusal of the first `n` bytes of a token.
+-- The refusal of the first `n` bytes of a token is the first refusal of the token's steps that `n`
+-- bytes decide.
 pub token_refusal-take : (header : List ℕ) (before : List (List ℕ)) (n : ℕ) (bytes : List ℕ) → n ≤ length bytes
     → token_refusal header before (take n bytes) ≡ first_refusal n (token_steps (context header before) bytes)
 token_refusal-take header before n bytes l =
@@ -34,7 +35,7 @@ header_refusal-take limit n bytes l =
     ap (λ k. first_refusal k (header_steps limit (take n bytes))) (length-take-le n bytes l)
     ∙ header_steps-take limit n n bytes (omega arith)
 
--- If a prefix is refused, then the whole is refused for the same reason.
+-- If a prefix of bytes is refused, then the bytes are refused for the same reason.
 pub token_refusal-append : (header : List ℕ) (before : List (List ℕ)) (prefix more : List ℕ) (r : ReadRefusal)
     → token_refusal header before prefix ≡ Some r → token_refusal header before (prefix ++ more) ≡ Some r
 token_refusal-append header before prefix more r h =
@@ -57,7 +58,8 @@ header_refusal-append limit prefix more r h =
 
 -- ---- a token at the beginning
 
--- The token at the beginning of `rest` is refused, with the least number of bytes.
+-- The token at the beginning of `rest` is refused. The field `count` is the least number of bytes
+-- that are refused.
 pub record RefusedNext (header : List ℕ) (before : List (List ℕ)) (rest : List ℕ) (refusal : ReadRefusal) : Type 0 where
   pub count : ℕ
   pub pos : 1 ≤ count
@@ -91,7 +93,8 @@ refused_from header before rest r h =
       passed = token_refusal-take header before (n - 1) rest (omega arith) ∙ fewer;
     }
 
--- If the bytes refuse the token at their beginning, then there is such a refusal.
+-- If the steps of the token at the beginning of `rest` refuse, then the token is refused with a
+-- least number of bytes.
 pub next_refused : (header : List ℕ) (before : List (List ℕ)) (rest : List ℕ) (r : ReadRefusal)
     → first_refusal (length rest) (token_steps (context header before) rest) ≡ Some r → RefusedNext header before rest r
 next_refused header before rest r h = refused_from header before rest r (least_refusal (length rest) (token_steps (context header before) rest) r h)
@@ -102,7 +105,7 @@ pub record PassesNext (header : List ℕ) (before : List (List ℕ)) (rest : Lis
   pub passes : token_refusal header before (take (raw_length rest) rest) ≡ None
   pub measure : raw_measure (take (raw_length rest) rest) ≡ raw_measure rest
 
--- If the bytes are not refused and contain the whole token, then the token passes.
+-- If the bytes are not refused and contain the whole next token, then the token passes.
 pub next_passes : (header : List ℕ) (before : List (List ℕ)) (rest : List ℕ)
     → first_refusal (length rest) (token_steps (context header before) rest) ≡ None → raw_length rest ≤ length rest → PassesNext header before rest
 next_passes header before rest h l = record {
@@ -113,7 +116,7 @@ next_passes header before rest h l = record {
   measure = raw_measure-take (raw_length rest) rest (omega arith);
 }
 
--- If the next token is refused, then the bytes up to the refusal are refused.
+-- If the next token is refused, then all bytes up to the byte that decides the refusal are refused.
 pub next_is_refused : (limit : ℕ) (header : List ℕ) (tokens : List (List ℕ)) (rest : List ℕ) (r : ReadRefusal)
     → HeaderPasses limit header → TokensPass header [] tokens → IsOpen tokens → (h : RefusedNext header tokens rest r)
     → IsRefused limit (header ++ (concat tokens ++ take h.count rest)) r
@@ -142,14 +145,15 @@ next_is_refused limit header tokens rest r hp tp is_open h =
       refused = ap (token_refusal header tokens) (sym e) ∙ h.refused;
     })
 
--- The bytes up to there, as a prefix of all the bytes.
+-- A header, `middle` and the first `n` bytes of `rest` are a prefix of the header, `middle` and
+-- `rest`.
 pub take_after : (header middle rest : List ℕ) (n : ℕ) → take (length header + (length middle + n)) (header ++ (middle ++ rest)) ≡ header ++ (middle ++ take n rest)
 take_after header middle rest n =
     take-append-add header (middle ++ rest) (length middle + n) ∙ ap (λ xs. header ++ xs) (take-append-add middle rest n)
 
 -- ---- a header at the beginning
 
--- Fewer bytes than a header has are a proper prefix of a header.
+-- If bytes are fewer than a header has, then the bytes are a proper prefix of a header.
 pub header_part-take : (n : ℕ) (bytes : List ℕ) → n < header_length bytes → length (take n bytes) < header_length (take n bytes)
 header_part-take n bytes l =
     elim (cases_lt n 4) [
@@ -157,7 +161,8 @@ header_part-take n bytes l =
       | inr g ↦ omega (arith, length-take n bytes, header_length-take n bytes g)
     ]
 
--- The header at the beginning is refused, with the least number of bytes.
+-- The header at the beginning of the bytes is refused. The field `count` is the least number of
+-- bytes that are refused.
 pub record RefusedHeader (limit : ℕ) (bytes : List ℕ) (refusal : ReadRefusal) : Type 0 where
   pub count : ℕ
   pub least : 4 ≤ count
@@ -186,11 +191,12 @@ header_refused_from limit bytes r h =
       };
     }
 
--- If the bytes refuse the header at their beginning, then there is such a refusal.
+-- If the steps of the header at the beginning of bytes refuse, then the header is refused with a
+-- least number of bytes.
 pub header_refused : (limit : ℕ) (bytes : List ℕ) (r : ReadRefusal) → first_refusal (length bytes) (header_steps limit bytes) ≡ Some r → RefusedHeader limit bytes r
 header_refused limit bytes r h = header_refused_from limit bytes r (least_refusal (length bytes) (header_steps limit bytes) r h)
 
--- If the header is refused, then the bytes up to the refusal are refused.
+-- If the header is refused, then all bytes up to the byte that decides the refusal are refused.
 pub header_is_refused : (limit : ℕ) (bytes : List ℕ) (r : ReadRefusal) → (h : RefusedHeader limit bytes r) → IsRefused limit (take h.count bytes) r
 header_is_refused limit bytes r h = inl (record {
   prefix = take (h.count - 1) bytes;
@@ -211,6 +217,6 @@ header_passes limit bytes h l =
       passes = header_refusal-take limit n bytes l ∙ first_refusal-fewer n (length bytes) (header_steps limit bytes) l h;
     }
 
--- If the bytes are not refused and contain a proper prefix of the header, then they are incomplete.
+-- If the bytes are not refused and are shorter than a header, then the bytes are incomplete.
 pub header_goes_on : (limit : ℕ) (bytes : List ℕ) → first_refusal (length bytes) (header_steps limit bytes) ≡ None → length bytes < header_length bytes → InHeader limit bytes
 header_goes_on limit bytes h l = record { part = l; passes = h }

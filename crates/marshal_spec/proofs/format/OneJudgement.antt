@@ -1,5 +1,5 @@
--- Bytes are incomplete, begin with a closed value, or are refused. Only one case holds, with one
--- outcome.
+-- Bytes are incomplete, begin with a closed value, or are refused. At most one of the three cases
+-- holds, with one outcome.
 use Rattle.std.proofs.Common.{◌≡◌, ℕ, ◌+◌, ◌<◌, ◌≤◌, List, [], ◌∷◌, ◌++◌, map, length, take, drop, Option, Some, None, inl, inr, refl, sym, ◌∙◌, ap, subst, arith, length-append, length-take-le, append_assoc, append-nil, take_at}
 use Rattle.std.proofs.lemmas.Bool.{cases_lt, cases_order}
 use Rattle.std.proofs.lemmas.List.{append_cancel_left, take-append-drop}
@@ -29,7 +29,7 @@ header_length-append header more raw =
     sym (header_length-take (length header) (header ++ more) (omega (arith, header_length-from header)))
     ∙ ap header_length (take_at header more (length header) refl)
 
--- No raw header is a proper prefix of another.
+-- No raw header is a proper prefix of another raw header.
 pub headers_same : (h k x y : List ℕ) → length h ≡ header_length h → length k ≡ header_length k → h ++ x ≡ k ++ y → (h ≡ k) × (x ≡ y)
 headers_same h k x y p q e =
     let l : length h ≡ length k = p ∙ (sym (header_length-append h x p) ∙ (ap header_length e ∙ (header_length-append k y q ∙ sym q))) in
@@ -54,7 +54,8 @@ header_part_shorter p h x y part raw e =
 abbrev pub Stops : List ℕ → List (List ℕ) → List ℕ → Type 0
 Stops header ts x = (t z : List ℕ) → TokenPasses header ts t → x ≡ t ++ z → ⊥
 
--- A header and tokens that pass, followed by bytes at which no further token passes.
+-- The bytes are a header and tokens that pass, followed by bytes `x` at which no further token
+-- passes.
 pub record Position (limit : ℕ) (bytes header : List ℕ) (ts : List (List ℕ)) (x : List ℕ) : Type 0 where
   pub bytes_are : bytes ≡ header ++ (concat ts ++ x)
   pub header_passes : HeaderPasses limit header
@@ -74,7 +75,8 @@ same_tokens header ts us x y p q s t e =
       | inr (inr g) ↦ absurd (not_further header us ts y x p t g)
     ]
 
--- There is at most one such position.
+-- The bytes determine the header, the tokens that pass, and the bytes at which no further token
+-- passes.
 pub same_position : (limit : ℕ) (bytes h k : List ℕ) (ts us : List (List ℕ)) (x y : List ℕ) → Position limit bytes h ts x → Position limit bytes k us y
     → (h ≡ k) × (ts ≡ us) × (x ≡ y)
 same_position limit bytes h k ts us x y p q =
@@ -85,7 +87,7 @@ same_position limit bytes h k ts us x y p q =
     p.stops (subst (λ v. Stops v us y) (sym heads.0) q.stops) heads.1 in
     (heads.0, same.0, same.1)
 
--- The end position of incomplete bytes.
+-- If bytes are incomplete within the tokens, then no token passes at the last, incomplete token.
 prefix_position : (limit : ℕ) (bytes header : List ℕ) (ts : List (List ℕ)) (x : List ℕ) → InTokens limit bytes header ts x → Position limit bytes header ts x
 prefix_position limit bytes header ts x f = record {
   bytes_are = f.bytes_are;
@@ -94,7 +96,7 @@ prefix_position limit bytes header ts x f = record {
   stops = λ t z p e. not_in_part x t z f.part p.raw e;
 }
 
--- The end position after a closed value.
+-- If bytes begin with a closed value, then no token passes after the closed value.
 closed_position : (limit : ℕ) (bytes prefix more header : List ℕ) (ts : List (List ℕ)) → bytes ≡ prefix ++ more → Closed limit prefix header ts → Position limit bytes header ts more
 closed_position limit bytes prefix more header ts e c = record {
   bytes_are = e ∙ (ap (λ v. v ++ more) c.bytes_are ∙ append_assoc header (concat ts) more);
@@ -103,7 +105,8 @@ closed_position limit bytes prefix more header ts e c = record {
   stops = λ t z p f. let l : 0 < pending (map raw_measure ts) = p.open_before in omega (arith, c.none_pending);
 }
 
--- A refusal in a token.
+-- A refusal in a token: `part` is the token's prefix that passes, and `last` is the byte that
+-- decides the refusal.
 record RefusedAt (limit : ℕ) (bytes header : List ℕ) (ts : List (List ℕ)) (part : List ℕ) (last : ℕ) (more : List ℕ) (r : ReadRefusal) : Type 0 where
   bytes_are : bytes ≡ header ++ (concat ts ++ ((part ++ last ∷ []) ++ more))
   header_passes : HeaderPasses limit header
@@ -136,8 +139,8 @@ refused_position limit bytes header ts part last more r f = record {
 
 -- ---- refusals with their last bytes
 
--- Two prefixes pass, and each is refused with one more byte. Then neither is shorter than the
--- other.
+-- If `R` refuses `f` with one more byte but does not refuse the prefix `g`, then `g` is not longer
+-- than `f`.
 no_earlier : (R : List ℕ → Option ReadRefusal) → ((xs ys : List ℕ) (r : ReadRefusal) → R xs ≡ Some r → R (xs ++ ys) ≡ Some r)
     → (f g : List ℕ) (a b : ℕ) (y z : List ℕ) (r : ReadRefusal) → R (f ++ a ∷ []) ≡ Some r → R g ≡ None
     → (f ++ a ∷ []) ++ y ≡ (g ++ b ∷ []) ++ z → length f < length g → ⊥
@@ -148,7 +151,8 @@ no_earlier R stays f g a b y z r p q e l =
     let refused : R g ≡ Some r = ap R split ∙ stays whole (drop (length whole) g) r p in
     cc
 
--- Two such prefixes have the same length and the same refusal.
+-- If two prefixes of the same bytes pass and each prefix is refused with one more byte, then the
+-- prefixes have equal lengths and refusals.
 two_refusals : (R : List ℕ → Option ReadRefusal) → ((xs ys : List ℕ) (r : ReadRefusal) → R xs ≡ Some r → R (xs ++ ys) ≡ Some r)
     → (f g : List ℕ) (a b : ℕ) (y z : List ℕ) (r s : ReadRefusal) → R f ≡ None → R (f ++ a ∷ []) ≡ Some r → R g ≡ None → R (g ++ b ∷ []) ≡ Some s
     → (f ++ a ∷ []) ++ y ≡ (g ++ b ∷ []) ++ z → (length f ≡ length g) × (r ≡ s)
@@ -192,14 +196,14 @@ closed_not_refused limit bytes prefix after h k ts us part last more r e c g =
     let none : pending (map raw_measure us) ≡ 0 = ap (λ vs. pending (map raw_measure vs)) (sym same.1) ∙ c.none_pending in
     omega arith
 
--- Two closed values at the beginning are equal.
+-- If the same bytes begin with two closed values, then the two closed values are equal.
 pub closed_once : (limit : ℕ) (bytes f g x y h k : List ℕ) (ts us : List (List ℕ)) → bytes ≡ f ++ x → bytes ≡ g ++ y
     → Closed limit f h ts → Closed limit g k us → (f ≡ g) × (h ≡ k) × (ts ≡ us)
 closed_once limit bytes f g x y h k ts us d e p q =
     let same = same_position limit bytes h k ts us x y (closed_position limit bytes f x h ts d p) (closed_position limit bytes g y k us e q) in
     (p.bytes_are ∙ ((λ i. same.0 i ++ concat (same.1 i)) ∙ sym q.bytes_are), same.0, same.1)
 
--- Two refusals in tokens are equal.
+-- If the same bytes are refused in a token in two ways, then the two refusals are equal.
 refused_agree : (limit : ℕ) (bytes h k : List ℕ) (ts us : List (List ℕ)) (p q : List ℕ) (a b : ℕ) (y z : List ℕ) (r s : ReadRefusal)
     → RefusedAt limit bytes h ts p a y r → RefusedAt limit bytes k us q b z s → (h ≡ k) × (ts ≡ us) × (length p ≡ length q) × (r ≡ s)
 refused_agree limit bytes h k ts us p q a b y z r s f g =
@@ -212,13 +216,15 @@ refused_agree limit bytes h k ts us p q a b y z r s f g =
 
 -- ---- within the header
 
--- No header that passes is at the beginning of a proper prefix of a header.
+-- If bytes are a proper prefix of a header, then no header that passes is at the beginning of the
+-- bytes.
 in_header_alone : (limit : ℕ) (bytes h x : List ℕ) → InHeader limit bytes → HeaderPasses limit h → bytes ≡ h ++ x → ⊥
 in_header_alone limit bytes h x f p e =
     let l : length bytes < length h = header_part_shorter bytes h [] x f.part p.raw (append-nil bytes ∙ e) in
     omega (arith, ap length e, length-append h x)
 
--- No header that passes is at the beginning of bytes with a refused header.
+-- If bytes begin with a refused header, then no header that passes is at the beginning of the
+-- bytes.
 header_refusal_alone : (limit : ℕ) (prefix : List ℕ) (last : ℕ) (more h x : List ℕ) (r : ReadRefusal) → InHeader limit prefix → header_refusal limit (prefix ++ last ∷ []) ≡ Some r
     → HeaderPasses limit h → (prefix ++ last ∷ []) ++ more ≡ h ++ x → ⊥
 header_refusal_alone limit prefix last more h x r f g p e =
@@ -230,7 +236,8 @@ header_refusal_alone limit prefix last more h x r f g p e =
     let b : header_refusal limit h ≡ None = p.passes in
     cc
 
--- No refused header is at the beginning of a prefix that passes.
+-- If bytes are an incomplete header that passes, then no refused header is at the beginning of the
+-- bytes.
 in_header_not_refused : (limit : ℕ) (bytes prefix : List ℕ) (last : ℕ) (more : List ℕ) (r : ReadRefusal) → InHeader limit bytes
     → header_refusal limit (prefix ++ last ∷ []) ≡ Some r → bytes ≡ (prefix ++ last ∷ []) ++ more → ⊥
 in_header_not_refused limit bytes prefix last more r f g e =
@@ -258,7 +265,7 @@ refused_at limit bytes whole more r e t =
     regroup : (a b c d v : List ℕ) → ((a ++ (b ++ c)) ++ d) ++ v ≡ a ++ (b ++ ((c ++ d) ++ v))
     regroup a b c d v = simp append_assoc
 
--- The length of bytes refused in a token: the header, the tokens, and the part with its last byte.
+-- The bytes refused in a token are a header, tokens, a part of a token, and one last byte.
 refused_length : (limit : ℕ) (whole : List ℕ) (r : ReadRefusal) → (t : RefusedInTokens limit whole r)
     → length whole ≡ length t.header + (length (concat t.tokens) + (length t.part + 1))
 refused_length limit whole r t =
@@ -272,7 +279,7 @@ refused_length limit whole r t =
       length-append (concat t.tokens) t.part,
     )
 
--- If a header is refused, then no header that passes begins the same bytes.
+-- If bytes begin with a refused header, then the bytes do not begin with a header that passes.
 refused_header_alone : (limit : ℕ) (bytes whole more h x : List ℕ) (r : ReadRefusal) → bytes ≡ whole ++ more → RefusedInHeader limit whole r
     → HeaderPasses limit h → bytes ≡ h ++ x → ⊥
 refused_header_alone limit bytes whole more h x r e t p f =
@@ -297,14 +304,14 @@ two_refused_in_tokens limit bytes v w x y r s d e p q =
     (refused_at limit bytes v x r d p) (refused_at limit bytes w y s e q) in
     (omega (arith, same.2, ap length same.0, ap (λ vs. length (concat vs)) same.1, refused_length limit v r p, refused_length limit w s q), same.3)
 
--- If bytes are refused in a token, then they begin with a header that passes.
+-- If bytes are refused in a token, then the bytes begin with a header that passes.
 refused_after_header : (limit : ℕ) (bytes whole more : List ℕ) (r : ReadRefusal) → bytes ≡ whole ++ more → RefusedInTokens limit whole r
     → (h x : List ℕ) × HeaderPasses limit h × (bytes ≡ h ++ x)
 refused_after_header limit bytes whole more r e t =
     let a : RefusedAt limit bytes t.header t.tokens t.part t.last more r = refused_at limit bytes whole more r e t in
     (t.header, concat t.tokens ++ ((t.part ++ t.last ∷ []) ++ more), a.header_passes, a.bytes_are)
 
--- If bytes are incomplete, then they do not begin with a closed value.
+-- If bytes are incomplete, then the bytes do not begin with a closed value.
 pub prefix_excludes_closed : (limit : ℕ) (bytes prefix more header : List ℕ) (chunks : List (List ℕ)) → bytes ≡ prefix ++ more
     → IsPrefix limit bytes → Closed limit prefix header chunks → ⊥
 prefix_excludes_closed limit bytes prefix more header chunks e f c =
@@ -314,7 +321,7 @@ prefix_excludes_closed limit bytes prefix more header chunks e f c =
       | inr t ↦ prefix_not_closed limit bytes prefix more t.0 header t.1 chunks t.2 e t.3 c
     ]
 
--- If bytes are incomplete, then they do not begin with refused bytes.
+-- If bytes are incomplete, then the bytes do not begin with refused bytes.
 pub prefix_excludes_refused : (limit : ℕ) (bytes prefix more : List ℕ) (r : ReadRefusal) → bytes ≡ prefix ++ more → IsPrefix limit bytes → IsRefused limit prefix r → ⊥
 prefix_excludes_refused limit bytes prefix more r e f g =
     elim f [
@@ -329,7 +336,7 @@ prefix_excludes_refused limit bytes prefix more r e f g =
       ]
     ]
 
--- If bytes begin with a closed value, then they do not begin with refused bytes.
+-- If bytes begin with a closed value, then the bytes do not begin with refused bytes.
 pub closed_excludes_refused : (limit : ℕ) (bytes v w x y header : List ℕ) (chunks : List (List ℕ)) (r : ReadRefusal) → bytes ≡ v ++ x → bytes ≡ w ++ y
     → Closed limit v header chunks → IsRefused limit w r → ⊥
 closed_excludes_refused limit bytes v w x y header chunks r d e c g =
@@ -339,7 +346,7 @@ closed_excludes_refused limit bytes v w x y header chunks r d e c g =
       | inr u ↦ closed_not_refused limit bytes v x header u.header chunks u.tokens u.part u.last y r d c (refused_at limit bytes w y r e u)
     ]
 
--- Two refusals at the beginning of the same bytes are equal.
+-- If the same bytes begin with two refused prefixes, then the two refusals are equal.
 pub refused_once : (limit : ℕ) (bytes v w x y : List ℕ) (r s : ReadRefusal) → bytes ≡ v ++ x → bytes ≡ w ++ y
     → IsRefused limit v r → IsRefused limit w s → (length v ≡ length w) × (r ≡ s)
 refused_once limit bytes v w x y r s d e f g =

@@ -1,4 +1,5 @@
--- A sequence of tokens is that of one tree.
+-- If a value is expected before each token and no value at the end, then the tokens are the tokens
+-- of one tree.
 use Rattle.std.proofs.Common.{◌≡◌, ℕ, zero, suc, ◌+◌, ◌-◌, ◌<◌, List, [], ◌∷◌, ◌++◌, map, Option, All, refl, ap, sym, ◌∙◌, arith, append_assoc, append-nil}
 use Rattle.std.proofs.lemmas.List.Elements.{All-head, All-tail}
 use Rattle.base_data.specs.declared.model.code.Measure.{Measure}
@@ -8,20 +9,20 @@ use Rattle.marshal_spec.specs.format.Tree.{Tree, Forest, node, none, more, trees
 use Rattle.marshal_spec.specs.format.Preorder.{OpenBefore}
 use Rattle.marshal_spec.proofs.format.Pending.{pending_push}
 
--- A forest of `n` trees with these tokens.
+-- A forest of `n` trees whose tokens are `ts`.
 pub record TreesOf (ts : List Token) (n : ℕ) : Type 0 where
   pub forest : Forest
   pub tokens_are : forest_tokens forest ≡ ts
   pub count : trees_in forest ≡ n
   pub are_trees : AreTrees forest
 
--- A tree with these tokens.
+-- A tree whose tokens are `ts`.
 pub record TreeOf (ts : List Token) : Type 0 where
   pub tree : Tree
   pub tokens_are : tokens tree ≡ ts
   pub is_tree : IsTree tree
 
--- The first `n` of `m` + `n` trees, and the others.
+-- A forest of `m` + `n` trees, split into two forests.
 record Split (f : Forest) (n m : ℕ) : Type 0 where
   prefix : Forest
   rest : Forest
@@ -46,8 +47,8 @@ split (more tree f) (suc n) m h e =
       rest_trees = s.rest_trees;
     }
 
--- If `n` values are to come after the measures and none at the end, then the tokens are those of
--- `n` trees.
+-- If `n` values are expected before the tokens and no value at the end, then the tokens are the
+-- tokens of `n` trees.
 pub trees_from_tokens : (ms : List (Option Measure)) (ts : List Token) → All IsToken ts → OpenBefore ms ts → pending (ms ++ map measure_of ts) ≡ 0 → TreesOf ts (pending ms)
 trees_from_tokens ms [] h k e = record { forest = none; tokens_are = refl; count = sym (rw append-nil at e); are_trees = tt }
 trees_from_tokens ms (t ∷ ts) h k e =
@@ -72,6 +73,7 @@ only_tree ts r = go r.forest r.tokens_are r.count r.are_trees
     go (more tree none) e n h = record { tree = tree; tokens_are = rw append-nil at e; is_tree = h.0 }
     go (more tree (more other f)) e n h = absurd (omega arith)
 
--- If a value is to come before each token and none at the end, then the tokens are those of a tree.
+-- If a value is expected before each token and no value at the end, then the tokens are the tokens
+-- of a tree.
 pub tree_from_tokens : (ts : List Token) → All IsToken ts → OpenBefore [] ts → pending (map measure_of ts) ≡ 0 → TreeOf ts
 tree_from_tokens ts h k e = only_tree ts (trees_from_tokens [] ts h k e)

@@ -1,4 +1,4 @@
--- The number of values that are still to come after tokens.
+-- The number of values that are still expected after tokens.
 use Rattle.std.proofs.Common.{◌≡◌, ◌+◌, ◌-◌, ◌<◌, ◌≤◌, List, [], ◌∷◌, ◌++◌, length, map, sum_by, Option, refl, arith, length-append, append_assoc, append-nil}
 use Rattle.std.proofs.lemmas.List.{map-append, length_push}
 use Rattle.std.proofs.lemmas.List.Sums.{sum_by-append, sum_by-cons, sum_by_push}
@@ -8,14 +8,14 @@ use Rattle.marshal_spec.specs.format.Token.{Token, measure_of}
 use Rattle.marshal_spec.specs.format.Tree.{Tree, Forest, node, none, more, trees_in, IsTree, AreTrees, tokens, forest_tokens}
 use Rattle.marshal_spec.specs.format.Preorder.{OpenBefore}
 
--- A token is one of the values to come, and adds its fields.
+-- A token is one of the expected values, and adds its fields to the expected values.
 pub pending_push : (ms : List (Option Measure)) (m : Option Measure) → 0 < pending ms → pending (ms ++ m ∷ []) ≡ pending ms - 1 + of_object fields m
 pending_push ms m h =
     let s = sum_by_push (of_object fields) ms m in
     let l = length_push ms m in
     rw (s, l) (omega arith)
 
--- Each value to come takes at least one token.
+-- Each expected value takes at least one token.
 pub pending-le : (ms ns : List (Option Measure)) → pending ms ≤ pending (ms ++ ns) + length ns
 pending-le ms ns =
     let s = sum_by-append (of_object fields) ms ns in
@@ -25,7 +25,7 @@ pending-le ms ns =
 pub pending-le-length : (ms ns : List (Option Measure)) → pending (ms ++ ns) ≡ 0 → pending ms ≤ length ns
 pending-le-length ms ns h = omega (arith, pending-le ms ns)
 
--- Consecutive tokens, each of which comes while a value is to come.
+-- A token's measure may be appended to the measures before, or prepended to the measures after.
 
 before_push : (ms : List (Option Measure)) (t : Token) (ts : List Token) → (ms ++ measure_of t ∷ []) ++ map measure_of ts ≡ ms ++ map measure_of (t ∷ ts)
 before_push ms t ts = append_assoc ms (measure_of t ∷ []) (map measure_of ts)
@@ -37,7 +37,7 @@ OpenBefore-append ms (x ∷ xs) ys h k =
 
 -- The tokens of a tree together are one value.
 
--- The fields among the tokens of trees are the other trees in them.
+-- The fields of all tokens of a tree are one fewer than the tokens of the tree.
 mutual
   fields-tokens : (tree : Tree) → IsTree tree → sum_by (of_object fields) (map measure_of (tokens tree)) + 1 ≡ length (map measure_of (tokens tree))
   fields-tokens (node t f) h =
@@ -62,7 +62,7 @@ pending-tokens ms tree h k =
     let e = fields-tokens tree h in
     rw (s, l) (omega arith)
 
--- Each token of a tree comes while a value is to come.
+-- If a value is expected before a tree, then a value is expected at each token of the tree.
 mutual
   pub open_tokens : (ms : List (Option Measure)) (tree : Tree) → IsTree tree → 0 < pending ms → OpenBefore ms (tokens tree)
   open_tokens ms (node t f) h k =

@@ -1,5 +1,5 @@
--- The first bytes of a raw token determine its length and its object, and no raw token is a proper
--- prefix of another.
+-- The first bytes of a raw token determine the token's length and object. No raw token is a proper
+-- prefix of another raw token.
 use Rattle.std.proofs.Common.{◌≡◌, ℕ, zero, suc, ◌+◌, ◌<◌, ◌≤◌, ◌==◌, List, [], ◌∷◌, ◌++◌, length, take, drop, Option, Some, None, Result, Ok, Err, inl, inr, refl, sym, ◌∙◌, ap, arith, eqb-true, slice_index, length-append, length-take, length-take-le, take-take, get_or-take, take_at, if◌then◌else◌}
 use Rattle.std.proofs.lemmas.List.{take-append-le, take-append-drop}
 use Rattle.std.proofs.lemmas.Bool.{cases_lt, cond_both}
@@ -16,7 +16,7 @@ use Rattle.marshal_spec.specs.format.Raw.{fixed_bytes, field_bytes, custom_bytes
 int_fields : (width : ℕ) → (if width == 8 then 8 else 0) ≤ width
 int_fields width = cond_both (width == 8) 8 0 (λ n. n ≤ width) (λ e. omega (arith, eqb-true width 8 e)) (λ e. omega arith)
 
--- The field bytes are among the fixed bytes.
+-- The field bytes of a kind are at most as many as its fixed bytes.
 pub fields_fit : (kind : CodeKind) → field_bytes kind ≤ fixed_bytes kind
 fields_fit (kinds.SmallBlock tag size) = omega arith
 fields_fit (kinds.SmallInt n) = omega arith
@@ -35,7 +35,7 @@ kind_fits (Some customs.Int32) b = omega arith
 kind_fits (Some customs.Int64) b = omega arith
 kind_fits (Some customs.Native) b = omega arith
 
--- The bytes that determine the size are among the token's bytes.
+-- The bytes that determine a token's size are among the token's bytes.
 pub sizing_fits : (kind : CodeKind) (rest : List ℕ) → sizing_bytes kind rest ≤ fixed_bytes kind + variable_bytes kind rest
 sizing_fits (kinds.SmallBlock tag size) rest = omega arith
 sizing_fits (kinds.SmallInt n) rest = omega arith
@@ -48,7 +48,7 @@ sizing_fits (kinds.Double little) rest = omega arith
 sizing_fits (kinds.Doubles width little) rest = omega arith
 sizing_fits (kinds.Custom old) rest = omega (arith, kind_fits (custom_of (take 3 rest)) (slice_index rest 3))
 
--- The field bytes come first among the bytes that determine the size.
+-- The field bytes are among the bytes that determine a token's size.
 pub fields_first : (kind : CodeKind) (rest : List ℕ) → field_bytes kind ≤ sizing_bytes kind rest
 fields_first (kinds.SmallBlock tag size) rest = omega arith
 fields_first (kinds.SmallInt n) rest = omega arith
@@ -66,7 +66,8 @@ fields_first (kinds.Custom old) rest = omega arith
 pub custom_take : (m : ℕ) (rest : List ℕ) → 3 ≤ m → custom_of (take 3 (take m rest)) ≡ custom_of (take 3 rest)
 custom_take m rest l = ap custom_of (take-take 3 m rest l)
 
--- If the first bytes include the fields, then they determine which bytes determine the size.
+-- If the first `m` bytes include the fields, then the first `m` bytes determine the number of
+-- sizing bytes.
 pub sizing_bytes-take : (kind : CodeKind) (m : ℕ) (rest : List ℕ) → field_bytes kind ≤ m → sizing_bytes kind (take m rest) ≡ sizing_bytes kind rest
 sizing_bytes-take (kinds.SmallBlock tag size) m rest l = refl
 sizing_bytes-take (kinds.SmallInt n) m rest l = refl
@@ -79,7 +80,8 @@ sizing_bytes-take (kinds.Double little) m rest l = refl
 sizing_bytes-take (kinds.Doubles width little) m rest l = refl
 sizing_bytes-take (kinds.Custom old) m rest l = ap (λ o. 3 + kind_bytes o) (custom_take m rest l)
 
--- If the first bytes include the fields, then they determine the object.
+-- If the first `m` bytes include the fields, then the first `m` bytes determine the measure of the
+-- token's object.
 pub measure_after-take : (kind : CodeKind) (m : ℕ) (rest : List ℕ) → field_bytes kind ≤ m → measure_after kind (take m rest) ≡ measure_after kind rest
 measure_after-take (kinds.SmallBlock tag size) m rest l = refl
 measure_after-take (kinds.SmallInt n) m rest l = refl
@@ -92,7 +94,7 @@ measure_after-take (kinds.Double little) m rest l = refl
 measure_after-take (kinds.Doubles width little) m rest l = rw take-take
 measure_after-take (kinds.Custom old) m rest l = ap custom_measure (custom_take m rest l)
 
--- The length of a custom block's data depends on the kind byte only if that byte is one of the
+-- The length of a custom block's data depends on the kind byte only if the kind byte is one of the
 -- sizing bytes.
 custom_same : (o : Option CustomKind) (a b m : ℕ) → 3 + kind_bytes o ≤ m → (3 < m → a ≡ b) → custom_bytes o a ≡ custom_bytes o b
 custom_same None a b m l e = refl
@@ -115,7 +117,7 @@ variable_bytes-take (kinds.Custom old) m rest l =
     ap (λ o. custom_bytes o (slice_index (take m rest) 3)) (custom_take m rest (omega arith))
     ∙ custom_same (custom_of (take 3 rest)) (slice_index (take m rest) 3) (slice_index rest 3) m l (λ h. get_or-take m rest 3 0 h)
 
--- Without these bytes the token is incomplete.
+-- If the bytes do not include all sizing bytes, then the token is incomplete.
 variable_part : (kind : CodeKind) (m : ℕ) (rest : List ℕ) → m < sizing_bytes kind rest → m < fixed_bytes kind + variable_bytes kind (take m rest)
 variable_part kind m rest l =
     elim (cases_lt m (field_bytes kind)) [
@@ -143,38 +145,40 @@ length_after-part (Err fault) m rest l = omega arith
 
 -- ---- a token
 
--- A raw token has at least its code.
+-- A raw token has at least one byte, its code.
 pub one-le-raw_length : (bytes : List ℕ) → 1 ≤ raw_length bytes
 one-le-raw_length [] = omega arith
 one-le-raw_length (code ∷ rest) = omega arith
 
--- If the first `n` bytes are enough, then they determine the length of the token.
+-- If the first `n` bytes include the token, then the first `n` bytes determine the token's length.
 pub raw_length-take : (n : ℕ) (bytes : List ℕ) → raw_length bytes ≤ n → raw_length (take n bytes) ≡ raw_length bytes
 raw_length-take zero bytes l = absurd (omega (arith, one-le-raw_length bytes))
 raw_length-take (suc m) [] l = refl
 raw_length-take (suc m) (code ∷ rest) l = ap (λ n. 1 + n) (length_after-take (kind_of code) m rest (omega arith))
 
--- If the first `n` bytes are enough, then they determine the object of the token.
+-- If the first `n` bytes include the token, then the first `n` bytes determine the token's object.
 pub raw_measure-take : (n : ℕ) (bytes : List ℕ) → raw_length bytes ≤ n → raw_measure (take n bytes) ≡ raw_measure bytes
 raw_measure-take zero bytes l = absurd (omega (arith, one-le-raw_length bytes))
 raw_measure-take (suc m) [] l = refl
 raw_measure-take (suc m) (code ∷ rest) l = measure_from-take (kind_of code) m rest (omega arith)
 
--- If the first `n` bytes are too few, then the token is longer than they are.
+-- If the token has more than `n` bytes, then a token that begins with the first `n` bytes has more
+-- than `n` bytes.
 pub raw_length-part : (n : ℕ) (bytes : List ℕ) → n < raw_length bytes → n < raw_length (take n bytes)
 raw_length-part zero bytes l = omega arith
 raw_length-part (suc m) [] l = omega arith
 raw_length-part (suc m) (code ∷ rest) l = omega (arith, length_after-part (kind_of code) m rest (omega arith))
 
--- Fewer bytes than a raw token has are a proper prefix of one.
+-- If bytes are fewer than a raw token has, then the bytes are a proper prefix of a raw token.
 pub IsPart-take : (n : ℕ) (bytes : List ℕ) → n < raw_length bytes → IsPart (take n bytes)
 IsPart-take n bytes l = omega (arith, raw_length-part n bytes l, length-take n bytes)
 
--- If the bytes are enough, then their beginning is a raw token.
+-- If the bytes include the whole token, then a raw token is at the beginning of the bytes.
 pub IsRaw-take : (bytes : List ℕ) → raw_length bytes ≤ length bytes → IsRaw (take (raw_length bytes) bytes)
 IsRaw-take bytes l = length-take-le (raw_length bytes) bytes l ∙ sym (raw_length-take (raw_length bytes) bytes (omega arith))
 
--- The length of a raw token, by the kind of its code.
+-- If a code has the kind `kind`, then the fixed and variable bytes of `kind` determine the raw
+-- token's length.
 pub raw_length-ok : (code : ℕ) (kind : CodeKind) (rest : List ℕ) → kind_of code ≡ Ok kind → raw_length (code ∷ rest) ≡ 1 + (fixed_bytes kind + variable_bytes kind rest)
 raw_length-ok code kind rest e = ap (λ r. 1 + length_after r rest) e
 
@@ -183,7 +187,7 @@ raw_measure-ok code kind rest e = ap (λ r. measure_from r rest) e
 
 -- ---- a token, and bytes after it
 
--- A raw token at the beginning determines its own length.
+-- If a raw token is at the beginning of bytes, then the token determines its own length.
 pub raw_length-append : (token more : List ℕ) → IsRaw token → raw_length (token ++ more) ≡ raw_length token
 raw_length-append token more raw =
     let same : take (length token) (token ++ more) ≡ token = take_at token more (length token) refl in
@@ -194,7 +198,7 @@ raw_length-append token more raw =
       | inr g ↦ sym (raw_length-take (length token) (token ++ more) g) ∙ ap raw_length same
     ]
 
--- If two lists of the same length begin the same bytes, then they are equal.
+-- If two lists of the same length begin the same bytes, then the lists are equal.
 pub same_prefix : (xs ys x y : List ℕ) → length xs ≡ length ys → xs ++ x ≡ ys ++ y → xs ≡ ys
 same_prefix xs ys x y l e = sym (take_at xs x (length xs) refl) ∙ (ap (take (length xs)) e ∙ take_at ys y (length xs) (sym l))
 
@@ -204,7 +208,7 @@ prefix_within p u x y l e =
     let prefix : take (length u) p ≡ u = sym (take-append-le (length u) p x l) ∙ (ap (take (length u)) e ∙ take_at u y (length u) refl) in
     sym (take-append-drop (length u) p) ∙ ap (λ t. t ++ drop (length u) p) prefix
 
--- No raw token is a proper prefix of another.
+-- No raw token is a proper prefix of another raw token.
 pub IsRaw-same : (t u x y : List ℕ) → IsRaw t → IsRaw u → t ++ x ≡ u ++ y → t ≡ u
 IsRaw-same t u x y p q e =
     same_prefix t u x y (p ∙ (sym (raw_length-append t x p) ∙ (ap raw_length e ∙ (raw_length-append u y q ∙ sym q)))) e

@@ -13,11 +13,13 @@ pub concat-append : (ts us : List (List ℕ)) → concat (ts ++ us) ≡ concat t
 concat-append [] us = refl
 concat-append (t ∷ ts) us = ap (λ xs. t ++ xs) (concat-append ts us) ∙ sym (append_assoc t (concat ts) (concat us))
 
--- The bytes of one more token.
+-- If a token is appended to a list of tokens, then the token's bytes are appended to the list's
+-- bytes.
 pub concat-push : (ts : List (List ℕ)) (t : List ℕ) → concat (ts ++ t ∷ []) ≡ concat ts ++ t
 concat-push ts t = concat-append ts (t ∷ []) ∙ ap (λ xs. concat ts ++ xs) (append-nil t)
 
--- If tokens pass, and further tokens pass after them, then all of them pass.
+-- If tokens `ts` pass and tokens `us` pass after `ts`, then the concatenation of `ts` and `us`
+-- passes.
 pub TokensPass-append : (header : List ℕ) (before ts us : List (List ℕ))
     → TokensPass header before ts → TokensPass header (before ++ ts) us → TokensPass header before (ts ++ us)
 TokensPass-append header before [] us p q = subst (λ xs. TokensPass header xs us) (append-nil before) q
@@ -29,13 +31,13 @@ TokensPass-after header before [] us p = subst (λ xs. TokensPass header xs us) 
 TokensPass-after header before (t ∷ ts) us p =
     subst (λ xs. TokensPass header xs us) (append_assoc before (t ∷ []) ts) (TokensPass-after header (before ++ t ∷ []) ts us p.1)
 
--- If tokens pass, and one more token passes after them, then all of them pass.
+-- If tokens `ts` pass and the token `t` passes after `ts`, then `ts` followed by `t` passes.
 pub TokensPass-push : (header : List ℕ) (before ts : List (List ℕ)) (t : List ℕ) → TokensPass header before ts → TokenPasses header (before ++ ts) t → TokensPass header before (ts ++ t ∷ [])
 TokensPass-push header before ts t p q = TokensPass-append header before ts (t ∷ []) p (q, tt)
 
 -- ---- one reading
 
--- Each is a raw token.
+-- Each chunk of the list is a raw token.
 abbrev pub AreRaw : List (List ℕ) → Type 0
 AreRaw [] = Unit {0}
 AreRaw (t ∷ ts) = IsRaw t × AreRaw ts
@@ -44,15 +46,15 @@ pub TokensPass-raw : (header : List ℕ) (before ts : List (List ℕ)) → Token
 TokensPass-raw header before [] p = tt
 TokensPass-raw header before (t ∷ ts) p = (p.0.raw, TokensPass-raw header (before ++ t ∷ []) ts p.1)
 
--- The second list of tokens extends the first one. The bytes end in `x` after the first list, and
--- in `y` after the second.
+-- The list of tokens `us` extends the list `ts`. The bytes `x` follow `ts`, and the bytes `y`
+-- follow `us`.
 pub record GoesOn (ts us : List (List ℕ)) (x y : List ℕ) : Type 0 where
   pub next : List ℕ
   pub more : List (List ℕ)
   pub tokens_are : us ≡ ts ++ next ∷ more
   pub bytes_are : x ≡ concat (next ∷ more) ++ y
 
--- Two readings of the same bytes: they are equal, or one extends the other.
+-- Two readings of the same bytes are equal, or one reading extends the other.
 abbrev pub Readings : List (List ℕ) → List (List ℕ) → List ℕ → List ℕ → Type 0
 Readings ts us x y = ((ts ≡ us) × (x ≡ y)) ⊎ (GoesOn ts us x y ⊎ GoesOn us ts y x)
 
@@ -75,15 +77,16 @@ raw_readings (t ∷ ts) (u ∷ us) x y p q e =
     append_cancel_left u (concat ts ++ x) (concat us ++ y) (ap (λ v. v ++ (concat ts ++ x)) (sym same) ∙ split) in
     readings_more t u ts us x y same (raw_readings ts us x y p.1 q.1 after)
 
--- The readings of the bytes after a header.
+-- If two lists of tokens pass and begin the same bytes, then the lists are equal or one list
+-- extends the other.
 pub readings : (header : List ℕ) (before : List (List ℕ)) (ts us : List (List ℕ)) (x y : List ℕ)
     → TokensPass header before ts → TokensPass header before us → concat ts ++ x ≡ concat us ++ y → Readings ts us x y
 readings header before ts us x y p q e = raw_readings ts us x y (TokensPass-raw header before ts p) (TokensPass-raw header before us q) e
 
--- The extending tokens pass after the others.
+-- If the list `us` passes and extends `ts`, then the additional tokens pass after `ts`.
 pub GoesOn-tokens_pass : (header : List ℕ) (ts us : List (List ℕ)) (x y : List ℕ) → TokensPass header [] us → (g : GoesOn ts us x y) → TokensPass header ts (g.next ∷ g.more)
 GoesOn-tokens_pass header ts us x y p g = TokensPass-after header [] ts (g.next ∷ g.more) (subst (TokensPass header []) g.tokens_are p)
 
--- The first extending token passes.
+-- If the list `us` passes and extends `ts`, then the first additional token passes after `ts`.
 pub GoesOn-passes : (header : List ℕ) (ts us : List (List ℕ)) (x y : List ℕ) → TokensPass header [] us → (g : GoesOn ts us x y) → TokenPasses header ts g.next
 GoesOn-passes header ts us x y p g = (GoesOn-tokens_pass header ts us x y p g).0

@@ -6,7 +6,7 @@ use Rattle.marshal_spec.specs.format.Tree.{Tree, Forest, node, none, more, token
 use Rattle.marshal_spec.specs.format.Preorder.{EachRefersBack}
 use Rattle.marshal_spec.proofs.format.Counts.{objects-tokens, objects-tokens-cons}
 
--- The objects after a token and further tokens.
+-- The objects of a token and of the tokens after it are the objects of all these tokens.
 after_token : (c : ℕ) (x : Token) (xs : List Token) → (c + made_by x) + objects (map measure_of xs) ≡ c + objects (map measure_of (x ∷ xs))
 after_token c x xs = add_assoc c (made_by x) (objects (map measure_of xs)) ∙ ap (λ n. c + n) (sym (objects-tokens-cons x xs))
 
@@ -22,7 +22,7 @@ pub EachRefersBack-rest : (c : ℕ) (xs ys : List Token) → EachRefersBack c (x
 EachRefersBack-rest c [] ys h = rw add-zero h
 EachRefersBack-rest c (x ∷ xs) ys h = rw (← after_token c x xs) (EachRefersBack-rest (c + made_by x) xs ys h.1)
 
--- If the references of a tree lead back, then those of its tokens do.
+-- If the references of a tree lead back, then the references among the tree's tokens lead back.
 mutual
   pub each_refers_back : (tree : Tree) (c : ℕ) → ReferBack tree c → EachRefersBack c (tokens tree)
   each_refers_back (node t f) c h = (h.0, all_refer_back f (c + made_by t) h.1)
@@ -44,6 +44,7 @@ mutual
     AllReferBack-from_each f (c + made tree) (rw (objects-tokens tree) at (EachRefersBack-rest c (tokens tree) (forest_tokens f) h)),
   )
 
--- A tree's references lead back if and only if those of its tokens do.
+-- The references of a tree lead back if and only if the references among the tree's tokens lead
+-- back.
 pub ReferBack-each : (tree : Tree) (c : ℕ) → ReferBack tree c ↔ EachRefersBack c (tokens tree)
 ReferBack-each tree c = (each_refers_back tree c, ReferBack-from_each tree c)

@@ -1,10 +1,10 @@
--- The root of a tree.
+-- The root value of a tree.
 use Rattle.std.proofs.Common.{length, arith}
 use Rattle.base_data.specs.model.Graph.{IsValue}
 use Rattle.marshal_spec.specs.format.Token.{integer, atom, shared, block, leaf}
 use Rattle.marshal_spec.specs.format.Tree.{Tree, node, IsTree, ReferBack, root, objects_of}
 
--- The root is a value among the tree's objects.
+-- The root value of a tree is a value over the tree's objects.
 pub root_is_value :
     (tree : Tree) → IsTree tree → ReferBack tree 0
     → IsValue (length (objects_of tree 0)) (root tree 0)

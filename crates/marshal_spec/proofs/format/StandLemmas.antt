@@ -1,5 +1,5 @@
--- The judgement after a header and tokens that pass, if a value is to come, by the rest of the
--- bytes.
+-- The judgement on bytes whose header and first tokens pass, if a value is still expected. The
+-- judgement depends on the remaining bytes.
 use Rattle.std.proofs.Common.{◌≡◌, ℕ, zero, suc, ◌+◌, ◌<◌, ◌≤◌, List, [], ◌++◌, length, take, drop, map, None, inl, inr, sym, ◌∙◌, ap, subst, arith, length-append, append_assoc, take_at}
 use Rattle.std.proofs.lemmas.Bool.{cases_lt}
 use Rattle.std.proofs.lemmas.List.{take-append-drop, length-drop}
@@ -21,14 +21,15 @@ use Rattle.marshal_spec.proofs.format.NextLemmas.{RefusedNext, PassesNext, Refus
 use Rattle.marshal_spec.proofs.format.EncodeValues.{AreBytes-prefix}
 use Rattle.marshal_spec.proofs.format.EncodeTrees.{EncodedBy, EncodedBy-passes}
 
--- The rest comes after a header and tokens that pass, and a value is to come.
+-- The bytes are a header and tokens that pass, and the remaining bytes `rest`. At least one value
+-- is expected.
 pub record Stands (limit : ℕ) (bytes header : List ℕ) (tokens : List (List ℕ)) (rest : List ℕ) : Type 0 where
   pub bytes_are : bytes ≡ header ++ (concat tokens ++ rest)
   pub header_passes : HeaderPasses limit header
   pub tokens_pass : TokensPass header [] tokens
   pub is_open : IsOpen tokens
 
--- The bytes begin with a value.
+-- The first `n` bytes encode a value with the chunks `chunks`.
 pub record BeginsValue (limit : ℕ) (bytes : List ℕ) (n : ℕ) (chunks : List (List ℕ)) : Type 0 where
   pub tree : Tree
   pub judges : Judges limit bytes (value n tree)
@@ -39,7 +40,8 @@ pub record BeginsValue (limit : ℕ) (bytes : List ℕ) (n : ℕ) (chunks : List
 abbrev pub after_next : List ℕ → List ℕ
 after_next rest = drop (raw_length rest) rest
 
--- If the rest is a proper prefix of a token that passes, then the bytes are incomplete.
+-- If the remaining bytes are a proper prefix of a token and are not refused, then the bytes are
+-- incomplete.
 pub Stands-prefix : (limit : ℕ) (bytes header : List ℕ) (tokens : List (List ℕ)) (rest : List ℕ) → Stands limit bytes header tokens rest
     → first_refusal (length rest) (token_steps (context header tokens) rest) ≡ None → length rest < raw_length rest → Judges limit bytes prefix
 Stands-prefix limit bytes header tokens rest s e part = inr (
@@ -79,7 +81,8 @@ next_tokens : (limit : ℕ) (bytes header : List ℕ) (tokens : List (List ℕ))
 next_tokens limit bytes header tokens rest s p =
     TokensPass-push header [] tokens (take (raw_length rest) rest) s.tokens_pass (record { open_before = s.is_open; raw = p.raw; passes = p.passes })
 
--- If the next token passes and a value is to come after it, then the state holds after the token.
+-- If the next token passes and a value is expected after the token, then the state `Stands` holds
+-- after the token.
 pub Stands-next : (limit : ℕ) (bytes header : List ℕ) (tokens : List (List ℕ)) (rest : List ℕ) → Stands limit bytes header tokens rest → PassesNext header tokens rest
     → IsOpen (with_next tokens rest) → Stands limit bytes header (with_next tokens rest) (after_next rest)
 Stands-next limit bytes header tokens rest s p is_open = record {
@@ -112,7 +115,7 @@ Stands-value limit bytes header tokens rest a s p none =
 
 -- ---- at the header
 
--- If the header passes, then the state holds after it.
+-- If the header passes, then the state `Stands` holds after the header.
 pub Stands-header : (limit : ℕ) (bytes : List ℕ) → first_refusal (length bytes) (header_steps limit bytes) ≡ None → header_length bytes ≤ length bytes
     → Stands limit bytes (take (header_length bytes) bytes) [] (drop (header_length bytes) bytes)
 Stands-header limit bytes e l = record {
@@ -124,7 +127,7 @@ Stands-header limit bytes e l = record {
 
 -- ---- to the end
 
--- The judgement of the bytes, by recursion on the length of the rest.
+-- Bytes in the state `Stands` have a judgement, by recursion on the length of the remaining bytes.
 judged : (fuel limit : ℕ) (bytes header : List ℕ) (tokens : List (List ℕ)) (rest : List ℕ) → AreBytes bytes → Stands limit bytes header tokens rest → length rest < fuel
     → (j : Judgement) × Judges limit bytes j
 judged zero limit bytes header tokens rest a s l = absurd (omega arith)

@@ -5,20 +5,21 @@ use Rattle.base_data.proofs.model.Options.{none_or_some}
 use Rattle.base_data.specs.declared.model.refusal.ReadRefusal.{ReadRefusal}
 use Rattle.marshal_spec.specs.format.Step.{Step, or_else, first_refusal}
 
--- If `n` bytes do not decide a step, then the list refuses nothing from this step on.
+-- If `n` bytes do not decide the first step of a list, then the list refuses nothing.
 pub first_refusal-undecided : (n : ℕ) (s : Step) (steps : List Step) → n < s.ends → first_refusal n (s ∷ steps) ≡ None
 first_refusal-undecided n s steps l = cond-true (nat_lt n s.ends) None (or_else s.refusal (first_refusal n steps)) (lt-ltb n s.ends l)
 
--- If `n` bytes decide a step, then the step refuses or the next steps do.
+-- If `n` bytes decide the first step, then the list's refusal is that of the first step or of the
+-- next steps.
 pub first_refusal-decided : (n : ℕ) (s : Step) (steps : List Step) → s.ends ≤ n → first_refusal n (s ∷ steps) ≡ or_else s.refusal (first_refusal n steps)
 first_refusal-decided n s steps l = cond-false (nat_lt n s.ends) None (or_else s.refusal (first_refusal n steps)) (le-ltb n s.ends l)
 
--- If the second continuation refuses whenever the first does, then so does the whole.
+-- If `b` refuses whenever `a` refuses, then `or_else o b` refuses whenever `or_else o a` refuses.
 or_else-mono : (o a b : Option ReadRefusal) (r : ReadRefusal) → (a ≡ Some r → b ≡ Some r) → or_else o a ≡ Some r → or_else o b ≡ Some r
 or_else-mono None a b r f h = f h
 or_else-mono (Some q) a b r f h = h
 
--- More bytes keep a refusal.
+-- If the first `n` bytes are refused, then more bytes are refused for the same reason.
 pub first_refusal-more : (n m : ℕ) (steps : List Step) (r : ReadRefusal) → n ≤ m → first_refusal n steps ≡ Some r → first_refusal m steps ≡ Some r
 first_refusal-more n m [] r l h = cc
 first_refusal-more n m (s ∷ steps) r l h =
@@ -31,7 +32,7 @@ first_refusal-more n m (s ∷ steps) r l h =
           (sym (first_refusal-decided n s steps d) ∙ h)
     ]
 
--- If more bytes are not refused, then fewer are not refused.
+-- If the first `m` bytes are not refused, then fewer bytes are not refused.
 pub first_refusal-fewer : (n m : ℕ) (steps : List Step) → n ≤ m → first_refusal m steps ≡ None → first_refusal n steps ≡ None
 first_refusal-fewer n m steps l h =
     elim (none_or_some (first_refusal n steps)) [
@@ -46,7 +47,7 @@ pub record LeastRefusal (m : ℕ) (steps : List Step) (r : ReadRefusal) : Type 0
   pub refuses : first_refusal least steps ≡ Some r
   pub before : (k : ℕ) → k < least → first_refusal k steps ≡ None
 
--- If the first step passes, then the refusal of the others takes at least the bytes of the first
+-- If the first step passes, then a refusal by the next steps takes at least the bytes of the first
 -- step.
 least_after : (m : ℕ) (s : Step) (steps : List Step) (r : ReadRefusal) → s.ends ≤ m → s.refusal ≡ None → LeastRefusal m steps r → LeastRefusal m (s ∷ steps) r
 least_after m s steps r d e h = record {
@@ -66,7 +67,7 @@ least_after m s steps r d e h = record {
       ];
 }
 
--- If the first step fails, then its refusal is that of the list.
+-- If the first step fails, then the list's refusal is the refusal of the first step.
 least_here : (m : ℕ) (s : Step) (steps : List Step) (r : ReadRefusal) → s.ends ≤ m → s.refusal ≡ Some r → LeastRefusal m (s ∷ steps) r
 least_here m s steps r d e = record {
   least = s.ends;
@@ -75,7 +76,8 @@ least_here m s steps r d e = record {
   before = λ k l. first_refusal-undecided k s steps l;
 }
 
--- The least number, by the result of the first step.
+-- If a list of steps refuses, then there is a least number of bytes, by cases on the refusal of the
+-- first step.
 least_from : (m : ℕ) (s : Step) (steps : List Step) (r : ReadRefusal) → s.ends ≤ m → (first_refusal m steps ≡ Some r → LeastRefusal m steps r)
     → first_refusal m (s ∷ steps) ≡ Some r → LeastRefusal m (s ∷ steps) r
 least_from m s steps r d rest h =
@@ -85,7 +87,7 @@ least_from m s steps r d rest h =
       | inr p ↦ least_here m s steps r d (p.1 ∙ (rw p.1 at f))
     ]
 
--- If steps refuse, then there is a least number of bytes with which they refuse.
+-- If steps refuse, then there is a least number of bytes with which the steps refuse.
 pub least_refusal : (m : ℕ) (steps : List Step) (r : ReadRefusal) → first_refusal m steps ≡ Some r → LeastRefusal m steps r
 least_refusal m [] r h = absurd (let e : None ≡ Some r = h in cc)
 least_refusal m (s ∷ steps) r h =
@@ -103,7 +105,7 @@ pub EndWithin-append : (low high : ℕ) (steps more : List Step) → EndWithin l
 EndWithin-append low high [] more h k = k
 EndWithin-append low high (s ∷ steps) more h k = (h.0, h.1, EndWithin-append low high steps more h.2 k)
 
--- A refusal takes at least the bytes that every step takes.
+-- If every step takes at least `low` bytes, then a refusal takes at least `low` bytes.
 pub EndWithin-low : (low high n : ℕ) (steps : List Step) (r : ReadRefusal) → EndWithin low high steps → first_refusal n steps ≡ Some r → low ≤ n
 EndWithin-low low high n [] r w h = absurd (let e : None ≡ Some r = h in cc)
 EndWithin-low low high n (s ∷ steps) r w h =
@@ -112,7 +114,7 @@ EndWithin-low low high n (s ∷ steps) r w h =
       | inr d ↦ omega (arith, w.0)
     ]
 
--- `high` bytes decide all steps.
+-- If no step takes more than `high` bytes, then `high` bytes decide all steps.
 pub EndWithin-high : (low high n : ℕ) (steps : List Step) → EndWithin low high steps → high ≤ n → first_refusal n steps ≡ first_refusal high steps
 EndWithin-high low high n [] w l = refl
 EndWithin-high low high n (s ∷ steps) w l =
@@ -120,7 +122,8 @@ EndWithin-high low high n (s ∷ steps) w l =
     ∙ (ap (λ o. or_else s.refusal o) (EndWithin-high low high n steps w.2 l)
     ∙ sym (first_refusal-decided high s steps w.1))
 
--- The least number of bytes of a refusal is within the bounds.
+-- If every step takes between `low` and `high` bytes, then the least number of bytes of a refusal
+-- is between `low` and `high`.
 pub least_refusal-within : (low high m : ℕ) (steps : List Step) (r : ReadRefusal) → EndWithin low high steps → (h : LeastRefusal m steps r)
     → (low ≤ h.least) × (h.least ≤ high)
 least_refusal-within low high m steps r w h = (
@@ -133,7 +136,7 @@ least_refusal-within low high m steps r w h = (
   ],
 )
 
--- The two lists have the same steps as far as `n` bytes decide.
+-- The two lists agree on all steps that `n` bytes decide.
 abbrev pub AgreeUpTo : ℕ → List Step → List Step → Type 0
 AgreeUpTo n [] [] = Unit {0}
 AgreeUpTo n [] (t ∷ more) = n < t.ends
@@ -144,11 +147,11 @@ pub agree_itself : (n : ℕ) (steps : List Step) → AgreeUpTo n steps steps
 agree_itself n [] = tt
 agree_itself n (s ∷ steps) = inl (refl, agree_itself n steps)
 
--- Equal lists of steps agree.
+-- If two lists of steps are equal, then the lists agree up to any number of bytes.
 pub agree_same : (n : ℕ) (steps more : List Step) → steps ≡ more → AgreeUpTo n steps more
 agree_same n steps more e = subst (λ ss. AgreeUpTo n steps ss) e (agree_itself n steps)
 
--- If lists agree up to `n` bytes, then they have the same refusal for at most `n` bytes.
+-- If two lists agree up to `n` bytes, then the lists have the same refusal for at most `n` bytes.
 pub agree_refuses : (n k : ℕ) (steps more : List Step) → AgreeUpTo n steps more → k ≤ n → first_refusal k steps ≡ first_refusal k more
 agree_refuses n k [] [] h l = refl
 agree_refuses n k [] (t ∷ more) h l = sym (first_refusal-undecided k t more (omega arith))

@@ -1,4 +1,5 @@
--- For the steps of a token and of a header, the first `n` bytes decide what the whole decides.
+-- The first `n` bytes of a token or header have the refusals of the whole token or header, as far
+-- as `n` bytes decide.
 use Rattle.std.proofs.Common.{◌≡◌, ℕ, zero, suc, ◌+◌, ◌-◌, ◌<◌, ◌≤◌, ◌==◌, nat_lt, Bool, true, false, List, [], ◌∷◌, ◌++◌, take, drop, Option, Some, None, Result, Ok, Err, inl, inr, refl, sym, ◌∙◌, ap, subst, subst₂, arith, slice_index, take-take, get_or-take, if◌then◌else◌}
 use Rattle.std.proofs.lemmas.List.{drop-take}
 use Rattle.std.proofs.lemmas.Bool.{cases_lt, cond_both}
@@ -23,13 +24,15 @@ use Rattle.marshal_spec.proofs.format.StepLemmas.{EndWithin, EndWithin-append, A
 
 -- ---- a kind, with the first `m` bytes after the code
 
--- Its eight bytes determine the refusal of an integer of eight bytes.
+-- If the first `m` bytes include an integer's eight bytes, then the first `m` bytes determine the
+-- refusal of the integer.
 int_guard : (c : Context) (b : Bool) (m : ℕ) (rest : List ℕ) → (if b then 8 else 0) ≤ m
     → (if b then integer_refusal c (signed (take 8 (take m rest))) else None) ≡ (if b then integer_refusal c (signed (take 8 rest)) else None)
 int_guard c true m rest l = ap (λ xs. integer_refusal c (signed xs)) (take-take 8 m rest l)
 int_guard c false m rest l = refl
 
--- If the bytes contain the fields, then they determine the refusal of the fields.
+-- If the first `m` bytes contain the fields, then the first `m` bytes determine the refusal of the
+-- fields.
 pub field_refusal-take : (c : Context) (code : ℕ) (kind : CodeKind) (m : ℕ) (rest : List ℕ) → field_bytes kind ≤ m
     → field_refusal c code kind (take m rest) ≡ field_refusal c code kind rest
 field_refusal-take c code (kinds.SmallBlock tag size) m rest l = refl
@@ -43,7 +46,8 @@ field_refusal-take c code (kinds.Double little) m rest l = refl
 field_refusal-take c code (kinds.Doubles width little) m rest l = rw take-take
 field_refusal-take c code (kinds.Custom old) m rest l = rw custom_take
 
--- If the bytes determine the size, then they determine the steps on the variable bytes.
+-- If the first `m` bytes determine the size of a custom block, then the first `m` bytes determine
+-- the steps on the variable bytes.
 custom_steps-take : (old : Bool) (c : Context) (o : Option CustomKind) (m : ℕ) (rest : List ℕ) → 3 + kind_bytes o ≤ m
     → variable_bytes (kinds.Custom old) (take m rest) ≡ variable_bytes (kinds.Custom old) rest
     → variable_steps c (kinds.Custom old) o (take m rest) ≡ variable_steps c (kinds.Custom old) o rest
@@ -67,7 +71,7 @@ variable_steps-take c (kinds.Custom old) m rest l =
     ap (λ o. variable_steps c (kinds.Custom old) o (take m rest)) (custom_take m rest (omega arith))
     ∙ custom_steps-take old c (custom_of (take 3 rest)) m rest l (variable_bytes-take (kinds.Custom old) m rest l)
 
--- The steps after the code, by the contents of the bytes.
+-- The steps after a code, computed from the refusal, lengths and measure that the bytes determine.
 steps_of : Context → CodeKind → Option ReadRefusal → List Step → ℕ → ℕ → Option Measure → List Step
 steps_of c kind refusal variable n sized measure =
     let all = one_more c.sums measure in
@@ -86,7 +90,7 @@ steps_after_is : (c : Context) (code : ℕ) (kind : CodeKind) (rest : List ℕ)
 unfolding steps_of
 steps_after_is c code kind rest = refl
 
--- The bytes that determine the size determine all steps.
+-- If the first `m` bytes determine the size, then the first `m` bytes determine all steps.
 steps_after-take : (c : Context) (code : ℕ) (kind : CodeKind) (m : ℕ) (rest : List ℕ) → sizing_bytes kind rest ≤ m
     → steps_after c code kind (take m rest) ≡ steps_after c code kind rest
 steps_after-take c code kind m rest l =
@@ -100,7 +104,8 @@ steps_after-take c code kind m rest l =
     ∙ ((λ i. steps_of c kind (e1 i) (e2 i) (1 + fixed_bytes kind + e3 i) (1 + e4 i) (e5 i))
     ∙ sym (steps_after_is c code kind rest))
 
--- Only the kind byte of a `Nativeint` is between the fields and the end of the sizing bytes.
+-- The steps of a custom block agree if the identifier is known but the kind byte of a `Nativeint`
+-- is missing.
 custom_agree : (old : Bool) (c : Context) (o : Option CustomKind) (m : ℕ) (r s : List ℕ) (more rest : List Step) → 3 ≤ m → m < 3 + kind_bytes o
     → AgreeUpTo (suc m) (variable_steps c (kinds.Custom old) o r ++ more) (variable_steps c (kinds.Custom old) o s ++ rest)
 custom_agree old c None m r s more rest l h = absurd (omega arith)
@@ -123,13 +128,14 @@ variable_agree c (kinds.Custom old) m rest more others l h =
     subst (λ o. AgreeUpTo (suc m) (variable_steps c (kinds.Custom old) o (take m rest) ++ more) (variable_steps c (kinds.Custom old) (custom_of (take 3 rest)) rest ++ others))
     (sym (custom_take m rest l)) (custom_agree old c (custom_of (take 3 rest)) m (take m rest) rest more others l h)
 
--- Without the fields, only the first step is decided.
+-- If bytes do not include all fields, then the bytes decide only the first step.
 steps_of_apart : (c : Context) (kind : CodeKind) (f g : Option ReadRefusal) (v w : List Step) (n n' s s' : ℕ) (e e' : Option Measure) (m : ℕ) → m < field_bytes kind
     → AgreeUpTo (suc m) (steps_of c kind f v n s e) (steps_of c kind g w n' s' e')
 unfolding steps_of
 steps_of_apart c kind f g v w n n' s s' e e' m l = inl (refl, inr (omega arith, omega arith))
 
--- With the fields, the other steps agree as the steps on the variable bytes do.
+-- If the first `m` bytes include the fields but not the size, then the first `m` bytes have the
+-- whole token's decided steps.
 steps_after_agree : (c : Context) (code : ℕ) (kind : CodeKind) (m : ℕ) (rest : List ℕ) → field_bytes kind ≤ m → m < sizing_bytes kind rest
     → AgreeUpTo (suc m) (steps_after c code kind (take m rest)) (steps_after c code kind rest)
 steps_after_agree c code kind m rest l h =
@@ -218,29 +224,30 @@ steps_from-within c code (Err fault) rest = (omega arith, omega arith, tt)
 
 -- ---- a token
 
--- A step takes at least one byte, and at most as many as the token has.
+-- A step of a token takes at least one byte, and at most as many bytes as the token has.
 pub token_steps-within : (c : Context) (bytes : List ℕ) → EndWithin 1 (raw_length bytes) (token_steps c bytes)
 unfolding token_steps
 token_steps-within c [] = tt
 token_steps-within c (code ∷ rest) = steps_from-within c code (kind_of code) rest
 
--- No bytes decide nothing.
+-- If every step takes at least one byte, then zero bytes decide no step.
 nothing_agrees : (high : ℕ) (steps : List Step) → EndWithin 1 high steps → AgreeUpTo 0 [] steps
 nothing_agrees high [] h = tt
 nothing_agrees high (s ∷ steps) h = omega (arith, h.0)
 
--- The first `n` bytes have the steps of the whole, as far as they decide.
+-- The first `n` bytes of a token have the steps of the whole token, as far as `n` bytes decide.
 pub token_steps-agree_take : (c : Context) (n : ℕ) (bytes : List ℕ) → AgreeUpTo n (token_steps c (take n bytes)) (token_steps c bytes)
 unfolding token_steps
 token_steps-agree_take c zero bytes = nothing_agrees (raw_length bytes) (token_steps c bytes) (token_steps-within c bytes)
 token_steps-agree_take c (suc m) [] = tt
 token_steps-agree_take c (suc m) (code ∷ rest) = steps_from-agree_take c code (kind_of code) m rest
 
--- The first `n` bytes have the refusal of the whole.
+-- If `k` is at most `n`, then the first `n` bytes of a token have the whole token's refusal for `k`
+-- bytes.
 pub token_steps-take : (c : Context) (k n : ℕ) (bytes : List ℕ) → k ≤ n → first_refusal k (token_steps c (take n bytes)) ≡ first_refusal k (token_steps c bytes)
 token_steps-take c k n bytes l = agree_refuses n k (token_steps c (take n bytes)) (token_steps c bytes) (token_steps-agree_take c n bytes) l
 
--- The steps, by the kind of the code.
+-- If a code has the kind `kind`, then the token's steps are the steps after a code of that kind.
 pub token_steps-ok : (c : Context) (code : ℕ) (kind : CodeKind) (rest : List ℕ) → kind_of code ≡ Ok kind → token_steps c (code ∷ rest) ≡ steps_after c code kind rest
 unfolding token_steps
 token_steps-ok c code kind rest e = ap (λ r. steps_from c code r rest) e
@@ -252,7 +259,7 @@ token_steps-err c code fault rest e = ap (λ r. steps_from c code r rest) e
 
 -- ---- a header
 
--- Four bytes determine the magic number.
+-- The first four bytes of a header determine the magic number.
 pub magic-take : (n : ℕ) (bytes : List ℕ) → 4 ≤ n → magic (take n bytes) ≡ magic bytes
 magic-take n bytes l = ap number (take-take 4 n bytes l)
 
@@ -262,7 +269,8 @@ header_length-take n bytes l = ap (λ m. if m == big_magic then 32 else 20) (mag
 pub header_length-from : (bytes : List ℕ) → (20 ≤ header_length bytes) × (header_length bytes ≤ 32)
 header_length-from bytes = cond_both (magic bytes == big_magic) 32 20 (λ n. (20 ≤ n) × (n ≤ 32)) (λ _. (omega arith, omega arith)) (λ _. (omega arith, omega arith))
 
--- The range of `k` bytes after the first `a` is the same in the first `n` bytes.
+-- If the first `n` bytes include the `k` bytes after the first `a`, then the first `n` bytes
+-- determine these `k` bytes.
 range-take : (k a n : ℕ) (bytes : List ℕ) → a + k ≤ n → take k (drop a (take n bytes)) ≡ take k (drop a bytes)
 range-take k a n bytes l =
     let split : a + (n - a) ≡ n = omega arith in
@@ -290,14 +298,15 @@ head_by : (b : Bool) (n : ℕ) (bytes : List ℕ) → (if b then 32 else 20) ≤
 head_by true n bytes l = big_head-take n bytes l
 head_by false n bytes l = small_head-take n bytes l
 
--- A whole header determines its contents.
+-- If the first `n` bytes include the whole header, then the first `n` bytes determine the header's
+-- contents.
 pub head_of-take : (n : ℕ) (bytes : List ℕ) → header_length bytes ≤ n → head_of (take n bytes) ≡ head_of bytes
 unfolding head_of
 head_of-take n bytes l =
     ap (λ m. if m == big_magic then big_head (take n bytes) else small_head (take n bytes)) (magic-take n bytes (omega (arith, header_length-from bytes)))
     ∙ head_by (magic bytes == big_magic) n bytes l
 
--- The steps of a header, by the contents of its bytes.
+-- The steps of a header, computed from its magic number `m`, its length `n` and its contents.
 abbrev pub header_steps_of : ℕ → ℕ → ℕ → Head → List Step
 header_steps_of limit m n head =
     step 4 (magic_refusal m)
@@ -313,21 +322,21 @@ header_steps_is limit bytes = refl
 header_steps_of-within : (limit m n : ℕ) (head : Head) → 4 ≤ n → EndWithin 4 n (header_steps_of limit m n head)
 header_steps_of-within limit m n head l = (omega arith, l, (l, omega arith, (l, omega arith, (l, omega arith, tt))))
 
--- A step of a header takes at least four bytes, and at most the whole.
+-- A step of a header takes at least four bytes, and at most all bytes of the header.
 pub header_steps-within : (limit : ℕ) (bytes : List ℕ) → EndWithin 4 (header_length bytes) (header_steps limit bytes)
 header_steps-within limit bytes =
     subst (λ ss. EndWithin 4 (header_length bytes) ss) (sym (header_steps_is limit bytes))
     (header_steps_of-within limit (magic bytes) (header_length bytes) (head_of bytes) (omega (arith, header_length-from bytes)))
 
--- Fewer than four bytes decide nothing.
+-- Fewer than four bytes decide no step of a header.
 header_apart : (k limit m n m' n' : ℕ) (head head' : Head) → k < 4 → AgreeUpTo k (header_steps_of limit m n head) (header_steps_of limit m' n' head')
 header_apart k limit m n m' n' head head' l = inr (l, l)
 
--- Fewer bytes than the whole decide only the magic number.
+-- If a header is incomplete, then its bytes decide only the step of the magic number.
 header_magic : (k limit m n : ℕ) (head head' : Head) → k < n → AgreeUpTo k (header_steps_of limit m n head) (header_steps_of limit m n head')
 header_magic k limit m n head head' l = inl (refl, inr (l, l))
 
--- The first `n` bytes have the steps of the whole, as far as they decide.
+-- The first `n` bytes of a header have the steps of the whole header, as far as `n` bytes decide.
 pub header_steps-agree_take : (limit n : ℕ) (bytes : List ℕ) → AgreeUpTo n (header_steps limit (take n bytes)) (header_steps limit bytes)
 header_steps-agree_take limit n bytes =
     subst₂ (AgreeUpTo n) (sym (header_steps_is limit (take n bytes))) (sym (header_steps_is limit bytes))
@@ -346,6 +355,7 @@ header_steps-agree_take limit n bytes =
           ]
     ])
 
--- The first `n` bytes have the refusal of the whole.
+-- If `k` is at most `n`, then the first `n` bytes of a header have the whole header's refusal for
+-- `k` bytes.
 pub header_steps-take : (limit k n : ℕ) (bytes : List ℕ) → k ≤ n → first_refusal k (header_steps limit (take n bytes)) ≡ first_refusal k (header_steps limit bytes)
 header_steps-take limit k n bytes l = agree_refuses n k (header_steps limit (take n bytes)) (header_steps limit bytes) (header_steps-agree_take limit n bytes) l

@@ -1,17 +1,17 @@
--- A tree is determined by its tokens.
+-- The tokens of a tree determine the tree.
 use Rattle.std.proofs.Common.{◌≡◌, List, [], ◌∷◌, ◌++◌, refl, ap, ap₂, sym, ◌∙◌, arith, append_assoc, append-nil}
 use Rattle.marshal_spec.specs.format.Words.{of_object, fields}
 use Rattle.marshal_spec.specs.format.Token.{Token, measure_of}
 use Rattle.marshal_spec.specs.format.Tree.{Tree, Forest, node, none, more, trees_in, IsTree, AreTrees, tokens, forest_tokens}
 
--- Equal lists have equal heads and equal tails.
+-- If two nonempty lists are equal, then the heads of the lists are equal.
 same_head : {X : Type 0} (x y : X) (xs ys : List X) → x ∷ xs ≡ y ∷ ys → x ≡ y
 same_head x y xs ys e = cc
 
 same_tail : {X : Type 0} (x y : X) (xs ys : List X) → x ∷ xs ≡ y ∷ ys → xs ≡ ys
 same_tail x y xs ys e = cc
 
--- A tree is determined by its tokens, even if other tokens follow.
+-- If the tokens of two trees begin the same list of tokens, then the two trees are equal.
 mutual
   pub same_tree : (tree other : Tree) (xs ys : List Token) → IsTree tree → IsTree other → tokens tree ++ xs ≡ tokens other ++ ys → (tree ≡ other) × (xs ≡ ys)
   same_tree (node t f) (node u g) xs ys h k e =
@@ -32,6 +32,6 @@ mutual
       let s : (f ≡ g) × (xs ≡ ys) = same_forest f g xs ys h.1 k.1 (omega arith) r.1 in
       (ap₂ more r.0 s.0, s.1)
 
--- A tree is determined by its tokens alone.
+-- If two trees have the same tokens, then the two trees are equal.
 pub tokens_injective : (tree other : Tree) → IsTree tree → IsTree other → tokens tree ≡ tokens other → tree ≡ other
 tokens_injective tree other h k e = (same_tree tree other [] [] h k (append-nil (tokens tree) ∙ e ∙ sym (append-nil (tokens other)))).0

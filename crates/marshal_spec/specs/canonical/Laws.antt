@@ -37,8 +37,8 @@ HasEncoding (leaf object) = LeafHasEncoding object
 abbrev pub EncodingEncodes : Type 0
 EncodingEncodes = (t : Token) → IsToken t → HasEncoding t → Encodes t (encoding t)
 
--- The canonical bytes of a tree encode that tree. Its 64-bit words are within the limit, and its
--- data have fewer than 2^48 bytes.
+-- If a tree's 64-bit words are within the limit and the tree's data have fewer than 2^48 bytes,
+-- then the canonical bytes encode the tree.
 abbrev pub CanonEncodes : Type 0
 CanonEncodes =
     (limit : ℕ) (tree : Tree) → limit < 2 ^ 64 → IsTree tree → ReferBack tree 0
@@ -59,7 +59,7 @@ abbrev pub SameIsTransitive : Type 0
 SameIsTransitive = (g h i : List Obj) (u v w : Val) → Isomorphism g u h v → Isomorphism h v i w
     → Isomorphism g u i w
 
--- A tree of the value, and the proof that no other tree is one.
+-- A tree of the value `v`, and the proof that `v` has no other tree.
 pub record HasOneTree (g : List Obj) (v : Val) : Type 0 where
   pub tree : Tree
   pub is : IsTreeOf g v tree

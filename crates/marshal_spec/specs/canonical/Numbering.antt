@@ -1,4 +1,4 @@
--- The objects of a value in the order of a depth-first traversal.
+-- The objects of a value, numbered in the order of a depth-first traversal.
 use Rattle.std.specs.Prelude.{ℕ, ◌+◌, ◌≡◌, List, [], ◌∷◌, Some, slice_get, IsSomeAnd}
 use Rattle.std.specs.List.{AllZip}
 use Rattle.base_data.specs.declared.model.value.Val.{Val}
@@ -10,11 +10,11 @@ abbrev pub pairs_from : ℕ → List ℕ → List (ℕ × ℕ)
 pairs_from c [] = []
 pairs_from c (k ∷ ks) = (k, c) ∷ pairs_from (c + 1) ks
 
--- Each number with its position in the list.
+-- Pairs each object number of the list with its position in the list.
 abbrev pub numbered : List ℕ → List (ℕ × ℕ)
 numbered ks = pairs_from 0 ks
 
--- No number occurs twice.
+-- No object number occurs twice in the list.
 abbrev pub AreDistinct : List ℕ → Type 0
 AreDistinct ks = (i j k : ℕ) → slice_get ks i ≡ Some k → slice_get ks j ≡ Some k → i ≡ j
 

@@ -18,7 +18,7 @@ abbrev pub is_signed : ℕ → ℤ → Bool
 is_signed k (pos n) = nat_lt n (2 ^ k)
 is_signed k (negsuc n) = nat_lt n (2 ^ k)
 
--- The integer in two's complement in that many bytes, with the most significant byte first.
+-- The bytes of the integer in two's complement, `width` bytes with the most significant byte first.
 abbrev pub signed_bytes : ℕ → ℤ → List ℕ
 signed_bytes width (pos n) = bytes_high_first width n
 signed_bytes width (negsuc n) = bytes_high_first width (256 ^ width - suc n)
@@ -29,7 +29,8 @@ double_bytes bits = bytes_low_first 0 8 bits
 
 -- ---- a token
 
--- An integer that is not in the code: a code and the bytes of the integer.
+-- The encoding of an integer that its code does not contain: a code, and then the bytes of the
+-- integer.
 abbrev pub wide_integer : ℤ → List ℕ
 wide_integer z =
     if is_signed 7 z then 0x00 ∷ signed_bytes 1 z
@@ -37,7 +38,7 @@ wide_integer z =
     else if is_signed 30 z then 0x02 ∷ signed_bytes 4 z
     else 0x03 ∷ signed_bytes 8 z
 
--- An integer. An integer from 0 to 63 is in the code.
+-- The encoding of an integer. If the integer is from 0 to 63, then the code contains the integer.
 unfoldable pub integer_encoding : ℤ → List ℕ
 integer_encoding (pos n) = if nat_lt n 64 then (0x40 + n) ∷ [] else wide_integer (pos n)
 integer_encoding (negsuc n) = wide_integer (negsuc n)
@@ -46,7 +47,7 @@ integer_encoding (negsuc n) = wide_integer (negsuc n)
 abbrev pub block_word : ℕ → ℕ → ℕ
 block_word tag size = tag + 1024 * size
 
--- A block by its tag and size. An atom is a block of size 0.
+-- The encoding of a block's tag and size. A block of size 0 is an atom.
 unfoldable pub block_encoding : ℕ → ℕ → List ℕ
 block_encoding tag size =
     if nat_lt tag 16 && nat_lt size 8 then (0x80 + 16 * size + tag) ∷ []
@@ -54,7 +55,7 @@ block_encoding tag size =
     then 0x08 ∷ bytes_high_first 4 (block_word tag size)
     else 0x13 ∷ bytes_high_first 8 (block_word tag size)
 
--- The bytes before the content of a string, by the string's length.
+-- The bytes that precede the content of a string of length `n`.
 unfoldable pub string_prefix : ℕ → List ℕ
 string_prefix n =
     if nat_lt n 32 then (0x20 + n) ∷ []
@@ -62,7 +63,7 @@ string_prefix n =
     else if nat_lt n (2 ^ 32) then 0x0a ∷ bytes_high_first 4 n
     else 0x15 ∷ bytes_high_first 8 n
 
--- A reference, by its offset.
+-- The encoding of a reference with this offset.
 unfoldable pub shared_encoding : ℕ → List ℕ
 shared_encoding offset =
     if nat_lt offset (2 ^ 8) then 0x04 ∷ bytes_high_first 1 offset
@@ -70,24 +71,24 @@ shared_encoding offset =
     else if nat_lt offset (2 ^ 32) then 0x06 ∷ bytes_high_first 4 offset
     else 0x14 ∷ bytes_high_first 8 offset
 
--- The bytes before the elements of a double array, by the array's length.
+-- The bytes that precede the elements of a double array of length `n`.
 unfoldable pub doubles_prefix : ℕ → List ℕ
 doubles_prefix n =
     if nat_lt n (2 ^ 8) then 0x0e ∷ bytes_high_first 1 n
     else if nat_lt n (2 ^ 32) then 0x07 ∷ bytes_high_first 4 n
     else 0x17 ∷ bytes_high_first 8 n
 
--- The bytes of a `Nativeint` after its identifier: the kind byte and the number.
+-- The bytes of a `Nativeint` after the identifier `_n`: the kind byte and the number.
 abbrev pub native_encoding : ℤ → List ℕ
 native_encoding z = if is_signed 31 z then 1 ∷ signed_bytes 4 z else 2 ∷ signed_bytes 8 z
 
--- A custom block: its code, identifier and data.
+-- The encoding of a custom block: its code, identifier and data.
 unfoldable pub custom_encoding : Custom → List ℕ
 custom_encoding (customs.I32 z) = 0x19 ∷ 95 ∷ 105 ∷ 0 ∷ signed_bytes 4 z
 custom_encoding (customs.I64 z) = 0x19 ∷ 95 ∷ 106 ∷ 0 ∷ signed_bytes 8 z
 custom_encoding (customs.Native z) = 0x19 ∷ 95 ∷ 110 ∷ 0 ∷ native_encoding z
 
--- An object without fields.
+-- The encoding of an object without fields.
 abbrev pub leaf_encoding : Obj → List ℕ
 leaf_encoding (objects.Block tag values) = []
 leaf_encoding (objects.Bytes bytes) = string_prefix (length bytes) ++ bytes
@@ -119,12 +120,13 @@ header_encoding head =
 abbrev pub data_encoding : List Token → List ℕ
 data_encoding all = flat_map encoding all
 
--- At least one of the three numbers does not fit four bytes.
+-- At least one of the numbers `n`, `w32` and `w64` does not fit four bytes, so the header must be
+-- big.
 abbrev pub is_big : ℕ → ℕ → ℕ → Bool
 is_big n w32 w64 = nat_le (2 ^ 32) n || (nat_le (2 ^ 32) w32 || nat_le (2 ^ 32) w64)
 
--- The header with the length of the data, the number of all objects, and the sizes of the objects
--- in words.
+-- The canonical header of a value with these tokens: the length of the data, the number of all
+-- objects, and the objects' sizes in words.
 abbrev pub canonical_head : List Token → Head
 canonical_head all =
     let n = length (data_encoding all) in
@@ -138,6 +140,6 @@ canonical_head all =
       w64 = w64;
     }
 
--- The bytes of a value.
+-- The canonical bytes of the value that the tree encodes.
 unfoldable pub canon : Tree → List ℕ
 canon tree = header_encoding (canonical_head (tokens tree)) ++ data_encoding (tokens tree)

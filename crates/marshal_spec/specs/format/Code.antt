@@ -14,7 +14,8 @@ use Rattle.base_data.specs.declared.model.code.CodeFault.TheVariants.{CustomLen}
 use Rattle.base_data.specs.declared.model.code.CustomKind.{CustomKind}
 use Rattle.base_data.specs.declared.model.code.CustomKind.TheVariants.{Int32, Int64, Native}
 
--- The kinds of the codes from 0x00 on. A code below 32 beyond the list is a `BadCode`.
+-- The kinds of the codes from 0x00 on. If a code below 32 is beyond the list, then the code is a
+-- `BadCode`.
 abbrev pub large_kinds : List (Result CodeKind CodeFault)
 large_kinds =
     Ok (Int 1) ∷ Ok (Int 2) ∷ Ok (Int 4) ∷ Ok (Int 8)
@@ -43,11 +44,12 @@ custom_of bytes =
     else None
     else None
 
--- The bytes of a `Nativeint`'s number: four if the kind byte is 1, and eight if the kind byte is 2.
+-- The number of bytes of a `Nativeint`'s number: four if the kind byte is 1, and eight if the kind
+-- byte is 2.
 abbrev pub native_bytes : ℕ → ℕ
 native_bytes kind = if kind == 1 then 4 else if kind == 2 then 8 else 0
 
--- The bounds on the widths and on the small numbers of each kind.
+-- The widths and small numbers of the kind are within their bounds.
 abbrev pub IsKind : CodeKind → Type 0
 IsKind (SmallBlock tag size) = (tag < 16) × (size < 8)
 IsKind (SmallInt n) = n < 64

@@ -1,4 +1,4 @@
--- The values that a reader on 32 bits cannot hold (`extern.c`, flag `Compat_32`). The case of
+-- The values that a reader on 32 bits cannot hold (`extern.c`, flag `Compat_32`). The limit for a
 -- `Nativeint` is an addition of this project.
 use Rattle.std.specs.Prelude.{ℕ, Bool, false, not, nat_lt, max, length, find, Option, Some, None}
 use Rattle.std.specs.Prelude.{if◌then◌else◌}
@@ -9,7 +9,7 @@ use Rattle.marshal_spec.specs.format.Token.{Token, integer, atom, shared, block,
 use Rattle.marshal_spec.specs.format.Tree.{Tree, tokens}
 use Rattle.marshal_spec.specs.format.Canonical.{is_signed, canonical_head}
 
--- A string, a double array or a `Nativeint` that is too large.
+-- The object is a string, a double array or a `Nativeint` that is too large for 32 bits.
 abbrev pub is_large_leaf : Obj → Bool
 is_large_leaf (objects.Block tag values) = false
 is_large_leaf (objects.Bytes bytes) = nat_lt 0xFFFFFB (length bytes)
@@ -19,8 +19,8 @@ is_large_leaf (objects.I32 z) = false
 is_large_leaf (objects.I64 z) = false
 is_large_leaf (objects.Native z) = not (is_signed 31 z)
 
--- A token that is too large: such an object, an integer of more than 31 bits, or a block with too
--- many fields.
+-- The token is too large for 32 bits: a large object without fields, an integer of more than 31
+-- bits, or a block with many fields.
 abbrev pub is_large : Token → Bool
 is_large (integer z) = not (is_signed 30 z)
 is_large (atom tag) = false
@@ -28,7 +28,8 @@ is_large (shared offset) = false
 is_large (block tag size) = nat_lt 0x3FFFFF size
 is_large (leaf object) = is_large_leaf object
 
--- The token that is too large, or the greatest number of a header that has to be big.
+-- What is too large for a reader on 32 bits: a token, or the greatest number of a header that must
+-- be big.
 pub data TooLargeFor32 : Type 0 where
   token : Token → TooLargeFor32
   header : ℕ → TooLargeFor32
@@ -41,6 +42,7 @@ abbrev pub first_large : Option Token → Head → Option TooLargeFor32
 first_large (Some t) head = Some (token t)
 first_large None head = large_header head
 
--- The first token in preorder that is too large. If there is none, the header, if it has to be big.
+-- The first token in preorder that is too large for 32 bits. If no token is too large, the result
+-- is the header if the header must be big.
 unfoldable pub too_large_for_32 : Tree → Option TooLargeFor32
 too_large_for_32 tree = first_large (find is_large (tokens tree)) (canonical_head (tokens tree))

@@ -21,20 +21,21 @@ IsNoReference (shared offset) = ⊥
 IsNoReference (block tag size) = Unit {0}
 IsNoReference (leaf object) = Unit {0}
 
--- A big header has no number of words on 32 bits. A small header has the number that was found.
+-- A small header states the number `found` of words on 32 bits. A big header states no number of
+-- words on 32 bits.
 abbrev pub StatesWords32 : Bool → ℕ → ℕ → Type 0
 StatesWords32 true stated found = Unit {0}
 StatesWords32 false stated found = stated ≡ found
 
--- The header agrees with the tokens: the numbers of words are equal, and the number of objects is
--- equal, or it is 0 and no token is a reference.
+-- The header agrees with the tokens. The stated numbers of words are equal to the sums. The stated
+-- number of objects is equal to the sum, or 0 if no token is a reference.
 pub record States (head : Head) (all : List Token) : Type 0 where
   pub w32 : StatesWords32 head.big head.w32 (all_words32 (map measure_of all))
   pub w64 : head.w64 ≡ all_words64 (map measure_of all)
   pub objects : (head.objects ≡ objects (map measure_of all))
       ⊎ ((head.objects ≡ 0) × All IsNoReference all)
 
--- A header and chunks, one for each token, encode the tree.
+-- The header and the chunks, one chunk for each token, encode the tree.
 pub record EncodesTree (tree : Tree) (header : List ℕ) (chunks : List (List ℕ)) : Type 0 where
   pub is_tree : IsTree tree
   pub refers_back : ReferBack tree 0
@@ -43,7 +44,7 @@ pub record EncodesTree (tree : Tree) (header : List ℕ) (chunks : List (List �
   pub length : (head_of header).length ≡ length (concat chunks)
   pub states : States (head_of header) (tokens tree)
 
--- The bytes encode the tree, and the header has at most `limit` words on 64 bits.
+-- The bytes encode the tree, and the header states at most `limit` words on 64 bits.
 pub record EncodedUnder (limit : ℕ) (bytes : List ℕ) (tree : Tree) : Type 0 where
   pub header : List ℕ
   pub chunks : List (List ℕ)

@@ -1,4 +1,4 @@
--- The header of a value (`intext.h`, `intern.c`). All its numbers are big endian.
+-- The header of a value (`intext.h`, `intern.c`). All numbers in a header are big endian.
 use Rattle.std.specs.Prelude.{ℕ, ◌==◌, true, false, List, take, slice_range, if◌then◌else◌}
 use Rattle.base_data.specs.declared.model.header.Head.{Head}
 use Rattle.base_data.specs.model.Bytes.{number}

@@ -1,6 +1,6 @@
--- Incomplete bytes and refused bytes. Bytes are incomplete if no
--- step that they decide fails and more bytes must follow. These definitions are this project's own,
--- over the format of `intern.c`.
+-- Incomplete bytes and refused bytes. Bytes are incomplete if no step that the bytes decide fails
+-- and more bytes must follow. The definitions in this file are this project's own, over the format
+-- of `intern.c`.
 use Rattle.std.specs.Prelude.{ℕ, ◌<◌, ◌≡◌, ◌⊎◌, List, [], ◌∷◌, ◌++◌, length, take, map, Option}
 use Rattle.std.specs.Prelude.{Some, None}
 use Rattle.std.specs.List.{concat}
@@ -10,7 +10,7 @@ use Rattle.marshal_spec.specs.format.Raw.{raw_length, raw_measure, IsRaw, IsPart
 use Rattle.marshal_spec.specs.format.Words.{pending, sums_of}
 use Rattle.marshal_spec.specs.format.Step.{Context, first_refusal, header_steps, token_steps}
 
--- The context of a token after these bytes of a header and these tokens.
+-- The context of the token that follows the header and the tokens `before`.
 abbrev pub context : List ℕ → List (List ℕ) → Context
 context header before = record {
   head = head_of header;
@@ -19,11 +19,11 @@ context header before = record {
   sums = sums_of (map raw_measure before);
 }
 
--- The tokens, extended by the next token of the remaining bytes.
+-- The tokens `before`, extended by the first token of the remaining bytes `rest`.
 abbrev pub with_next : List (List ℕ) → List ℕ → List (List ℕ)
 with_next before rest = before ++ take (raw_length rest) rest ∷ []
 
--- The refusal of the first step that is decided by these bytes of a token and fails.
+-- The refusal of the first step that the bytes `token` decide and that fails.
 abbrev pub token_refusal : List ℕ → List (List ℕ) → List ℕ → Option ReadRefusal
 token_refusal header before token =
     first_refusal (length token) (token_steps (context header before) token)
@@ -31,34 +31,35 @@ token_refusal header before token =
 abbrev pub header_refusal : ℕ → List ℕ → Option ReadRefusal
 header_refusal limit bytes = first_refusal (length bytes) (header_steps limit bytes)
 
--- After these tokens, at least one value is still to come.
+-- After the tokens `before`, at least one value is still expected.
 abbrev pub IsOpen : List (List ℕ) → Type 0
 IsOpen before = 0 < pending (map raw_measure before)
 
--- A complete raw token that passes its steps, at a position at which a value is still to come.
+-- The token is a complete raw token and passes its steps, and at least one value is expected before
+-- the token.
 pub record TokenPasses (header : List ℕ) (before : List (List ℕ)) (token : List ℕ) : Type 0 where
   pub open_before : IsOpen before
   pub raw : IsRaw token
   pub passes : token_refusal header before token ≡ None
 
--- Each of these consecutive tokens passes.
+-- Each of the consecutive tokens passes its steps after the tokens `before`.
 abbrev pub TokensPass : List ℕ → List (List ℕ) → List (List ℕ) → Type 0
 TokensPass header before [] = Unit {0}
 TokensPass header before (token ∷ tokens) =
     TokenPasses header before token × TokensPass header (before ++ token ∷ []) tokens
 
--- A complete raw header that passes its steps.
+-- The header is a complete raw header and passes its steps.
 pub record HeaderPasses (limit : ℕ) (header : List ℕ) : Type 0 where
   pub raw : length header ≡ header_length header
   pub passes : header_refusal limit header ≡ None
 
--- A proper prefix of a raw header, which passes the steps that it decides.
+-- The bytes are a proper prefix of a raw header and pass the steps that the bytes decide.
 pub record InHeader (limit : ℕ) (bytes : List ℕ) : Type 0 where
   pub part : length bytes < header_length bytes
   pub passes : header_refusal limit bytes ≡ None
 
--- The bytes are a header and tokens that pass, and a proper prefix of the next raw token, which
--- passes the steps that it decides.
+-- The bytes are a header and tokens that pass, and then `last`. The bytes `last` are a proper
+-- prefix of the next raw token and pass the steps that `last` decides.
 pub record InTokens (limit : ℕ) (bytes header : List ℕ) (tokens : List (List ℕ)) (last : List ℕ)
     : Type 0 where
   pub bytes_are : bytes ≡ header ++ (concat tokens ++ last)
@@ -68,15 +69,15 @@ pub record InTokens (limit : ℕ) (bytes header : List ℕ) (tokens : List (List
   pub part : IsPart last
   pub passes : token_refusal header tokens last ≡ None
 
--- The bytes are incomplete: no step that they decide fails, and more bytes must follow.
+-- The bytes are incomplete: no step that the bytes decide fails, and more bytes must follow.
 abbrev pub IsPrefix : ℕ → List ℕ → Type 0
 IsPrefix limit bytes =
     InHeader limit bytes
     ⊎ ((header : List ℕ) × (tokens : List (List ℕ)) × (last : List ℕ)
     × InTokens limit bytes header tokens last)
 
--- The last byte decides a failing step of the header, or a failing step of the token to which the
--- byte belongs.
+-- The last byte decides a failing step of the header. All bytes before the last byte are a part of
+-- a header that passes.
 pub record RefusedInHeader (limit : ℕ) (bytes : List ℕ) (refusal : ReadRefusal) : Type 0 where
   pub prefix : List ℕ
   pub last : ℕ

@@ -1,4 +1,5 @@
--- A raw token: the fields of a token with their lengths, and with any contents (`intern.c`).
+-- Raw tokens. A raw token has the fields of a token with their lengths, but any contents
+-- (`intern.c`).
 use Rattle.std.specs.Prelude.{ℕ, zero, suc, ◌+◌, ◌*◌, ◌/◌, ◌<◌, ◌≡◌, ◌==◌, List, [], ◌∷◌, take}
 use Rattle.std.specs.Prelude.{length, Option, Some, None, Result, Ok, Err, slice_index}
 use Rattle.std.specs.Prelude.{if◌then◌else◌}
@@ -25,7 +26,7 @@ fixed_bytes (kinds.Double little) = 8
 fixed_bytes (kinds.Doubles width little) = width
 fixed_bytes (kinds.Custom old) = 3
 
--- The number of those bytes that hold more than content: a header word, an offset, a length, an
+-- The number of fixed bytes that hold more than content: a header word, an offset, a length, an
 -- identifier, or an integer of eight bytes.
 abbrev pub field_bytes : CodeKind → ℕ
 field_bytes (kinds.SmallBlock tag size) = 0
@@ -39,8 +40,8 @@ field_bytes (kinds.Double little) = 0
 field_bytes (kinds.Doubles width little) = width
 field_bytes (kinds.Custom old) = 3
 
--- The number of bytes of a custom block's data. The kind byte of a `Nativeint` is part of the data,
--- and is a field too.
+-- The number of bytes of a custom block's data. The data of a `Nativeint` include the kind byte,
+-- which is a field too.
 abbrev pub custom_bytes : Option CustomKind → ℕ → ℕ
 custom_bytes None kind = 0
 custom_bytes (Some customs.Int32) kind = 4
@@ -59,8 +60,8 @@ custom_measure (Some customs.Int32) = Some (measures.Custom 4 4)
 custom_measure (Some customs.Int64) = Some (measures.Custom 8 8)
 custom_measure (Some customs.Native) = Some (measures.Custom 4 8)
 
--- The number of bytes after the fixed ones, for a string, an array or a custom block. `rest` are
--- the bytes after the code.
+-- The number of bytes after the fixed bytes of a string, an array or a custom block. The bytes
+-- after the code are `rest`.
 abbrev pub variable_bytes : CodeKind → List ℕ → ℕ
 variable_bytes (kinds.SmallBlock tag size) rest = 0
 variable_bytes (kinds.SmallInt n) rest = 0
@@ -90,7 +91,7 @@ measure_after (kinds.Double little) rest = Some measures.Double
 measure_after (kinds.Doubles width little) rest = Some (measures.Doubles (number (take width rest)))
 measure_after (kinds.Custom old) rest = custom_measure (custom_of (take 3 rest))
 
--- The number of bytes after the code that determine the token's size.
+-- The number of bytes after the code that determine the length of the whole token.
 abbrev pub sizing_bytes : CodeKind → List ℕ → ℕ
 sizing_bytes (kinds.Custom old) rest = 3 + kind_bytes (custom_of (take 3 rest))
 sizing_bytes kind rest = field_bytes kind
@@ -116,6 +117,6 @@ raw_measure (code ∷ rest) = measure_from (kind_of code) rest
 abbrev pub IsRaw : List ℕ → Type 0
 IsRaw token = length token ≡ raw_length token
 
--- A proper prefix of a raw token. The empty prefix counts.
+-- The bytes are a proper prefix of a raw token, possibly the empty prefix.
 abbrev pub IsPart : List ℕ → Type 0
 IsPart token = length token < raw_length token

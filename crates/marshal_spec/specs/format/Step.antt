@@ -1,5 +1,5 @@
--- The steps that a header, a token and the end of a tree must pass, in their order (`intern.c`).
--- The limits and the offsets are this project's own.
+-- The steps that a header, a token and the end of a tree must pass, in the order of `intern.c`. The
+-- limits and the offsets are this project's own.
 use Rattle.std.specs.Prelude.{ℕ, ◌+◌, ◌-◌, ◌%◌, ◌^◌, ◌==◌, ◌||◌, ◌&&◌, not, nat_lt, Bool, true}
 use Rattle.std.specs.Prelude.{false, List, [], ◌∷◌, ◌++◌, take, Option, Some, None, is_none, Result}
 use Rattle.std.specs.Prelude.{Ok, Err, slice_index, if◌then◌else◌, ℤ, pos, negsuc}
@@ -33,8 +33,8 @@ use Rattle.marshal_spec.specs.format.Raw.{fixed_bytes, field_bytes, sizing_bytes
 use Rattle.marshal_spec.specs.format.Raw.{measure_after}
 use Rattle.marshal_spec.specs.format.Words.{Sums, one_more}
 
--- A step: the number of bytes of the header or token that hold the fields that the step reads, and
--- the refusal if the step fails.
+-- A step. The field `ends` is the number of bytes that must be known to decide the step. The field
+-- `refusal` is the refusal if the step fails.
 pub record Step : Type 0 where
   pub ends : ℕ
   pub refusal : Option ReadRefusal
@@ -50,8 +50,8 @@ abbrev pub or_else : Option ReadRefusal → Option ReadRefusal → Option ReadRe
 or_else None next = next
 or_else (Some r) next = Some r
 
--- The refusal of the first step that is decided and fails. A step is decided if the fields that it
--- and the earlier steps read are among the first `n` bytes.
+-- The refusal of the first step that is decided and fails. A step is decided if the first `n` bytes
+-- contain the fields that this step and the earlier steps read.
 abbrev pub first_refusal : ℕ → List Step → Option ReadRefusal
 first_refusal n [] = None
 first_refusal n (s ∷ steps) =
@@ -81,8 +81,8 @@ header_steps limit header =
 
 -- ---- a token
 
--- The context of a token: the header, the number of bytes of the header, the number of data bytes
--- before the token, and the sums over the tokens before it.
+-- The context of a token: the header, the header's length in bytes, the number of data bytes before
+-- the token, and the sums over earlier tokens.
 pub record Context : Type 0 where
   pub head : Head
   pub start : ℕ
@@ -92,12 +92,12 @@ pub record Context : Type 0 where
 abbrev pub position : Context → ℕ
 position c = c.start + c.taken
 
--- The number of data bytes after the first `n` of the token.
+-- The number of data bytes after the first `n` bytes of the token.
 abbrev pub left_after : Context → ℕ → ℕ
 left_after c n = c.head.length - (c.taken + n)
 
--- Fails if more bytes, or more values, are needed than there are data bytes after the first `n` of
--- the token.
+-- Fails if `need` is greater than the number of data bytes after the first `n` bytes of the token.
+-- The number `need` counts bytes or values.
 abbrev pub overlong : Context → ℕ → ℕ → Option ReadRefusal
 overlong c need n =
     fails_if (nat_lt (left_after c n) need) (Overlong (position c) need (left_after c n))
@@ -116,8 +116,8 @@ is_integer (negsuc n) = nat_lt n (2 ^ 62)
 abbrev pub integer_refusal : Context → ℤ → Option ReadRefusal
 integer_refusal c z = fails_if (not (is_integer z)) (IntRange (position c) z)
 
--- Fails if an offset, counted back from the next object, leads to no object, and then if the header
--- counts no objects.
+-- Fails if an offset, counted back from the next object, leads to no object. If the offset leads to
+-- an object, fails if the header counts no objects.
 abbrev pub shared_refusal : Context → ℕ → Option ReadRefusal
 shared_refusal c offset =
     or_else
@@ -125,7 +125,7 @@ shared_refusal c offset =
     (BadShared (position c) offset (c.sums.objects)))
     (fails_if (c.head.objects == 0) (NoTable (position c)))
 
--- The fault in the token's fields: its tag, offset, identifier, integer or length.
+-- The refusal of the token's fields: its tag, offset, identifier, integer or length.
 abbrev pub field_refusal : Context → ℕ → CodeKind → List ℕ → Option ReadRefusal
 field_refusal c code (kinds.SmallBlock tag size) rest = None
 field_refusal c code (kinds.SmallInt n) rest = None
@@ -142,7 +142,7 @@ field_refusal c code (kinds.Doubles width little) rest =
 field_refusal c code (kinds.Custom old) rest =
     fails_if (is_none (custom_of (take 3 rest))) (OtherCustom (position c) code)
 
--- The steps of a `Nativeint`, which reads the kind byte first and then the number.
+-- The steps of a `Nativeint`: the kind byte first, and then the number.
 abbrev pub native_steps : Context → ℕ → List Step
 native_steps c kind =
     step 4 (overlong c 1 4)
@@ -155,7 +155,8 @@ variable_steps c (kinds.Custom old) (Some customs.Native) rest = native_steps c 
 variable_steps c kind custom rest =
     step (1 + field_bytes kind) (overlong c (variable_bytes kind rest) (1 + fixed_bytes kind)) ∷ []
 
--- Compares a sum of words with the header's number. A big header has no number of words on 32 bits.
+-- Fails if the sum of words on 32 bits differs from the number in a small header. A big header has
+-- no number of words on 32 bits.
 abbrev pub words32_refusal : (ℕ → ℕ → Bool) → ℕ → Head → ℕ → Option ReadRefusal
 words32_refusal differ p head found =
     fails_if (not head.big && differ head.w32 found) (SizeMismatch p W32 head.w32 found)
@@ -167,8 +168,8 @@ words64_refusal differ p head found =
 abbrev pub nat_ne : ℕ → ℕ → Bool
 nat_ne a b = not (a == b)
 
--- The steps after the last token, which has `n` bytes: the remaining bytes, the words and the
--- objects.
+-- The steps after the last token of a value, which has `n` bytes. The steps check the remaining
+-- bytes, the words and the objects.
 abbrev pub end_steps : Context → ℕ → Sums → List Step
 end_steps c n all =
     let p = position c + n in
@@ -180,15 +181,15 @@ end_steps c n all =
     (CountMismatch p c.head.objects all.objects))
     ∷ []
 
--- The steps of the token's fixed bytes and of its fields.
+-- The steps of a token's fixed bytes and fields.
 abbrev pub entry_steps : Context → ℕ → CodeKind → List ℕ → List Step
 entry_steps c code kind rest =
     step 1 (overlong c (fixed_bytes kind) 1)
     ∷ step (1 + field_bytes kind) (field_refusal c code kind rest)
     ∷ []
 
--- The steps of the values that are still to come and of the words. After the last token, the steps
--- of the end of the tree follow.
+-- The steps that check the number of expected values and the words. If the token is the last one,
+-- the steps of the end of the tree follow.
 abbrev pub closing_steps : Context → CodeKind → List ℕ → List Step
 closing_steps c kind rest =
     let n = 1 + fixed_bytes kind + variable_bytes kind rest in
@@ -199,7 +200,7 @@ closing_steps c kind rest =
     ∷ step sized (words64_refusal nat_lt (position c) c.head all.w64)
     ∷ (if all.pending == 0 then end_steps c n all else [])
 
--- The steps of a token of this kind.
+-- All steps of a token whose code has this kind.
 abbrev pub steps_after : Context → ℕ → CodeKind → List ℕ → List Step
 steps_after c code kind rest =
     entry_steps c code kind rest

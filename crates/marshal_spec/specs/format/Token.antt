@@ -1,4 +1,4 @@
--- Tokens, and the bytes that encode them. `intern.c` reads each width and byte order.
+-- Tokens, and the bytes that encode tokens. `intern.c` reads each width and byte order.
 use Rattle.std.specs.Prelude.{ℕ, zero, suc, ◌/◌, ◌%◌, ◌<◌, ◌≤◌, ◌≡◌, List, [], ◌∷◌, length, take}
 use Rattle.std.specs.Prelude.{drop, ℤ, pos, Option, Some, None, Result, Ok, Err, ◌⊎◌}
 use Rattle.base_data.specs.declared.model.value.Obj.{Obj}
@@ -25,7 +25,7 @@ pub data Token : Type 0 where
   block : ℕ → ℕ → Token
   leaf : Obj → Token
 
--- A valid object without fields.
+-- The object is valid and has no fields.
 abbrev pub IsLeaf : Obj → Type 0
 IsLeaf (objects.Block tag values) = ⊥
 IsLeaf (objects.Bytes bytes) = IsObject 0 (objects.Bytes bytes)
@@ -42,7 +42,7 @@ IsToken (shared offset) = Unit {0}
 IsToken (block tag size) = (tag ≤ 243) × (0 < size)
 IsToken (leaf object) = IsLeaf object
 
--- The size of the object that a token makes, if it makes an object.
+-- The measure of an object without fields.
 abbrev pub leaf_measure : Obj → Option Measure
 leaf_measure (objects.Block tag values) = None
 leaf_measure (objects.Bytes bytes) = Some (measures.Bytes (length bytes))
@@ -59,17 +59,18 @@ measure_of (shared offset) = None
 measure_of (block tag size) = Some (measures.Block size)
 measure_of (leaf object) = leaf_measure object
 
--- A block without fields is an atom.
+-- The token of a block's tag and size. A block without fields is an atom.
 abbrev pub block_or_atom : ℕ → ℕ → Token
 block_or_atom tag zero = atom tag
 block_or_atom tag (suc n) = block tag (suc n)
 
--- The token of a header word: the tag is in bits 0 to 7, and the size begins at bit 10. Bits 8 and
--- 9 are ignored.
+-- The token of a header word: the tag is in bits 0 to 7, and the size begins at bit 10. The token
+-- does not depend on bits 8 and 9.
 abbrev pub word_token : ℕ → Token
 word_token word = block_or_atom (word % 256) (word / 1024)
 
--- The bytes after the code of a custom block: its identifier, and then its data.
+-- The bytes after the code of a custom block encode the token: the identifier first, and then the
+-- data.
 abbrev pub EncodesCustom : List ℕ → Token → Type 0
 EncodesCustom rest token =
     ((content : List ℕ) × (rest ≡ 95 ∷ 105 ∷ 0 ∷ content) × (length content ≡ 4)
@@ -81,7 +82,7 @@ EncodesCustom rest token =
     ⊎ ((content : List ℕ) × (rest ≡ 95 ∷ 110 ∷ 0 ∷ 2 ∷ content) × (length content ≡ 8)
     × (token ≡ leaf (objects.Native (signed content))))))
 
--- The bytes that may follow a code of this kind, and the token that they encode.
+-- The bytes `rest` may follow a code of this kind, and encode the token.
 abbrev pub EncodesAfter : CodeKind → List ℕ → Token → Type 0
 EncodesAfter (kinds.SmallBlock tag size) rest token = (rest ≡ []) × (token ≡ block_or_atom tag size)
 EncodesAfter (kinds.SmallInt n) rest token = (rest ≡ []) × (token ≡ integer (pos n))
@@ -107,7 +108,7 @@ abbrev pub EncodesFrom : Result CodeKind CodeFault → List ℕ → Token → Ty
 EncodesFrom (Ok kind) rest token = EncodesAfter kind rest token
 EncodesFrom (Err fault) rest token = ⊥
 
--- The bytes encode the token.
+-- The bytes, a code and the bytes after the code, encode the token.
 abbrev pub Encodes : Token → List ℕ → Type 0
 Encodes token [] = ⊥
 Encodes token (code ∷ rest) = IsToken token × EncodesFrom (kind_of code) rest token

@@ -17,7 +17,7 @@ mutual
     none : Forest
     more : Tree → Forest → Forest
 
--- The number of trees in a forest. A token has as many subtrees as its size.
+-- The number of trees in a forest. The forest of a token has as many trees as the token has fields.
 abbrev pub trees_in : Forest → ℕ
 trees_in none = 0
 trees_in (more tree forest) = suc (trees_in forest)
@@ -31,7 +31,7 @@ abbrev mutual
   AreTrees none = Unit {0}
   AreTrees (more tree forest) = IsTree tree × AreTrees forest
 
--- The tokens in preorder.
+-- The tokens of a tree and of a forest, in preorder.
 abbrev mutual
   pub tokens : Tree → List Token
   tokens (node token forest) = token ∷ forest_tokens forest
@@ -40,7 +40,7 @@ abbrev mutual
   forest_tokens none = []
   forest_tokens (more tree forest) = tokens tree ++ forest_tokens forest
 
--- The value of a token that comes after `c` objects.
+-- The value of a token before which `c` objects are made.
 abbrev pub value_of : Token → ℕ → Val
 value_of (integer z) c = vals.Int z
 value_of (atom tag) c = vals.Atom tag
@@ -51,7 +51,7 @@ value_of (leaf object) c = vals.Ref c
 abbrev pub root : Tree → ℕ → Val
 root (node token forest) c = value_of token c
 
--- The number of objects that a token makes.
+-- The number of objects that a token makes: 0 or 1.
 abbrev pub made_by : Token → ℕ
 made_by token = of_object (λ _. 1) (measure_of token)
 
@@ -63,12 +63,12 @@ abbrev mutual
   all_made none = 0
   all_made (more tree forest) = made tree + all_made forest
 
--- The values of consecutive trees, the first of which comes after `c` objects.
+-- The root values of consecutive trees, if `c` objects precede the first tree.
 abbrev pub roots : Forest → ℕ → List Val
 roots none c = []
 roots (more tree forest) c = root tree c ∷ roots forest (c + made tree)
 
--- The object that a token makes from its fields, if it makes one.
+-- The object that a token makes from the values of its fields, as a list of at most one object.
 abbrev pub object_of : Token → List Val → List Obj
 object_of (integer z) values = []
 object_of (atom tag) values = []
@@ -76,8 +76,8 @@ object_of (shared offset) values = []
 object_of (block tag size) values = objects.Block tag values ∷ []
 object_of (leaf object) values = object ∷ []
 
--- The objects of a tree, numbered from `c` on in the order of their tokens. A block comes before
--- its fields.
+-- The objects of a tree, numbered from `c` on in the order of the tokens that make the objects. A
+-- block comes before its fields.
 abbrev mutual
   pub objects_of : Tree → ℕ → List Obj
   objects_of (node token forest) c =
@@ -87,7 +87,8 @@ abbrev mutual
   all_objects none c = []
   all_objects (more tree forest) c = objects_of tree c ++ all_objects forest (c + made tree)
 
--- A reference after `c` objects leads to one of them.
+-- If the token is a reference after `c` objects, then the reference leads to one of the `c`
+-- objects.
 abbrev pub RefersBack : Token → ℕ → Type 0
 RefersBack (integer z) c = Unit {0}
 RefersBack (atom tag) c = Unit {0}

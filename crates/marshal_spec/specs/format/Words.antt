@@ -4,7 +4,7 @@ use Rattle.base_data.specs.declared.model.code.Measure.{Measure}
 use Rattle.base_data.specs.declared.model.code.Measure.TheVariants.{Block, Bytes, Double, Doubles}
 use Rattle.base_data.specs.declared.model.code.Measure.TheVariants.{Custom}
 
--- The words of an object on 32 bits, with its header word.
+-- The number of words of an object on 32 bits, including the header word.
 abbrev pub words32 : Measure → ℕ
 words32 (Block n) = 1 + n
 words32 (Bytes n) = 1 + (n + 4) / 4
@@ -12,7 +12,7 @@ words32 Double = 3
 words32 (Doubles n) = 1 + 2 * n
 words32 (Custom a b) = 2 + (a + 3) / 4
 
--- The words of an object on 64 bits, with its header word.
+-- The number of words of an object on 64 bits, including the header word.
 abbrev pub words64 : Measure → ℕ
 words64 (Block n) = 1 + n
 words64 (Bytes n) = 1 + (n + 8) / 8
@@ -28,12 +28,12 @@ fields Double = 0
 fields (Doubles n) = 0
 fields (Custom a b) = 0
 
--- A token that makes no object counts 0.
+-- The number `f` of the object that a token makes, or 0 if the token makes no object.
 abbrev pub of_object : (Measure → ℕ) → Option Measure → ℕ
 of_object f None = 0
 of_object f (Some m) = f m
 
--- Sums over tokens, by the measures of the objects that they make.
+-- The number of objects that the tokens make, by the measures of the tokens.
 abbrev pub objects : List (Option Measure) → ℕ
 objects tokens = sum_by (of_object (λ _. 1)) tokens
 
@@ -43,12 +43,12 @@ all_words32 tokens = sum_by (of_object words32) tokens
 abbrev pub all_words64 : List (Option Measure) → ℕ
 all_words64 tokens = sum_by (of_object words64) tokens
 
--- The number of values still to come. It is 1 at first. Each token is one of these values, and adds
--- its fields.
+-- The number of values still expected after the tokens. Before any token, one value is expected.
+-- Each token is one expected value, and adds its fields.
 abbrev pub pending : List (Option Measure) → ℕ
 pending tokens = (1 + sum_by (of_object fields) tokens) - length tokens
 
--- The sums over tokens: the objects, the values still to come, and the words on 32 and on 64 bits.
+-- The sums over tokens: the objects, the values still expected, and the words on 32 and on 64 bits.
 pub record Sums : Type 0 where
   pub objects : ℕ
   pub pending : ℕ
@@ -64,7 +64,7 @@ sums_of tokens =
       w64 = all_words64 tokens;
     }
 
--- The sums after one more token, which is one of the values still to come.
+-- The sums after one more token with the measure `m`, which is one of the expected values.
 abbrev pub one_more : Sums → Option Measure → Sums
 one_more sums m = record {
   objects = sums.objects + of_object (λ _. 1) m;

@@ -1,4 +1,4 @@
-//! Lemma functions. They do nothing at run time: the contract of each function is a law.
+//! Lemma functions: a lemma function does nothing at run time, and its contract is a law.
 
 ghost use Rattle.marshal_spec.specs.canonical.Laws.{EncodingEncodes, CanonEncodes, SameIsReflexive};
 ghost use Rattle.marshal_spec.specs.canonical.Laws.{SameIsSymmetric, SameIsTransitive};
@@ -10,8 +10,8 @@ pub fn encoding_encodes()
     ensures { EncodingEncodes }
 {}
 
-/// Proves that the canonical bytes of a tree encode that tree, if its data have fewer than 2^48
-/// bytes. This holds under each limit that the tree's 64-bit words keep.
+/// Proves that canonical bytes encode their tree. The law requires that the tree's data have fewer
+/// than 2^48 bytes and that the tree's 64-bit words are within the limit.
 pub fn canon_encodes()
     ensures { CanonEncodes }
 {}

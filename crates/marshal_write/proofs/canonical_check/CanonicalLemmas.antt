@@ -1,5 +1,5 @@
--- If a header and tokens are encoded as the runtime encodes them, then they are the canonical bytes
--- of the value that they encode.
+-- If a header and tokens are encoded as the runtime encodes them, then the bytes are the canonical
+-- bytes of the encoded value.
 use Rattle.std.proofs.Common.{ℕ, ℤ, pos, ◌-◌, ◌*◌, ◌/◌, ◌%◌, get_or, zero, suc, ◌≡◌, ◌+◌, ◌<◌, ◌≤◌, ◌^◌, ◌∙◌, ◌⊎◌, inl, inr, Bool, false, cond, List, [], ◌∷◌, ◌++◌, length, map, take, drop, refl, sym, ap, ap₂, subst, arith, length-append, append-nil}
 use Rattle.std.specs.Prelude.{All, ◌==◌}
 use Rattle.std.specs.List.{concat, AllZip}
@@ -50,7 +50,7 @@ same_tokens (t ∷ ts) (u ∷ us) (p ∷ ps) (q ∷ qs) s v e =
     let rest : concat ps ≡ concat qs = append_cancel_left p (concat ps) (concat qs) (e ∙ ap (λ x. x ++ concat qs) (sym same)) in
     ap₂ (λ x xs. x ∷ xs) (Encodes-same t u p s.0 (subst (λ x. Encodes u x) (sym same) v.0)) (same_tokens ts us ps qs s.1 v.1 rest)
 
--- The list of encodings encodes the list of tokens.
+-- The canonical encodings of encodable tokens encode the tokens one by one.
 encoded_each : (ts : List Token) → All CanBeEncoded ts → AllZip Encodes ts (map encoding ts)
 encoded_each [] each = tt
 encoded_each (t ∷ ts) each =
@@ -62,7 +62,7 @@ encoded_each (t ∷ ts) each =
 pub none_encoded : (data' : List ℕ) → AreEncoded [] (take 0 data')
 none_encoded data' = record { encodable = All-nil CanBeEncoded; encoded = refl }
 
--- `n` more bytes.
+-- The first `at` + `n` elements of a list are the first `at` elements and the next `n` elements.
 pub take_two : (at n : ℕ) (xs : List ℕ) → at ≤ length xs → take (at + n) xs ≡ take at xs ++ take n (drop at xs)
 take_two at n xs within =
     let long : length (take at xs) ≡ at = length-take-le at xs within in
@@ -98,7 +98,8 @@ more_canonical at n bytes before next =
 pub all_canonical : (at : ℕ) (bytes : List ℕ) → CanonicalUpTo at bytes → at ≡ length bytes → AreCanonical bytes
 all_canonical at bytes s whole = subst AreCanonical (take_all at bytes (omega (arith, whole))) s.1
 
--- If an integer's encoding is all of the bytes, then they make no object.
+-- If the bytes are exactly the encoding of an integer, then the bytes encode tokens that make no
+-- object.
 pub bare_whole : (z : ℤ) (n : ℕ) (bytes : List ℕ) → StandsFirst (integer z) n bytes → n ≡ length bytes → AreBare bytes
 bare_whole z n bytes first whole =
     let is : encoding (integer z) ++ [] ≡ bytes = append-nil (encoding (integer z)) ∙ sym first.encoded ∙ take_all n bytes (omega (arith, whole)) in
@@ -193,7 +194,8 @@ canonical_head_is head all big small long states count =
 
 -- ---- a whole value
 
--- The number of objects that the header states, by the tokens.
+-- If the header states a positive number of objects or the tokens make no object, then the stated
+-- number is the tokens' number.
 counted : (head : Head) (all : List Token) (stated : ℕ) → head.objects ≡ stated → States head all → (0 < stated) ⊎ (object_count (map measure_of all) ≡ 0) → head.objects ≡ object_count (map measure_of all)
 counted head all stated is states (inr none) =
     elim states.objects [

@@ -1,5 +1,5 @@
--- The bytes of doubles, in the runtime's order, are the bytes that the runtime writes for the
--- decoded doubles.
+-- If bytes encode doubles in the runtime's byte order, then the bytes are the bytes that the
+-- runtime writes for the decoded doubles.
 use Rattle.std.proofs.Common.{ℕ, zero, suc, ◌≡◌, ◌+◌, ◌*◌, ◌/◌, ◌%◌, ◌<◌, ◌≤◌, ◌^◌, ◌∙◌, List, [], ◌∷◌, ◌++◌, length, take, drop, refl, sym, ap, ap₂, subst, arith}
 use Rattle.std.specs.Prelude.{flat_map, All}
 use Rattle.std.specs.Int.{byte_at, bytes_low_first}
@@ -17,7 +17,7 @@ use Rattle.marshal_spec.proofs.canonical.ByteLemmas.{byte_at-is}
 
 -- ---- one double
 
--- One digit and the digits after it.
+-- Byte `i` + 1 of the number `b` + 256 * `n` is byte `i` of `n`.
 next_low : (i b n : ℕ) → b < 256 → byte_at (suc i) (b + 256 * n) ≡ byte_at i n
 next_low i b n small =
     let one : (b + 256 * n) / 256 ≡ n = omega arith in
@@ -70,7 +70,8 @@ doubles_fit (suc k) xs are within =
     (little_number_fits (take 8 xs) 8 (All-take (λ b. b < 256) 8 xs are) (omega (arith, few)))
     (doubles_fit k (drop 8 xs) (All-drop (λ b. b < 256) 8 xs are) (omega (arith, rest, within)))
 
--- An array of doubles.
+-- If bytes begin with the prefix of an array and eight bytes for each double, then the bytes begin
+-- with a canonical encoding.
 pub doubles_first : (n count : ℕ) (bytes : List ℕ) → AreBytes bytes → n + 8 * count ≤ length bytes → 0 < count → count < 2 ^ 64 → take n bytes ≡ doubles_prefix count → BeginsCanonical (n + 8 * count) bytes
 doubles_first n count bytes are within some few prefix =
     let rest = drop n bytes in

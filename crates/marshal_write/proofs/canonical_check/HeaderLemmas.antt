@@ -1,4 +1,4 @@
--- A small header is the encoding of the numbers that it states.
+-- A small header is the encoding of the numbers that the header states.
 use Rattle.std.proofs.Common.{ℕ, ◌≡◌, ◌+◌, ◌-◌, ◌<◌, ◌≤◌, ◌∙◌, inl, inr, false, true, cond, List, [], ◌∷◌, ◌++◌, length, take, drop, sym, ap, ap₂, subst, arith}
 use Rattle.std.specs.Prelude.{slice_range, ◌==◌}
 use Rattle.std.specs.Int.{byte_at, bytes_high_first}
@@ -37,7 +37,8 @@ four_of (a ∷ b ∷ c ∷ d ∷ []) are long =
     let last = All-tail P c (d ∷ []) more in
     four a b c d (All-head P a (b ∷ c ∷ d ∷ []) are) (All-head P b (c ∷ d ∷ []) rest) (All-head P c (d ∷ []) more) (All-head P d [] last)
 
--- Four bytes at an offset, and the bytes after them.
+-- The number of four bytes at an offset, encoded again and followed by the next bytes, gives the
+-- bytes from the offset on.
 part : (at : ℕ) (xs rest : List ℕ) → AreBytes xs → at + 4 ≤ length xs → rest ≡ drop (at + 4) xs → bytes_high_first 4 (number (slice_range xs at (at + 4))) ++ rest ≡ drop at xs
 part at xs rest are within is =
     let few : at ≤ at + 4 = omega arith in

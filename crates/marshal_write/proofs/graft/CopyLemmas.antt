@@ -1,4 +1,4 @@
--- A copy is the same value.
+-- A copy of a value is the same value as the original.
 use Rattle.std.proofs.Common.{ℕ, zero, suc, ◌+◌, ◌<◌, ◌≡◌, ◌∙◌, List, [], ◌∷◌, ◌++◌, length, length-append, Some, refl, sym, ap, subst, arith}
 use Rattle.std.specs.Prelude.{map, option_map, slice_get, Contains, All, IsSomeAnd}
 use Rattle.std.specs.List.{AllZip}
@@ -64,7 +64,8 @@ module _ (c : ℕ) where
   object_agree n (objects.I64 z) is = refl
   object_agree n (objects.Native z) is = refl
 
-  -- A graph after `c` objects is the same graph.
+  -- If the objects of a graph are placed after `c` other objects, then the graph stays the same
+  -- graph with shifted numbers.
   module _ (own other : List Obj) (graph : IsGraph own) (stand : StandFrom other c (map (later_object c) own)) where
     pair_agree : (k l : ℕ) → (l < length own) × (k ≡ c + l)
         → IsSomeAnd (slice_get other k) (λ a. IsSomeAnd (slice_get own l) (λ b. AgreeObjects (all_moved (length own)) a b))

@@ -1,4 +1,4 @@
--- Filling of blank objects, one field after the other.
+-- Blank objects are filled one field after the other.
 use Rattle.std.proofs.Common.{ℕ, ◌+◌, ◌-◌, ◌<◌, ◌≤◌, ◌≡◌, ◌∙◌, List, [], ◌∷◌, ◌++◌, length, get_or, set, take, drop, replicate, Some, refl, sym, ap, ap₂, subst, arith, append_assoc, add-one}
 use Rattle.std.specs.Prelude.{map, pos, slice_get}
 use Rattle.std.proofs.lemmas.List.{map_more, set_at, set-set, set-get_or, get_or-set_same, length-map, length-take-le, length-append, length-replicate, get_or_at}
@@ -69,7 +69,7 @@ module _ (base : ℕ) (marks : List ℕ) where
   partly_more (objects.I64 z) i inside = absurd (omega (arith, inside))
   partly_more (objects.Native z) i inside = absurd (omega (arith, inside))
 
-  -- The same within a graph.
+  -- The steps of filling one object, within a graph.
   module _ (graph : List Obj) (o : ℕ) (object : Obj) where
     pub fill_none : slice_get graph o ≡ Some (blank object) → graph ≡ set graph o (partly 0 object)
     fill_none is =
@@ -117,7 +117,7 @@ module _ (base : ℕ) (marks : List ℕ) where
   -- ---- all objects
 
   module _ (graph prefix : List Obj) (ks : List ℕ) where
-    -- The graph with the first `j` objects filled.
+    -- The graph after the first `j` objects are filled.
     abbrev pub filled : ℕ → List Obj
     filled j = prefix ++ (renamed base marks graph (take j ks) ++ blanks graph (drop j ks))
 

@@ -1,4 +1,4 @@
--- The objects in the order of their marks, and the objects to which a value refers.
+-- Lemmas on the objects in the order of their marks, and on the objects to which a value refers.
 use Rattle.std.proofs.Common.{ℕ, zero, suc, ◌+◌, ◌-◌, ◌<◌, ◌≤◌, ◌≡◌, ◌≢◌, ◌∙◌, List, [], ◌∷◌, length, set, get_or, Some, ⊎_elim, refl, sym, ap, subst, arith, get_or-set_same, get_or-set_other}
 use Rattle.std.specs.Prelude.{slice_get, slice_index, All, pos}
 use Rattle.std.specs.List.{AllZip, AllByRecursion}
@@ -49,7 +49,7 @@ module _ (g : List Obj) (ks marks : List ℕ) (marked : AreMarked g ks (length k
 
   -- ---- the order of objects
 
-  -- The objects before number `k` are at their positions.
+  -- Each object with a number below `k` is at its position in `order`.
   abbrev pub AreOrdered : List ℕ → ℕ → Type 0
   AreOrdered order k = (i m : ℕ) → m < k → slice_get ks i ≡ Some m → get_or order i 0 ≡ m
 

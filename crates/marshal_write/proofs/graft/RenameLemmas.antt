@@ -1,4 +1,5 @@
--- The objects of a value, renumbered in the order of their first visit, form a copy of it.
+-- If the objects of a value are renumbered in the order of their first visit, then the objects form
+-- a copy of the value.
 use Rattle.std.proofs.Common.{ℕ, ◌+◌, ◌-◌, ◌≡◌, ◌∙◌, List, [], ◌∷◌, length, refl, sym, ap, ap₂, arith}
 use Rattle.std.specs.Prelude.{map, slice_get, slice_index, pos}
 use Rattle.std.specs.List.{AllZip}
@@ -71,7 +72,8 @@ module _ (g : List Obj) (ks marks : List ℕ) (marked : AreMarked g ks (length k
 behind : (c : ℕ) → c + 0 ≡ c
 behind c = omega arith
 
--- Renumbering by marks gives a copy.
+-- If the marks follow the numbering of a value's tree, then renumbering the objects by the marks
+-- gives a copy.
 pub renamed_copy : (g : List Obj) (v : Val) (tree : Tree) (ks marks : List ℕ) (base : ℕ) → IsTreeOf g v tree → IsNumbering g v tree ks
     → AreMarked g ks (length ks) marks → IsCopy g v base (renamed base marks g ks) (renamed_value base marks v)
 renamed_copy g v tree ks marks base is numbering marked = record {

@@ -1,4 +1,5 @@
--- The graph of a tree after more objects is the same graph with shifted numbers.
+-- If a tree's objects come after more objects, then the tree's graph is the same graph with shifted
+-- numbers.
 use Rattle.std.proofs.Common.{ℕ, ◌+◌, ◌-◌, ◌≡◌, ◌∙◌, List, [], ◌∷◌, ◌++◌, refl, sym, ap, ap₂, arith}
 use Rattle.std.specs.Prelude.{map}
 use Rattle.std.proofs.lemmas.List.{map-append}
@@ -37,7 +38,7 @@ module _ (b : ℕ) where
   pub root_later : (tree : Tree) (c : ℕ) → ReferBack tree c → root tree (b + c) ≡ later_value b (root tree c)
   root_later (node t f) c back = value_later t c back.0
 
-  -- Associativity of the shifted offset.
+  -- The sum of the shift `b`, `c` and `n` is associative.
   further : (c n : ℕ) → b + c + n ≡ b + (c + n)
   further c n = omega arith
 

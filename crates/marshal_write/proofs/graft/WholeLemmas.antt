@@ -1,4 +1,5 @@
--- The objects of a value are appended blank and then filled, so they form its copy.
+-- If the objects of a value are appended blank and then filled, then the objects form a copy of the
+-- value.
 use Rattle.std.proofs.Common.{ℕ, ◌+◌, ◌≤◌, ◌≡◌, ◌∙◌, List, ◌++◌, length, take, length-append, sym, ap, ap₂, subst}
 use Rattle.std.specs.Prelude.{All}
 use Rattle.std.proofs.lemmas.List.{length-map, take_at}

@@ -1,4 +1,4 @@
--- The size of a tree compared with the heap.
+-- Bounds on the size of a value's tree by the size of the heap.
 use Rattle.std.proofs.Common.{ℕ, zero, suc, ◌≡◌, ◌≢◌, ◌+◌, ◌<◌, ◌≤◌, ◌∙◌, ⊎_elim, List, [], ◌∷◌, length, map, Some, refl, sym, ap, subst, arith, pos}
 use Rattle.std.specs.Prelude.{slice_get, Contains, sum_by}
 use Rattle.std.specs.List.{AllZip}
@@ -106,7 +106,7 @@ shown_inside g met ks os m all has =
     let a = IsSomeAnd-some (slice_get g m) (λ a. AgreeObjects (numbered met) a o.0) o.2 in
     slice_get_within g m a.0 a.1
 
--- The tree has at most as many objects and words as the heap.
+-- The objects of a value's tree have at most as many words as the heap.
 pub few_words : (g : List Obj) (v : Val) (tree : Tree) (ks : List ℕ) → IsNumbering g v tree ks → heap_words (objects_of tree 0) ≤ heap_words g
 few_words g v tree ks numbering =
     let within = sum_within (words_at g) ks (upto (length g)) numbering.distinct

@@ -1,4 +1,4 @@
--- Items that are too large for a 32-bit reader.
+-- Lemmas on items that are too large for a 32-bit reader.
 use Rattle.std.proofs.Common.{ℕ, zero, suc, ◌≡◌, ◌+◌, ◌∙◌, Bool, true, false, List, [], ◌∷◌, ◌++◌, take, Option, Some, None, refl, sym, ap, subst}
 use Rattle.std.specs.Prelude.{slice_get, find, IsSomeAnd, cond}
 use Rattle.base_data.proofs.model.Options.{IsSomeAnd-some, IsSomeAnd-at}

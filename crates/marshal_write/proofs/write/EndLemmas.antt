@@ -1,4 +1,4 @@
--- At the end of a walk all objects of its value are marked.
+-- At the end of a walk, all objects of the walk's value are marked.
 use Rattle.std.proofs.Common.{ℕ, zero, suc, ◌≤◌, ◌≡◌, ◌∙◌, List, [], ◌∷◌, ◌++◌, length, drop, refl, ap, sym, arith}
 use Rattle.std.proofs.lemmas.Option.{slice_get_within}
 use Rattle.base_data.specs.declared.model.value.Obj.{Obj}
@@ -30,7 +30,8 @@ no_tokens : (f : Forest) → forest_tokens f ≡ [] → f ≡ none
 no_tokens none is = refl
 no_tokens (more (node t s) f) is = absurd (no_list t (forest_tokens s ++ forest_tokens f) is)
 
--- If the marks cover a position after all objects, then they cover all objects.
+-- If the marks cover at least as many positions as there are objects, then the marks cover all
+-- objects.
 marked_all : (g : List Obj) (ks : List ℕ) (c : ℕ) (marks : List ℕ) → length ks ≤ c → AreMarked g ks c marks → AreMarked g ks (length ks) marks
 marked_all g ks c marks past m = record {
   size = m.size;

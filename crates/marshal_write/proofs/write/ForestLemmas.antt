@@ -1,4 +1,4 @@
--- Concatenation of two lists of trees.
+-- The concatenation of two lists of trees.
 use Rattle.std.proofs.Common.{ℕ, ◌≡◌, ◌+◌, ◌∙◌, ◌∷◌, ◌++◌, refl, sym, ap, arith, append_assoc, add-zero}
 use Rattle.marshal_spec.specs.format.Tree.{Forest, none, more, tokens, forest_tokens, AreTrees, made, all_made, AllReferBack, root, roots, objects_of, all_objects}
 

@@ -1,4 +1,4 @@
--- The remaining fields of open blocks.
+-- Lemmas on the remaining fields of open blocks.
 use Rattle.std.proofs.Common.{ℕ, true, false, ◌≡◌, ◌==◌, ◌+◌, ◌-◌, ◌*◌, ◌/◌, ◌%◌, ◌<◌, ◌≤◌, ◌∙◌, ◌^◌, List, [], ◌∷◌, ◌++◌, length, map, drop, Option, Some, None, refl, sym, ap, subst, arith, eqb-true, inl, inr, append_assoc, append-nil}
 use Rattle.std.specs.Prelude.{All, pos, negsuc}
 use Rattle.std.proofs.lemmas.Bool.{cases_order}
@@ -26,7 +26,7 @@ left_in-push g [] frame = sym (append-nil (fields_left g frame))
 left_in-push g (f ∷ frames) frame =
     ap (λ vs. vs ++ fields_left g f) (left_in-push g frames frame) ∙ append_assoc (fields_left g frame) (left_in g frames) (fields_left g f)
 
--- The word of the next field is taken.
+-- The word of the frame's next field is taken, and the frame `new` has the other remaining fields.
 pub record IsTaken (g : List Obj) (frame new : RemainingFields) (word : ℕ) : Type 0 where
   pub value : Val
   pub is : fields_left g frame ≡ value ∷ fields_left g new
@@ -64,18 +64,19 @@ taken g frame new word is same split = from (fields_left g frame) refl where
 pub take_some : (g : List Obj) (frame new : RemainingFields) (word : ℕ) → IsFrame g frame → new.block ≡ frame.block → frame.rest.now ≡ word ∷ new.rest.now → Takes g (fields_left g frame) (fields_left g new) (Some word)
 take_some g frame new word is same split = let t = taken g frame new word is same split in (t.value, t.is, t.valid, t.word_is)
 
--- The claim with more values after them.
+-- If `word` is taken from the remaining values, then `word` is also taken if more values follow.
 pub takes_more : (g : List Obj) (old new more : List Val) (word : ℕ) → Takes g old new (Some word) → Takes g (old ++ more) (new ++ more) (Some word)
 takes_more g old new more word takes = (takes.0, ap (λ vs. vs ++ more) takes.1, takes.2, takes.3)
 
--- An outer block has a next field.
+-- If a frame is an outer block, then the next value of the last frame is the next value of all
+-- frames.
 pub outer_takes : (g : List Obj) (frames : List RemainingFields) (frame : RemainingFields) (new : List Val) (result : Option ℕ) → IsOuter g frame → Takes g (fields_left g frame) new result
     → Takes g (left_in g (frames ++ frame ∷ [])) (new ++ left_in g frames) result
 outer_takes g frames frame new None outer takes = absurd (omega (arith, outer.1, ap length (outer.0.words ∙ ap (map (word_of g)) takes.0)))
 outer_takes g frames frame new (Some word) outer takes =
     subst (λ vs. Takes g vs (new ++ left_in g frames) (Some word)) (sym (left_in-push g frames frame)) (takes_more g (fields_left g frame) new (left_in g frames) word takes)
 
--- The value of the word that is taken.
+-- If the taken word is the word of a value, then the value is the first remaining value.
 pub value_taken : (g : List Obj) (old new : List Val) (word : ℕ) (v : Val) → IsHeap g → Takes g old new (Some word) → word ≡ word_of g v → IsValue (length g) v → old ≡ v ∷ new
 value_taken g old new word v heap takes is valid = takes.1 ∙ ap (λ u. u ∷ new) (word_of-inj g takes.0 v heap.is_graph takes.2 valid (sym takes.3 ∙ is))
 
@@ -87,7 +88,7 @@ pub no_word : (ws : List ℕ) → (length ws == 0) ≡ true → ws ≡ []
 no_word [] e = refl
 no_word (w ∷ ws) e = absurd (omega (arith, eqb-true (length (w ∷ ws)) 0 e))
 
--- The last frame and the frames before it.
+-- If all frames are outer blocks, then the last frame and the frames before it are outer blocks.
 pub frames_split : (g : List Obj) (frames : List RemainingFields) (frame : RemainingFields) → All (IsOuter g) (frames ++ frame ∷ []) → All (IsOuter g) frames × IsOuter g frame
 frames_split g [] frame all = (All-nil (IsOuter g), All-head (IsOuter g) frame [] all)
 frames_split g (f ∷ frames) frame all =
@@ -96,8 +97,8 @@ frames_split g (f ∷ frames) frame all =
 
 -- ---- the value of a word
 
--- If a word equals the word for the position of an object's header, then it is a reference to that
--- object.
+-- If a word equals the word for the position of an object's header, then the word is a reference to
+-- the object.
 at_value : (g : List Obj) (m word : ℕ) (v : Val) → IsHeap g → IsValue (length g) v → word ≡ word_of g v → word ≡ 8 * position g m → m < length g
 at_value g m word (vals.Int (pos n)) heap valid is here = absurd (omega (arith, is, here))
 at_value g m word (vals.Int (negsuc n)) heap valid is here = absurd (omega (arith, is, here, valid))
@@ -117,7 +118,8 @@ at_position g m word heap field here = at_value g m word field.0 heap field.1 fi
 
 -- ---- headers
 
--- The header of a block.
+-- If the tag in an object's header is below 244, then the header states the tag and size of a
+-- block.
 pub header_block : (n header : ℕ) (o : Obj) → IsObject n o → header ≡ header_of o → header % 1024 < 244 → IsOfKind (kinds.Block (header % 1024) (header / 1024)) o
 header_block n header (objects.Block tag values) valid is low =
     let same : header % 1024 ≡ tag = omega (arith, is, valid.0) in
@@ -129,7 +131,7 @@ header_block n header (objects.I32 z) valid is low = absurd (omega (arith, is, l
 header_block n header (objects.I64 z) valid is low = absurd (omega (arith, is, low))
 header_block n header (objects.Native z) valid is low = absurd (omega (arith, is, low))
 
--- The header of an object without fields.
+-- If the tag in an object's header is at least 244, then the object has no fields.
 pub header_leaf : (n header : ℕ) (o : Obj) → IsObject n o → header ≡ header_of o → 244 ≤ header % 1024 → (object_token o ≡ leaf o) × (fields_of o ≡ [])
 header_leaf n header (objects.Block tag values) valid is high = absurd (omega (arith, is, high, valid.0))
 header_leaf n header (objects.Bytes bytes) valid is high = (refl, refl)
@@ -139,7 +141,7 @@ header_leaf n header (objects.I32 z) valid is high = (refl, refl)
 header_leaf n header (objects.I64 z) valid is high = (refl, refl)
 header_leaf n header (objects.Native z) valid is high = (refl, refl)
 
--- The number of words of an object.
+-- The header of an object determines the number of the object's words.
 pub header_words : (n header : ℕ) (o : Obj) → IsObject n o → header ≡ header_of o → header / 1024 + 1 ≡ object_words o
 header_words n header (objects.Block tag values) valid is = omega (arith, is, valid.0)
 header_words n header (objects.Bytes bytes) valid is = omega (arith, is)
@@ -152,7 +154,7 @@ header_words n header (objects.Native z) valid is = omega (arith, is)
 pub object_is : (g : List Obj) (k : ℕ) → IsHeap g → k < length g → IsObject (length g) (object_at g k)
 object_is g k heap inside = heap.is_graph k (objects.I32 (pos 0)) inside
 
--- The position after an object.
+-- The word of the next object is the word of an object plus 8 for each of the object's words.
 pub next_position : (g : List Obj) (k word header : ℕ) → IsHeap g → k < length g → word ≡ word_of g (vals.Ref k) → header ≡ header_of (object_at g k)
     → word + 8 * (header / 1024 + 1) ≡ 8 * position g (k + 1)
 next_position g k word header heap inside is header_is =

@@ -1,4 +1,4 @@
--- One token of a walk: its identity, and the remaining trees after it.
+-- Lemmas on one token of a walk: which token is next, and which trees remain after the token.
 use Rattle.std.proofs.Common.{ℕ, zero, suc, ◌≡◌, ◌+◌, ◌-◌, ◌<◌, ◌≤◌, ◌∙◌, List, [], ◌∷◌, ◌++◌, length, drop, Some, refl, sym, ap, ap₂, subst, arith, append_assoc, ℤ, pos}
 use Rattle.std.specs.Prelude.{slice_get, slice_index, IsSomeAnd}
 use Rattle.std.specs.List.{AllZip}
@@ -29,7 +29,8 @@ use Rattle.marshal_write.proofs.write.ForestLemmas.{join, tokens-join, AreTrees-
 tokens_after : (t : Token) (s f : Forest) → forest_tokens (more (node t s) f) ≡ t ∷ forest_tokens (join s f)
 tokens_after t s f = ap (λ ts. t ∷ ts) (sym (tokens-join s f))
 
--- The objects after the object of the first token.
+-- After the object of the first token come the objects of the token's subtrees and of the other
+-- trees.
 objects_after : (tree : Tree) (c : ℕ) (t : Token) (s f : Forest) → IsToken t → drop c (objects_of tree 0) ≡ all_objects (more (node t s) f) c
     → drop (c + made_by t) (objects_of tree 0) ≡ all_objects (join s f) (c + made_by t)
 objects_after tree c t s f h is =
@@ -61,13 +62,15 @@ enter tree ks c t s f v below values left agree =
 
 -- ---- the next token
 
--- The next token and the remaining trees after it.
+-- The token is the next token, and `values` are the values of the trees that remain after the
+-- token.
 pub record Goes (tree : Tree) (ks : List ℕ) (c : ℕ) (forest : Forest) (token : Token) (d : ℕ) (values : List Val) : Type 0 where
   pub rest : Forest
   pub tokens_are : forest_tokens forest ≡ token ∷ forest_tokens rest
   pub left : AreLeft tree ks d rest values
 
--- A token that creates no object and has no fields.
+-- If the first token creates no object and has no fields, then the other trees remain after the
+-- token.
 passes : (tree : Tree) (ks : List ℕ) (c : ℕ) (t : Token) (s f : Forest) (v : Val) (values : List Val)
     → made_by t ≡ 0 → trees_in s ≡ 0 → AreLeft tree ks c (more (node t s) f) (v ∷ values) → Goes tree ks c (more (node t s) f) t c values
 passes tree ks c t none f v values no_object no_fields left =
@@ -104,7 +107,7 @@ at_drop zero (y ∷ xs) x ys is = cc
 at_drop (suc n) [] x ys is = absurd (cc)
 at_drop (suc n) (y ∷ xs) x ys is = at_drop n xs x ys is
 
--- An object and its counterpart in the tree agree.
+-- An object of the graph and the object's counterpart in the tree agree.
 shown : (g : List Obj) (v : Val) (tree : Tree) (ks : List ℕ) (c k : ℕ) (o : Obj) (os : List Obj) → IsNumbering g v tree ks
     → slice_get ks c ≡ Some k → drop c (objects_of tree 0) ≡ o ∷ os → AgreeObjects (numbered ks) (object_at g k) o
 shown g v tree ks c k o os numbering at_c is =
@@ -113,7 +116,7 @@ shown g v tree ks c k o os numbering at_c is =
     let a = IsSomeAnd-some (slice_get g k) (λ a. AgreeObjects (numbered ks) a o) shows in
     subst (λ x. AgreeObjects (numbered ks) x o) (sym (get_or_from_slice_get g k a.0 (objects.I32 (pos 0)) a.1)) a.2
 
--- Objects that agree with a block and with a leaf.
+-- The object `a` agrees with a block of this tag and these values.
 record IsBlockOf (pairs : List (ℕ × ℕ)) (a : Obj) (tag : ℕ) (values : List Val) : Type 0 where
   token : object_token a ≡ block tag (length values)
   agree : AllZip (Agree pairs) (fields_of a) values
@@ -145,7 +148,7 @@ agree_leaf pairs (objects.Native z) o h agree = record { token = ap leaf agree; 
 
 -- ---- a reference
 
--- The reference leads to the next object or to an earlier one.
+-- A reference leads to the next object of the tree or to an earlier object.
 pub record Meets (g : List Obj) (tree : Tree) (ks : List ℕ) (c : ℕ) (forest : Forest) (k : ℕ) (values : List Val) : Type 0 where
   pub at_c : slice_get ks c ≡ Some k
   pub goes : Goes tree ks c forest (object_token (object_at g k)) (c + 1) (fields_of (object_at g k) ++ values)

@@ -12,14 +12,14 @@ length-in_order met objects = length-map-range_with_len (mark_in_order met) 0 ob
 pub get_or-in_order : (met objects k : ℕ) → k < objects → get_or (in_order met objects) k 0 ≡ mark_in_order met k
 get_or-in_order met objects k inside = get_or-map-range_with_len (mark_in_order met) 0 objects k k 0 inside (omega arith)
 
--- The mark of a visited object is its number plus 1; all other marks are 0.
+-- If objects are visited in order, then the mark of a visited object is its number plus 1.
 pub mark_met : (met k : ℕ) → k < met → mark_in_order met k ≡ suc k
 mark_met met k less = ap (λ b. cond b (suc k) 0) (lt-ltb k met less)
 
 pub mark_unmet : (met k : ℕ) → met ≤ k → mark_in_order met k ≡ 0
 mark_unmet met k past = ap (λ b. cond b (suc k) 0) (le-ltb k met past)
 
--- Hence a mark that is not 0 is the number of its object plus 1.
+-- If objects are visited in order, then a mark that is not 0 is the number of its object plus 1.
 pub met_in_order : (met objects k i : ℕ) → get_or (in_order met objects) k 0 ≡ suc i → k ≡ i
 met_in_order met objects k i is = elim (cases_lt k objects) [
   | inl inside ↦ elim (cases_lt k met) [

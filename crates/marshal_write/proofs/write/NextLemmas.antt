@@ -1,4 +1,4 @@
--- One call of `next`.
+-- Lemmas on one call of `next`.
 use Rattle.std.proofs.Common.{ℕ, zero, suc, ◌≡◌, ◌≢◌, ◌+◌, ◌*◌, ◌-◌, ◌<◌, ◌≤◌, ◌^◌, ◌∙◌, true, List, ◌∷◌, ◌++◌, length, map, drop, refl, sym, ap, subst, arith, length-drop, ℤ}
 use Rattle.std.specs.Prelude.{slice_index, slice_set, All, vec_len, vec_capacity}
 use Rattle.std.proofs.lemmas.Option.{slice_get_within}
@@ -47,7 +47,7 @@ some_token : (tree : Tree) (ks : List ℕ) (c : ℕ) (forest : Forest) (v : Val)
 some_token tree ks c none v values left = absurd left.agree
 some_token tree ks c (more (node t s) f) v values left = omega arith
 
--- If no value remains, then nothing changes.
+-- If no value remains, then the invariant of the walk still holds.
 pub still_walk : (g : List Obj) (walk nv : WriteWalk) → IsWalk g walk → IsFrame g nv.last → All (IsOuter g) nv.frames.items → vec_len nv.frames ≤ vec_len walk.frames
     → vec_capacity nv.frames ≡ vec_capacity walk.frames → nv ≡ record walk { last = nv.last; frames = nv.frames } → left_of g nv ≡ left_of g walk → IsWalk g nv
 still_walk g walk nv w last frames depth capacity frame left =
@@ -172,7 +172,8 @@ module _ (g : List Obj) (walk nv : WriteWalk) (v : Val) (w : IsWalk g walk) (val
   mark_is_old : (k n : ℕ) → slice_index (marks_of nv.marks) k ≡ n → slice_index (marks_of walk.marks) k ≡ n
   mark_is_old k n is = subst (λ ms. slice_index (marks_of ms) k ≡ n) same_marks is
 
-  -- In a repeated walk over objects in order, a new object is the next one.
+  -- If a repeated walk visits objects in order and the current object is new, then the object is
+  -- the next object.
   pub next_in_order : (k : ℕ) → v ≡ vals.Ref k → nv.again ≡ true → nv.marks.ordered ≡ true → slice_index (marks_of nv.marks) k ≡ 0 → k ≡ nv.count
   next_in_order k is again ordered new =
       let t = has_one_tree g walk.root w.heap.is_graph w.value in

@@ -73,7 +73,8 @@ unfolding integer_encoding
 integer_few (pos n) = cond_few 9 (ltb n 64) ((0x40 + n) ∷ []) (wide_integer (pos n)) (omega arith) (wide_few (pos n))
 integer_few (negsuc n) = wide_few (negsuc n)
 
--- The two cases are the code with `k` bytes for a number below 2^32, and the code with eight bytes.
+-- A code with a number of `k` bytes and a code with a number of eight bytes have at most nine
+-- bytes.
 prefix_few : (n code k last : ℕ) → k ≤ 8 → length (cond (ltb n (2 ^ 32)) (code ∷ bytes_high_first k n) (last ∷ bytes_high_first 8 n)) ≤ 9
 prefix_few n code k last few = cond_few 9 (ltb n (2 ^ 32)) (code ∷ bytes_high_first k n) (last ∷ bytes_high_first 8 n) (bytes_few k code n few) (bytes_few 8 last n (omega arith))
 

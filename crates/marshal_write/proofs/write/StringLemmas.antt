@@ -1,4 +1,4 @@
--- The bytes of a string, one 64-bit word at a time.
+-- Lemmas on the bytes of a string, one 64-bit word at a time.
 use Rattle.std.specs.Int.{to_le_bytes, w64}
 use Rattle.std.proofs.Common.{ℕ, zero, suc, ◌≡◌, ◌+◌, ◌-◌, ◌*◌, ◌/◌, ◌%◌, ◌<◌, ◌∙◌, List, [], ◌∷◌, ◌++◌, length, get_or, take, drop, refl, sym, ap, subst, arith, length-drop, take_all, Result}
 use Rattle.std.proofs.lemmas.List.{take-append-le, take-append-drop}
@@ -24,7 +24,7 @@ take_plus zero n xs = ap (λ k. take k xs) (omega arith)
 take_plus (suc m) n [] = take_none (suc m + n) ∙ sym (take_none n)
 take_plus (suc m) n (x ∷ xs) = let position : suc m + n ≡ suc (m + n) = omega arith in rw position (ap (λ ys. x ∷ ys) (take_plus m n xs))
 
--- A whole word holds eight bytes of the string.
+-- Word `j` of a string holds the eight bytes after the string's first 8 * `j` bytes.
 pub whole_word : (bytes : List ℕ) (j : ℕ) → AreBytes bytes → j < length bytes / 8
     → take (8 * (j + 1)) bytes ≡ take (8 * j) bytes ++ bytes_of_word (get_or (string_words bytes) j 0)
 whole_word bytes j valid inside =
@@ -32,7 +32,7 @@ whole_word bytes j valid inside =
     rw position (take_plus (8 * j) 8 bytes)
     ∙ ap (λ t. take (8 * j) bytes ++ t) (sym (word_bytes bytes j valid (omega arith) ∙ eight_bytes bytes j inside))
 
--- The last word holds the remaining bytes.
+-- The last word of a string holds the remaining bytes of the string.
 pub last_word : (bytes : List ℕ) → AreBytes bytes
     → take (8 * (length bytes / 8)) bytes ++ take (length bytes % 8) (bytes_of_word (get_or (string_words bytes) (length bytes / 8) 0)) ≡ bytes
 last_word bytes valid =

@@ -1,4 +1,4 @@
--- The numbers of a header, token by token.
+-- Lemmas on the numbers of a header, token by token.
 use Rattle.std.proofs.Common.{ℕ, zero, suc, ◌≡◌, ◌+◌, ◌*◌, ◌-◌, ◌<◌, ◌≤◌, ◌^◌, ◌∙◌, ◌||◌, leb, leb-false, List, [], ◌∷◌, ◌++◌, length, map, take, drop, Some, refl, sym, ap, subst, arith, length-append, append-nil}
 use Rattle.std.specs.Prelude.{slice_get, sum_by, flat_map}
 use Rattle.std.proofs.lemmas.List.{map-append, take-append-drop}
@@ -93,7 +93,7 @@ all_taken n ts is = ap (λ m. take m ts) is ∙ take-length ts
 
 -- ---- an iteration of a loop over a walk
 
--- The walk returned this step, and is at the next token.
+-- The walk returned this step, and is now before the token after the step.
 abbrev pub Gave : List Obj → WriteWalk → WriteWalk → WriteStep → Type 0
 Gave g walk new step = (tree : Tree) → IsTreeOf g walk.root tree → IsNext g (tokens tree) walk.given (Some step) new.given
 
@@ -104,7 +104,7 @@ given_falls g walk new step w n root gave =
     let at = n.at t.tree (subst (λ r. IsTreeOf g r t.tree) (sym root) t.is) in
     omega (arith, (gave t.tree t.is).1, at.within, b.words, b.bytes, b.tokens)
 
--- The totals of the tokens returned so far.
+-- `totals` are the totals of the tokens that the walk returned so far.
 abbrev pub AreTotals : List Obj → WriteWalk → WriteTotals → Type 0
 AreTotals g walk totals = (tree : Tree) → IsTreeOf g walk.root tree → totals ≡ totals_of (take walk.given (tokens tree))
 
@@ -121,7 +121,8 @@ totals_fit g walk new step totals w gave are =
     let t = has_one_tree g walk.root w.heap.is_graph w.value in
     subst FitTotals (sym (totals_next g walk new step totals gave are t.tree t.is)) (some_fit new.given t.tree (bounded g walk.root t.tree w.heap w.value t.is))
 
--- An array of doubles.
+-- The totals of an array of doubles are the totals of one object with its prefix and eight bytes
+-- for each double.
 pub doubles_totals : (o : Obj) (all : List ℕ) (prefix n : ℕ) → o ≡ objs.Doubles all → n ≡ length all → prefix ≡ length (doubles_prefix n) → object_totals (prefix + 8 * n) (measures.Doubles n) ≡ token_totals (leaf o)
 doubles_totals o all prefix n is many first =
     let bytes : length (doubles_prefix (length all) ++ flat_map double_bytes all) ≡ prefix + 8 * n =
@@ -133,7 +134,7 @@ doubles_totals o all prefix n is many first =
 
 -- ---- the header
 
--- If a header uses the small format, then each of its numbers fits in four bytes.
+-- If a header is small, then each number of the header fits in four bytes.
 pub canonical_fits : (ts : List Token) → FitsSmall (canonical_head ts)
 canonical_fits ts small =
     let n = length (data_encoding ts) in

@@ -1,4 +1,4 @@
--- Writing of a text to a sink through a buffer.
+-- Lemmas on a text that is written to a sink through a buffer.
 use Rattle.std.proofs.Common.{ℕ, drop, get_or, ◌≡◌, ◌+◌, ◌<◌, ◌∙◌, List, [], ◌∷◌, ◌++◌, length, take, Option, Some, None, Ok, Err, Result, refl, sym, ap, subst, arith, append_assoc, append-nil}
 use Rattle.std.specs.Prelude.{IfSome, IsErr, OnOk, MatchResult, flat_map, slice_get}
 use Rattle.std.proofs.lemmas.List.{take-append-drop, take_more}
@@ -45,7 +45,8 @@ pub flush_failed : (old new : ByteState) (buffer : List ℕ) → WritesPart (cha
 flush_failed old new buffer part before text carries =
     part_more before new text [] (subst (WritesPart (change before new)) carries.whole (writes_part before old new carries.prefix buffer carries.writes part))
 
--- A prefix of a chunk.
+-- If the first `n` bytes of a chunk are appended to the buffer, then the text is extended by these
+-- bytes.
 pub adds_first : (a b : ByteState) (x y z chunk : List ℕ) (n : ℕ) → AddsAll a b x y [] → z ≡ take (length y + n) (y ++ chunk) → AddsAll a b x z (take n chunk)
 adds_first a b x y z chunk n first is before text carries =
     let r = first before text carries in
@@ -55,7 +56,8 @@ adds_first a b x y z chunk n first is before text carries =
       writes = r.writes;
     }
 
--- Two chunks in sequence.
+-- If two chunks are added in sequence, then the text is extended by the concatenation of the
+-- chunks.
 pub adds_both : (a b c : ByteState) (x y z p q : List ℕ) → AddsAll a b x y p → AddsAll b c y z q → AddsAll a c x z (p ++ q)
 adds_both a b c x y z p q first second before text carries =
     subst (Carries before c z) (append_assoc text p q) (second before (text ++ p) (first before text carries))
@@ -64,12 +66,12 @@ pub adds_then_part : (a b c : ByteState) (x y p q : List ℕ) → AddsAll a b x 
 adds_then_part a b c x y p q first second before text carries =
     subst (WritesPart (change before c)) (append_assoc text p q) (second before (text ++ p) (first before text carries))
 
--- If writing a chunk failed, then writing a longer chunk failed.
+-- If writing a chunk failed, then a proper prefix of each longer chunk was written.
 pub adds_part_of : (a b : ByteState) (x p q : List ℕ) → AddsPart a b x p → AddsPart a b x (p ++ q)
 adds_part_of a b x p q first before text carries =
     subst (WritesPart (change before b)) (append_assoc text p q) (part_more before b (text ++ p) q (first before text carries))
 
--- The result of a call that failed.
+-- If a call returned an error and wrote a proper prefix, then the call satisfies `Adds`.
 pub adds_if_failed : {A E : Type 0} (a b : ByteState) (x y p : List ℕ) (result : Result A E) → IsErr result → AddsPart a b x p → Adds a b x y p result
 adds_if_failed a b x y p result is part = MatchResult-from_err result (λ _. AddsAll a b x y p) (λ _. AddsPart a b x p) is (λ _. part)
 
@@ -79,7 +81,8 @@ adds_then a b c x y z p q (Err failed) first second = adds_then_part a b c x y p
 
 -- ---- contents, element by element
 
--- The text of the elements before it, extended by the text of one element.
+-- The text of the first `i` + 1 elements is the text of the first `i` elements and the text of
+-- element `i`.
 text_more : (f : ℕ → List ℕ) (xs : List ℕ) (i : ℕ) → i < length xs → flat_map f (take (i + 1) xs) ≡ flat_map f (take i xs) ++ f (get_or xs i 0)
 text_more f xs i inside =
     ap (flat_map f) (take_more xs i 0 inside) ∙ flat_map-append f (take i xs) (get_or xs i 0 ∷ [])
@@ -149,7 +152,8 @@ pub canon_is : (tree : Tree) → header_encoding (canonical_head (tokens tree)) 
 unfolding canon
 canon_is tree = refl
 
--- A header, the tokens, and the remaining contents of the buffer.
+-- If a header, the tokens and the remaining contents of the buffer are written, then the whole text
+-- is written.
 pub whole_written : {A E : Type 0} (a b c d : ByteState) (x y z w head body text : List ℕ) (result : Result A E) → x ≡ [] → AddsAll a b x y head → AddsAll b c y z body
     → Adds c d z w [] result → OnOk result (w ≡ []) → head ++ body ≡ text → MatchResult result (λ _. Writes (change a d) text) (λ _. WritesPart (change a d) text)
 whole_written a b c d x y z w head body text (Ok done) empty first second last gone is =

@@ -1,4 +1,4 @@
--- A walk from token to token.
+-- Lemmas on a walk from token to token.
 use Rattle.std.proofs.Common.{ℕ, zero, suc, ◌≡◌, ◌≢◌, ◌==◌, true, false, cond, eqb, eqb-true, ◌+◌, ◌-◌, ◌<◌, ◌≤◌, ◌∙◌, replicate, length-drop, List, [], ◌∷◌, ◌++◌, length, map, drop, Some, refl, sym, ap, subst, arith, inl, inr, append-nil, add-one, get_or, length-set, get_or-set_same, get_or-set_other, ℤ}
 use Rattle.std.specs.Prelude.{All, slice_get, slice_index, slice_set, vec_len, vec_capacity}
 use Rattle.std.proofs.lemmas.Bool.{cases_Bool}
@@ -63,7 +63,7 @@ no_marks g ks = record {
   named = λ i k is. absurd (omega (arith, slice_index-zeros (length g) k));
 }
 
--- A mark is at most the number of visited objects.
+-- The mark of an object is at most the number of visited objects.
 pub marks_behind : (g : List Obj) (ks : List ℕ) (c k : ℕ) (marks : List ℕ) → AreMarked g ks c marks → slice_index marks k ≤ c
 marks_behind g ks c k marks marked = behind (slice_index marks k) refl where
   behind : (m : ℕ) → slice_index marks k ≡ m → m ≤ c
@@ -72,7 +72,7 @@ marks_behind g ks c k marks marked = behind (slice_index marks k) refl where
 
 -- ---- the first token
 
--- A frame without words.
+-- The frame has no remaining words.
 pub record IsEmpty (g : List Obj) (frame : RemainingFields) : Type 0 where
   pub nothing : fields_left g frame ≡ []
   pub is_frame : IsFrame g frame
@@ -85,8 +85,8 @@ no_words g frame empty =
       is_frame = record { words = empty ∙ sym (ap (map (word_of g)) nothing); valid = subst (All (IsValue (length g))) (sym nothing) (All-nil (IsValue (length g))) };
     }
 
--- The numbers of the objects of each tree, in the order of its tokens. If the walk is repeated and
--- the marks are ordered, these numbers are in order.
+-- The numbers of the objects of each tree of the root, in the order of the tree's tokens. If the
+-- walk is repeated and the marks are ordered, then the numbers are in order.
 abbrev pub Numbers : List Obj → WriteWalk → Type 0
 Numbers g walk = (tree : Tree) → IsTreeOf g walk.root tree
     → (ks : List ℕ) × IsNumbering g walk.root tree ks × (walk.again ≡ true → walk.marks.ordered ≡ true → AreInOrder ks)
@@ -125,7 +125,7 @@ start_walk g walk heap value given count next last frames depth marks met room n
   only_root : (g : List Obj) (walk : WriteWalk) → walk.given ≡ 0 → walk.last.rest.now ≡ [] → walk.frames.items ≡ [] → pending g walk ≡ walk.root ∷ []
   only_root g walk given last frames = rw (given, (no_words g walk.last last).nothing, frames) refl
 
--- The invariant at the start of the first walk, when nothing is known about the order.
+-- Before the first token of a first walk, the invariant of the walk holds.
 pub first_walk : (g : List Obj) (walk : WriteWalk) → IsHeap g → IsValue (length g) walk.root → walk.given ≡ 0 → walk.count ≡ 0 → walk.next ≡ 0 → walk.last.rest.now ≡ [] → walk.frames.items ≡ [] → vec_len walk.frames ≡ 0
     → marks_of walk.marks ≡ replicate (length g) 0 → walk.marks.met ≡ 0 → length g ≤ vec_capacity walk.frames → walk.again ≡ false → IsWalk g walk
 first_walk g walk heap value given count next last frames depth marks met room first =
@@ -154,7 +154,7 @@ drop_next (suc n) (y ∷ xs) x ys is = let r = drop_next n xs x ys is in let pos
 not_same : (a b : ℕ) → a ≢ b → (a == b) ≡ false
 not_same a b other = elim (cases_Bool (eqb a b)) [ inl e ↦ absurd (other (eqb-true a b e)) | inr e ↦ e ]
 
--- A walk after one more token.
+-- The walk `new` is the walk `walk` after one more token.
 pub record Advances (g : List Obj) (tree : Tree) (walk new : WriteWalk) (token : Token) : Type 0 where
   pub at_given : slice_get (tokens tree) walk.given ≡ Some token
   pub more_given : walk.given < length (tokens tree)
@@ -165,7 +165,8 @@ nothing_at_root g walk n given =
     let test : (walk.given == 0) ≡ false = not_same walk.given 0 (λ same. omega (arith, given)) in
     ap (λ b. cond b (walk.root ∷ []) [] ++ left_of g walk) test
 
--- The remaining values after the first token.
+-- If the walk has returned a token, then the remaining values are the remaining fields of the
+-- frames.
 pub later : (g : List Obj) (walk : WriteWalk) → walk.given ≢ 0 → pending g walk ≡ left_of g walk
 later g walk other = ap (λ b. cond b (walk.root ∷ []) [] ++ left_of g walk) (not_same walk.given 0 other)
 
@@ -188,7 +189,7 @@ advance g tree walk new token at root given goes marked again was =
       };
     }
 
--- The parts that a step leaves unchanged.
+-- The parts of a walk that a step leaves unchanged.
 pub record Keeps (walk new : WriteWalk) : Type 0 where
   pub root : new.root ≡ walk.root
   pub given : new.given ≡ walk.given + 1
@@ -224,7 +225,7 @@ advance_reference g tree walk new k i at keeps mark is =
     (rw keeps.count (reference_next g walk.root tree at.ks walk.count k i (marks_of walk.marks) at.forest (left_of g new) at.numbering at.marked mark left))
     (still_marked g at.ks walk new keeps at.marked) keeps.again (still_ordered walk new keeps)
 
--- The changes by a step to an object.
+-- The changes to a walk by a step that visits object `k` for the first time.
 pub record Enters (g : List Obj) (k : ℕ) (values : List Val) (walk new : WriteWalk) : Type 0 where
   pub root : new.root ≡ walk.root
   pub given : new.given ≡ walk.given + 1
@@ -257,7 +258,7 @@ no_tokens : (f : Forest) → forest_tokens f ≡ [] → f ≡ none
 no_tokens none is = refl
 no_tokens (more (node t s) f) is = absurd (cc)
 
--- At the end all objects are visited.
+-- At the end of a walk, all objects of the tree are visited.
 all_met : (g : List Obj) (tree : Tree) (walk : WriteWalk) (at : IsAt g tree walk) → walk.given ≡ length (tokens tree) → length at.ks ≤ walk.count
 all_met g tree walk at end =
     let past : drop walk.given (tokens tree) ≡ [] = drop_all walk.given (tokens tree) (omega arith) in

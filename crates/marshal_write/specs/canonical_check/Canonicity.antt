@@ -1,4 +1,4 @@
--- Bytes that are the canonical bytes of the value that they encode.
+-- Bytes that are the canonical bytes of the value that the bytes encode.
 use Rattle.std.specs.Prelude.{ℕ, ◌≤◌, ◌≡◌, false, List, length, take, All, map}
 use Rattle.marshal_spec.specs.format.Header.{magic, small_magic, head_of}
 use Rattle.marshal_spec.specs.format.Words.{objects}
@@ -9,7 +9,7 @@ use Rattle.marshal_spec.specs.format.Canonical.{encoding, data_encoding, header_
 use Rattle.marshal_spec.specs.canonical.Laws.{HasEncoding}
 use Rattle.marshal_codec.specs.headers.Encoding.{HasSmallNumbers}
 
--- If the bytes encode a tree under some limit, then they are the canonical bytes of that tree.
+-- If the bytes encode a tree under some limit, then the bytes are the canonical bytes of the tree.
 abbrev pub IsCanonicalBytes : List ℕ → Type 0
 IsCanonicalBytes bytes =
     (limit : ℕ) (tree : Tree) → EncodedUnder limit bytes tree → bytes ≡ canon tree
@@ -30,7 +30,7 @@ pub record StandsFirst (token : Token) (n : ℕ) (bytes : List ℕ) : Type 0 whe
 abbrev pub BeginsCanonical : ℕ → List ℕ → Type 0
 BeginsCanonical n bytes = (token : Token) × StandsFirst token n bytes
 
--- The bytes are the canonical encodings of the tokens.
+-- The bytes are the canonical encodings of the tokens, one after another.
 pub record AreEncoded (tokens : List Token) (bytes : List ℕ) : Type 0 where
   pub encodable : All CanBeEncoded tokens
   pub encoded : data_encoding tokens ≡ bytes
@@ -45,7 +45,7 @@ AreBare bytes =
 
 -- ---- the header
 
--- A small header, encoded as the runtime encodes it, that states this number of objects.
+-- The header is small, is encoded as the runtime encodes headers, and states the number `objects`.
 pub record IsOwnHeader (header : List ℕ) (objects : ℕ) : Type 0 where
   pub small : magic header ≡ small_magic
   pub big_is : (head_of header).big ≡ false

@@ -1,4 +1,4 @@
--- Laws of copies.
+-- The laws of copies of values.
 use Rattle.std.specs.Prelude.{ℕ, ◌+◌, ◌≡◌, List, length, All}
 use Rattle.base_data.specs.declared.model.value.Val.{Val}
 use Rattle.base_data.specs.declared.model.value.Obj.{Obj}
@@ -6,8 +6,8 @@ use Rattle.base_data.specs.model.Graph.{IsValue, IsGraph}
 use Rattle.marshal_spec.specs.format.Isomorphism.{Isomorphism}
 use Rattle.marshal_write.specs.graft.Copies.{IsCopy, StandFrom, IsWithin, AreWithin}
 
--- In each graph that contains the objects of the copy from number `c`, the copy is the same value
--- as the original.
+-- If a graph contains the objects of a copy from number `c` on, then the copy is the same value as
+-- the original.
 abbrev pub CopiesAreTheSame : Type 0
 CopiesAreTheSame =
     (graph : List Obj) (v : Val) (c : ℕ) (objects : List Obj) (value : Val)
@@ -27,7 +27,7 @@ OneCopyFollows =
     (graph : List Obj) (v : Val) (c : ℕ) → IsGraph graph → IsValue (length graph) v
     → HasOneCopy graph v c
 
--- A copy refers only to its own objects, which come after the `c` earlier ones.
+-- A copy refers only to its own objects, which come after the `c` objects before the copy.
 abbrev pub CopiesAreClosed : Type 0
 CopiesAreClosed =
     (graph : List Obj) (v : Val) (c : ℕ) (copied : List Obj) (value : Val)

@@ -1,4 +1,4 @@
--- The objects that a value reaches, and the position of each.
+-- The objects that a value reaches, and the position of each object.
 use Rattle.std.specs.Prelude.{ℕ, List, length}
 use Rattle.base_data.specs.declared.model.value.Val.{Val}
 use Rattle.base_data.specs.declared.model.value.Obj.{Obj}
@@ -7,8 +7,8 @@ use Rattle.marshal_spec.specs.format.Isomorphism.{IsTreeOf}
 use Rattle.marshal_spec.specs.canonical.Numbering.{IsNumbering}
 use Rattle.marshal_write.specs.write.Walking.{AreMarked}
 
--- The numbers of the objects that the value reaches, in the order of their first visit. The mark of
--- each of these objects is its position, counted from 1.
+-- `ks` are the numbers of the objects that the value reaches, in the order of their first visit.
+-- The mark of each of these objects is the object's position in `ks`, counted from 1.
 pub record IsOrder (graph : List Obj) (v : Val) (marks ks : List ℕ) : Type 0 where
   pub tree : Tree
   pub is : IsTreeOf graph v tree

@@ -9,8 +9,8 @@ use Rattle.marshal_spec.specs.format.Isomorphism.{Isomorphism, IsTreeOf}
 use Rattle.marshal_spec.specs.format.Encoded.{EncodedUnder}
 use Rattle.marshal_spec.specs.format.Tree.{Tree, tokens, root, objects_of}
 
--- The canonical bytes of a value encode its tree, and the tree has the same value. The tree must
--- have at most `limit` words, and its data must not be too long.
+-- If a tree has at most `limit` words and short enough data, then the canonical bytes of a value
+-- encode the value's tree. The tree has the same value.
 abbrev pub WrittenIsRead : Type 0
 WrittenIsRead =
     (limit : ℕ) (g : List Obj) (v : Val) (tree : Tree) → limit < 2 ^ 64 → IsTreeOf g v tree
@@ -18,8 +18,8 @@ WrittenIsRead =
     → length (data_encoding (tokens tree)) < 2 ^ 48
     → EncodedUnder limit (canon tree) tree × Isomorphism g v (objects_of tree 0) (root tree 0)
 
--- If bytes are the canonical bytes of the tree that they encode, then they are written again
--- exactly as they were read.
+-- If bytes are the canonical bytes of the tree that they encode, then reading the bytes and writing
+-- the value gives the same bytes.
 abbrev pub ReadIsWritten : Type 0
 ReadIsWritten =
     (limit : ℕ) (bytes : List ℕ) (tree other : Tree) → EncodedUnder limit bytes tree

@@ -6,8 +6,8 @@ use Rattle.marshal_spec.specs.format.Tree.{Tree}
 use Rattle.marshal_spec.specs.canonical.Numbering.{IsNumbering}
 use Rattle.marshal_write.specs.write.Walking.{AreMarked}
 
--- The mark of each object in the tree is its position, counted from 1. The mark of every other
--- object is 0.
+-- The mark of each object in the tree is the object's position, counted from 1. The mark of every
+-- other object is 0.
 abbrev pub AreNumbered : List Obj → Val → Tree → List ℕ → Type 0
 AreNumbered g v tree marks =
     (ks : List ℕ) × IsNumbering g v tree ks × AreMarked g ks (length ks) marks

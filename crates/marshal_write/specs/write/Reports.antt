@@ -1,4 +1,4 @@
--- The relation between an item that is too large for a 32-bit reader and its report.
+-- How a report describes an item that is too large for a 32-bit reader.
 use Rattle.std.specs.Prelude.{◌≡◌, length}
 use Rattle.base_data.specs.declared.model.value.Obj.TheVariants as objects
 use Rattle.marshal_spec.specs.format.Token.{integer, block, leaf}

@@ -18,7 +18,7 @@ token_in g (steps.Shared offset) = shared offset
 token_in g (steps.Block tag size) = block tag size
 token_in g (steps.Leaf k word) = leaf (object_at g k)
 
--- The numbers of the step are in range.
+-- The numbers in the step are in range for the graph.
 abbrev pub IsHeld : List Obj → WriteStep → Type 0
 IsHeld g (steps.Integer z) = IsInteger z
 IsHeld g (steps.Atom tag) = tag ≤ 243

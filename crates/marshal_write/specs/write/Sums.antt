@@ -1,4 +1,4 @@
--- The contributions of tokens to the numbers of a header.
+-- The contributions of tokens to the numbers of a value's header.
 use Rattle.std.specs.Prelude.{ℕ, ◌+◌, ◌<◌, ◌^◌, List, length, map}
 use Rattle.base_data.specs.declared.model.code.Measure.{Measure}
 use Rattle.base_data.specs.declared.model.code.Measure.TheVariants as measures
@@ -12,7 +12,7 @@ use Rattle.marshal_spec.specs.format.Tree.{made_by}
 use Rattle.marshal_spec.specs.format.Canonical.{encoding, data_encoding, is_big}
 use Rattle.marshal_write.specs.declared.write.measure.WriteTotals.{WriteTotals}
 
--- The totals of one token.
+-- The totals of one token: its bytes, its objects and their words.
 abbrev pub token_totals : Token → WriteTotals
 token_totals t = record {
   length = length (encoding t);
@@ -38,7 +38,7 @@ plus a b = record {
   w64 = a.w64 + b.w64;
 }
 
--- Each number fits in 64 bits.
+-- Each number of the totals fits in 64 bits.
 pub record FitTotals (all : WriteTotals) : Type 0 where
   pub length : all.length < 2 ^ 64
   pub objects : all.objects < 2 ^ 64

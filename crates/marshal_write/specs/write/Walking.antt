@@ -26,7 +26,7 @@ fields_left g frame =
     drop (length (fields_of (object_at g frame.block)) - length frame.rest.now)
     (fields_of (object_at g frame.block))
 
--- The remaining words of the frame are the words of these values.
+-- The remaining words of the frame are the words of the frame's remaining field values.
 pub record IsFrame (g : List Obj) (frame : RemainingFields) : Type 0 where
   pub words : frame.rest.now ≡ map (word_of g) (fields_left g frame)
   pub valid : All (IsValue (length g)) (fields_left g frame)
@@ -35,7 +35,7 @@ pub record IsFrame (g : List Obj) (frame : RemainingFields) : Type 0 where
 abbrev pub IsOuter : List Obj → RemainingFields → Type 0
 IsOuter g frame = IsFrame g frame × (0 < length frame.rest.now)
 
--- The remaining values of all blocks. Those of the last block come first.
+-- The remaining values of all blocks. The values of the last block come first.
 abbrev pub left_in : List Obj → List RemainingFields → List Val
 left_in g [] = []
 left_in g (frame ∷ frames) = left_in g frames ++ fields_left g frame
@@ -43,7 +43,7 @@ left_in g (frame ∷ frames) = left_in g frames ++ fields_left g frame
 abbrev pub left_of : List Obj → WriteWalk → List Val
 left_of g walk = fields_left g walk.last ++ left_in g walk.frames.items
 
--- The result is the word of the first remaining value, or `None` if there is none.
+-- The result is the word of the first remaining value, or `None` if no value remains.
 abbrev pub Takes : List Obj → List Val → List Val → Option ℕ → Type 0
 Takes g old new None = (old ≡ []) × (new ≡ [])
 Takes g old new (Some word) =
@@ -74,8 +74,8 @@ pub record IsMet (g : List Obj) (k : ℕ) (old new : WriteWalk) (step : WriteSte
   pub capacity : vec_capacity new.frames ≡ vec_capacity old.frames
   pub token : token_in g step ≡ object_token (object_at g k)
 
--- The marks of the first `c` visited objects are their positions, counted from 1. All other marks
--- are 0.
+-- The marks of the first `c` visited objects are their positions, counted from 1. The marks of all
+-- other objects are 0.
 pub record AreMarked (g : List Obj) (ks : List ℕ) (c : ℕ) (marks : List ℕ) : Type 0 where
   pub size : length marks ≡ length g
   pub found : (i k : ℕ) → i < c → slice_get ks i ≡ Some k → slice_index marks k ≡ suc i
@@ -87,7 +87,7 @@ AreInOrder ks = (i k : ℕ) → slice_get ks i ≡ Some k → k ≡ i
 
 -- ---- the position in the tree
 
--- After `c` objects these trees remain, and they are the trees of these values.
+-- After `c` objects, the trees of `forest` remain, and they are the trees of `values`.
 pub record AreLeft (tree : Tree) (ks : List ℕ) (c : ℕ) (forest : Forest) (values : List Val)
     : Type 0 where
   pub are_trees : AreTrees forest
@@ -105,8 +105,8 @@ pub record IsAt (g : List Obj) (tree : Tree) (walk : WriteWalk) : Type 0 where
   pub marked : AreMarked g ks walk.count (marks_of walk.marks)
   pub order : walk.again ≡ true → walk.marks.ordered ≡ true → AreInOrder ks
 
--- The invariant of a walk: it is at a position among the tokens of each tree of its root. The root
--- has exactly one tree.
+-- The invariant of a walk: for each tree of the walk's root, the walk is at a position among the
+-- tokens of the tree. The root has exactly one tree.
 pub record IsWalk (g : List Obj) (walk : WriteWalk) : Type 0 where
   pub heap : IsHeap g
   pub value : IsValue (length g) walk.root

@@ -9,8 +9,8 @@ use Rattle.marshal_write.specs.write.Reports.{Reports}
 use Rattle.marshal_write.specs.declared.write.writer32.Write32Error.{Write32Error}
 use Rattle.marshal_write.specs.declared.write.writer32.Write32Error.TheVariants as errors32
 
--- If a 32-bit reader can hold the value, the effect is `WritesOrFails` of its canonical bytes.
--- Otherwise the result is the item that is too large.
+-- If a 32-bit reader can hold the value, then the effect is `WritesOrFails` of the value's
+-- canonical bytes. If not, then the result is the item that is too large.
 abbrev pub Writes32 : {A : Type 0} → Change ByteState → Tree → Result A Write32Error → Type 0
 Writes32 sink tree (Ok done) = (too_large_for_32 tree ≡ None) × Writes sink (canon tree)
 Writes32 sink tree (Err (errors32.Compat compat)) =
@@ -19,7 +19,7 @@ Writes32 sink tree (Err errors32.Fault) =
     (too_large_for_32 tree ≡ None) × WritesPart sink (canon tree)
 Writes32 sink tree (Err errors32.Memory) = Unit {0}
 
--- If the call returns this error, then it has written nothing.
+-- If a call returns this error, then the call has written nothing.
 abbrev pub IsEarly : Write32Error → Type 0
 IsEarly (errors32.Compat compat) = Unit {0}
 IsEarly errors32.Fault = ⊥

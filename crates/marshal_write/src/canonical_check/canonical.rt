@@ -1,4 +1,4 @@
-//! Checks a whole value.
+//! Checks whether the bytes of a whole value are canonical.
 
 ghost use Rattle.std.specs.Prelude.{◌≡◌, length, IfSome};
 ghost use Rattle.std.specs.Bool.{OnTrue};
@@ -28,8 +28,8 @@ fn objects_in(header: &[u8]) -> Option<u64>
     Some(head.objects)
 }
 
-/// Returns true if the bytes of a value are the bytes that the runtime writes for it (extern.c).
-/// The answer false is inconclusive.
+/// Returns true if the bytes of a value are the bytes that the runtime writes for the value
+/// (`extern.c`). The answer false is inconclusive.
 pub fn is_canonical_bytes(bytes: &[u8]) -> bool
     ensures { OnTrue result (IsCanonicalBytes bytes.now) }
 {

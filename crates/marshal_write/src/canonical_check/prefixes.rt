@@ -1,5 +1,5 @@
-//! Compares bytes with the canonical encoding of a token: each function encodes the token and tests
-//! whether the bytes begin with the result.
+//! Compares bytes with the canonical encoding of a token. Each function encodes the token and tests
+//! whether the bytes begin with the encoding.
 
 ghost use Rattle.std.specs.Prelude.{◌≡◌, ◌≤◌, ◌∷◌, length, take, IfSome};
 ghost use Rattle.std.specs.Bool.{OnTrue};
@@ -23,8 +23,8 @@ fn begins(bytes: &[u8], prefix: &[u8], n: usize) -> bool
     bytes.starts_with(&prefix[..n])
 }
 
-/// Returns the length in bytes of the canonical encoding of an integer, if `bytes` begins with it
-/// (extern.c).
+/// Returns the length in bytes of the canonical encoding of an integer, if `bytes` begins with the
+/// encoding (`extern.c`).
 pub fn int_len(z: i64, bytes: &[u8]) -> Option<usize>
     ensures { IfSome result (λ n. StandsFirst (integer z) n bytes.now) }
 {
@@ -39,7 +39,7 @@ pub fn int_len(z: i64, bytes: &[u8]) -> Option<usize>
 }
 
 /// Returns the length in bytes of the canonical encoding of a reference with this offset, if
-/// `bytes` begins with it.
+/// `bytes` begins with the encoding.
 pub fn shared_len(offset: u64, bytes: &[u8]) -> Option<usize>
     ensures { IfSome result (λ n. StandsFirst (shared offset) n bytes.now) }
 {
@@ -54,7 +54,7 @@ pub fn shared_len(offset: u64, bytes: &[u8]) -> Option<usize>
 }
 
 /// Returns the length in bytes of the canonical encoding of a block header with this tag and size,
-/// if `bytes` begins with it. A block of size 0 is an atom.
+/// if `bytes` begins with the encoding. A block of size 0 is an atom.
 pub fn block_len(tag: u8, size: u64, bytes: &[u8]) -> Option<usize>
     ensures { IfSome result (λ n. StandsFirst (block_or_atom tag size) n bytes.now) }
 {
@@ -68,8 +68,9 @@ pub fn block_len(tag: u8, size: u64, bytes: &[u8]) -> Option<usize>
     Some(n)
 }
 
-/// Returns the length in bytes of the canonical encoding of a string of `len` bytes, if `bytes`
-/// begins with it. Any contents of that length are accepted.
+/// Returns the length in bytes of the canonical encoding of the string of `len` bytes with which
+/// `bytes` begins. Returns `None` if `bytes` does not begin with the canonical prefix or is too
+/// short. The function accepts any contents of `len` bytes.
 pub fn string_len(len: u64, bytes: &[u8]) -> Option<usize>
     ensures { IfSome result (λ n. BeginsCanonical n bytes.now) }
 {
@@ -84,8 +85,9 @@ pub fn string_len(len: u64, bytes: &[u8]) -> Option<usize>
     Some(n + len as usize)
 }
 
-/// Returns the length in bytes of the canonical encoding of an array of `count` doubles, if `bytes`
-/// begins with it. Any doubles are accepted.
+/// Returns the length in bytes of the canonical encoding of the array of `count` doubles with which
+/// `bytes` begins. Returns `None` if `count` is 0, or if `bytes` does not begin with the canonical
+/// prefix or is too short. The function accepts any doubles.
 pub fn doubles_len(count: u64, bytes: &[u8]) -> Option<usize>
     ensures { IfSome result (λ n. BeginsCanonical n bytes.now) }
 {
@@ -103,7 +105,7 @@ pub fn doubles_len(count: u64, bytes: &[u8]) -> Option<usize>
     Some(n + 8 * count as usize)
 }
 
-/// Returns the encoding of a double: its code and eight bytes, least significant first.
+/// Returns the encoding of a double: its code and eight bytes, least significant byte first.
 fn double_prefix(bits: u64) -> [u8; 9]
     ensures { result ≡ 0x0c ∷ double_bytes bits }
 {
@@ -112,7 +114,7 @@ fn double_prefix(bits: u64) -> [u8; 9]
 }
 
 /// Returns the length in bytes of the canonical encoding of a double with these bits, if `bytes`
-/// begins with it.
+/// begins with the encoding.
 pub fn double_len(bits: u64, bytes: &[u8]) -> Option<usize>
     ensures { IfSome result (λ n. StandsFirst (leaf (objects.Double bits)) n bytes.now) }
 {
@@ -123,7 +125,8 @@ pub fn double_len(bits: u64, bytes: &[u8]) -> Option<usize>
     Some(9)
 }
 
-/// Returns the length in bytes of the canonical encoding of an `Int32`, if `bytes` begins with it.
+/// Returns the length in bytes of the canonical encoding of an `Int32`, if `bytes` begins with the
+/// encoding.
 pub fn int32_len(z: i32, bytes: &[u8]) -> Option<usize>
     ensures { IfSome result (λ n. StandsFirst (leaf (objects.I32 z)) n bytes.now) }
 {
@@ -134,7 +137,8 @@ pub fn int32_len(z: i32, bytes: &[u8]) -> Option<usize>
     Some(n)
 }
 
-/// Returns the length in bytes of the canonical encoding of an `Int64`, if `bytes` begins with it.
+/// Returns the length in bytes of the canonical encoding of an `Int64`, if `bytes` begins with the
+/// encoding.
 pub fn int64_len(z: i64, bytes: &[u8]) -> Option<usize>
     ensures { IfSome result (λ n. StandsFirst (leaf (objects.I64 z)) n bytes.now) }
 {
@@ -146,7 +150,7 @@ pub fn int64_len(z: i64, bytes: &[u8]) -> Option<usize>
 }
 
 /// Returns the length in bytes of the canonical encoding of a `Nativeint`, if `bytes` begins with
-/// it.
+/// the encoding.
 pub fn native_len(z: i64, bytes: &[u8]) -> Option<usize>
     ensures { IfSome result (λ n. StandsFirst (leaf (objects.Native z)) n bytes.now) }
 {

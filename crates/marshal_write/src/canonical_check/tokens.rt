@@ -1,5 +1,5 @@
 //! Checks tokens one after another. Each function decodes a token and compares the bytes with the
-//! canonical encoding of the result. The proofs do not depend on the decoding.
+//! canonical encoding of the decoded token. The proofs do not depend on the decoding.
 
 ghost use Rattle.std.specs.Prelude.{◌≡◌, ◌<◌, ◌≤◌, length, slice_index, IfSome};
 ghost use Rattle.std.specs.Bool.{OnTrue};
@@ -48,7 +48,8 @@ fn bits_after(bytes: &[u8]) -> Option<u64> {
     Some(u64::from_le_bytes([b[1], b[2], b[3], b[4], b[5], b[6], b[7], b[8]]))
 }
 
-/// Returns the length in bytes of the custom, if `bytes` begins with its canonical encoding.
+/// Returns the length in bytes of a custom block, if `bytes` begins with the canonical encoding of
+/// a custom block.
 fn custom_len(bytes: &[u8]) -> Option<usize>
     ensures { IfSome result (λ n. BeginsCanonical n bytes.now) }
 {
@@ -63,8 +64,8 @@ fn custom_len(bytes: &[u8]) -> Option<usize>
     }
 }
 
-/// Returns the length in bytes of a token of this kind, if `bytes` begins with its canonical
-/// encoding.
+/// Returns the length in bytes of the token of this kind with which `bytes` begins, if the token's
+/// encoding is canonical.
 fn kind_len(kind: CodeKind, bytes: &[u8]) -> Option<usize>
     ensures { IfSome result (λ n. BeginsCanonical n bytes.now) }
 {
@@ -100,8 +101,9 @@ fn kind_len(kind: CodeKind, bytes: &[u8]) -> Option<usize>
     }
 }
 
-/// Returns the length in bytes of a token whose code contains its number, if `bytes` begins with
-/// its canonical encoding. Every small block, integer and string is in that form.
+/// Returns the length in bytes of a token whose code contains the token's number, or `None` if
+/// `bytes` is too short. The codes from 0x20 on contain the number of a small block, integer or
+/// string.
 #[inline(always)]
 fn small_len(code: u8, bytes: &[u8]) -> Option<usize>
     requires some { 0 < length bytes.now }
@@ -122,7 +124,8 @@ fn small_len(code: u8, bytes: &[u8]) -> Option<usize>
     Some(n)
 }
 
-/// Returns the length in bytes of the first token, if `bytes` begins with its canonical encoding.
+/// Returns the length in bytes of the first token, if `bytes` begins with the canonical encoding of
+/// a token.
 fn token_len(bytes: &[u8]) -> Option<usize>
     ensures { IfSome result (λ n. BeginsCanonical n bytes.now) }
 {

@@ -1,4 +1,4 @@
-//! Objects whose fields are not filled yet.
+//! Appends blank objects. The fields of a blank object are not filled yet.
 
 ghost use Rattle.std.specs.Prelude.{◌≡◌, ◌<◌, ◌++◌, length, All, MatchResult};
 ghost use Rattle.marshal_heap.specs.heap.Heap.{Appends, IsOfKind, object_at};
@@ -9,7 +9,8 @@ use base_data::model::Memory;
 use marshal_heap::heap::{Heap, Kind};
 use std::alloc::Global;
 
-/// Appends copies of these objects of another heap, with all fields set to 0.
+/// Appends copies of the given objects of another heap, with all fields set to 0. Fails with
+/// `Memory` if memory runs out.
 pub fn append_blanks(
     alloc: Global,
     heap: &mut Heap,
@@ -30,7 +31,8 @@ pub fn append_blanks(
     Ok(())
 }
 
-/// Appends one such copy of object `k`.
+/// Appends a copy of object `k` of another heap, with all fields set to 0. Fails with `Memory` if
+/// memory runs out.
 fn append_blank(alloc: Global, heap: &mut Heap, from: &Heap, k: u64) -> Result<u64, Memory>
     requires { k < length from.now }
     ensures { Appends heap.old heap.new (blank (object_at from.now k)) result }

@@ -1,4 +1,4 @@
-//! Copying of a value to another heap.
+//! Copies a value to another heap.
 
 ghost use Rattle.std.specs.Prelude.{◌≡◌, length, IfOk, MatchResult};
 ghost use Rattle.base_data.specs.model.Graph.{IsValue};

@@ -1,4 +1,4 @@
-//! Filling of the fields of copies.
+//! Fills the fields of copied objects.
 
 ghost use Rattle.std.specs.Prelude.{◌≡◌, ◌≤◌, ◌++◌, ◌^◌, length, take, All, Some, slice_get};
 ghost use Rattle.std.specs.Prelude.{slice_set};
@@ -12,7 +12,8 @@ use crate::write::Numbers;
 use base_data::model::value::Val;
 use marshal_heap::heap::{Heap, Kind};
 
-/// Fills the blank objects from number `base` with the fields of these objects of another heap.
+/// Fills the blank objects from number `base` on with the fields of the given objects of another
+/// heap.
 pub fn fill_all(heap: &mut Heap, from: &Heap, numbers: &Numbers, base: u64, objects: &[u64])
     requires base { base ≤ length heap.old }
     requires blank { heap.old ≡ take base heap.old ++ blanks from.now objects.now }
@@ -45,7 +46,8 @@ fn fill(heap: &mut Heap, from: &Heap, numbers: &Numbers, base: u64, number: u64,
     }
 }
 
-/// Returns the value with its object, if it refers to one, replaced by that object's copy.
+/// Returns the value `v` for use in the copy: if `v` refers to an object, the result refers to the
+/// copy of the object.
 pub fn renamed_by(numbers: &Numbers, base: u64, v: Val) -> Val
     requires { IsMet (marks_of numbers.now.marks) base (2 ^ 64) v }
     ensures { result ≡ renamed_value base (marks_of numbers.now.marks) v }

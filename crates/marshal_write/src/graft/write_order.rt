@@ -1,4 +1,4 @@
-//! The objects that a value reaches, in the order of their first visit.
+//! Computes the objects that a value reaches, in the order of their first visit.
 
 ghost use Rattle.std.specs.Prelude.{◌≡◌, ◌≤◌, ◌<◌, ℕ, List, length, slice_index, IfOk};
 ghost use Rattle.base_data.specs.declared.model.value.Obj.{Obj};
@@ -22,7 +22,8 @@ pub struct WriteOrder {
 }
 
 impl WriteOrder {
-    /// Computes the order for a value.
+    /// Computes the order of the objects that `root` reaches. Fails with `Memory` if memory runs
+    /// out.
     pub fn of(alloc: Global, heap: &Heap, root: Val) -> Result<WriteOrder, Memory>
         requires { IsValue (length heap.now) root }
         ensures { IfOk result
@@ -34,7 +35,7 @@ impl WriteOrder {
     }
 }
 
-/// Returns the largest mark.
+/// Returns the largest mark of the `objects` objects.
 fn last_mark(numbers: &Numbers, objects: u64) -> u64
     requires { objects ≡ length (marks_of numbers.now.marks) }
     ensures most { (k : ℕ) → k < objects → slice_index (marks_of numbers.now.marks) k ≤ result }
@@ -52,7 +53,7 @@ fn last_mark(numbers: &Numbers, objects: u64) -> u64
     last
 }
 
-/// Returns the objects in the order of their marks.
+/// Returns the marked objects in the order of their marks. Fails with `Memory` if memory runs out.
 fn order_of(alloc: Global, numbers: &Numbers, objects: u64) -> Result<Vec<u64>, Memory>
     requires { objects ≡ length (marks_of numbers.now.marks) }
     ensures { (graph : List Obj) (ks : List ℕ)

@@ -1,4 +1,4 @@
-//! Values that a 32-bit reader cannot hold (`extern.c`, flag `Compat_32`).
+//! Finds the values that a 32-bit reader cannot hold (`extern.c`, flag `Compat_32`).
 
 ghost use Rattle.std.specs.Prelude.{◌≡◌, ◌<◌, length, true, false, find, None, IsNone, IsSomeAnd};
 ghost use Rattle.std.specs.Prelude.{MatchOption};
@@ -17,9 +17,9 @@ use base_data::model::code::Custom;
 use marshal_codec::headers::Head;
 use marshal_heap::heap::{Heap, Kind};
 
-/// The item that is too large for a 32-bit reader, with its size: the value of an integer or a
-/// `Nativeint`, the fields of a block, the bytes of a string, the doubles of an array, or the
-/// largest number of a header.
+/// The item that is too large for a 32-bit reader, with the item's size. The size of an integer or
+/// a `Nativeint` is its value. The size of another token is its number of fields, bytes or doubles.
+/// The size of a header is the header's largest number.
 #[derive(Clone, Copy, Debug)]
 pub enum Compat {
     Int(i64),
@@ -30,7 +30,7 @@ pub enum Compat {
     Header(u64),
 }
 
-/// Returns the first token of a walk that is too large.
+/// Returns the first token of a walk that is too large for a 32-bit reader.
 pub fn first_large<'a>(heap: &'a Heap, walk: &mut WriteWalk<'a>) -> Option<Compat>
     requires walk { IsWalk heap.now walk.old }
     requires first { walk.old.given ≡ 0 }
@@ -51,7 +51,7 @@ pub fn first_large<'a>(heap: &'a Heap, walk: &mut WriteWalk<'a>) -> Option<Compa
     None
 }
 
-/// Returns the largest number of a header that must use the large format.
+/// Returns the largest number of a header that must be big, or `None` if the header may be small.
 pub fn head_compat(head: Head) -> Option<Compat>
     ensures { MatchOption result (large_header head ≡ None)
         (λ compat. IsSomeAnd (large_header head) (λ t. Reports t compat)) }

@@ -41,7 +41,7 @@ pub fn add_step<K: Sink>(
     }
 }
 
-// Appends the first `prefix.1` bytes of an array of nine bytes.
+// Appends the first `prefix.1` bytes of the array `prefix.0` to the output.
 #[inline(always)]
 fn add_prefix<K: Sink>(
     prefix: ([u8; 9], usize),
@@ -64,7 +64,7 @@ fn add_prefix<K: Sink>(
     }
 }
 
-// Appends the encoding of an object without fields.
+// Appends the encoding of an object without fields to the output.
 #[inline(always)]
 fn add_leaf<K: Sink>(
     heap: &Heap,
@@ -102,8 +102,8 @@ fn add_leaf<K: Sink>(
     }
 }
 
-// Appends the `n` bytes of a string. The heap stores them in 64-bit words, least significant byte
-// first.
+// Appends the `n` bytes of a string to the output. The heap stores the bytes in 64-bit words, least
+// significant byte first.
 #[inline(always)]
 fn add_bytes<K: Sink>(
     heap: &Heap,
@@ -142,7 +142,7 @@ fn body(heap: &Heap, k: u64, word: u64) -> &[u64]
     heap.body_at(word)
 }
 
-// Appends the `n` doubles of an array, or a single double.
+// Appends the `n` doubles of an array, or a single double, to the output.
 #[inline(always)]
 fn add_doubles<K: Sink>(
     heap: &Heap,

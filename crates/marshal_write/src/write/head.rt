@@ -1,4 +1,4 @@
-//! The header of a value, without its data.
+//! Computes the header of a value, without the value's data.
 
 ghost use Rattle.std.specs.Prelude.{◌≡◌, length, IfOk};
 ghost use Rattle.base_data.specs.model.Graph.{IsValue};
@@ -14,8 +14,9 @@ use marshal_codec::headers::Head;
 use marshal_heap::heap::Heap;
 use std::alloc::Global;
 
-/// Returns the header that `write` writes before a value: the length of its data in bytes, the
-/// number of objects that it reaches, each counted once, and their size in words.
+/// Returns the header that `write` writes before a value. The header states the length of the
+/// value's data in bytes, the number of distinct objects of the value, and the objects' sizes in
+/// words. Fails with `Memory` if memory runs out.
 pub fn head_of(alloc: Global, heap: &Heap, root: Val) -> Result<Head, Memory>
     requires { IsValue (length heap.now) root }
     ensures { (tree : Tree) → IsTreeOf heap.now root tree

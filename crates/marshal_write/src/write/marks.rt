@@ -1,4 +1,4 @@
-//! Marks for the objects that a walk has visited.
+//! Stores marks for the objects that a walk has visited.
 
 ghost use Rattle.std.specs.Prelude.{◌≡◌, ◌+◌, ◌<◌, length, true, false, IsOk, IfOk, OnOk};
 ghost use Rattle.std.specs.Prelude.{MatchResult, replicate, slice_index, slice_set};
@@ -7,20 +7,21 @@ ghost use Rattle.marshal_write.specs.write.Marks.{mark_in_order, in_order, marks
 use base_data::model::Memory;
 use std::alloc::Global;
 
-/// For each object, its number among the visited objects, counted from 1, or 0. As long as objects
-/// are visited in the order of their numbers, only the count of visited objects is stored.
+/// The marks of all objects. The mark of a visited object is the object's position among the
+/// visited objects, counted from 1. The mark of every other object is 0. As long as objects are
+/// visited in the order of their numbers, only the count of visited objects is stored.
 #[derive(Drop)]
 pub struct Marks {
     objects: u64,
     ordered: bool,
-    // The number of visited objects, if they are in order.
+    // The number of visited objects, if the objects were visited in the order of their numbers.
     met: u64,
-    // The marks, if they are not in order.
+    // The marks, if the objects were not visited in the order of their numbers.
     table: Vec<u64>,
 }
 
 impl Marks {
-    /// Creates marks for `objects` objects, none of them visited.
+    /// Creates marks for `objects` objects. No object is marked as visited.
     pub fn new(alloc: Global, objects: u64) -> Marks
         ensures marks { marks_of result ≡ replicate objects 0 }
         ensures ordered { result.ordered ≡ true }
@@ -55,7 +56,8 @@ impl Marks {
         }
     }
 
-    /// Sets the mark of object `k`. Only the first object out of order allocates memory.
+    /// Sets the mark of object `k`. Only the first object that is visited out of order allocates
+    /// memory. Fails with `Memory` if memory runs out.
     #[inline(always)]
     pub fn set(&mut self, k: u64, mark: u64) -> Result<(), Memory>
         requires inside { k < length (marks_of self.old) }
@@ -81,7 +83,7 @@ impl Marks {
         Ok(())
     }
 
-    /// Removes all marks.
+    /// Sets the marks of all objects to 0.
     pub fn clear(&mut self)
         ensures marks { marks_of self.new ≡ replicate (length (marks_of self.old)) 0 }
         ensures met { self.new.met ≡ 0 }
@@ -100,7 +102,8 @@ fn mark_of(met: u64, k: u64) -> u64
     if k < met { k + 1 } else { 0 }
 }
 
-// Returns the marks of `objects` objects, if the first `met` of them are visited in order.
+// Returns the marks of `objects` objects, if the first `met` objects are visited in order. Fails
+// with `Memory` if memory runs out.
 #[cold]
 fn make_table(alloc: Global, objects: u64, met: u64) -> Result<Vec<u64>, Memory>
     ensures { IfOk result (λ table. table.items ≡ in_order met objects) }

@@ -22,8 +22,8 @@ use marshal_codec::codes::{
 use marshal_codec::headers::{Head, Measure, words_of};
 use marshal_heap::heap::{Heap, Kind};
 
-/// Totals for tokens: the number of bytes, the number of objects, and the sizes of these objects in
-/// 32-bit words and in 64-bit words.
+/// Totals for tokens: the number of bytes, the number of objects that the tokens create, and the
+/// objects' sizes in 32-bit and 64-bit words.
 #[derive(Clone, Copy)]
 pub struct WriteTotals {
     length: u64,
@@ -86,7 +86,7 @@ impl WriteTotals {
     }
 }
 
-/// Returns the header of the value at whose start the walk is.
+/// Returns the header of the value of a walk that is before its first token.
 pub fn measure<'a>(heap: &'a Heap, walk: &mut WriteWalk<'a>) -> Result<Head, Memory>
     requires walk { IsWalk heap.now walk.old }
     requires first { walk.old.given ≡ 0 }

@@ -22,7 +22,8 @@ pub struct Numbers {
 }
 
 impl Numbers {
-    /// Returns the position of object `k`, counted from 1, or 0 if the value does not reach it.
+    /// Returns the position of object `k`, counted from 1, or 0 if the value does not reach the
+    /// object.
     pub fn get(&self, k: u64) -> u64
         requires { k < length (marks_of self.now.marks) }
         ensures { result ≡ slice_index (marks_of self.now.marks) k }
@@ -31,7 +32,7 @@ impl Numbers {
     }
 }
 
-/// Numbers the objects that a value reaches.
+/// Numbers the objects that the value `root` reaches. Fails with `Memory` if memory runs out.
 pub fn number_objects(alloc: Global, heap: &Heap, root: Val) -> Result<Numbers, Memory>
     requires { IsValue (length heap.now) root }
     ensures { (tree : Tree) → IsTreeOf heap.now root tree

@@ -1,4 +1,4 @@
-//! Writing of a text to a sink through a buffer.
+//! Writes a text to a sink through a buffer.
 
 ghost use Rattle.std.specs.Prelude.{◌≡◌, ◌+◌, ◌≤◌, [], ◌∷◌, length, take, IfOk, OnOk, vec_len};
 ghost use Rattle.std.specs.Prelude.{vec_capacity};
@@ -8,8 +8,8 @@ use base_data::model::Memory;
 use base_io::{Failed, Sink, write_all};
 use std::alloc::Global;
 
-/// The buffer size in bytes. It is small, because each value has a buffer of its own and the sink
-/// usually has a larger one.
+/// The buffer size in bytes. The buffer is small, because each value has a buffer of its own and
+/// the sink usually has a larger buffer.
 pub const LIMIT: usize = 1024;
 
 /// Returns an empty buffer.
@@ -34,7 +34,7 @@ pub fn flush<K: Sink>(out: &mut K, buffer: &mut Vec<u8>) -> Result<(), Failed>
     Ok(())
 }
 
-// If the buffer has no room for `n` more bytes, writes its contents to the sink.
+// If the buffer has no room for `n` more bytes, writes the buffer's contents to the sink.
 #[inline(always)]
 fn make_room<K: Sink>(out: &mut K, buffer: &mut Vec<u8>, n: usize) -> Result<(), Failed>
     requires { n ≤ LIMIT }

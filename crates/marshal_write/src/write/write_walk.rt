@@ -1,5 +1,5 @@
 //! Enumerates the tokens of a value, depth first, fields from left to right. The first visit to an
-//! object gives its own token. Later visits give references to it.
+//! object gives the object's own token. Each further visit gives a reference to the object.
 
 ghost use Rattle.std.specs.Prelude.{◌≡◌, ◌≢◌, ◌+◌, ◌-◌, ◌*◌, ◌≤◌, ◌<◌, ◌^◌, ◌∷◌, ◌++◌, [], length};
 ghost use Rattle.std.specs.Prelude.{true, All, IfSome, IfNone, IfOk, IsOk, OnOk, MatchOption};
@@ -23,12 +23,13 @@ use base_data::model::value::Val;
 use marshal_heap::heap::{Heap, Kind};
 use std::alloc::Global;
 
-/// A token. An object without fields is given by its number and the word that refers to it.
+/// A token. An object without fields is given by the object's number and the word that refers to
+/// the object.
 #[derive(Clone, Copy)]
 pub enum WriteStep {
     Integer(i64),
     Atom(u8),
-    /// A reference to an earlier object. The number is its distance back from the next object.
+    /// A reference to an earlier object, given by the distance back from the next object.
     Shared(u64),
     Block(u8, u64),
     Leaf(u64, u64),
@@ -63,10 +64,10 @@ pub struct WriteWalk<'a> {
     // The number of tokens returned so far, and the number of objects visited.
     given: u64,
     count: u64,
-    // True if all tokens have been returned once before.
+    // True if the walk has returned all tokens once before.
     again: bool,
     marks: Marks,
-    // The word of the object after the visited ones, if they are in order.
+    // The word of the object after the visited objects, if the objects are visited in order.
     next: u64,
     // The innermost block, and the outer blocks that have remaining fields.
     last: RemainingFields<'a>,
@@ -114,7 +115,7 @@ impl<'a> WriteWalk<'a> {
         marks
     }
 
-    /// Moves from the end back to the first token.
+    /// Moves the walk from the end back to the position before the first token.
     pub fn restart(&mut self, heap: &Heap)
         requires walk { IsWalk heap.now self.old }
         requires end { (tree : Tree) → IsTreeOf heap.now self.old.root tree
@@ -137,8 +138,8 @@ impl<'a> WriteWalk<'a> {
         self.frames.clear();
     }
 
-    /// Returns the next token, or `None` at the end. May allocate memory, unless all tokens have
-    /// been returned once before.
+    /// Returns the next token, or `None` at the end. The function may allocate memory, unless the
+    /// walk has returned all tokens once before.
     #[inline(always)]
     pub fn next(&mut self, heap: &'a Heap) -> Result<Option<WriteStep>, Memory>
         requires { IsWalk heap.now self.old }
@@ -162,7 +163,7 @@ impl<'a> WriteWalk<'a> {
         }
     }
 
-    /// Returns the next token in a repeated walk. It allocates no memory.
+    /// Returns the next token in a repeated walk. The function allocates no memory.
     #[inline(always)]
     pub fn next_again(&mut self, heap: &'a Heap) -> Option<WriteStep>
         requires walk { IsWalk heap.now self.old }
@@ -180,8 +181,8 @@ impl<'a> WriteWalk<'a> {
         }
     }
 
-    // Returns the next value and its word: first the root, then the next field of the innermost
-    // block that has one left.
+    // Returns the next value and its word. The first value is the root. Each further value is the
+    // next field of the innermost block that has a remaining field.
     #[inline(always)]
     fn next_value(&mut self, heap: &Heap) -> Option<(Val, u64)>
         requires heap { IsHeap heap.now }
@@ -209,7 +210,7 @@ impl<'a> WriteWalk<'a> {
         Some((self.value_of(heap, word), word))
     }
 
-    // Returns the word of the next field of the innermost block that has one left.
+    // Returns the word of the next field of the innermost block that has a remaining field.
     #[inline(always)]
     fn next_word(&mut self, heap: &Heap) -> Option<u64>
         requires last { IsFrame heap.now self.old.last }
@@ -230,8 +231,8 @@ impl<'a> WriteWalk<'a> {
         self.last.take(heap)
     }
 
-    // Returns the value of a word. As long as objects are visited in order, the next object is
-    // recognized by its word.
+    // Returns the value of a word. As long as objects are visited in order, the function recognizes
+    // the next object by its word.
     #[inline(always)]
     fn value_of(&self, heap: &Heap, word: u64) -> Val
         requires heap { IsHeap heap.now }
@@ -248,8 +249,8 @@ impl<'a> WriteWalk<'a> {
         }
     }
 
-    // Returns the token of an object: the object itself at its first visit, and a reference
-    // afterwards. Marks a new object as visited.
+    // Returns the token of object `k`: at the first visit the object's own token, at each further
+    // visit a reference. Marks a new object as visited.
     #[inline(always)]
     fn meet(&mut self, heap: &'a Heap, k: u64, word: u64) -> Result<WriteStep, Memory>
         requires heap { IsHeap heap.now }
@@ -286,7 +287,8 @@ impl<'a> WriteWalk<'a> {
         Ok(self.enter(heap, k, word))
     }
 
-    // Returns the token of an object at its first visit. If it is a block, its fields come next.
+    // Returns the token of an object at its first visit. If the object is a block, the block's
+    // fields are the next values of the walk.
     #[inline(always)]
     fn enter(&mut self, heap: &'a Heap, k: u64, word: u64) -> WriteStep
         requires heap { IsHeap heap.now }
@@ -324,7 +326,7 @@ impl<'a> WriteWalk<'a> {
         }
     }
 
-    // Makes the fields of a block the next ones.
+    // Makes the fields of a block the next values of the walk.
     #[inline(always)]
     fn open(&mut self, heap: &Heap, inner: RemainingFields<'a>)
         requires last { IsFrame heap.now self.old.last }
@@ -347,7 +349,7 @@ impl<'a> WriteWalk<'a> {
     }
 }
 
-/// Returns the kind and size of an object.
+/// Returns the kind and size of object `k`, to which `word` refers.
 #[inline(always)]
 pub fn kind_at(heap: &Heap, k: u64, word: u64) -> Kind
     requires inside { k < length heap.now }

@@ -21,8 +21,8 @@ use marshal_heap::heap::Heap;
 use std::alloc::Global;
 
 /// Writes the bytes that OCaml's runtime writes for a value: the canonical bytes of the unique tree
-/// with the same value. Allocates all memory before it writes the first byte. If a call on the sink
-/// fails, a proper prefix was written.
+/// with the same value. The function allocates all memory before the first byte is written. If a
+/// call on the sink fails, a proper prefix of the bytes was written.
 pub fn write<K: Sink>(alloc: Global, heap: &Heap, root: Val, out: &mut K) -> Result<(), WriteError>
     requires { IsValue (length heap.now) root }
     ensures writes { (tree : Tree) × IsTreeOf heap.now root tree
@@ -38,7 +38,7 @@ pub fn write<K: Sink>(alloc: Global, heap: &Heap, root: Val, out: &mut K) -> Res
     Ok(())
 }
 
-/// Writes a header and then the tokens of a walk.
+/// Writes a header and then the encodings of the tokens of a walk.
 pub fn write_value<'a, K: Sink>(
     heap: &'a Heap,
     head: Head,
@@ -63,7 +63,7 @@ pub fn write_value<'a, K: Sink>(
     flush(out, buffer)
 }
 
-// Appends the tokens of a walk to the output.
+// Appends the encodings of the tokens of a walk to the output.
 fn add_tokens<'a, K: Sink>(
     heap: &'a Heap,
     walk: &mut WriteWalk<'a>,

@@ -48,8 +48,8 @@ impl From<Memory> for Write32Error {
     }
 }
 
-/// Writes the same bytes as `write`, if a 32-bit reader can hold the value. Otherwise writes
-/// nothing and returns the first token that is too large, or the header if no token is.
+/// If a 32-bit reader can hold the value, writes the same bytes as `write`. If not, writes nothing
+/// and returns the first token that is too large, or the header if no token is too large.
 pub fn write32<K: Sink>(
     alloc: Global,
     heap: &Heap,

@@ -4,7 +4,7 @@ use Rattle.base_data.specs.model.PathText.{steps_text}
 use Rattle.check_stream.specs.declared.search.way.Link.{Link}
 use Rattle.check_fault.proofs.missed.write_links.Given as goal
 
--- The text of the links so far.
+-- The text contains the steps of the links that were visited.
 abbrev pub invariant-loop-link : goal.invariant-loop-link
 invariant-loop-link l =
     l.text.items ≡ l.initial.text.items

@@ -5,7 +5,8 @@ use Rattle.types_spec.specs.types.Table.{table_shapes}
 use Rattle.types_table.specs.type_table.Made.{table_of}
 use Rattle.check_fault.proofs.steps.walk.Given as goal
 
--- From here, the rest of the path leads where the whole path leads.
+-- From the value that was reached, the remaining steps lead where the whole path leads from the
+-- root.
 abbrev pub invariant-loop-i : goal.invariant-loop-i
 invariant-loop-i l =
     (value_at (table_shapes (table_of l.table)) l.heap l.fn.value.root 0 l.path

@@ -32,7 +32,7 @@ returns-then-n-eq0 c = λ limit taken h.
     let same = (c.take_one-n.ensures (0 + c.loop-at.at) w.0 w.1 t.0 (record { leaves = t.1; builds = w.2.builds })).0 c.if-n-eq0.true in
     subst₂ (λ (left : RemainingRoom) (state : Bounded). TakesAll c.args.first.now 0 limit taken c.args.bytes.now left state c.loop-at.at) (sym same.0) (sym same.1) t
 
--- One more token.
+-- If one more token is read, then the bytes read so far and the token lead to the new state.
 moved : (c : After-take_one-n) → 0 < c.take_one-n.result → (limit : ℕ) (taken : List ℕ) → LeadsAs (Some c.args.first.now) limit taken c.args.builder.now []
     → TakesAll c.args.first.now 0 limit taken c.args.bytes.now c.take_one-n.new.left c.take_one-n.new.builder (c.loop-at.at + c.take_one-n.result)
 moved c some limit taken h =

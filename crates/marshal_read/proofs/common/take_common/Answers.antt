@@ -9,7 +9,7 @@ use Rattle.marshal_read.proofs.CommonLemmas.{prefix_taken}
 use Rattle.marshal_read.proofs.common.take_common.Goals as goal
 use Rattle.marshal_read.proofs.common.take_common.Goals.{After-count}
 
--- The totals that are reached.
+-- The totals at the end of the fast path exist, and count the objects of the builder.
 reached : (c : After-count) (limit : ℕ) (taken : List ℕ) → LeadsAs (Some c.args.totals.now) limit taken c.args.builder.now []
     → (position : ReadTotals) × Leaves c.args.totals.now c.take_many-n.result position c.take_many-n.new.left × (c.count.result ≡ position.objects)
     × TakesCommon limit taken c.data_in.result.now position c.take_many-n.new.builder c.take_many-n.result

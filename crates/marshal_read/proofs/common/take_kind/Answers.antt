@@ -20,21 +20,21 @@ use Rattle.marshal_read.proofs.CommonLemmas.{advance_fits, common_taken, common_
 use Rattle.marshal_read.proofs.common.take_kind.Goals as goal
 use Rattle.marshal_read.proofs.common.take_kind.Goals.{After-is_sound}
 
--- The invariant of the kind, by its code.
+-- The kind satisfies its invariant, because some code has the kind.
 pub invariant_of-known : goal.invariant_of-known
 invariant_of-known c = record { known = IsKind-kind_of (get_or c.args.bytes.now 0 0) c.args.kind c.requires.kind }
 
--- The length, by the bytes after the code.
+-- The length `len` is the number of fixed and variable bytes after the token's code.
 len_is : (c : After-is_sound) → c.in-Some.len ≡ fixed_bytes c.args.kind + variable_bytes c.args.kind (drop 1 c.args.bytes.now)
 len_is c = let e : c.in-Some.len ≡ fixed_bytes c.args.kind + variable_bytes c.args.kind c.skip-rest.result.now = search rules in
     subst (λ rest. c.in-Some.len ≡ fixed_bytes c.args.kind + variable_bytes c.args.kind rest) c.skip-rest.ensures e
 
--- The objects so far.
+-- The totals count as many objects as the builder has.
 counted : (c : After-is_sound) (n : ℕ) (header : List ℕ) (before : List (List ℕ)) (position : ReadTotals) → Stands c.args.first.now n header before position c.args.left.now c.args.builder.now
     → position.objects ≡ c.count-objects.result
 counted c n header before position h = sym (c.count-objects.ensures ∙ objects_built header before position c.args.builder.now h.builds ∙ h.builds.sums.objects)
 
--- The totals advance.
+-- If the token fits the remaining room, then the totals advance by the token.
 moved : (c : After-is_sound) → c.spend.result ≡ true → c.is_sound.result ≡ true → (n : ℕ) (header : List ℕ) (before : List (List ℕ)) (position : ReadTotals) → Stands c.args.first.now n header before position c.args.left.now c.args.builder.now
     → (next : ReadTotals) × Leaves c.args.first.now (n + (1 + c.in-Some.len)) next c.spend.new.self × Advances position (1 + c.in-Some.len) (measure_after c.args.kind c.skip-rest.result.now) next true
 moved c e sound n header before position h =
@@ -49,7 +49,7 @@ moved c e sound n header before position h =
     (subst (AreFew words32 (measure_after c.args.kind rest)) l (few_words32 c.args.kind rest))
     (subst (AreFew words64 (measure_after c.args.kind rest)) l (few_words64 c.args.kind rest))
 
--- The token passes.
+-- If the totals advance by the token, then the token passes.
 passes : (c : After-is_sound) → (n : ℕ) (header : List ℕ) (before : List (List ℕ)) (position next : ReadTotals) → Stands c.args.first.now n header before position c.args.left.now c.args.builder.now
     → Advances position (1 + c.in-Some.len) (measure_after c.args.kind c.skip-rest.result.now) next true → PassesTo position (get_or c.args.bytes.now 0 0) c.args.kind (drop 1 c.args.bytes.now) next
 passes c n header before position next h advances =
@@ -63,7 +63,7 @@ passes c n header before position next h advances =
     subst (λ r. PassesTo position (get_or c.args.bytes.now 0 0) c.args.kind r next) c.skip-rest.ensures
     (passes_from position next (get_or c.args.bytes.now 0 0) c.args.kind rest c.in-Some.len (measure_after c.args.kind rest) l within plain sound refl advances)
 
--- The bytes after the token's code.
+-- The first `len` bytes after the code are the token's fixed and variable bytes.
 after_code : (c : After-is_sound) → take (fixed_bytes c.args.kind + variable_bytes c.args.kind (drop 1 c.args.bytes.now)) (drop 1 c.args.bytes.now) ≡ take c.in-Some.len c.skip-rest.result.now
 after_code c = ap (λ n. take n (drop 1 c.args.bytes.now)) (sym (len_is c)) ∙ ap (take c.in-Some.len) (sym c.skip-rest.ensures)
 

@@ -26,11 +26,11 @@ returns-in_err-next-clause-next c = λ header before h.
     judged_next header before c.args.rest.now c.args.builder.now c.from_residual.result e
     (next_there c.args.position.now (context header before) c.args.rest.now c.from_residual.result h.sums k)
 
--- The result of `judge`.
+-- The result of `judge` is the result of the next token in the context of the tokens before.
 judged : (c : In_ok-next) (header : List ℕ) (before : List (List ℕ)) → Builds header before c.args.position.now c.args.builder.now → IsNext (context header before) c.args.rest.now (Ok c.in_ok-next.next)
 judged c header before h = next_there c.args.position.now (context header before) c.args.rest.now (Ok c.in_ok-next.next) h.sums c.in_ok-next.ensures
 
--- The bytes of the token.
+-- The totals after the token have consumed the bytes of the token.
 length_is : (c : In_ok-next) → c.in_ok-next.next.taken ≡ c.args.position.now.taken + raw_length c.args.rest.now
 length_is c =
     let h = c.requires.leads.2 in

@@ -10,12 +10,12 @@ run_all-n-requires-clause-runs c =
     let l = c.requires.leads in
     (l.0, l.1, c.args.left.now, l.2, c.requires.leaves, run_begins c.args.left.now c.requires.short, search rules)
 
--- The totals at the end of the run.
+-- The totals at the end of the run exist.
 reached : (c : After-words) (limit : ℕ) (taken : List ℕ) → LeadsAs (Some c.args.first.now) limit taken c.args.builder.now []
     → RunsAll c.args.first.now limit taken c.args.bytes.now c.args.left.now c.run_all-n.result.1 c.run_all-n.new.builder c.run_all-n.result.0
 reached c limit taken h = c.run_all-n.ensures limit taken c.args.left.now h c.requires.leaves (run_begins c.args.left.now c.requires.short) (search rules)
 
--- The room that the run consumed.
+-- The room that the run consumed is the number of bytes and the number of words that the run added.
 spent : (c : After-words) (limit : ℕ) (taken : List ℕ) (h : LeadsAs (Some c.args.first.now) limit taken c.args.builder.now [])
     → (c.words-words.result ≤ c.words.result) × IsAfter c.args.left.now (reached c limit taken h).1 c.run_all-n.result.1 c.run_all-n.result.0 (c.words.result - c.words-words.result)
 spent c limit taken h =

@@ -40,7 +40,8 @@ returns c = λ limit taken from h leaves runs plenty.
     let t = c.loop-at.invariant.1 limit taken from h leaves runs plenty in
     (t.0, t.1, t.2, t.3, t.5)
 
--- One more token.
+-- If one more token is read, then the tokens read so far and the token lead to the new state of the
+-- run.
 moved : (c : After-run_one-n) → 0 < c.run_one-n.result → (limit : ℕ) (taken : List ℕ) (from : RemainingRoom) → LeadsAs (Some c.args.first.now) limit taken c.args.builder.now []
     → Leaves c.args.first.now 0 c.args.first.now from → Runs from from c.args.begun → HasPlenty from c.args.most
     → (0 < c.run_one-n.new.now.pending) × IsUnderway c.args.first.now limit taken c.args.bytes.now from c.run_one-n.new.now c.run_one-n.new.builder (c.loop-at.at + c.run_one-n.result) c.args.most

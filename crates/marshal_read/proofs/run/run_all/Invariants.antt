@@ -5,8 +5,8 @@ use Rattle.marshal_read.specs.Chunks.{LeadsAs}
 use Rattle.marshal_read.proofs.RunLemmas.{IsUnderway}
 use Rattle.marshal_read.proofs.run.run_all.Given as goal
 
--- If bytes led to the first totals, then with the tokens read they lead to the current state, and
--- the room suffices for the next tokens.
+-- If bytes led to the first totals, then the bytes and the tokens read lead to the current state.
+-- The room suffices for the next tokens.
 abbrev pub invariant-loop-at : goal.invariant-loop-at
 invariant-loop-at l = (0 < l.now.pending) × ((limit : ℕ) (taken : List ℕ) (from : RemainingRoom) → LeadsAs (Some l.fn.first) limit taken l.fn.builder [] → Leaves l.fn.first 0 l.fn.first from
     → Runs from from l.fn.begun → HasPlenty from l.fn.most → IsUnderway l.fn.first limit taken l.bytes from l.now l.builder l.at l.most)

@@ -20,7 +20,7 @@ use Rattle.marshal_read.proofs.CommonLemmas.{advance_fits, common_taken, common_
 use Rattle.marshal_read.proofs.run.run_kind.Goals as goal
 use Rattle.marshal_read.proofs.run.run_kind.Goals.{After-spend}
 
--- The invariant of the kind, by its code.
+-- The kind satisfies its invariant, because some code has the kind.
 pub invariant_of-known : goal.invariant_of-known
 invariant_of-known c = record { known = IsKind-kind_of (get_or c.args.bytes.now 0 0) c.args.kind c.requires.kind }
 
@@ -29,15 +29,15 @@ spend-requires-clause-room c =
     let r = c.requires.runs in
     let rest = c.after_code-rest.result.now in
     let measure : c.measure_at.result ≡ measure_after c.args.kind rest = search rules in
-    let words : of_object words32 (measure_after c.args.kind rest) ≤ r.5.w32 = omega (arith, r.8.1, few_words32 c.args.kind rest, c.in-Some.ensures.len, c.in-Some.ensures.few) in
+    let words : of_object words32 (measure_after c.args.kind rest) ≤ r.5.w32 = omega (arith, r.8.1, few_words32 c.args.kind rest, c.in-Some.ensures.len, c.in-Some.ensures.room) in
     extra_room r.4 r.5 c.args.now.now (of_object words32 c.measure_at.result) r.7 (subst (λ o. of_object words32 o ≤ r.5.w32) (sym measure) words)
 
--- The length, by the bytes after the code.
+-- The length `len` is the number of fixed and variable bytes after the token's code.
 len_is : (c : After-spend) → c.in-Some.len ≡ fixed_bytes c.args.kind + variable_bytes c.args.kind (drop 1 c.args.bytes.now)
 len_is c = let e : c.in-Some.len ≡ fixed_bytes c.args.kind + variable_bytes c.args.kind c.after_code-rest.result.now = search rules in
     subst (λ rest. c.in-Some.len ≡ fixed_bytes c.args.kind + variable_bytes c.args.kind rest) c.after_code-rest.ensures e
 
--- The totals advance.
+-- If the token leaves a value pending in the run, then the totals advance by the token.
 moved : (c : After-spend) → c.spend.result ≡ true → (n : ℕ) (header : List ℕ) (before : List (List ℕ)) (position : ReadTotals) (from left : RemainingRoom) → Stands c.args.first.now n header before position left c.args.builder.now
     → Runs from left c.args.now.now → HasEnough left
     → (next : ReadTotals) × (left' : RemainingRoom) × Leaves c.args.first.now (n + (1 + c.in-Some.len)) next left' × Runs from left' c.spend.new.self × Keeps left (1 + c.in-Some.len) left'
@@ -47,11 +47,11 @@ moved c e n header before position from left h runs enough =
     let l : 1 + fixed_bytes c.args.kind + variable_bytes c.args.kind rest ≡ 1 + c.in-Some.len = omega (arith, c.in-Some.ensures.len) in
     let goes : Goes c.args.now.now (measure_after c.args.kind rest) c.spend.new.self = search rules in
     run_goes_on c.args.first.now position n (1 + c.in-Some.len) from left c.args.now.now c.spend.new.self (measure_after c.args.kind rest) h.leaves runs enough c.requires.«open» (omega arith)
-    (omega (arith, c.in-Some.ensures.len)) c.in-Some.ensures.few goes
+    c.in-Some.ensures.room c.in-Some.ensures.few goes
     (subst (AreFew words32 (measure_after c.args.kind rest)) l (few_words32 c.args.kind rest))
     (subst (AreFew words64 (measure_after c.args.kind rest)) l (few_words64 c.args.kind rest))
 
--- The token passes.
+-- If the totals advance by the token, then the token passes.
 passes : (c : After-spend) → (n : ℕ) (header : List ℕ) (before : List (List ℕ)) (position next : ReadTotals) (left : RemainingRoom) → Stands c.args.first.now n header before position left c.args.builder.now
     → Advances position (1 + c.in-Some.len) (measure_after c.args.kind c.after_code-rest.result.now) next true → PassesTo position (get_or c.args.bytes.now 0 0) c.args.kind (drop 1 c.args.bytes.now) next
 passes c n header before position next left h advances =
@@ -65,7 +65,7 @@ passes c n header before position next left h advances =
     subst (λ r. PassesTo position (get_or c.args.bytes.now 0 0) c.args.kind r next) c.after_code-rest.ensures
     (passes_from position next (get_or c.args.bytes.now 0 0) c.args.kind rest c.in-Some.len (measure_after c.args.kind rest) l within plain sound refl advances)
 
--- The bytes after the token's code.
+-- The first `len` bytes after the code are the token's fixed and variable bytes.
 after_code : (c : After-spend) → take (fixed_bytes c.args.kind + variable_bytes c.args.kind (drop 1 c.args.bytes.now)) (drop 1 c.args.bytes.now) ≡ take c.in-Some.len c.after_code-rest.result.now
 after_code c = ap (λ n. take n (drop 1 c.args.bytes.now)) (sym (len_is c)) ∙ ap (take c.in-Some.len) (sym c.after_code-rest.ensures)
 

@@ -6,7 +6,8 @@ use Rattle.check_heap.proofs.check.FlatLemmas.{IsPartly}
 use Rattle.check_heap.specs.check.Flat.{last_of_all}
 use Rattle.check_heap.proofs.check.flat.are_flat.Given as goal
 
--- The parts so far are justified, and the others must be flat.
+-- The first `k` parts are justified, and the answer depends on whether the remaining parts are
+-- flat.
 abbrev pub invariant-loop-k : goal.invariant-loop-k
 invariant-loop-k l =
     let table = table_of l.table in

@@ -10,7 +10,7 @@ use Rattle.check_heap.proofs.scan.NoteLemmas.{none_noted, first_stopped}
 use Rattle.check_heap.proofs.scan.ScanLemmas.{all_scanned, all_noted, all_few, all_paths, types_paths}
 use Rattle.check_heap.proofs.scan.straight.known.Goals as goal
 
--- All objects were checked.
+-- If all objects were checked, then the invariant holds for the whole list of types.
 whole :
     (table : Table) (graph : List Obj) (marks : List ℕ) (noted : List (ℕ × ℕ)) (types : List ℕ) (steps : ℕ) → length types ≡ length graph
     → IsScanning table graph marks noted (take (length graph) types) (length graph) steps → IsScanning table graph marks noted types (length graph) steps

@@ -94,7 +94,7 @@ returns-clause-next c = λ old before meeting.
     (other c.if-word-ne0.false (vals.Ref noted.0) noted.1 noted.2) c.in_ok-note.ensures.valid noted.3 c.in_ok-note.ensures.first refl refl refl refl refl
     (λ never. false≢true never) c.requires.small
 
--- A field whose type does not constrain its values.
+-- Case: the field's type does not constrain its values.
 pub returns-then-not-is_asked-clause-next : goal.returns-then-not-is_asked-clause-next
 returns-then-not-is_asked-clause-next c = λ old before meeting.
     let t = table_of c.args.fitting.table.now in

@@ -14,7 +14,7 @@ use Rattle.check_heap.proofs.scan.NeedLemmas.{increase, need_field}
 use Rattle.check_heap.proofs.scan.StopLemmas.{before_taken, until_taken, until_few, field_sees, nothing_sees}
 use Rattle.check_heap.proofs.scan.straight.stop_at.Goals as goal
 
--- The object's type follows the types of the objects before it.
+-- The first `o + 1` types are the first `o` types and the type of object `o`.
 behind : (types : List ℕ) (o t : ℕ) → o < length types → slice_get types o ≡ Some t → take (o + 1) types ≡ take o types ++ t ∷ []
 behind types o t inside at_o = take_more types o 0 inside ∙ ap (λ u. take o types ++ u ∷ []) (get_or_from_slice_get types o t 0 at_o)
 

@@ -19,7 +19,7 @@ skip-preserved-then-makes_object c =
     let few : c.skip.made + 1 ≤ c.args.object = search rules in (
       few,
       skip_more c.args.prefix.now c.args.marks.now c.skip.at c.skip.made 1 (c.skip.made + 1) c.in-Some.seen c.in-Some.len c.skip.invariant.1 inspects
-          (λ t is seen. c.makes_object.ensures t is seen ∙ ap (λ b. let k : ℕ = (if b then 1 else 0) in k) c.if-makes_object.true) refl,
+          (λ t seen. c.makes_object.ensures t seen ∙ ap (λ b. let k : ℕ = (if b then 1 else 0) in k) c.if-makes_object.true) refl,
     )
 
 pub skip-preserved : goal.skip-preserved
@@ -27,5 +27,5 @@ skip-preserved c =
     let inspects = inspects_from c.args.prefix.now c.skip.at c.in-Some.seen c.in-Some.len c.in-Some.ensures in (
       c.skip.invariant.0,
       skip_more c.args.prefix.now c.args.marks.now c.skip.at c.skip.made 0 c.skip.made c.in-Some.seen c.in-Some.len c.skip.invariant.1 inspects
-          (λ t is seen. c.makes_object.ensures t is seen ∙ ap (λ b. let k : ℕ = (if b then 1 else 0) in k) c.if-makes_object.false) (omega arith),
+          (λ t seen. c.makes_object.ensures t seen ∙ ap (λ b. let k : ℕ = (if b then 1 else 0) in k) c.if-makes_object.false) (omega arith),
     )

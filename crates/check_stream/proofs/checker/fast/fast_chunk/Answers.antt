@@ -3,12 +3,13 @@ use Rattle.std.specs.Prelude.{IsTrue}
 use Rattle.base_data.specs.model.Bytes.{number, signed}
 use Rattle.base_data.specs.model.Graph.{IsInteger}
 use Rattle.base_data.proofs.model.Numbers.{are_bytes}
-use Rattle.types_spec.specs.types.Fitting.{fits_int}
+use Rattle.types_spec.specs.types.Fitting.{fits_int, fits_atom}
 use Rattle.types_table.specs.type_table.Made.{table_of}
 use Rattle.check_stream.specs.theory.Asked.{of_type, shape_at, IsBackAt}
 use Rattle.check_stream.specs.checker.Fast.{held}
-use Rattle.check_stream.proofs.checker.StateLemmas.{took_integer, took_shared}
-use Rattle.check_stream.proofs.checker.ChunkLemmas.{at_small_int, at_small_string, at_int, at_shared, at_str, at_double}
+use Rattle.check_stream.proofs.checker.Weaker.{match_option_weaker}
+use Rattle.check_stream.proofs.checker.StateLemmas.{took_integer, took_atom, took_shared}
+use Rattle.check_stream.proofs.checker.ChunkLemmas.{at_atom, at_word, at_small_int, at_small_string, at_int, at_shared, at_str, at_double}
 use Rattle.check_stream.proofs.checker.fast.fast_chunk.Goals as goal
 
 pub returns-then-is_fast_int : goal.returns-then-is_fast_int
@@ -56,3 +57,19 @@ returns-then-fast_bytes-2 c =
     c.requires.known (are_bytes c.args.chunk.now c.type_inv.chunk) c.requires.whole
     c.in-Str.width c.in-Str.is
     (λ all is. took c.args.others c.args.waiting.now all (let width : c.from-in-Str.result ≡ c.in-Str.width = search rules in omega (arith, is, width)))
+
+pub returns-then-is_fast_atom : goal.returns-then-is_fast_atom
+returns-then-is_fast_atom c =
+    let none : c.in-SmallBlock.size ≡ 0 = search rules in
+    let fits : IsTrue (fits_atom (shape_at (table_of c.args.table.now) c.args.ty) c.in-SmallBlock.tag) = search rules in
+    at_atom (table_of c.args.table.now) c.args.stated (held c.args.others c.args.waiting.now c.args.types.now c.args.words.now) (held c.args.others c.args.waiting.now c.args.types.now c.args.words.now) (of_type c.args.ty) c.args.kind c.args.chunk.now
+    c.requires.known (are_bytes c.args.chunk.now c.type_inv.chunk) c.requires.whole
+    c.in-SmallBlock.tag c.in-SmallBlock.size c.in-SmallBlock.is none (took_atom (table_of c.args.table.now) (held c.args.others c.args.waiting.now c.args.types.now c.args.words.now) c.args.ty c.in-SmallBlock.tag fits)
+
+pub returns-in-Block : goal.returns-in-Block
+returns-in-Block c =
+    match_option_weaker c.fast_word.result (λ same. same)
+    (λ now own. at_word (table_of c.args.table.now) c.args.stated (held c.args.others c.args.waiting.now c.args.types.now c.args.words.now) (held now c.fast_word.new.waiting c.fast_word.new.types c.fast_word.new.words) (of_type c.args.ty) c.args.kind c.args.chunk.now
+    c.requires.known (are_bytes c.args.chunk.now c.type_inv.chunk) c.requires.whole
+    c.in-Block.field-0 c.number_of-word.result c.in-Block.is c.number_of-word.ensures own.0 own.1)
+    c.fast_word.ensures

@@ -4,7 +4,8 @@ use Rattle.types_table.specs.type_table.Made.{table_of}
 use Rattle.check_stream.specs.checker.Again.{EncodeAll, AreFields}
 use Rattle.check_stream.proofs.checker.flat.are_fields.Given as goal
 
--- If the remaining fields are valid, then all fields are.
+-- If the remaining fields are flat and have their types, then all fields are flat and have their
+-- types.
 abbrev pub invariant-fields : goal.invariant-fields
 invariant-fields l =
     (l.at ≤ length l.prefix)

@@ -2,7 +2,7 @@ use Rattle.std.proofs.Common.{◌≡◌, vec_len}
 use Rattle.check_stream.specs.checker.Positions.{waiting_needs}
 use Rattle.check_stream.proofs.checker.open_positions.first_waiting.Given as goal
 
--- The positions on the stack are all open positions.
+-- The requirements of the positions on the stack are unchanged since the call.
 abbrev pub invariant-waiting : goal.invariant-waiting
 invariant-waiting l = waiting_needs l.waiting.items ≡ waiting_needs l.initial.waiting.items
 

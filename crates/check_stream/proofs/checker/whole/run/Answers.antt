@@ -2,7 +2,7 @@ use Rattle.std.proofs.Common.{rules, ◌≡◌, ◌∙◌, ◌∷◌, ◌++◌, 
 use Rattle.types_table.specs.type_table.Made.{table_of}
 use Rattle.check_stream.specs.checker.Positions.{need_of}
 use Rattle.check_stream.specs.checker.Fast.{held}
-use Rattle.check_stream.specs.checker.State.{types_in, needs_in, IsLeft, IsMarked, TookPrefix, TookTurn}
+use Rattle.check_stream.specs.checker.State.{types_in, needs_in, IsLeft, IsMarked, IsSpent, TookPrefix, TookTurn}
 use Rattle.check_stream.specs.declared.checker.check_state.CheckState.{CheckState}
 use Rattle.check_stream.proofs.checker.RunLemmas.{leads_from, leads_marked, leads_further, leads_turn, leads_end, leads_again, some_need, left_further}
 use Rattle.check_stream.proofs.checker.whole.run.Goals as goal
@@ -12,7 +12,10 @@ is_spent-requires c = leads_from (table_of c.args.table.now) c.args.limit c.args
 
 pub returns-then-is_spent : goal.returns-then-is_spent
 returns-then-is_spent c =
-    leads_end (table_of c.args.table.now) c.args.limit c.args.bytes.now c.args.head.now c.args.start (length c.args.bytes.now - length c.take_listed-rest.result.now) _ _ c.take_listed-rest.new.state _ c.holds.ensures.lawful.lawful c.take_listed-rest.ensures.leads.leads c.in_default.ensures refl refl c.if-is_spent.ensures
+    let state = c.take_listed-rest.new.state in
+    let many : c.len-objects.result ≡ length (types_in state) = search rules in
+    leads_end (table_of c.args.table.now) c.args.limit c.args.bytes.now c.args.head.now c.args.start (length c.args.bytes.now - length c.take_listed-rest.result.now) _ _ state c.holds.ensures.lawful.lawful c.take_listed-rest.ensures.leads.leads c.in_default.ensures
+    (subst (λ n. IsSpent c.args.head.now c.args.start (length c.args.bytes.now - length c.take_listed-rest.result.now) state.words n) many c.if-is_spent.ensures)
 
 pub tokens-preserved-in-Some-fast : goal.tokens-preserved-in-Some-fast
 tokens-preserved-in-Some-fast c =

@@ -2,8 +2,8 @@ use Rattle.std.proofs.Common.{ℕ, List, ◌-◌, ◌≤◌, ◌++◌, length, t
 use Rattle.marshal_read.specs.Chunks.{LeadsChunks}
 use Rattle.marshal_read.proofs.chunks.Chunks.feed.Given as goal
 
--- If bytes led to the state at the call, then with the bytes consumed they lead to the current
--- state.
+-- If bytes led to the state at the call, then the bytes and the consumed part of the chunk lead to
+-- the current state.
 abbrev pub invariant-loop-taken : goal.invariant-loop-taken
 invariant-loop-taken l = (limit : ℕ) (bytes : List ℕ) → LeadsChunks limit bytes l.fn.self → (l.taken ≤ length l.chunk) × LeadsChunks limit (bytes ++ take l.taken l.chunk) l.self
 

@@ -1,58 +1,37 @@
-use Rattle.std.proofs.Common.{rules, ◌≡◌, ◌+◌, length, subst, ap, ◌∙◌, arith, get_or, refl, Ok, Err}
-use Rattle.std.specs.Prelude.{IsErr}
-use Rattle.marshal_spec.specs.format.Code.{kind_of}
-use Rattle.marshal_spec.specs.format.Step.{token_steps}
-use Rattle.marshal_spec.specs.format.Raw.{variable_bytes, raw_length}
-use Rattle.marshal_read.specs.Totals.{AreTotals, context_of, after_kind}
-use Rattle.marshal_read.specs.Progress.{answered, progress}
-use Rattle.marshal_read.proofs.StepLemmas.{bytes_steps_are, bytes_fault, bytes_length, bytes_after, judged_stop, judged_pass}
+use Rattle.std.proofs.Common.{arith, ◌<◌, ◌-◌, length, subst}
+use Rattle.marshal_spec.specs.format.Raw.{raw_length}
+use Rattle.marshal_codec.specs.token.Summary.{IsSummaryBy, summary_measure}
+use Rattle.marshal_codec.specs.token.Fault.{IsFaultBy}
+use Rattle.marshal_read.specs.Totals.{IsSized, context_of}
+use Rattle.marshal_read.proofs.DecodeLemmas.{decoded, fair_of, complete_next, fault_next}
 use Rattle.marshal_read.proofs.read_totals.ReadTotals.judge.Goals as goal
-use Rattle.marshal_read.proofs.read_totals.ReadTotals.judge.Goals.{After-steps, In_ok-next-in-Ok}
+use Rattle.marshal_read.proofs.read_totals.ReadTotals.judge.Goals.{In-Token}
 
-kind_is : (c : After-steps) → kind_of (get_or c.args.bytes.now 0 0) ≡ Ok c.in-Ok.kind
-kind_is c = search rules
+-- The data of the value contain the token, and the token's object can be counted.
+sized : (c : In-Token) → IsSized (context_of c.args.self.now) (summary_measure c.in-Token.summary) c.in-Token.n
+sized c =
+    let room = c.args.self.now.room in
+    decoded (context_of c.args.self.now) c.args.bytes.now c.in-Token.summary c.in-Token.n (omega (arith, room)) c.args.self.now.short
+    (subst (λ xs. IsSummaryBy xs c.in-Token.summary c.in-Token.n) c.data_in.ensures c.in-Token.ensures.0) c.in-Token.ensures.1
 
--- The result of `steps` is the result of the token's steps.
-steps_are : (c : After-steps) → answered c.steps.result ≡ progress (length c.args.bytes.now) (token_steps (context_of c.args.self.now) c.args.bytes.now)
-steps_are c =
-    c.steps.ensures.steps
-    ∙ bytes_steps_are (context_of c.args.self.now) c.args.bytes.now (get_or c.args.bytes.now 0 0) c.skip.result.now c.in-Ok.kind c.requires.some refl c.skip.ensures (kind_is c)
+pub complete-requires-clause-fair : goal.complete-requires-clause-fair
+complete-requires-clause-fair c = let own = sized (goal.at.complete-requires-clause-fair c).In-Token in fair_of c.in-Token.summary own.countable
 
-pub returns-in_err-next-in-Ok : goal.returns-in_err-next-in-Ok
-returns-in_err-next-in-Ok c =
-    let c' = context_of c.args.self.now in
-    let h = steps_are (goal.at.returns-in_err-next-in-Ok c).After-steps in
-    let e : answered c.from_residual.result ≡ progress (length c.args.bytes.now) (token_steps c' c.args.bytes.now) = search rules in
-    let err : IsErr c.from_residual.result = search rules in
-    judged_stop c' c.args.bytes.now c.from_residual.result e err
+pub complete-requires-clause-sized : goal.complete-requires-clause-sized
+complete-requires-clause-sized c = sized (goal.at.complete-requires-clause-sized c).In-Token
 
-pub returns-in-Err : goal.returns-in-Err
-returns-in-Err c =
-    let fault : kind_of (get_or c.args.bytes.now 0 0) ≡ Err c.in-Err.fault = search rules in
-    let k = bytes_fault (context_of c.args.self.now) c.args.bytes.now c.in-Err.fault c.requires.some fault in
-    let r = c.code_refusal.ensures in
-    cc
+pub part-requires-clause-part : goal.part-requires-clause-part
+part-requires-clause-part c = subst (λ xs. length xs < raw_length xs) c.data_in.ensures c.in-More.ensures
 
--- The length of the token in bytes.
-length_is : (c : In_ok-next-in-Ok) → c.in_ok-next-in-Ok.next.taken ≡ c.args.self.now.taken + raw_length c.args.bytes.now
-length_is c =
-    let len = bytes_length c.args.bytes.now c.in-Ok.kind c.requires.some (search rules) in
-    let rest = ap (λ bytes. variable_bytes c.in-Ok.kind bytes) c.skip.ensures in
-    omega (arith, c.in_ok-next-in-Ok.ensures.len)
+pub returns-in-Token : goal.returns-in-Token
+returns-in-Token c =
+    let own = sized (goal.at.returns-in-Token c).In-Token in
+    complete_next (context_of c.args.self.now) c.args.bytes.now c.in-Token.summary c.in-Token.n c.complete.result own.room
+    (subst (λ xs. IsSummaryBy xs c.in-Token.summary c.in-Token.n) c.data_in.ensures c.in-Token.ensures.0) c.complete.ensures.steps c.complete.ensures.next
 
-pub returns-then-bytes-next : goal.returns-then-bytes-next
-returns-then-bytes-next c =
-    let d = goal.at.returns-then-bytes-next c in
-    let h = steps_are d.After-steps in
-    (judged_pass (context_of c.args.self.now) c.args.bytes.now (search rules), omega (arith, length_is d.In_ok-next-in-Ok))
-
-pub returns-else-bytes-next : goal.returns-else-bytes-next
-returns-else-bytes-next c =
-    let c' = context_of c.args.self.now in
-    let d = goal.at.returns-else-bytes-next c in
-    let h = steps_are d.After-steps in
-    let position = ap (after_kind c' c.in-Ok.kind) c.skip.ensures ∙ bytes_after c' c.args.bytes.now c.in-Ok.kind c.requires.some (kind_is d.After-steps) in (
-      judged_pass c' c.args.bytes.now (search rules),
-      omega (arith, length_is d.In_ok-next-in-Ok),
-      subst (AreTotals c.in_ok-next-in-Ok.next) position c.in_ok-next-in-Ok.ensures.next,
-    )
+pub returns-in-Fault : goal.returns-in-Fault
+returns-in-Fault c =
+    let some = c.requires.«open» in
+    let room = c.args.self.now.room in
+    fault_next (context_of c.args.self.now) c.args.bytes.now c.in-Fault.fault c.fault_refusal.result (omega (arith, some, room))
+    (subst (λ xs. IsFaultBy xs c.in-Fault.fault) c.data_in.ensures c.in-Fault.ensures) c.fault_refusal.ensures

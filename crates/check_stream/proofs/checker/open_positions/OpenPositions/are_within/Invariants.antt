@@ -3,7 +3,7 @@ use Rattle.check_stream.specs.theory.Asked.{values_in}
 use Rattle.check_stream.specs.checker.Positions.{open_needs, waiting_needs}
 use Rattle.check_stream.proofs.checker.open_positions.OpenPositions.are_within.Given as goal
 
--- The number of values counted so far, and the number still allowed.
+-- The values counted so far and the values still allowed add up to the limit.
 abbrev pub invariant-waiting : goal.invariant-waiting
 invariant-waiting l =
     values_in (open_needs l.self.now) + values_in (waiting_needs l.self.waiting.items) + l.room

@@ -1,7 +1,7 @@
 use Rattle.std.proofs.Common.{rules, ◌≡◌, ◌∙◌, ◌++◌, length, refl, ap}
 use Rattle.check_stream.proofs.checker.Weaker.{if_true}
 use Rattle.check_stream.specs.search.Way.{trail_in, way_positions, opened_positions}
-use Rattle.check_stream.proofs.search.SummaryLemmas.{measured}
+use Rattle.marshal_codec.proofs.token.SummaryLemmas.{measured}
 use Rattle.check_stream.proofs.search.ComesLemmas.{adds_none, adds_one}
 use Rattle.check_stream.proofs.search.mismatch.Finding.add.Goals as goal
 

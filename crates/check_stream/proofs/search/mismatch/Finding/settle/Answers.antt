@@ -4,7 +4,7 @@ use Rattle.check_stream.proofs.checker.Weaker.{if_true}
 use Rattle.check_stream.specs.declared.search.way.Expectation.TheVariants as asks
 use Rattle.check_stream.specs.declared.search.way.BlockExpectations.TheVariants as lefts
 use Rattle.check_stream.specs.declared.search.mismatch.Finding.{Finding}
-use Rattle.check_stream.specs.search.Judge.{summary_fields}
+use Rattle.marshal_codec.specs.token.Summary.{summary_fields}
 use Rattle.check_stream.specs.search.Find.{no_type}
 use Rattle.check_stream.proofs.search.JudgeLemmas.{room_of_block, no_back_block}
 use Rattle.check_stream.proofs.search.ComesLemmas.{comes_fits, came_follows, passes_follows}

@@ -3,7 +3,7 @@ use Rattle.types_table.specs.type_table.Made.{table_of}
 use Rattle.check_stream.proofs.checker.Weaker.{taken_weaker}
 use Rattle.check_stream.specs.declared.search.way.Expectation.TheVariants as asks
 use Rattle.check_stream.specs.declared.search.way.BlockExpectations.TheVariants as lefts
-use Rattle.check_stream.specs.search.Judge.{summary_fields}
+use Rattle.marshal_codec.specs.token.Summary.{summary_fields}
 use Rattle.check_stream.specs.search.Find.{no_type, Comes}
 use Rattle.check_stream.proofs.search.JudgeLemmas.{room_of_block, no_back_block}
 use Rattle.check_stream.proofs.search.ComesLemmas.{comes_fits}

@@ -4,7 +4,7 @@ use Rattle.types_table.specs.type_table.Made.{table_of}
 use Rattle.check_stream.proofs.checker.ChunkLemmas.{rest_from}
 use Rattle.check_stream.proofs.checker.Weaker.{if_true}
 use Rattle.check_stream.specs.declared.search.mismatch.Finding.{Finding}
-use Rattle.check_stream.specs.search.Judge.{IsSummaryBy}
+use Rattle.marshal_codec.specs.token.Summary.{IsSummaryBy}
 use Rattle.check_stream.specs.search.Way.{position_of, trail_in, way_positions}
 use Rattle.check_stream.specs.search.Find.{Finds, RunsFastBy}
 use Rattle.check_stream.proofs.search.FindLemmas.{finds_from, finds_moved, finds_marked, finds_further, finds_followed, found_end, some_open}
@@ -63,9 +63,9 @@ tokens-preserved-then-pass c =
     let ran_fast = subst (λ rest. RunsFastBy table rest ready c.run_fast.new.self c.in_ok-len.field-0) (rest_from s.at bytes) c.in_ok-len.ensures in
     let unchanged : c.run_fast.new.self ≡ ready = subst (RunsFastBy table (drop s.at bytes) ready c.run_fast.new.self) c.in-Kept.is ran_fast in
     let still = subst (Finds table c.args.limit bytes s.head s.start s.at []) (sym unchanged) here in
-    let summary = c.in-Some.first in
-    let len = c.in-Some.len in
-    let by = subst (λ rest. IsSummaryBy rest summary len) (rest_from s.at bytes) c.in-Some.ensures.0 in
+    let summary = c.in-Token.first in
+    let len = c.in-Token.len in
+    let by = subst (λ rest. IsSummaryBy rest summary len) (rest_from s.at bytes) c.in-Token.ensures.0 in
     finds_followed table c.args.limit bytes s.head s.start s.at len c.run_fast.new.self c.pass.new.self summary still by
     (passes_follows table s.head.objects (take s.at bytes) c.run_fast.new.self c.pass.new.self summary (c.pass.ensures.passed c.if-pass.true))
 
@@ -85,10 +85,10 @@ tokens-preserved c =
     let same : kept ≡ c.run_fast.new.self = c.if-pass.ensures.kept (λ passed. absurd (cc)) in
     let many : c.len-made.result ≡ length kept.types.items = search rules in
     let asked = c.take-asked.result in
-    let summary = c.in-Some.first in
-    let len = c.in-Some.len in
+    let summary = c.in-Token.first in
+    let len = c.in-Token.len in
     let there = subst (Finds table c.args.limit bytes s.head s.start s.at []) (sym same) still in
     let noted = finds_marked table c.args.limit bytes s.head s.start s.at c.len-made.result kept c.mark.new.self there many c.in_ok-mark.ensures in
     let first = finds_moved table c.args.limit bytes s.head s.start s.at [] (position_of asked (trail_in c.take-asked.new.self) ∷ []) marked taken noted c.take-asked.ensures.is_way c.take-asked.ensures.first refl refl refl refl refl refl in
-    let by = subst (λ rest. IsSummaryBy rest summary len) (rest_from s.at bytes) c.in-Some.ensures.0 in
+    let by = subst (λ rest. IsSummaryBy rest summary len) (rest_from s.at bytes) c.in-Token.ensures.0 in
     finds_further table c.args.limit bytes s.head s.start s.at len taken c.come.new.self asked summary first by (if_true c.in_ok-came.came c.if-not-came.false c.in_ok-came.ensures)

@@ -3,7 +3,7 @@ use Rattle.types_table.specs.type_table.Made.{table_of}
 use Rattle.check_stream.specs.search.Find.{IsSought}
 use Rattle.check_stream.proofs.search.mismatch.Seeking.go.Given as goal
 
--- The bytes up to this offset lead to the state.
+-- The bytes up to the offset that was reached lead to the state of the search.
 abbrev pub invariant-tokens : goal.invariant-tokens
 invariant-tokens l = IsSought (table_of l.table) l.limit l.bytes l.self
 

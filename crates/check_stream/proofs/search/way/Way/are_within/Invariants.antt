@@ -3,7 +3,7 @@ use Rattle.check_stream.specs.mismatch_theory.PassedBut.{values_at}
 use Rattle.check_stream.specs.search.Way.{left_values, waiting_positions}
 use Rattle.check_stream.proofs.search.way.Way.are_within.Given as goal
 
--- The values that were counted, and the room that remains.
+-- The values that were counted and the values still allowed add up to the limit.
 abbrev pub invariant-waiting : goal.invariant-waiting
 invariant-waiting l =
     left_values l.self.now.left + values_at (waiting_positions l.self.links.items l.self.waiting.items) + l.room

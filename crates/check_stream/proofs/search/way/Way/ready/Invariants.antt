@@ -2,7 +2,7 @@ use Rattle.std.proofs.Common.{◌≡◌, vec_len}
 use Rattle.check_stream.specs.search.Way.{IsWay, way_positions}
 use Rattle.check_stream.proofs.search.way.Way.ready.Given as goal
 
--- The open positions are the same as at the call.
+-- The open positions are unchanged since the call.
 abbrev pub invariant-waiting : goal.invariant-waiting
 invariant-waiting l = IsWay l.self × (way_positions l.self ≡ way_positions l.initial.self)
 

@@ -1,5 +1,5 @@
--- A `&` to a block gives access to its words, but neither to the room after them nor to the right
--- to free it.
+-- A `&` to a block gives access to the block's words. The `&` gives no access to the room after the
+-- words, and no right to free the memory.
 use Rattle.std.proofs.Common.{◌≡◌, ℕ, ◌*◌, ◌≤◌, ◌^◌, List, [], ◌∷◌, Bool, true, false, not, T, length, refl, sym, subst}
 use Prim.Native.Nat.{zero, ◌-◌}
 use lib.Dec.{eqb, eqb→eq}

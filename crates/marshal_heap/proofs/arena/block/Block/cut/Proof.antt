@@ -1,4 +1,4 @@
--- `cut` turns the words from `_len` on into room. No code runs.
+-- The function `cut` turns the words from `_len` on into room. No code runs.
 use Rattle.marshal_heap.proofs.arena.Steps.{◌≡◌, ℕ, ◌*◌, ◌^◌, ◌≤◌, [], ◌∷◌, length, refl, sym, subst, arith, w64, proved, never, id⊢, ftrue, flft, named, vunit, fact, tables, ‵, raw, ◌⊛◌, ◌$◌, ◌∵◌, !, qed, done, move, keep, use1, split, join, fsplit, fsplit3, fjoin, feq_i, flt_i, flt_l, rewrite, suffices, frame, group, enter, of_opd, unit_lit, returns, alloc_all, pass_all, free_all, look_at, sets, u64, usize, yes, shows, uint_vals, uint_Tells, owns, Ptr, block_ptr, in_block, in_a_block, MutRef, mut_vals, mut_Tells, plain, nothing, opens, closes, heard, peeks, Stays, walk_of, says, stay_dropped, Goes-dropped, stay_ref, Goes-ref, ends_at, chunk, block_with_items, vec_owns, owns_if, has_block}
 use Rattle.std.proofs.VecSteps.Gaps.{shorter, taken}
 use Rattle.std.specs.Prelude.{take}

@@ -1,4 +1,5 @@
--- `free` returns the words, the room and the right to free them to the allocator.
+-- The function `free` returns the memory of the block, with the right to free the memory, to the
+-- allocator.
 use Rattle.marshal_heap.proofs.arena.Steps.{◌≡◌, ℕ, ◌*◌, ◌^◌, ◌<◌, ◌≤◌, List, [], ◌∷◌, length, refl, sym, ap, subst, arith, lit<, w64, proved, never, id⊢, ftrue, froom, flft, ty_int, ty_array, named, Val, vunit, vint, vptr, fact, tables, ‵, raw, ◌⊛◌, some, later, at_ret, ◌$◌, ◌∵◌, !, qed, done, move, keep, drop, use0, use1, use2, split, join, fsplit, fsplit3, fjoin, feq_i, feq_l, flt_l, pick, await, rewrite, suffices, enter, of_opd, lit, unit_lit, bin, stop, fld, no_more, and_then, first, blocks, exec, returns, alloc_all, pass_all, free_all, look_at, get, sets, env, whole, sub, u64, usize, unit, RefOf, uint_vals, uint_Tells, owns, Ptr, block_ptr, in_block, in_a_block, ShrRef, shr_vals, shr_Tells, plain, nothing, heard, Stays, walk_of, stay_dropped, Goes-dropped, ends_at, chunk, block_with_items, vec_owns, owns_if, has_block}
 use base.Logic.{emp}
 use lib.Dec.{T}

@@ -1,4 +1,4 @@
--- `part_mut` lends words mutably, and the block receives what is written.
+-- The function `part_mut` lends words mutably, and the block receives the words that are written.
 use Rattle.marshal_heap.proofs.arena.Steps.{◌≡◌, MutBor, ℕ, ◌+◌, ◌-◌, ◌*◌, ◌^◌, ◌<◌, ◌≤◌, List, [], ◌∷◌, ◌++◌, length, refl, sym, ap, ◌∙◌, arith, w64, proved, full_share, never, id⊢, ftrue, froom, flft, fsep, ty_int, ty_array, named, Ura, Logic, sem, Fml, Val, ent, fact, tables, ‵, raw, ◌⊛◌, some, later, at_ret, ◌$◌, ◌∵◌, !, qed, done, move, keep, drop, use0, use1, use2, split, join, fsplit, fsplit3, fjoin, flt_i, flt_l, pick, await, rewrite, suffices, frame, group, enter, of_opd, lit, bin, load, stop, fld, no_more, and_then, first, blocks, exec, returns, alloc_all, pass_all, free_all, look_at, get, through, sets, sets_last, env, whole, sub, agg, look_in, Array, u64, usize, shows, cell_at, part_at, uint_vals, uint_Tells, owns, Ptr, block_ptr, in_block, in_a_block, MutRef, mut_vals, mut_Tells, plain, nothing, opens, heard, peeks, Stays, walk_of, says, stay_dropped, Goes-dropped, ends_at, chunk, block_with_items, vec_owns, owns_if, has_block}
 use base.Logic.{sep, emp}
 use base.Fml.{GName}
@@ -47,7 +47,7 @@ module _ {M : Type 1} {𝓤 : Ura M} (𝓛 : Logic 𝓤) (h : R.Denot) (i m : �
   abbrev rest : List ℕ
   rest = past (i + m) h.words
 
-  -- The beginning of the part.
+  -- The offset in bytes of the part's beginning.
   abbrev at : ℕ
   at = i * 8 + o
 
@@ -60,11 +60,11 @@ module _ {M : Type 1} {𝓤 : Ura M} (𝓛 : Logic 𝓤) (h : R.Denot) (i m : �
   abbrev Held : Bool → List ℕ → Fml
   Held y words = owns_if y (block_with_items chunk u64 (block_ptr b o) n h.cap words)
 
-  -- The block without its words, if it has memory.
+  -- The memory after the block's words and the right to free the block, if the block has memory.
   abbrev Spare : Bool → Fml
   Spare y = owns_if y (fsep (froom (bare (ty_array (ty_int w64) (h.cap - n))) b (o + n * 8)) (chunk (bare (ty_array (ty_int w64) h.cap)) (block_ptr b o)))
 
-  -- The words before and after the part.
+  -- The words of the block before the part and after the part.
   abbrev Around : Fml
   Around = fsep (row u64 full_share prefix b o) (row u64 full_share rest b (place 8 at (length part)))
 

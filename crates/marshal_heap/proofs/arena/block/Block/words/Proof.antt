@@ -1,4 +1,4 @@
--- `words` lends the words to which a `&` to a block gives access.
+-- The function `words` returns a shared borrow of the words of the borrowed block.
 use Rattle.marshal_heap.proofs.arena.Steps.{◌≡◌, ℕ, ◌+◌, ◌*◌, ◌^◌, List, [], ◌∷◌, length, refl, ap, arith, w64, proved, ftrue, flft, named, Ura, Logic, sem, Lft, Val, ent, fact, tables, ‵, raw, ◌⊛◌, at_ret, ◌$◌, ◌∵◌, !, qed, done, move, keep, drop, use1, split, join, fsplit, fjoin, feq_i, flt_i, flt_l, suffices, enter, of_opd, load, look, stop, fld, no_more, and_then, first, blocks, exec, returns, alloc_all, pass_all, free_all, look_at, get, through, sets, sets_last, env, agg, usize, RefOf, yes, uint_vals, uint_Tells, owns, Ptr, ShrRef, shr_vals, shr_Tells, plain, nothing, heard, Stays, walk_of, says, stay_dropped, Goes-dropped, ends_at, hidden_shr}
 use base.Logic.{sep}
 use base.Fml.{fhide}
@@ -22,7 +22,7 @@ stayed = (stay_dropped _ yes, (stay_dropped _ yes, tt))
 abbrev Field : RattleType
 Field = Struct (shape C.the_type)
 
--- A `&` to the struct gives a `&` to its pointer.
+-- A `&` to the struct gives a `&` to the pointer in the struct.
 shows_at : {M : Type 1} {𝓤 : Ura M} (𝓛 : Logic 𝓤) (κ : Lft) (p : Ptr) (b o : ℕ) → ent 𝓤 (sem 𝓛 (hidden_shr Field κ (p, tt) b o)) (sep 𝓤 (sem 𝓛 (hidden_shr RawPtr κ p b (o + 0))) (sem 𝓛 (hidden_shr Field κ (p, tt) b o)))
 shows_at 𝓛 κ p b o =
     qed 𝓛 (‵ (hidden_shr Field κ (p, tt) b o) ∷ []) ∵ shr_dup ! Field (Struct-row_laws (shape C.the_type) (ptr_row_laws, tt)) (p, tt) b o κ $

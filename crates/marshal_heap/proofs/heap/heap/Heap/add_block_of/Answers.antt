@@ -14,7 +14,7 @@ use Rattle.marshal_heap.proofs.heap.heap.Heap.add_block_of.Goals as goal
 pub begin-requires : goal.begin-requires
 begin-requires c = positions_below _ _ _ (held _ _ _ c.self.invariant c.self.view_is)
 
--- The values that have these words.
+-- If `words` are the words of values, then the appended object is the block of these values.
 made_here : (c : goal.After-append_slice) (values : List Val) → All (IsValue (length c.args.self.now)) values → c.args.words.now ≡ map (word_of c.args.self.now) values
     → IsStored c.append_slice.new.self.words c.begin.new.positions × (decode c.append_slice.new.self.words c.begin.new.positions ≡ c.args.self.now ++ objects.Block c.args.tag values ∷ [])
 made_here c values valid same =

@@ -18,7 +18,7 @@ set-requires c =
     let inside = inside_if fields_of graph c.args.o c.args.i refl c.requires.position in
     word_inside _ _ graph (held _ _ graph c.self.invariant c.self.view_is) c.args.o c.args.i c.position.result inside (words-fields (object_at graph c.args.o) c.args.i c.requires.position) c.position.ensures.position
 
--- The value that has this word.
+-- If `word` is the word of a value, then the written field is this value.
 made_here : (c : goal.After-set) (v : Val) → IsValue (length c.args.self.now) v → c.args.word ≡ word_of c.args.self.now v
     → IsStored c.set.new.self.words c.self.inside.positions × (decode c.set.new.self.words c.self.inside.positions ≡ set_field c.args.self.now c.args.o c.args.i v)
 made_here c v fits word =

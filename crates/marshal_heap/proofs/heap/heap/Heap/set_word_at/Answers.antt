@@ -20,7 +20,8 @@ set-requires c =
     let at : c.args.block / 8 ≡ position graph named.0 = omega (arith, named.2) in
     word_inside _ _ graph (held _ _ graph c.self.invariant c.self.view_is) named.0 c.args.i (c.args.block / 8) named.1 (words-fields (object_at graph named.0) c.args.i named.3) at
 
--- The block to which the word refers, and the value that has the other word.
+-- If `block` refers to object `k` and `word` is the word of a value, then the written field of `k`
+-- is this value.
 made_here : (c : goal.After-set) (k : ℕ) (v : Val) → k < length c.args.self.now → c.args.block ≡ word_of c.args.self.now (vals.Ref k) → c.args.i < length (fields_of (object_at c.args.self.now k))
     → IsValue (length c.args.self.now) v → c.args.word ≡ word_of c.args.self.now v
     → IsStored c.set.new.self.words c.self.inside.positions × (decode c.set.new.self.words c.self.inside.positions ≡ set_field c.args.self.now k c.args.i v)

@@ -6,7 +6,8 @@ use Rattle.marshal_heap.proofs.offsets.BitLemmas.{pow_more}
 use Rattle.marshal_heap.proofs.offsets.CellLemmas.{covers_all, clear_bits, IsIndexed-marked}
 use Rattle.marshal_heap.proofs.offsets.offset_list.OffsetList.push_in_room.Goals as goal
 
--- The cells represent the offsets, all of which are low, and the last cell is the cell of `p`.
+-- If no offset is in `high`, then the extended cells represent the offsets, and the last cell is
+-- the cell of `p`.
 covered : (cells covered : List Cell) (low high : List ℕ) (p n : ℕ) → IsIndexed cells (low ++ high) → All (λ q. q < p) (low ++ high) → high ≡ [] → n ≡ length low
     → covered ≡ take (p / 64 + 1) cells ++ replicate (p / 64 + 1 - length cells) (record { bits = 0; before = n }) → IsIndexed covered (low ++ high) × (length covered ≡ p / 64 + 1)
 covered cells whole low high p n indexed below none count made =

@@ -1,0 +1,4 @@
+pub mod Summary
+pub mod Fault
+pub mod Step
+pub mod Complete
