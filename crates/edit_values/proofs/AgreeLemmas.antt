@@ -1,4 +1,5 @@
--- An edit has the same answer by the numbers of a table as by the types of these numbers.
+-- The answer to an edit by the numbers of a table corresponds to the answer by the types of these
+-- numbers.
 use Rattle.std.proofs.Common.{ℕ, suc, ◌≡◌, ◌∙◌, List, [], ◌∷◌, ◌++◌, length, Option, Some, None, Result, Ok, Err, refl, ap, sym, subst}
 use Rattle.std.specs.Prelude.{slice_get, option_map, option_and_then, codes}
 use Rattle.base_data.specs.declared.model.value.Val.{Val}
@@ -45,8 +46,8 @@ module _ (decls : List Decl) (t : Ty) (table : Tabled) (is : IsTypeTable decls t
       → ReadAgree Is (literal_read (shape_in table) (names_in table) 0 v count [] i) (literal_read (shape decls) (names_of decls) 0 v count [] u)
   matching v count i u at = tables_read_agree decls t table is 0 v count [] i u at
 
-  -- If a literal has a value at a number of the table, then it has the same value at the type of
-  -- the number. `refusal_too` is the same lemma for refusals.
+  -- If a literal has a value at a number of the table, then the literal has that value at the type
+  -- of the number.
   value_too : (a : Result Reading (Refusal ℕ)) (b : Result Reading (Refusal Ty)) (r : Reading) → ReadAgree Is a b → a ≡ Ok r → b ≡ Ok r
   value_too (Ok s) (Ok s') r same is = ap Ok (sym same ∙ same_reading s r is) where
     same_reading : (s r : Reading) → ◌≡◌ {A = Result Reading (Refusal ℕ)} (Ok s) (Ok r) → s ≡ r

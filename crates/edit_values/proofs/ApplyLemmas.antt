@@ -1,4 +1,4 @@
--- The result of each step of an edit, as the answer to the edit.
+-- The result of each step of an edit is the answer to the edit.
 use Rattle.std.proofs.Common.{ℕ, ◌<◌, ◌≡◌, ◌∙◌, take, List, [], ◌∷◌, ◌++◌, length, Option, Some, None, Result, Ok, Err, refl, ap, sym, subst, arith}
 use Rattle.std.specs.Prelude.{pos, IsErrAnd}
 use Rattle.std.proofs.lemmas.List.{take_all, take-append-le}
@@ -57,7 +57,7 @@ module _ (table : Tabled) where
   abbrev pub IsMadeIn : Edit → List Obj → Val → Answer ℕ → Type 0
   IsMadeIn edit graph root made = IsMade (shape_in table) (names_in table) (SameClass table) 0 edit graph root made
 
-  -- The value is unchanged, for a reason that the edit has.
+  -- If an edit has a reason, then the unchanged value with that reason is a result of a call.
   refused : (edit : Edit) (graph : List Obj) (root : Val) (refusal : EditRefusal) (reason : Reason ℕ)
       → reason_of refusal ≡ Some reason → IsAnswerIn table edit graph root (Err reason) → IsApplied table edit graph root graph root (Err refusal)
   refused edit graph root refusal reason same is = (refl, refl, subst (IsRefusedFor table edit graph root) (sym same) is)
@@ -179,7 +179,7 @@ module _ (table : Tabled) where
     misread_result new fault (Ok unit) is same = absurd same
     misread_result new fault (Err refusal) is same = misread_applied new fault refusal is same
 
-    -- The literal's value is written.
+    -- If the value of the literal is written, then the result is a result of the call.
     pub set_applied : (count : ℕ) (new : List Obj) (value : Val) → count ≡ length old → IsAnswered table p.ty lexemes end old new (Ok value)
         → (left : List Obj) (left_root : Val) (result : Result (Unit {0}) EditRefusal)
         → IsKept table (write_at p.spot value new root) (take count new) root left left_root result

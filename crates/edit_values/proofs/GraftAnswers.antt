@@ -1,4 +1,4 @@
--- A graft has one answer, and the result of each step of the call is this answer.
+-- A graft has one answer, and the result of each step of a call is that answer.
 use Rattle.std.proofs.Common.{ℕ, ◌≡◌, ◌∙◌, take, List, ◌++◌, length, Option, Some, None, Result, Ok, Err, refl, ap, sym, subst}
 use Rattle.std.specs.Prelude.{OnOk}
 use Rattle.base_data.specs.declared.model.value.Val.{Val}
@@ -212,7 +212,7 @@ module _ (table : Tabled) (path : List ℕ) (other : Other) (source : List ℕ) 
     graft_given new new_root (Ok unit) is answer known = graft_known_once answer (Ok (new, new_root)) known is
     graft_given new new_root (Err refusal) is answer known = for_reason answer known (reason_of refusal) is.2
 
-  -- The new part is isomorphic to the copied part.
+  -- If a graft succeeds, then the new part is isomorphic to the copied part.
   pub graft_copied : (new : List Obj) (new_root : Val) (result : Result (Unit {0}) EditRefusal) → AppliedTo new new_root result → (p part : TypedLocation ℕ)
       → left ≡ Ok p → right ≡ Ok part → OnOk result (HasGraft (table_shapes (table_of table)) 0 p part other graph (new, new_root))
   graft_copied new new_root (Ok unit) is p part first second =

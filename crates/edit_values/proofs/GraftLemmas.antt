@@ -29,7 +29,7 @@ use Rattle.edit_values.specs.GraftLaws.{HasGraft}
 -- ---- a location has its value
 
 module _ {T : Type 0} (shapes : Shapes T) (graph : List Obj) (root : Val) where
-  -- The object of an existing field.
+  -- If a step leads to a field of an object, then the field has the value at the next location.
   field_stands : (v : Val) (i : ℕ) (w : Val) → field_of graph v i ≡ Some w → StandsAt graph root (spot_after v i) w
   field_stands (vals.Int z) i w is = absurd (none-some w is)
   field_stands (vals.Atom tag) i w is = absurd (none-some w is)
@@ -46,7 +46,7 @@ module _ {T : Type 0} (shapes : Shapes T) (graph : List Obj) (root : Val) where
         inside : (a b : Val × T) → Some a ≡ Some b → a ≡ b
         inside a b is = cc
 
-  -- A step leads to the next location, or nowhere.
+  -- If a step leads to a next location, then that location has its value.
   on_stands : (v : Val) (i n : ℕ) (q : TypedLocation T) (go : TypedLocation T → Result (TypedLocation T) ℕ)
       → ((p : TypedLocation T) → StandsAt graph root p.spot p.value → go p ≡ Ok q → StandsAt graph root q.spot q.value)
       → (o : Option (Val × T)) → ((next : Val × T) → o ≡ Some next → StandsAt graph root (spot_after v i) next.0)
@@ -78,7 +78,7 @@ set_other (x ∷ graph) zero (suc k) new less = refl
 set_other (x ∷ graph) (suc o) zero new less = absurd (omega (arith, less))
 set_other (x ∷ graph) (suc o) (suc k) new less = set_other graph o k new (omega (arith, less))
 
--- The object of a field is one of the graph.
+-- If an object has a field, then the object is in the graph.
 owner_inside : (graph : List Obj) (o i : ℕ) (w : Val) → field_at graph o i ≡ Some w → o < length graph
 owner_inside graph o i w at =
     option_and_then_some (λ object. slice_get (values_of object) i) (slice_get graph o) w at
@@ -96,7 +96,7 @@ write_stand : (graph copied : List Obj) (root : Val) (spot : Location) (v w : Va
 write_stand graph copied root spot v w at i o is =
     write_later graph copied root spot v w (length graph + i) at (omega arith) ∙ slice_get_right graph copied i ∙ is
 
--- An object beyond those of the graph is one of the copy.
+-- An object after the objects of the graph is an object of the copy.
 behind_is : (graph copied : List Obj) (k : ℕ) → length graph ≤ k → slice_get (graph ++ copied) k ≡ slice_get copied (k - length graph)
 behind_is graph copied k later =
     let same : k ≡ length graph + (k - length graph) = omega (arith, later) in

@@ -1,5 +1,5 @@
--- The lines of a script have at most one answer for the same earlier values. Answers to a line by
--- the numbers of a table correspond to answers by the types.
+-- The lines of a script have at most one answer for each list of earlier values. Answers to a line
+-- by the numbers of a table correspond to answers by the types.
 use Rattle.std.proofs.Common.{ℕ, ◌≡◌, ◌∙◌, List, [], ◌∷◌, Option, Some, Ok, Err, sym, subst}
 use Rattle.std.specs.Prelude.{slice_get}
 use Rattle.base_data.specs.declared.model.value.Val.{Val}

@@ -83,7 +83,8 @@ module _ {T : Type 0} (shape : T → ShapeOf T) (names : T → Names) (Equal : T
   made_once (edits.Link path source) graph root made other one two = one ∙ sym two
   made_once (edits.Unshare path) graph root made other one two = one ∙ sym two
 
-  -- The answer that follows from a result.
+  -- The answer that follows from a result: the edited value if it has its type, and otherwise the
+  -- value's first fault. A reason stays the reason.
   abbrev pub Follows : Answer T → Answer T → Type 0
   Follows (Ok made) (Ok edited) = (made ≡ edited) × HasType (shaped shape Equal) made.0 made.1 t
   Follows (Ok made) (Err reason) = (fault : Fault) × (reason ≡ ill_typed fault) × IsLeastFault (shaped shape Equal) made.0 made.1 t fault
@@ -98,7 +99,7 @@ module _ {T : Type 0} (shape : T → ShapeOf T) (names : T → Names) (Equal : T
   parted edit graph root (Err (no_literal position)) is = (Err (no_literal position), is, refl)
   parted edit graph root (Err (misread refusal)) is = (Err (misread refusal), is, refl)
 
-  -- The result of an edit is never a fault of the whole value.
+  -- The result is not a fault of the whole value.
   abbrev IsOfPart : Answer T → Type 0
   IsOfPart (Err (ill_typed fault)) = ⊥
   IsOfPart made = Unit {0}
@@ -149,7 +150,7 @@ module _ {T : Type 0} (shape : T → ShapeOf T) (names : T → Names) (Equal : T
   joined edit graph root (Err reason) answer is same =
       subst (λ a. IsAnswer shape names Equal t edit graph root a) (sym same) (refused edit graph root reason (of_part edit graph root (Err reason) is) is)
 
-  -- If no value has both the type and a fault, then there is at most one answer.
+  -- If no value has a fault and also the type, then at most one answer follows from a result.
   module _ (never_both : (graph : List Obj) (v : Val) (fault : Fault) → IsFault (shaped shape Equal) graph v t fault → HasType (shaped shape Equal) graph v t → ⊥) where
     pub follows_once : (made answer other : Answer T) → Follows made answer → Follows made other → answer ≡ other
     follows_once (Ok made) (Ok edited) (Ok other) one two = ap Ok (sym one.0 ∙ two.0)

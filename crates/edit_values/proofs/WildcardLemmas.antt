@@ -1,5 +1,4 @@
--- An edit or a graft changes a field of an object to which a path leads, and no other earlier
--- object.
+-- An edit or a graft changes at most one earlier object: an object to which a path leads.
 use Rattle.std.proofs.Common.{ℕ, zero, suc, ◌≡◌, ◌≢◌, ◌∙◌, List, [], ◌∷◌, ◌++◌, length, set, Option, Some, None, Result, Ok, Err, refl, ap, sym, subst}
 use Rattle.std.specs.Prelude.{slice_get, option_map, option_and_then, ⊤}
 use Rattle.base_data.specs.declared.model.value.Val.{Val}
@@ -57,7 +56,8 @@ module _ {T : Type 0} (shapes : Shapes T) (graph : List Obj) (o : ℕ) where
   spot_elsewhere (vals.Atom tag) t i unreached = tt
   spot_elsewhere (vals.Ref p) t i unreached = λ same. unreached [] t (ap (λ q. Some (vals.Ref q, t)) same)
 
-  -- If no path leads to an object, then none does from the next value of a step.
+  -- If no path from a value leads to an object, then no path from the next value leads to the
+  -- object.
   step_unreached : (v : Val) (t : T) (i : ℕ) (next : Val × T) → step shapes graph v t i ≡ Some next → IsUnreached shapes graph o v t
       → IsUnreached shapes graph o next.0 next.1
   step_unreached v t i next is unreached path u leads =

@@ -1,4 +1,4 @@
--- Writing a value at a location, and restoring the earlier one.
+-- Writing a value at a location, and writing the earlier value back.
 use Rattle.std.proofs.Common.{ℕ, ◌<◌, ◌≡◌, ◌∙◌, List, ◌++◌, length, set, take, drop, take-append-drop, Some, refl, ap, sym, subst, length-set}
 use Rattle.std.specs.Prelude.{slice_get, option_and_then, pos}
 use Rattle.std.proofs.lemmas.List.{get_or-set_same, set-set, set-get_or}
@@ -29,7 +29,8 @@ with_back (objects.Block tag values) i v w at =
     (set-set values i v w ∙ ap (set values i) (sym (get_or_from_slice_get values i w w at)) ∙ set-get_or values i w)
 with_back object i v w at = refl
 
--- The object of a field.
+-- If an object has a field, then the object is in the graph and the field is one of the object's
+-- values.
 held_in : (graph : List Obj) (o i : ℕ) (w : Val) → field_at graph o i ≡ Some w
     → (object : Obj) × (slice_get graph o ≡ Some object) × (slice_get (values_of object) i ≡ Some w)
 held_in graph o i w at =
@@ -81,7 +82,8 @@ pub write_back : (spot : Location) (v w : Val) (graph : List Obj) (root : Val) �
 write_back spots.Root v w graph root at = ap (λ r. (graph, r)) at
 write_back (spots.Field o i) v w graph root at = ap (λ g. (g, root)) (set_back graph o i v w at)
 
--- Everything is as before.
+-- If a value is written at a location, and then the earlier value is written there, then the graph
+-- and the root are as before.
 pub restored : (spot : Location) (v w : Val) (graph : List Obj) (root : Val) (one : List Obj) (one_root : Val) (two : List Obj) (two_root : Val)
     → StandsAt graph root spot w → ◌≡◌ {A = List Obj × Val} (one, one_root) (write_at spot v graph root)
     → ◌≡◌ {A = List Obj × Val} (two, two_root) (write_at spot w one one_root) → ◌≡◌ {A = List Obj × Val} (two, two_root) (graph, root)
@@ -92,7 +94,7 @@ pub as_many : (spot : Location) (v : Val) (graph : List Obj) (root : Val) → le
 as_many spots.Root v graph root = refl
 as_many (spots.Field o i) v graph root = length-set graph o (with_field (object_at graph o) i v)
 
--- The root is a valid value afterwards.
+-- After a valid value is written, the root is a valid value.
 pub root_valid : (spot : Location) (v : Val) (graph : List Obj) (root : Val) → IsValue (length graph) v → IsValue (length graph) root
     → IsValue (length (write_at spot v graph root).0) (write_at spot v graph root).1
 root_valid spots.Root v graph root new old = new

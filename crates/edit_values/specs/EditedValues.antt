@@ -35,7 +35,8 @@ Answer T = Result (List Obj × Val) (Reason T)
 abbrev pub Edited : Type 0 → Type 0
 Edited T = Result (List Obj × Val) (ℕ × Reason T)
 
--- The value with a new part at a location. The change is visible along every path that leads there.
+-- The value with a new part at a location. The change is visible along every path that leads to the
+-- location.
 abbrev pub write_at : Location → Val → List Obj → Val → List Obj × Val
 write_at spots.Root new graph root = (graph, new)
 write_at (spots.Field o i) new graph root = (set_field graph o i new, root)
@@ -68,8 +69,8 @@ module _ {T : Type 0} where
 module _ {T : Type 0} (shape : T → ShapeOf T) (names : T → Names) where
   -- ---- `set`: the value of a literal, whose objects are at the end of the graph
 
-  -- The lexemes are a literal of this value at the type. These are its objects, which follow
-  -- `count` earlier ones.
+  -- The lexemes are a literal that denotes this value at the type. `objects` are the value's
+  -- objects, which follow `count` earlier objects.
   abbrev pub IsLiteral : T → List Lexeme → ℕ → List Obj → Val → Type 0
   IsLiteral t lexemes count objects value =
       (literal : Literal) × (literal_kinds literal ≡ kinds_of lexemes)
@@ -106,7 +107,7 @@ module _ {T : Type 0} (shape : T → ShapeOf T) (names : T → Names) where
     abbrev pub position_in : List Obj → Val → List ℕ → Result (TypedLocation T) ℕ
     position_in graph root path = position_at (shaped shape Equal) graph root t path
 
-    -- The result of an edit, without regard to its type.
+    -- The result of an edit, without regard to whether the edited value has its type.
     abbrev pub IsMade : Edit → List Obj → Val → Answer T → Type 0
     IsMade (edits.Set path lexemes end) graph root made =
         IsSet graph root (position_in graph root path) lexemes end made
@@ -115,13 +116,14 @@ module _ {T : Type 0} (shape : T → ShapeOf T) (names : T → Names) where
     IsMade (edits.Unshare path) graph root made =
         made ≡ unshared graph root (position_in graph root path)
 
-    -- The result of the edit has the type.
+    -- The edit has a result, and the edited value has its type.
     pub record IsEdited (edit : Edit) (graph : List Obj) (root : Val) (edited : List Obj × Val)
         : Type 0 where
       pub made : IsMade edit graph root (Ok edited)
       pub typed : HasType (shaped shape Equal) edited.0 edited.1 t
 
-    -- The result of the edit does not have the type, and this is its first fault.
+    -- The edit has a result, but the edited value does not have its type. `fault` is the first
+    -- fault of the edited value.
     pub record IsIllTyped (edit : Edit) (graph : List Obj) (root : Val) (fault : Fault)
         : Type 0 where
       pub edited : List Obj × Val

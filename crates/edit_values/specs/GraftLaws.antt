@@ -1,4 +1,4 @@
--- Laws on grafts: the new part is isomorphic to the copied one, the answer is unique, and answers
+-- Laws on grafts. The new part is isomorphic to the copied part, and the answer is unique. Answers
 -- by the numbers of a table correspond to answers by the types.
 use Rattle.std.specs.Prelude.{ℕ, ◌≤◌, ◌≡◌, Ok, Some, List, length, slice_get}
 use Rattle.base_data.specs.declared.model.value.Val.{Val}
@@ -28,7 +28,7 @@ IsDeclaredGraft decls t path other source graph root answer =
     IsGraftAnswer (shape decls) (Equal decls) t path other source graph root answer
 
 -- The value at the location is isomorphic to the copied part, including sharing and cycles. The
--- value and all new objects refer to new objects only. The whole value has its type.
+-- value and all new objects refer only to new objects. The whole value has its type.
 pub record HasGraft {T : Type 0} (shapes : Shapes T) (t : T) (p part : TypedLocation T)
     (other : Other)
     (graph : List Obj) (made : List Obj × Val) : Type 0 where
@@ -40,7 +40,8 @@ pub record HasGraft {T : Type 0} (shapes : Shapes T) (t : T) (p part : TypedLoca
       → AreWithin (length graph) (length made.0) object
   pub typed : HasType shapes made.0 made.1 t
 
--- The result of a graft has these properties wherever the two paths lead.
+-- If the two paths of a graft lead to locations, then the result of the graft has the properties of
+-- `HasGraft`.
 abbrev pub GraftsAreTheSame : Type 0
 GraftsAreTheSame =
     (decls : List Decl) (t : Ty) (path : List ℕ) (other : Other) (source : List ℕ)

@@ -1,5 +1,5 @@
 -- Grafts: a copy of a part of another value is written at a location, generic in representations.
--- Both values have the same type, and a value is a graph and a root.
+-- The two values have one type. A value is a graph and a root.
 use Rattle.std.specs.Prelude.{ℕ, ◌≡◌, Option, Some, None, Result, Ok, Err, List, ◌++◌, length, ⊤}
 use Rattle.base_data.specs.declared.model.value.Val.{Val}
 use Rattle.base_data.specs.declared.model.value.Obj.{Obj}
@@ -24,8 +24,7 @@ abbrev pub Other : Type 0
 Other = List Obj × Val
 
 module _ {T : Type 0} where
-  -- A copy of the value at the location of the other value is written at the location of this
-  -- value.
+  -- A copy of the other value's part is written at a location of this value.
   abbrev pub IsGraftAt : List Obj → Val → TypedLocation T → List Obj → TypedLocation T → Answer T
       → Type 0
   IsGraftAt graph root p from part (Ok made) =
@@ -34,7 +33,8 @@ module _ {T : Type 0} where
       × (made ≡ write_at p.spot value (graph ++ copied) root)
   IsGraftAt graph root p from part (Err reason) = ⊥
 
-  -- The left path is checked first.
+  -- The result of a graft, given the locations at the ends of the two paths. If both paths lead
+  -- nowhere, the step of the left path is reported.
   abbrev pub IsGraft : List Obj → Val → Result (TypedLocation T) ℕ → List Obj
       → Result (TypedLocation T) ℕ
       → Answer T → Type 0
@@ -43,13 +43,14 @@ module _ {T : Type 0} where
   IsGraft graph root (Ok p) from (Ok part) made = IsGraftAt graph root p from part made
 
   module _ (shape : T → ShapeOf T) (Equal : T → T → Type 0) (t : T) where
-    -- The result of a graft, without regard to its type.
+    -- The result of a graft, without regard to whether the new value has its type.
     abbrev pub IsGrafted : List ℕ → Other → List ℕ → List Obj → Val → Answer T → Type 0
     IsGrafted path other source graph root made =
         IsGraft graph root (position_at (shaped shape Equal) graph root t path) other.0
         (position_at (shaped shape Equal) other.0 other.1 t source) made
 
-    -- The result of the graft does not have the type, and this is its first fault.
+    -- The graft has a result, but the new value does not have its type. `fault` is the first fault
+    -- of the new value.
     abbrev pub IsIllGrafted : List ℕ → Other → List ℕ → List Obj → Val → Fault → Type 0
     IsIllGrafted path other source graph root fault =
         (made : List Obj × Val) × IsGrafted path other source graph root (Ok made)
@@ -67,7 +68,7 @@ module _ {T : Type 0} where
 
 -- ---- the result of a call, by the numbers of a table
 
--- The answer to a graft at the type with number 0.
+-- The answer to a graft at type 0 of a table.
 abbrev pub IsGraftAnswerIn : Tabled → List ℕ → Other → List ℕ → List Obj → Val → Answer ℕ
     → Type 0
 IsGraftAnswerIn table path other source graph root answer =
@@ -79,7 +80,8 @@ IsNotGraftedFor table path other source graph root None = ⊤
 IsNotGraftedFor table path other source graph root (Some reason) =
     IsGraftAnswerIn table path other source graph root (Err reason)
 
--- The value is grafted. Otherwise it is unchanged, and there is a reason, or memory ran out.
+-- The result of a call. If the result is `Ok`, the value is grafted. If the result is a refusal,
+-- the value is unchanged, and the refusal states a reason or that memory ran out.
 abbrev pub IsGraftApplied : Tabled → List ℕ → Other → List ℕ → List Obj → Val → List Obj → Val
     → Result (Unit {0}) EditRefusal → Type 0
 IsGraftApplied table path other source old old_root new new_root (Ok unit) =

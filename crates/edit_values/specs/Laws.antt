@@ -1,4 +1,4 @@
--- Laws on edits: the answer is unique, and answers by the numbers of a table correspond to answers
+-- Laws on edits. The answer is unique, and answers by the numbers of a table correspond to answers
 -- by the types.
 use Rattle.std.specs.Prelude.{ℕ, ◌≡◌, Ok, Err, List}
 use Rattle.base_data.specs.declared.model.value.Val.{Val}
@@ -27,7 +27,7 @@ abbrev pub IsDeclaredAnswer : List Decl → Ty → Edit → List Obj → Val →
 IsDeclaredAnswer decls t edit graph root answer =
     IsAnswer (shape decls) (names_of decls) (Equal decls) t edit graph root answer
 
--- The result of consecutive lines for a value of a declared type and these earlier values.
+-- The result of consecutive lines for a value of a declared type. `others` are the earlier values.
 abbrev pub AreDeclaredEdits : List Decl → Ty → List Other → List ScriptLine → List Obj → Val
     → Edited Ty → Type 0
 AreDeclaredEdits decls t others lines graph root all =
@@ -37,7 +37,8 @@ AreDeclaredEdits decls t others lines graph root all =
 abbrev pub IsAtMostOne : {A : Type 0} → (A → Type 0) → Type 0
 IsAtMostOne {A} Is = (answer other : A) → Is answer → Is other → answer ≡ other
 
--- An edit has at most one answer, by the numbers of a table and by types, and so do lines.
+-- An edit has at most one answer, by the numbers of a table and by types. A list of script lines
+-- has at most one answer, too.
 pub record EditsHaveOneAnswer : Type 0 where
   pub by_numbers : (table : Tabled) → IsLawful (table_of table)
       → (edit : Edit) (graph : List Obj) (root : Val)
@@ -51,8 +52,7 @@ pub record EditsHaveOneAnswer : Type 0 where
       → (others : List Other) (lines : List ScriptLine) (graph : List Obj) (root : Val)
       → IsAtMostOne (AreDeclaredEdits decls t others lines graph root)
 
--- The answers are the same value, or reasons with the same text, for every form of printing
--- positions.
+-- The answers are one value, or are reasons with one text for every form of printing positions.
 abbrev pub SayTheSame : Tabled → Answer ℕ → Answer Ty → Type 0
 SayTheSame table (Ok edited) (Ok other) = edited ≡ other
 SayTheSame table (Err reason) (Err other) =

@@ -1,5 +1,5 @@
--- The result of a call for a line. Answers to lines by the numbers of a table correspond to answers
--- by the types.
+-- The result of a call for a script line. Answers to lines by the numbers of a table correspond to
+-- answers by the types.
 use Rattle.std.specs.Prelude.{ℕ, ◌≡◌, Option, Some, None, Result, Ok, Err, List, ⊤}
 use Rattle.base_data.specs.declared.model.value.Val.{Val}
 use Rattle.base_data.specs.declared.model.value.Obj.{Obj}
@@ -20,13 +20,13 @@ use Rattle.edit_values.specs.Laws.{SayTheSame}
 use Rattle.edit_values.specs.Reasons.{Reason, reason_of}
 use Rattle.edit_values.specs.Tables.{SameClass}
 
--- The answer to a line for a value at a declared type and these earlier values.
+-- The answer to a line for a value at a declared type. `others` are the earlier values.
 abbrev pub IsDeclaredLine : List Decl → Ty → List Other → Action → List Obj → Val → Answer Ty
     → Type 0
 IsDeclaredLine decls t others action graph root answer =
     IsLineAnswer (shape decls) (names_of decls) (Equal decls) t others action graph root answer
 
--- The answer to a line at the type with number 0 of a table.
+-- The answer to a line at type 0 of a table.
 abbrev pub IsLineAnswerIn : Tabled → List Other → Action → List Obj → Val → Answer ℕ → Type 0
 IsLineAnswerIn table others action graph root answer =
     IsLineAnswer (shape_in table) (names_in table) (SameClass table) 0 others action graph root
@@ -38,7 +38,8 @@ IsLineRefusedFor table others action graph root None = ⊤
 IsLineRefusedFor table others action graph root (Some reason) =
     IsLineAnswerIn table others action graph root (Err reason)
 
--- The line is executed. Otherwise the value is unchanged, and there is a reason, or memory ran out.
+-- The result of a call. If the result is `Ok`, the line is executed. If the result is a refusal,
+-- the value is unchanged, and the refusal states a reason or that memory ran out.
 abbrev pub IsLineApplied : Tabled → List Other → Action → List Obj → Val → List Obj → Val
     → Result (Unit {0}) EditRefusal → Type 0
 IsLineApplied table others action old old_root new new_root (Ok unit) =

@@ -20,7 +20,7 @@ abbrev pub spot_after : Val → ℕ → Location
 spot_after (vals.Ref o) i = spots.Field o i
 spot_after v i = spots.Root
 
--- The next location, if the type requires the field of the step.
+-- The location after a step, if the type requires the field of the step.
 abbrev pub next_position : {T : Type 0} → Shapes T → List Obj → TypedLocation T → ℕ
     → Option (TypedLocation T)
 next_position shapes graph p i =
@@ -48,13 +48,14 @@ position_at shapes graph v t path =
 
 -- ---- the results of the code for a location
 
--- A step whose field is not required is reported with the side of its path.
+-- A path result as a refusal: if a step's field is not required, the step is reported with the side
+-- of its path.
 abbrev pub on_side : {T : Type 0} → EditSide → Result (TypedLocation T) ℕ
     → Result (TypedLocation T) EditRefusal
 on_side side (Ok p) = Ok p
 on_side side (Err step) = Err (refusals.NoField side step)
 
--- The field exists.
+-- The location is the root, or its field exists.
 abbrev pub IsThere : List Obj → Location → Type 0
 IsThere graph spots.Root = ⊤
 IsThere graph (spots.Field o i) = i < length (fields_of (object_at graph o))

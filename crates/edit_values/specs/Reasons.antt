@@ -13,7 +13,7 @@ use Rattle.edit_values.specs.declared.refusal.EditRefusal.{EditRefusal}
 use Rattle.edit_values.specs.declared.refusal.EditRefusal.TheVariants as refusals
 
 pub data Reason (T : Type 0) : Type 0 where
-  -- The path of this side has a step, with this index from 0, whose field is not required.
+  -- The path of this side has a step whose field is not required. The step's index counts from 0.
   no_field : EditSide → ℕ → Reason T
   -- The value to be copied is not an object.
   not_block : Reason T
@@ -21,7 +21,7 @@ pub data Reason (T : Type 0) : Type 0 where
   no_literal : ℕ → Reason T
   -- The literal does not have its type, for this reason at a byte.
   misread : Refusal T → Reason T
-  -- The edited value does not have its type. This is its first fault.
+  -- The edited value does not have its type. `Fault` is the first fault of the edited value.
   ill_typed : Fault → Reason T
 
 -- ---- texts
@@ -39,7 +39,7 @@ abbrev pub in_script : List ℕ → List ℕ
 in_script text = codes "Literal " ++ text
 
 module _ {T : Type 0} (type_text : T → List ℕ) (known : ℕ → List ℕ) where
-  -- The reason why a literal has no value. Other reasons have an empty text here.
+  -- The reason why a literal has no value. Reasons that are not about literals have the empty text.
   abbrev pub literal_text : Reason T → List ℕ
   literal_text (no_literal position) = codes "Syntax at " ++ known position
   literal_text (misread (mismatch_at position t)) =
@@ -74,7 +74,7 @@ literal_reason (literals.IntRange position) = Some (misread (int_range_at positi
 literal_reason (literals.Label position) = Some (misread (label_at position))
 literal_reason literals.Memory = None
 
--- The reason of a call's refusal. A memory fault is not a reason.
+-- The reason of a call's refusal, or `None` if memory ran out.
 abbrev pub reason_of : EditRefusal → Option (Reason ℕ)
 reason_of (refusals.NoField side step) = Some (no_field side step)
 reason_of refusals.NotBlock = Some not_block

@@ -14,11 +14,11 @@ use Rattle.edit_values.specs.declared.refusal.EditRefusal.TheVariants as refusal
 use Rattle.edit_values.specs.EditedValues.{Answer, IsAnswer}
 use Rattle.edit_values.specs.Reasons.{Reason, reason_of}
 
--- Numbers in one class are equal.
+-- The type numbers `i` and `j` have equal types: they are in one class of the table.
 abbrev pub SameClass : Tabled → ℕ → ℕ → Type 0
 SameClass table i j = slice_get table.classes i ≡ slice_get table.classes j
 
--- The answer to an edit of a value at the type with number 0.
+-- The answer to an edit of a value at type 0 of a table.
 abbrev pub IsAnswerIn : Tabled → Edit → List Obj → Val → Answer ℕ → Type 0
 IsAnswerIn table edit graph root answer =
     IsAnswer (shape_in table) (names_in table) (SameClass table) 0 edit graph root answer
@@ -29,7 +29,8 @@ abbrev pub IsRefusedFor : Tabled → Edit → List Obj → Val → Option (Reaso
 IsRefusedFor table edit graph root None = ⊤
 IsRefusedFor table edit graph root (Some reason) = IsAnswerIn table edit graph root (Err reason)
 
--- The value is edited. Otherwise it is unchanged, and there is a reason, or memory ran out.
+-- The result of a call. If the result is `Ok`, the value is edited. If the result is a refusal, the
+-- value is unchanged, and the refusal states a reason or that memory ran out.
 abbrev pub IsApplied : Tabled → Edit → List Obj → Val → List Obj → Val
     → Result (Unit {0}) EditRefusal → Type 0
 IsApplied table edit old old_root new new_root (Ok unit) =
@@ -37,14 +38,15 @@ IsApplied table edit old old_root new new_root (Ok unit) =
 IsApplied table edit old old_root new new_root (Err refusal) =
     (new ≡ old) × (new_root ≡ old_root) × IsRefusedFor table edit old old_root (reason_of refusal)
 
--- The new value has this first fault, or memory ran out.
+-- The refusal states the first fault of the new value, or that memory ran out.
 abbrev pub IsNoneFor : Tabled → List Obj × Val → EditRefusal → Type 0
 IsNoneFor table made (refusals.IllTyped fault) =
     IsLeastFault (table_shapes (table_of table)) made.0 made.1 0 fault
 IsNoneFor table made refusals.Memory = ⊤
 IsNoneFor table made refusal = ⊥
 
--- The new value has the type and remains. Otherwise the value before the edit remains.
+-- The result of checking a new value. If the result is `Ok`, the new value has the type and
+-- remains. If the result is a refusal, the value before the edit remains.
 abbrev pub IsKept : Tabled → List Obj × Val → List Obj → Val → List Obj → Val
     → Result (Unit {0}) EditRefusal → Type 0
 IsKept table made old old_root new new_root (Ok unit) =
@@ -56,7 +58,7 @@ abbrev pub IsReason : Answer ℕ → Option (Reason ℕ) → Type 0
 IsReason answer None = ⊤
 IsReason answer (Some reason) = answer ≡ Err reason
 
--- If memory does not run out, the answer is the result of the call.
+-- If memory does not run out, the result of the call is the answer.
 abbrev pub Gives : Answer ℕ → List Obj → Val → Result (Unit {0}) EditRefusal → Type 0
 Gives answer new new_root (Ok unit) = answer ≡ Ok (new, new_root)
 Gives answer new new_root (Err refusal) = IsReason answer (reason_of refusal)

@@ -1,4 +1,5 @@
--- The lines of a script do not change hidden objects, to which no path leads.
+-- Script lines do not change an object to which no path leads, for example an object that only
+-- wildcards reach.
 use Rattle.std.specs.Prelude.{ℕ, ◌≡◌, Some, Ok, List, [], ◌∷◌, slice_get, ⊤}
 use Rattle.base_data.specs.declared.model.value.Val.{Val}
 use Rattle.base_data.specs.declared.model.value.Val.TheVariants as vals
@@ -22,14 +23,16 @@ abbrev pub IsUnreached : {T : Type 0} → Shapes T → List Obj → ℕ → Val 
 IsUnreached {T} shapes graph o v t =
     (path : List ℕ) (u : T) → ¬ (value_at shapes graph v t path ≡ Some (vals.Ref o, u))
 
--- The answer to the action of a line, for a value of a declared type and these earlier values.
+-- The answer to the action of a line, for a value of a declared type. `others` are the earlier
+-- values.
 abbrev pub IsDeclaredLine : List Decl → Ty → List Other → Action → List Obj → Val → Answer Ty
     → Type 0
 IsDeclaredLine decls t others action graph root answer =
     IsLineAnswer (shape decls) (names_of decls) (Equal decls) t others action graph root answer
 
--- No path leads to the object in any of the values on which a line starts. A line may make an
--- object reachable for the next line, by writing a part at a type that requires more of its fields.
+-- Before each line, no path leads to the object in the value that the line edits. A line may make
+-- an object reachable for the next line, by writing a part at a type that requires more of the
+-- part's fields.
 abbrev pub IsNeverReached : List Decl → Ty → List Other → ℕ → List ScriptLine → List Obj → Val
     → Type 0
 IsNeverReached decls t others o [] graph root = ⊤
@@ -39,8 +42,8 @@ IsNeverReached decls t others o (line ∷ lines) graph root =
     → IsDeclaredLine decls t others line.action graph root (Ok edited)
     → IsNeverReached decls t others o lines edited.0 edited.1)
 
--- An edit or a graft does not change an object to which no path leads. Lines do not change an
--- object to which no path leads before each of them.
+-- An edit or a graft does not change an object to which no path leads. Script lines do not change
+-- an object if, before each line, no path leads to the object.
 pub record EditsLeaveWildcards : Type 0 where
   pub by_line : (decls : List Decl) (t : Ty) (others : List Other) (action : Action)
       (graph : List Obj) (root : Val) (edited : List Obj × Val)

@@ -1,4 +1,5 @@
--- Worked edits: their results for a value at its type, whether the result has the type or not.
+-- Worked edits: the results of edits for a value at its type. Some results have the type, and some
+-- do not.
 use Rattle.std.specs.Prelude.{pos, false, Ok, Err, List, [], ◌∷◌, codes}
 use Rattle.base_data.specs.declared.model.value.Val.TheVariants.{Int, Ref}
 use Rattle.base_data.specs.declared.model.value.Obj.{Obj}
@@ -44,7 +45,7 @@ abbrev pub a_string : List Obj
 a_string = Bytes (codes "abc") ∷ []
 
 pub record Rows : Type 0 where
-  -- `0 set .1 = ::(7, [])`: the new object is at the end.
+  -- The edit `0 set .1 = ::(7, [])`. The new object is the last object.
   pub new_rest : Makes int_list two_items
       (Set (1 ∷ [])
       (lexemes_of
@@ -58,54 +59,55 @@ pub record Rows : Type 0 where
             ∷ Block 0 (Int (pos 7) ∷ Int (pos 0) ∷ []) ∷ [],
         Ref 0,
       ))
-  -- `0 set .2 = 1`
+  -- The edit `0 set .2 = 1`.
   pub no_such_field : Makes int_list two_items
       (Set (2 ∷ []) (lexemes_of ((11, number false (pos 1) suffixes.Absent) ∷ [])) 12)
       (Err (no_field Left 0))
-  -- `0 set .1.1.0 = 1`: the path goes beyond the last item.
+  -- The edit `0 set .1.1.0 = 1`. The path leads beyond the last item.
   pub no_such_step : Makes int_list two_items
       (Set (1 ∷ 1 ∷ 0 ∷ []) (lexemes_of ((15, number false (pos 1) suffixes.Absent) ∷ [])) 16)
       (Err (no_field Left 2))
-  -- `0 link . = .5`
+  -- The edit `0 link . = .5`.
   pub no_such_source : Makes int_list two_items (Link [] (5 ∷ [])) (Err (no_field Right 0))
-  -- `0 link .2 = .5`: the left path is checked first.
+  -- The edit `0 link .2 = .5`. The left path is checked first.
   pub left_first : Makes int_list two_items (Link (2 ∷ []) (5 ∷ [])) (Err (no_field Left 0))
-  -- `0 unshare .0`
+  -- The edit `0 unshare .0`.
   pub an_integer : Makes int_list two_items (Unshare (0 ∷ [])) (Err not_block)
-  -- `0 set .0 = 4611686018427387904`
+  -- The edit `0 set .0 = 4611686018427387904`.
   pub out_of_range : Makes int_list two_items
       (Set (0 ∷ []) (lexemes_of ((11, number false (pos 4611686018427387904) suffixes.Absent) ∷ []))
       30)
       (Err (misread (int_range_at 11)))
-  -- `0 link .1.1 = .`: the list becomes cyclic.
+  -- The edit `0 link .1.1 = .`. The list becomes cyclic.
   pub goes_round : Makes int_list two_items (Link (1 ∷ 1 ∷ []) [])
       (Ok (Block 0 (Int (pos 1) ∷ Ref 1 ∷ []) ∷ Block 0 (Int (pos 2) ∷ Ref 0 ∷ []) ∷ [], Ref 0))
-  -- `0 set .0.0 = 5`: the other part of the pair changes too, and no longer has its type.
+  -- The edit `0 set .0.0 = 5`. The second part of the pair is the changed object, too, so it
+  -- changes and no longer has its type.
   pub both_change : Makes options shared_pair
       (Set (0 ∷ 0 ∷ []) (lexemes_of ((13, number false (pos 5) suffixes.Absent) ∷ [])) 14)
       (Ok (Block 0 (Ref 1 ∷ Ref 1 ∷ []) ∷ Block 0 (Int (pos 5) ∷ []) ∷ [], Ref 0))
-  -- `0 unshare .1`
+  -- The edit `0 unshare .1`.
   pub parted : Makes options shared_pair (Unshare (1 ∷ []))
       (Ok (
         Block 0 (Ref 1 ∷ Ref 2 ∷ []) ∷ Block 0 (Int (pos 0) ∷ []) ∷ Block 0 (Int (pos 0) ∷ [])
             ∷ [],
         Ref 0,
       ))
-  -- `0 unshare .`: the objects below are not copied.
+  -- The edit `0 unshare .`. The objects to which the root refers are not copied.
   pub root_alone : Makes options shared_pair (Unshare [])
       (Ok (
         Block 0 (Ref 1 ∷ Ref 1 ∷ []) ∷ Block 0 (Int (pos 0) ∷ []) ∷ Block 0 (Ref 1 ∷ Ref 1 ∷ [])
             ∷ [],
         Ref 2,
       ))
-  -- `0 set . = "xyz!"`
+  -- The edit `0 set . = "xyz!"`.
   pub new_root : Makes string a_string
       (Set [] (lexemes_of ((10, kinds.Text (codes "xyz!")) ∷ [])) 16)
       (Ok (Bytes (codes "abc") ∷ Bytes (codes "xyz!") ∷ [], Ref 1))
-  -- `0 set . = 5`
+  -- The edit `0 set . = 5`.
   pub no_string : Makes string a_string
       (Set [] (lexemes_of ((10, number false (pos 5) suffixes.Absent) ∷ [])) 11)
       (Err (misread (mismatch_at 10 string)))
-  -- `0 unshare .`: a string is an object too.
+  -- The edit `0 unshare .`. A string is an object, so it is copied.
   pub string_copied : Makes string a_string (Unshare [])
       (Ok (Bytes (codes "abc") ∷ Bytes (codes "abc") ∷ [], Ref 1))

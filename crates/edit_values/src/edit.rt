@@ -22,8 +22,8 @@ use text_path::Edit;
 use types_lex::lexeme::Lexeme;
 use types_table::type_table::TypeTable;
 
-/// Applies an edit to a value at the type with number 0 of the table. If the edit is refused, the
-/// value is unchanged.
+/// Applies an edit to a value at type 0 of the table. If the edit is refused, the value is
+/// unchanged.
 #[tactic(auto, using(crate::proofs::ApplyLemmas::only_given))]
 pub fn apply(
     alloc: Global,
@@ -33,7 +33,7 @@ pub fn apply(
     edit: &Edit,
 ) -> Result<(), EditRefusal>
     requires value { IsValue (length heap.old) root.old }
-    // The value is edited, or it is unchanged and there is a refusal.
+    // Either the value is edited, or the value is unchanged and the result is a refusal.
     ensures answer { IsApplied table.now edit.now heap.old root.old heap.new root.new result }
     // If memory does not run out, the result is the only answer that the specification allows.
     ensures only { (answer : Result (List Obj × Val) (Reason ℕ))
@@ -92,7 +92,7 @@ fn link(
     write_if_typed(alloc, heap, root, table, position, from.value, count)
 }
 
-/// Replaces the object at the path by a copy of it.
+/// Replaces the object at the path by a copy of that object.
 fn unshare(
     alloc: Global,
     heap: &mut Heap,
@@ -114,8 +114,8 @@ fn unshare(
     write_if_typed(alloc, heap, root, table, position, Val::Ref(copy), count)
 }
 
-/// Writes a value at a location if the whole value then has its type. Otherwise the heap keeps its
-/// first `count` objects unchanged.
+/// Writes a value at a location if the whole value then has its type. Otherwise the first `count`
+/// objects of the heap are unchanged.
 pub(crate) fn write_if_typed(
     alloc: Global,
     heap: &mut Heap,

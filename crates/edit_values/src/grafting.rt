@@ -23,9 +23,8 @@ use marshal_write::graft::append_copy;
 use std::alloc::Global;
 use types_table::type_table::TypeTable;
 
-/// Replaces the value at `path` by a copy of the value at the path `source` of another value. Both
-/// values have the type with number 0 of the table. If the graft is refused, the value is
-/// unchanged.
+/// Replaces the value at `path` by a copy of the value at the path `source` of another value. The
+/// two values have type 0 of the table. If the graft is refused, the edited value is unchanged.
 pub fn graft(
     alloc: Global,
     heap: &mut Heap,
@@ -38,7 +37,7 @@ pub fn graft(
 ) -> Result<(), EditRefusal>
     requires value { IsValue (length heap.old) root.old }
     requires other { IsValue (length from.now) other }
-    // The value is edited, or it is unchanged and there is a refusal.
+    // Either the value is edited, or the value is unchanged and the result is a refusal.
     ensures answer { IsGraftApplied table.now path.now (from.now, other) source.now heap.old
         root.old heap.new root.new result }
     // If memory does not run out, the result is the only answer that the specification allows.

@@ -1,5 +1,4 @@
-//! Laws of the definitions. Each function is a lemma function: it has no effect and exists only for
-//! its contract.
+//! Laws of the definitions. A lemma function does nothing at run time: its contract is a law.
 
 ghost use Rattle.edit_values.specs.GraftLaws.{GraftsAreTheSame, GraftsHaveOneAnswer};
 ghost use Rattle.edit_values.specs.GraftLaws.{TablesGraftAgree};
@@ -23,8 +22,8 @@ pub fn worked_edits_are_made()
     ensures { Rows }
 {}
 
-/// A graft writes a value that is isomorphic to the copied part and consists of new objects, and
-/// the whole value has its type.
+/// A graft writes a value that is isomorphic to the copied part and consists of new objects. The
+/// whole value has its type afterwards.
 pub fn grafts_are_the_same()
     ensures { GraftsAreTheSame }
 {}
@@ -45,8 +44,8 @@ pub fn tables_answer_lines_agree()
     ensures { TablesAnswerLinesAgree }
 {}
 
-/// Script lines, including grafts, do not change an object to which no path leads. In particular
-/// they do not change objects under wildcards only.
+/// Script lines, including grafts, do not change an object to which no path leads. In particular,
+/// script lines do not change an object that only wildcards reach.
 pub fn edits_leave_wildcards()
     ensures { EditsLeaveWildcards }
 {}

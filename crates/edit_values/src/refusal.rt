@@ -15,16 +15,17 @@ pub enum EditSide {
     Right,
 }
 
-/// The reason why an edit is refused. The value is unchanged.
+/// The reason why an edit is refused. If an edit is refused, the value is unchanged.
 #[derive(Drop)]
 pub enum EditRefusal {
-    /// The step with this index, counted from 0, leads to no required field of its value.
+    /// The step with this index, counted from 0, leads to no required field of the value at that
+    /// step.
     NoField(EditSide, usize),
     /// There is no object to copy.
     NotBlock,
     /// The lexemes are not a literal of the type at the location.
     Literal(LiteralFault),
-    /// The edited value would not have its type. This is its first fault.
+    /// The edited value would not have its type. `Fault` is the first fault of the edited value.
     IllTyped(Fault),
     /// An allocation failed.
     Memory,

@@ -21,7 +21,7 @@ pub enum Location {
     Field(u64, u64),
 }
 
-/// A location, the value there, and the value's type.
+/// A location, the value at the location, and the type of that value.
 #[derive(Clone, Copy, Debug, PartialEq, Eq)]
 pub struct TypedLocation<T> {
     pub spot: Location,
@@ -29,7 +29,7 @@ pub struct TypedLocation<T> {
     pub ty: T,
 }
 
-/// Returns the location to which the path of a side leads.
+/// Returns the location to which the path of one side of an edit leads.
 pub(crate) fn find_position(
     heap: &Heap,
     root: Val,

@@ -1,7 +1,6 @@
 //! The text of a refusal.
 
 ghost use Rattle.std.specs.Prelude.{◌≡◌, ◌<◌, ◌++◌, IfOk, OnOk, codes, decimal};
-ghost use Rattle.base_data.specs.model.PathText.{path_text};
 ghost use Rattle.text_literal.specs.parser.Reading.{mismatch_at};
 ghost use Rattle.base_data.specs.lines.Positions.{reported_by};
 ghost use Rattle.check_fault.specs.Text.{text_at};
@@ -13,8 +12,7 @@ use crate::refusal::{EditRefusal, EditSide};
 use base_data::lines::PositionStyle;
 use base_data::model::Memory;
 use base_data::model::list::List;
-use base_data::model::path::Path;
-use itoa::Buffer;
+use base_data::text::{write, write_number, write_path};
 use std::alloc::Global;
 use text_literal::parser::LiteralFault;
 use types_spec::types::fault::Fault;
@@ -38,14 +36,14 @@ pub fn refusal_text(
         EditRefusal::Literal(fault) => write_literal(&mut text, alloc, table, positions, *fault)?,
         EditRefusal::IllTyped(fault) => {
             write(&mut text, b"IllTyped at ")?;
-            write_positions(&mut text, alloc, fault)?;
+            write_positions(&mut text, fault)?;
         }
         EditRefusal::Memory => {}
     }
     Ok(List::of(text))
 }
 
-/// Appends which step leads to no required field.
+/// Appends a refusal that states which step leads to no required field.
 fn write_no_field(text: &mut Vec<u8>, side: EditSide, step: usize) -> Result<(), Memory>
     ensures { OnOk result
         (text.new.items
@@ -62,7 +60,7 @@ fn write_no_field(text: &mut Vec<u8>, side: EditSide, step: usize) -> Result<(),
     write(text, b")")
 }
 
-/// Returns the text of the reason why lexemes are not a value of a type. A memory fault has no
+/// Returns the text of the reason why lexemes are not a literal of a type. A memory fault has no
 /// specified text.
 pub fn literal_text(
     alloc: Global,
@@ -101,7 +99,7 @@ fn write_literal(
     }
 }
 
-/// Appends the reason why lexemes are not a value of a type.
+/// Appends the reason why lexemes are not a literal of a type.
 fn write_fault(
     text: &mut Vec<u8>,
     alloc: Global,
@@ -125,7 +123,7 @@ fn write_fault(
     }
 }
 
-/// Appends which part of a literal does not have its type.
+/// Appends a refusal that states which part of a literal does not have its type.
 fn write_mismatch(
     text: &mut Vec<u8>,
     alloc: Global,
@@ -145,7 +143,7 @@ fn write_mismatch(
     write_type(text, alloc, table, ty)
 }
 
-/// Appends a message with its position.
+/// Appends a message with the position of the message.
 fn write_at(
     text: &mut Vec<u8>,
     positions: &PositionStyle<'_>,
@@ -176,37 +174,15 @@ fn write_type(
 }
 
 /// Appends the paths of a fault.
-fn write_positions(text: &mut Vec<u8>, alloc: Global, fault: &Fault) -> Result<(), Memory>
+fn write_positions(text: &mut Vec<u8>, fault: &Fault) -> Result<(), Memory>
     ensures { OnOk result (text.new.items ≡ text.old.items ++ fault_positions fault.now) }
 {
     match fault {
-        Fault::Mismatch(path) => write_path(text, alloc, path),
+        Fault::Mismatch(path) => write_path(text, path),
         Fault::Conflict(first, second) => {
-            write_path(text, alloc, first)?;
+            write_path(text, first)?;
             write(text, b" and ")?;
-            write_path(text, alloc, second)
+            write_path(text, second)
         }
     }
-}
-
-/// Appends a path.
-fn write_path(text: &mut Vec<u8>, alloc: Global, path: &Path) -> Result<(), Memory>
-    ensures { OnOk result (text.new.items ≡ text.old.items ++ path_text path.now) }
-{
-    let steps = path.text(alloc)?;
-    write(text, steps.as_slice())
-}
-
-/// Appends a number.
-fn write_number(text: &mut Vec<u8>, n: u64) -> Result<(), Memory>
-    ensures { OnOk result (text.new.items ≡ text.old.items ++ decimal n) }
-{
-    write(text, Buffer::new().format(n).as_bytes())
-}
-
-/// Appends bytes.
-fn write(text: &mut Vec<u8>, bytes: &[u8]) -> Result<(), Memory>
-    ensures { OnOk result (text.new.items ≡ text.old.items ++ bytes.now) }
-{
-    Ok(text.extend_from_slice(bytes)?)
 }

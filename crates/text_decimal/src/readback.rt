@@ -1,6 +1,6 @@
 //! Proves that the text of a value with its doubles printed as decimals is read back as the value.
-//! The plain text of that text is the text of the value, because no lexeme of a literal continues
-//! into a decimal. The lemma functions of this crate state the laws in their contracts and do
+//! The plain text of the text with decimals is the text of the value, because no lexeme of a
+//! literal continues into a decimal. The lemma functions state the laws in their contracts and do
 //! nothing.
 
 mod laws;

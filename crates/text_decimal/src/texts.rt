@@ -1,7 +1,7 @@
 //! Converts texts of values between two notations of doubles: decimals, and the digits of their
-//! bits (the plain text). `write_decimal_text` writes decimals and `write_plain_text` removes
-//! them. The law `TextsAreReadBack` proves that the second undoes the first. Single decimals are in
-//! `decimal`.
+//! bits (the plain text). `write_decimal_text` writes decimals, and `write_plain_text` replaces
+//! decimals by bits. The law `TextsAreReadBack` proves that `write_plain_text` undoes
+//! `write_decimal_text`. Single decimals are in `decimal`.
 
 mod decimal_prefix;
 mod decimals;

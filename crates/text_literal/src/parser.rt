@@ -1,6 +1,6 @@
 //! Reads a literal, the text of a value, at a type of a table. The result is the value with the new
-//! objects that it consists of, or the first fault. The law `one_literal_answer` says that each
-//! text has exactly one answer. The law `worked_literals_fit` covers worked examples.
+//! objects of the value, or the first fault. The law `one_literal_answer` says that each text has
+//! exactly one answer. The law `worked_literals_fit` covers worked examples.
 
 mod block_stack;
 mod doubles;

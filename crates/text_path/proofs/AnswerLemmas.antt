@@ -1,5 +1,5 @@
--- A text has exactly one answer: the lexer has one result, and its lexemes either are one path or
--- have one syntax error.
+-- A text has exactly one answer as a path. The lexer has one result, and the lexemes are one path
+-- or have one syntax error.
 use Rattle.std.proofs.Common.{ℕ, ◌≡◌, ◌∙◌, ⊎_elim, List, length, refl, sym, ap, subst}
 use Rattle.std.specs.Prelude.{Result, Ok, Err, IfOk, IfErr}
 use Rattle.types_lex.specs.declared.lexeme.Lexeme.{Lexeme}

@@ -1,4 +1,4 @@
--- A line has exactly one result: the lexer has one result, and its lexemes are none, are one edit,
+-- A line has exactly one result. The lexer has one result, and the lexemes are empty, are one edit,
 -- or have one syntax error.
 use Rattle.std.proofs.Common.{ℕ, ◌+◌, ◌≡◌, ◌<◌, ◌≤◌, ◌∙◌, ⊎_elim, List, [], ◌∷◌, ◌++◌, length, drop, Some, None, refl, sym, ap, subst, arith, length-append, append_assoc}
 use Rattle.std.specs.Prelude.{Result, Ok, Err}
@@ -50,7 +50,7 @@ no_line lexemes line none h = not_empty line (h ∙ ap kinds_of none)
 none_or_some : (lexemes : List Lexeme) → lexemes ≡ [] → 0 < length lexemes → ⊥
 none_or_some lexemes none some = let e : length lexemes ≡ 0 = ap length none in absurd (omega arith)
 
--- Two suffixes of one list with the same kinds are equal.
+-- If two suffixes of one list of lexemes have the same kinds, then the suffixes are equal.
 same_end : (lexemes one other : List Lexeme) → kinds_of one ≡ kinds_of other → EndWith lexemes one → EndWith lexemes other → one ≡ other
 same_end lexemes one other k (before, e) (prefix, f) =
     let lengths : length one ≡ length other = sym (kinds_length one) ∙ ap length k ∙ kinds_length other in
@@ -117,7 +117,8 @@ module _ (number : ℕ) (lexemes : List Lexeme) (end : ℕ) where
       let same = same_edit lexemes end one.value other.value one.action other.action trees a.1 b.1 in
       same_line one other (n ∙ sym m) same.values same.actions
 
-  -- A line cannot be both in time and late.
+  -- If lexemes request an action and are the lexemes of a `graft` line, then the action's tree is
+  -- the `graft` line.
   same_tree : (value : ℕ) (action : Action) → IsAction lexemes end value action → (v o : ℕ) (p q : List ℕ) → line_kinds (graft_line v p o q) ≡ kinds_of lexemes
       → tree_of value action ≡ graft_line v p o q
   same_tree value action is v o p q e = one_text line_table (tree_of value action) (graft_line v p o q) (is.0 ∙ sym e)

@@ -1,4 +1,4 @@
--- The code agrees with the table of lines.
+-- The code of the line parser agrees with the table of lines.
 use Rattle.std.proofs.Common.{ℕ, suc, ◌≡◌, ◌∙◌, ◌<◌, ◌≤◌, ⊎_elim, true, false, List, [], ◌∷◌, ◌++◌, length, take, drop, get_or, Option, Some, None, refl, sym, ap, subst, arith, append-nil}
 use Rattle.std.specs.Prelude.{Result, Ok, Err, IfOk, IfErr, option_map, option_and_then, unwrap_or, if◌then◌else◌, nat_le}
 use Rattle.std.proofs.lemmas.Bool.Decides.{leb_tells}
@@ -38,7 +38,7 @@ use Rattle.text_path.specs.declared.line_prefix.LexemeResult.TheVariants as next
 use Rattle.text_path.proofs.PathTable.{zeros}
 use Rattle.text_path.proofs.LineTable.{flat, line_table, literal_leads}
 
--- The lexemes before this index lead to this state.
+-- The lexemes before the index `position` lead to the state `f`.
 abbrev pub LineReached : List Lexeme → ℕ → LinePrefix → Type 0
 LineReached lexemes position f = run line_step line_start (take position (kinds_of lexemes)) ≡ Some (reading f)
 
@@ -75,7 +75,7 @@ no_end number (prefixes.Value value) h = refl
 no_end number (prefixes.Other value path) h = refl
 no_end number (prefixes.Steps value role path after_dot) h = no_end_in number value role (accepted (at path after_dot)) h
 
--- If a line ends with this tree, then the code returns this line.
+-- The line has the number `number`, and the tree `o` is the tree of the line.
 record Ends (number : ℕ) (o : Option LineTree) (line : ScriptLine) : Type 0 where
   numbers : line.number ≡ number
   encoded : o ≡ Some (tree_of line.value line.action)
@@ -100,7 +100,7 @@ is_end number (prefixes.Value value) line h = absurd (cc)
 is_end number (prefixes.Other value path) line h = absurd (cc)
 is_end number (prefixes.Steps value role path after_dot) line h = is_end_in number value role (accepted (at path after_dot)) line h
 
--- Reading continues from the state that a prefix leads to.
+-- If a prefix leads to a state, then reading continues from the state.
 run_on : (xs ys : Kinds) (s m : LineState) → run line_step s xs ≡ Some m → run line_step s (xs ++ ys) ≡ run line_step m ys
 run_on [] ys s m h = let e : s ≡ m = cc in ap (λ n. run line_step n ys) e
 run_on (kind ∷ rest) ys s m h = on (line_step s kind) (λ n. run_on rest ys n m) h
@@ -132,12 +132,13 @@ module _ (lexemes : List Lexeme) (number end : ℕ) where
     past_end lexemes end,
   )
 
-  -- The line, or the error if it copies from a later value.
+  -- The result is the line, or an error of the line's lexemes.
   abbrev pub Judged : ScriptLine → Result ScriptLine ScriptFault → Type 0
   Judged line (Ok whole) = IsRead number lexemes end (Ok (Some whole))
   Judged line (Err fault) = UnlessMemory (λ fault. IsRead number lexemes end (Err fault)) fault
 
-  -- The result for this action, whether it is in time or late.
+  -- If lexemes request an action, then the result of the test for late copies is the result for the
+  -- lexemes.
   judged : (line : ScriptLine) → line.number ≡ number → (action : Action) → IsAction lexemes end line.value action → action ≡ line.action →
       (result : Result ScriptLine ScriptFault) → result ≡ in_time_by line action → Judged line result
   judged line n (actions.Edit edit) is same result e = subst (Judged line) (sym e) (n, subst (IsAction lexemes end line.value) same is, subst (IsInTime line.value) same tt)

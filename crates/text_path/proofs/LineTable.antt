@@ -1,4 +1,4 @@
--- The table reads the lines of scripts.
+-- The table of lines reads exactly the lines of scripts.
 use Rattle.std.proofs.Common.{ℕ, ◌≡◌, ◌∙◌, ◌⊎◌, inl, inr, ⊎_elim, Bool, true, false, List, [], ◌∷◌, ◌++◌, Option, Some, None, refl, sym, ap, subst, arith, append_assoc, append-nil}
 use Rattle.std.specs.Prelude.{IfSome, if◌then◌else◌, codes}
 use Rattle.std.specs.Str.{bytes_eq}
@@ -22,7 +22,7 @@ use Rattle.text_path.specs.declared.line_prefix.LinePrefix.TheVariants as prefix
 use Rattle.types_parse.proofs.grammar.LexemeLemmas.{number_is, open_more}
 use Rattle.text_path.proofs.PathTable.{none, zeros, final, path_table, leads as path_leads}
 
--- Only literals contain brackets.
+-- The number of open brackets in a state. Only literals contain brackets.
 abbrev pub brackets : LineState → ℕ
 brackets (reading f) = 0
 brackets (literal value path read) = open_after 0 read
@@ -150,7 +150,7 @@ adds_value kind None h = tt
 adds_value kind (Some n) h =
     subst (λ k. Adds line_prefix brackets [] 0 k (reading (prefixes.Value n))) (sym (number_is kind n h)) (record { prefixes = refl; opens = refl })
 
--- The word that names a role.
+-- The lexeme `kind` is the word that names the role `role`.
 record Names (kind : LexemeKind) (role : Role) : Type 0 where
   name : List ℕ
   is : kind ≡ kinds.Lower name

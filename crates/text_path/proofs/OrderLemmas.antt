@@ -60,7 +60,7 @@ module _ {X : Type 0} (one other both : X → Bool) (is : (x : X) → (one x && 
 
 -- ---- the lines of one value
 
--- A number that is neither less than nor greater than another one is equal to it.
+-- A number that is neither less than nor greater than another number is equal to the other number.
 same_number : (a b : ℕ) → (not (ltb a b) && leb a b) ≡ eqb a b
 same_number a b = grind (arith, tests)
 
@@ -76,7 +76,7 @@ order_kept from order stable k =
     sym (filter_agree (ties (λ x y. is_lt (nat_cmp x.0 y.0)) (k, 0)) (λ position. eqb position.0 k) (same_ties k) order)
     ∙ (stable (k, 0) ∙ filter_agree (ties (λ x y. is_lt (nat_cmp x.0 y.0)) (k, 0)) (λ position. eqb position.0 k) (same_ties k) from)
 
--- The lines at the indices are those of the value.
+-- The lines at the indices of the entries for value `k` are the lines that edit value `k`.
 module _ (all : List ScriptLine) (k : ℕ) where
   picked : (line : ScriptLine) (position : ℕ × ℕ) (positions : List (ℕ × ℕ)) (lines : List ScriptLine) → slice_get all position.1 ≡ Some line → lines_at all positions ≡ lines
       → (b : Bool) → lines_at all (cond b (position ∷ positions) positions) ≡ cond b (line ∷ lines) lines

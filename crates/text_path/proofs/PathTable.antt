@@ -1,4 +1,4 @@
--- The table reads paths.
+-- The table of paths reads exactly the paths.
 use Rattle.std.proofs.Common.{ℕ, ◌≡◌, ◌∙◌, Bool, true, false, List, [], ◌∷◌, ◌++◌, Option, Some, None, refl, sym, ap, subst, arith, append_assoc, append-nil}
 use Rattle.std.specs.Prelude.{IfSome, option_map, map, if◌then◌else◌}
 use Rattle.types_lex.specs.declared.lexeme.LexemeKind.{LexemeKind}

@@ -1,4 +1,4 @@
--- The code agrees with the table.
+-- The code of the path parser agrees with the table of paths.
 use Rattle.std.proofs.Common.{ℕ, suc, ◌≡◌, ◌∙◌, ◌<◌, Bool, true, false, List, length, take, get_or, Some, None, refl, sym, ap, subst, arith}
 use Rattle.std.specs.Prelude.{not, Result, Ok, Err, IfOk, IfErr}
 use Rattle.types_lex.specs.declared.lexeme.Lexeme.{Lexeme}
@@ -17,7 +17,7 @@ use Rattle.text_path.specs.PathGrammar.{path_kinds}
 use Rattle.text_path.specs.Machine.{at, start, step, stepped, accepted}
 use Rattle.text_path.proofs.PathTable.{path_table}
 
--- The lexemes before this index lead to this state.
+-- The lexemes before the index `position` lead to the state with the steps and `after_dot`.
 abbrev pub Reached : List Lexeme → ℕ → List ℕ → Bool → Type 0
 Reached lexemes position path after_dot = run step start (take position (kinds_of lexemes)) ≡ Some (at path after_dot)
 

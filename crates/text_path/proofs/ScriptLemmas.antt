@@ -92,7 +92,8 @@ abbrev pub after : List ScriptLine → Edits → Edits
 after lines (Ok more) = Ok (lines ++ more)
 after lines (Err fault) = Err fault
 
--- The rest of the text from this offset decides the whole, after the lines read so far.
+-- The edits of the text from the offset `at` on, after the lines `lines`, are the edits of the
+-- whole text.
 abbrev pub Continues : List ℕ → ℕ → ℕ → List ScriptLine → Type 0
 Continues text at number lines = (rest : Edits) → AreEdits number (drop at text) rest → AreEdits 1 text (after lines rest)
 

@@ -1,4 +1,4 @@
--- The lines of a script copy from values that come before the edited ones.
+-- The lines of a script copy from values that come before the edited values.
 use Rattle.std.proofs.Common.{ℕ, suc, ◌≡◌, List, [], ◌∷◌, Some, None, refl, subst}
 use Rattle.std.specs.Prelude.{Ok, Err}
 use Rattle.text_path.specs.ScriptAnswer.{LineAnswer, IsInTime, AreInTime, IsLineAnswer, AreAnswers, Edits, in_prefix, edits_of, AreEdits}
@@ -24,6 +24,6 @@ all_in_time number (line ∷ lines) (Ok (Some read) ∷ answers) all are e =
           let parts : read ∷ more ≡ all = cc e in
           subst AreInTime parts (one_in_time number line read are.0, later more same)
 
--- The law holds for the lines of any text.
+-- If lines are the edits of a text, then each line copies only from values before the edited value.
 pub lines_in_time : (text : List ℕ) (lines : List ScriptLine) → AreEdits 1 text (Ok lines) → AreInTime lines
 lines_in_time text lines (answers, are, e) = all_in_time 1 _ answers lines are e

@@ -1,4 +1,4 @@
--- Lemmas about the lines that copy from a value, and the values that they copy into.
+-- Lemmas about the lines that copy from a value, and the values into which the lines copy.
 use Rattle.std.proofs.Common.{ℕ, ◌≡◌, ◌≤◌, ◌∙◌, Bool, true, false, cond, eqb, List, [], ◌∷◌, ◌++◌, get_or, Option, Some, None, refl, sym, ap, subst, append_assoc, append-nil, eqb-true, eq-eqb}
 use Rattle.std.specs.Prelude.{All, Any, MatchOption, option_to_list}
 use Rattle.std.specs.List.{cons_option}
@@ -24,7 +24,7 @@ module _ (j : ℕ) (P : ℕ → Type 0) where
   abbrev IntoBy : ScriptLine → Type 0
   IntoBy line = CopiesFrom j line.action → P line.value
 
-  -- One more line.
+  -- Lemmas about the pairs of one more line.
   module _ (value : ℕ) (uses : List (ℕ × ℕ)) where
     abbrev With : Action → Type 0
     With action = All Into (positions_of j (cons_option (use_by value action) uses))

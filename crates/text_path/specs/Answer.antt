@@ -12,8 +12,8 @@ use Rattle.text_path.specs.PathGrammar.{path_kinds}
 use Rattle.text_path.specs.declared.fault.PathFault.{PathFault}
 use Rattle.text_path.specs.declared.fault.PathFault.TheVariants as faults
 
--- The path whose lexemes these are, or the byte offset of the first lexeme at which no path
--- continues. The text has `end` bytes.
+-- The lexemes are the lexemes of a path, or have a syntax error at the byte offset of the first
+-- lexeme at which no path continues. The text has `end` bytes.
 abbrev pub IsEncoded : List Lexeme → ℕ → Result (List ℕ) PathFault → Type 0
 IsEncoded lexemes end (Ok path) = path_kinds path ≡ kinds_of lexemes
 IsEncoded lexemes end (Err (faults.Syntax position)) =
@@ -21,18 +21,18 @@ IsEncoded lexemes end (Err (faults.Syntax position)) =
 IsEncoded lexemes end (Err faults.Lex) = ⊥
 IsEncoded lexemes end (Err faults.Memory) = ⊥
 
--- The answer, given the result of the lexer.
+-- The answer for a text as a path, given the result of the lexer.
 abbrev pub IsLexed : ℕ → Result (List Lexeme) LexFault → Result (List ℕ) PathFault → Type 0
 IsLexed end (Ok lexemes) answer = IsEncoded lexemes end answer
 IsLexed end (Err fault) answer = Err faults.Lex ≡ answer
 
--- The answer of a text.
+-- The answer for a text as a path: a path or an error.
 abbrev pub IsAnswer : List ℕ → Result (List ℕ) PathFault → Type 0
 IsAnswer text answer =
     (outcome : Result (List Lexeme) LexFault) × Outcome text outcome
     × IsLexed (length text) outcome answer
 
--- A text has exactly one answer.
+-- A text has exactly one answer as a path.
 abbrev pub HasOneAnswer : List ℕ → Type 0
 HasOneAnswer text =
     (answer : Result (List ℕ) PathFault) × IsAnswer text answer
@@ -48,7 +48,7 @@ abbrev pub UnlessMemory : (PathFault → Type 0) → PathFault → Type 0
 UnlessMemory P faults.Memory = ⊤
 UnlessMemory P fault = P fault
 
--- The result is this answer, unless memory runs out.
+-- If memory does not run out, the result is the answer `answer`.
 abbrev pub Reports : Result (List ℕ) PathFault → Result (List ℕ) PathFault → Type 0
 Reports (Ok path) answer = answer ≡ Ok path
 Reports (Err fault) answer = UnlessMemory (λ f. answer ≡ Err f) fault

@@ -48,7 +48,8 @@ ended_line number (prefixes.Steps value role path after_dot) =
     whole_line number value role (accepted (at path after_dot))
 ended_line number f = None
 
--- The line, or the error if it copies from a value that does not come before the edited one.
+-- The line. If the line copies from a value that does not come before the edited value, the error
+-- `Later`.
 abbrev pub in_time_by : ScriptLine → Action → Result ScriptLine ScriptFault
 in_time_by line (actions.Edit edit) = Ok line
 in_time_by line (actions.Graft path other source) =

@@ -8,7 +8,8 @@ use Rattle.types_parse.specs.grammar.Grammar.{Kinds}
 use Rattle.types_parse.specs.grammar.Lexemes.{number}
 use Rattle.text_path.specs.PathGrammar.{path_kinds}
 
--- The number of the edited value and the edit. The literal is any list of lexemes, possibly empty.
+-- A line of a script: the number of the edited value and the edit. The literal of `set` is any list
+-- of lexemes, possibly empty.
 pub data LineTree : Type 0 where
   set_line : (value : ℕ) (path : List ℕ) (literal : Kinds) → LineTree
   link_line : (value : ℕ) (path source : List ℕ) → LineTree
@@ -18,7 +19,7 @@ pub data LineTree : Type 0 where
 abbrev pub equals : LexemeKind
 equals = kinds.Symbol symbols.Equals
 
--- The path, an equals sign, and the lexemes after it.
+-- The lexemes of a path, an equals sign, and the lexemes `rest`.
 abbrev pub assigned : List ℕ → Kinds → Kinds
 assigned path rest = path_kinds path ++ equals ∷ rest
 

@@ -17,7 +17,7 @@ use Rattle.text_path.specs.declared.line_prefix.LinePrefix.TheVariants as prefix
 use Rattle.text_path.specs.declared.line_prefix.LexemeResult.{LexemeResult}
 use Rattle.text_path.specs.declared.line_prefix.LexemeResult.TheVariants as nexts
 
--- The lexemes read so far: up to the `=` of `set`, or beyond it.
+-- The lexemes read up to now: at most up to the `=` of `set`, or beyond the `=`.
 pub data LineState : Type 0 where
   reading : LinePrefix → LineState
   literal : (value : ℕ) (path : List ℕ) (read : Kinds) → LineState
@@ -50,7 +50,7 @@ abbrev pub is_equals : LexemeKind → Bool
 is_equals (kinds.Symbol symbols.Equals) = true
 is_equals kind = false
 
--- After the equals sign, if a complete path comes before it.
+-- The state after an equals sign, if a complete path comes before the equals sign.
 abbrev pub after_equals : ℕ → Role → Option (List ℕ) → LexemeResult
 after_equals value role None = nexts.Nowhere
 after_equals value roles.Set (Some path) = nexts.Literal value path
@@ -59,7 +59,7 @@ after_equals value roles.Link (Some path) =
 after_equals value roles.Graft (Some path) = nexts.Onward (prefixes.Other value path)
 after_equals value role (Some path) = nexts.Nowhere
 
--- After the number of the value that is copied from.
+-- The state after the number of the source value of `graft`.
 abbrev pub with_other : ℕ → List ℕ → Option ℕ → LexemeResult
 with_other value path None = nexts.Nowhere
 with_other value path (Some other) =

@@ -12,7 +12,7 @@ abbrev pub is_dot : LexemeKind → Bool
 is_dot (kinds.Symbol symbols.Dot) = true
 is_dot kind = false
 
--- The steps read so far, and whether a dot follows them.
+-- The steps read up to now, and whether a dot follows the steps.
 pub data State : Type 0 where
   at : (path : List ℕ) (after_dot : Bool) → State
 
@@ -23,7 +23,7 @@ abbrev pub step : State → LexemeKind → Option State
 step (at path true) kind = option_map (λ n. at (path ++ n ∷ []) false) (number_of kind)
 step (at path false) kind = if is_dot kind then Some (at path true) else None
 
--- The state after a lexeme, if a path continues with it.
+-- The state after a lexeme, if a path continues with the lexeme.
 abbrev pub stepped : Bool → List ℕ → Bool → Option State
 stepped goes path after_dot = if goes then Some (at path (not after_dot)) else None
 

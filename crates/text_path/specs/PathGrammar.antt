@@ -1,4 +1,5 @@
--- The grammar of a path: a single dot for the root, otherwise a dot and a number for each step.
+-- The grammar of a path. The root's path is a single dot, and any other path has a dot and a number
+-- for each step.
 use Rattle.std.specs.Prelude.{ℕ, List, [], ◌∷◌}
 use Rattle.types_lex.specs.declared.lexeme.LexemeKind.{LexemeKind}
 use Rattle.types_lex.specs.declared.lexeme.LexemeKind.TheVariants as kinds

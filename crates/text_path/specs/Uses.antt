@@ -1,4 +1,4 @@
--- The values that the lines of a script copy from, and the values that they copy into.
+-- The values from which the lines of a script copy, and the values into which the lines copy.
 use Rattle.std.specs.Prelude.{ℕ, ◌≡◌, ◌≤◌, Option, Some, None, List, All, Any}
 use Rattle.std.specs.List.{filter_map}
 use Rattle.text_path.specs.Order.{IsByValue, positions_of}
@@ -21,8 +21,8 @@ IsLastUse lines j k =
     Any (λ line. CopiesFrom j line.action × (line.value ≡ k)) lines
     × All (λ line. CopiesFrom j line.action → line.value ≤ k) lines
 
--- If the action copies: the number of the value that is copied from, and the number of the edited
--- value.
+-- The number of the source value and the number of the edited value, or `None` if the action does
+-- not copy.
 abbrev pub use_by : ℕ → Action → Option (ℕ × ℕ)
 use_by value (actions.Edit edit) = None
 use_by value (actions.Graft path other source) = Some (other, value)
@@ -30,11 +30,11 @@ use_by value (actions.Graft path other source) = Some (other, value)
 abbrev pub use_of : ScriptLine → Option (ℕ × ℕ)
 use_of line = use_by line.value line.action
 
--- The pairs of all lines.
+-- The pairs of source value and edited value of all lines that copy.
 abbrev pub uses_in : List ScriptLine → List (ℕ × ℕ)
 uses_in lines = filter_map use_of lines
 
--- The pairs of all lines, sorted by the value that is copied from.
+-- The pairs of source value and edited value of all lines that copy, sorted by the source value.
 pub record AreUses (lines : List ScriptLine) (uses : List (ℕ × ℕ)) : Type 0 where
   pub by_other : IsByValue uses
   pub stable : (j : ℕ) → positions_of j uses ≡ positions_of j (uses_in lines)

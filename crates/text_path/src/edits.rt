@@ -18,44 +18,44 @@ use types_lex::lexeme::{LexFault, Lexeme};
 /// An edit at a path of a value.
 #[derive(Drop)]
 pub enum Edit {
-    /// Replaces the part at the path by a new value. Holds the lexemes of the literal, with their
-    /// spans in the line, and the line's length in bytes.
+    /// Replaces the part at the path by a new value. Holds the lexemes of the new value's literal,
+    /// with their spans in the line, and the line's length in bytes.
     Set(Path, List<Lexeme>, usize),
-    /// Replaces the part at the first path by the part at the second path. A reference then refers
-    /// to the same object at both paths.
+    /// Replaces the part at the first path by the part at the second path. If the part is a
+    /// reference, the two paths lead to one object afterwards.
     Link(Path, Path),
-    /// Replaces the reference at the path by a reference to a copy of its object.
+    /// Replaces the reference at the path by a reference to a copy of the object.
     Unshare(Path),
 }
 
-/// The request of one line.
+/// The request of one line of a script.
 #[derive(Drop)]
 pub enum Action {
     Edit(Edit),
     /// Replaces the part at the first path by a copy of a part of an earlier value. Holds the
-    /// number of that value and the path in it.
+    /// earlier value's number and the path in the earlier value.
     Graft(Path, u64, Path),
 }
 
 /// A line of a script that is not blank.
 #[derive(Drop)]
 pub struct ScriptLine {
-    /// The line number, counted from 1. Blank lines count.
+    /// The line number, counted from 1, where blank lines count too.
     pub number: usize,
     /// The number of the value that is edited, counted from 0.
     pub value: u64,
     pub action: Action,
 }
 
-/// The edits of a text, in the order of its lines.
+/// The edits of a script's text, in the order of the lines.
 #[derive(Drop)]
 pub struct Script {
     lines: List<ScriptLine>,
-    /// For each line, the number of its value and the line's index in `lines`. Sorted by value.
-    /// Lines of one value keep their order.
+    /// For each line, the number of the edited value and the line's index in `lines`, sorted by
+    /// value. Lines of one value keep their order.
     order: Vec<(u64, u64)>,
-    /// For each line that copies, the number of the value that it copies from and the number of the
-    /// value that it edits. Sorted by the first number.
+    /// For each line that copies, the number of the source value and the number of the edited
+    /// value, sorted by the source value.
     uses: Vec<(u64, u64)>,
 }
 
@@ -71,7 +71,7 @@ impl Model for Script {
 }
 
 impl Script {
-    /// Builds the script of these lines. Fails only if memory runs out.
+    /// Builds the script of the lines `lines`. Fails only if memory runs out.
     pub fn of(alloc: Global, lines: List<ScriptLine>) -> Result<Script, Memory>
         ensures { IfOk result (λ script. script.lines ≡ lines) }
     {
@@ -80,14 +80,14 @@ impl Script {
         Ok(Script { lines, order, uses })
     }
 
-    /// Returns the lines.
+    /// Returns all lines of the script.
     pub fn as_slice(&self) -> &[ScriptLine]
         ensures { result.now ≡ self.now.lines }
     {
         self.lines.as_slice()
     }
 
-    /// Returns the lines that edit the value of this number. Finds them by binary search.
+    /// Returns the lines that edit the value with number `value`. Finds the lines by binary search.
     pub fn lines_of(&self, value: u64) -> ValueLines<'_>
         ensures { result ≡ lines_of value self.now.lines }
     {
@@ -98,7 +98,7 @@ impl Script {
     }
 
     /// Returns the greatest number of a value into which a line copies a part of value `number`.
-    /// Returns `None` if no line copies from that value. Finds the lines by binary search.
+    /// Returns `None` if no line copies from value `number`. Finds the lines by binary search.
     pub fn last_use(&self, number: u64) -> Option<u64>
         ensures { MatchOption result (IsUnused self.now.lines number)
             (IsLastUse self.now.lines number) }
@@ -127,7 +127,7 @@ impl<'a> Model for ValueLines<'a> {
 }
 
 impl<'a> ValueLines<'a> {
-    /// Returns the next line and removes it from the iterator.
+    /// Returns the next line and removes the line from the iterator.
     pub fn next(&mut self) -> Option<&'a ScriptLine>
         ensures { MatchOption result (self.old ≡ []) (λ line. self.old ≡ line.now ∷ self.new) }
     {
@@ -144,12 +144,13 @@ impl<'a> ValueLines<'a> {
 /// The first error in the text of a script. Line numbers count from 1.
 #[derive(Clone, Copy)]
 pub enum ScriptFault {
-    /// Lexical error in this line.
+    /// Lexical error in a line. Holds the line number.
     Lex(usize, LexFault),
-    /// Syntax error in this line. The second number is the byte offset in the line of the first
-    /// lexeme at which no line continues, or the line's length.
+    /// Syntax error in a line. The first number is the line number. The second number is the byte
+    /// offset in the line of the first lexeme at which no line continues, or the line's length.
     Syntax(usize, usize),
-    /// A `graft` line copies from a value that does not come before the edited one.
+    /// A `graft` line copies from a value that does not come before the edited value. Holds the
+    /// line number.
     Later(usize),
     /// Out of memory.
     Memory,

@@ -1,15 +1,16 @@
 //! Parses paths into a value, and scripts of edits.
 //!
-//! It owns the syntax of both texts, the parsed script (`Script`, with `ScriptLine`, `Action` and
-//! `Edit`), and their errors (`PathFault`, `ScriptFault`). A script is parsed line by line; each
-//! line is lexed on its own, blank lines only count, and the first faulty line decides.
+//! The crate owns the syntax of paths and scripts, the parsed script (`Script`, with `ScriptLine`,
+//! `Action` and `Edit`), and the errors (`PathFault`, `ScriptFault`). A script is parsed line by
+//! line. Each line is lexed on its own, blank lines only count, and the first faulty line decides.
 //!
-//! Promises: `read_path` returns the path that the text encodes, or its one error. `read_script`
-//! returns the script that the text is, or its one error. `one_answer` and `one_script_answer`:
-//! each text is a path or has an error, and each text is a script or has an error, in exactly one
-//! way. `lines_in_time`: a line of a script copies only from values before its own.
-//! `Script::lines_of` returns the lines for the value with a given number, in the order of the
-//! script. `Script::last_use` returns the last value into which a part of a given value is copied.
+//! Promises: `read_path` returns the path that the text encodes, or the text's one error.
+//! `read_script` returns the script that the text is, or the text's one error. `one_answer` and
+//! `one_script_answer`: each text is a path or has an error, and each text is a script or has an
+//! error, in exactly one way. `lines_in_time`: a line of a script copies only from values before
+//! the edited value. `Script::lines_of` returns the lines for the value with a given number, in the
+//! order of the script. `Script::last_use` returns the last value into which a part of a given
+//! value is copied.
 //!
 //! Leaves out: what a path means in a value (`check_fault`), applying edits (`edit_values`),
 //! literals after `=`, which are parsed at the type of the edited position (`text_literal`), and

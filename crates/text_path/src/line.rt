@@ -13,16 +13,16 @@ ghost use Rattle.text_path.specs.declared.edits.Edit.TheVariants as edits;
 
 use crate::edits::{Action, Edit, ScriptFault, ScriptLine, line_fault};
 use crate::line_prefix::{LexemeResult, LineLexemes, LinePrefix, Role};
-use crate::read::{is_whole, number_of, step};
+use crate::read::{is_whole, step};
 use base_data::model::Memory;
 use base_data::model::list::List;
 use base_data::model::path::Path;
 use std::alloc::Global;
 use types_lex::lexeme::{Lexeme, LexemeKind, Symbol};
 use types_lex::tokens;
-use types_parse::parse::byte_of;
+use types_parse::parse::{byte_of, number_of};
 
-/// Returns the role of the path after a command word, or `None` if the name is not a command.
+/// Returns the role of the path after a command word, or `None` if the name is not a command word.
 fn named_role(name: &[u8]) -> Option<Role>
     ensures { result ≡ named_role name.now }
 {
@@ -39,8 +39,8 @@ fn named_role(name: &[u8]) -> Option<Role>
     }
 }
 
-/// Returns the role of the path after this lexeme, or `None` if the lexeme is not one of the four
-/// commands.
+/// Returns the role of the path after the lexeme `kind`, or `None` if the lexeme is not one of the
+/// four command words.
 fn role_of(kind: &LexemeKind) -> Option<Role>
     ensures { result ≡ role_of kind.now }
 {
@@ -99,7 +99,7 @@ fn after_equals(alloc: Global, value: u64, role: Role, path: Path) -> LexemeResu
     }
 }
 
-/// Parses the number of the value that `graft` copies from.
+/// Parses the number of the value from which `graft` copies.
 fn with_other(alloc: Global, value: u64, path: Path, kind: &LexemeKind) -> LexemeResult
     ensures { result ≡ with_other value path (number_of kind.now) }
 {
@@ -112,7 +112,7 @@ fn with_other(alloc: Global, value: u64, path: Path, kind: &LexemeKind) -> Lexem
     }
 }
 
-/// Parses a lexeme inside a path or after it.
+/// Parses a lexeme inside a path or directly after a path.
 fn steps_next(
     alloc: Global,
     value: u64,
@@ -136,7 +136,7 @@ fn steps_next(
     }
 }
 
-/// Parses one lexeme and returns the next state.
+/// Parses one lexeme and returns the next state of the line.
 fn next_of(alloc: Global, prefix: LinePrefix, kind: &LexemeKind) -> Result<LexemeResult, Memory>
     ensures { IfOk result (λ next. next_of prefix kind.now ≡ next) }
 {
@@ -150,7 +150,7 @@ fn next_of(alloc: Global, prefix: LinePrefix, kind: &LexemeKind) -> Result<Lexem
     }
 }
 
-/// Reads lexemes until the `=` of `set`, until a syntax error, or to the end.
+/// Reads lexemes until the `=` of `set`, until a syntax error, or to the end of the line.
 fn known(alloc: Global, lexemes: &[Lexeme]) -> Result<LineLexemes, Memory>
     ensures { IfOk result (IsKnown lexemes.now) }
 {
@@ -169,8 +169,8 @@ fn known(alloc: Global, lexemes: &[Lexeme]) -> Result<LineLexemes, Memory>
     Ok(LineLexemes::All(prefix))
 }
 
-/// Returns the request of a line that ends after a complete path, or `None` if a line with this
-/// role cannot end here.
+/// Returns the request of a line that ends after a complete path, or `None` if a line with the role
+/// `role` cannot end after the path.
 fn action_of(role: Role, path: Path) -> Option<Action>
     ensures { result ≡ action_of role path }
 {
@@ -182,7 +182,7 @@ fn action_of(role: Role, path: Path) -> Option<Action>
     }
 }
 
-/// Returns the line that ends here, or `None` if no line can end here.
+/// Returns the line that ends after `prefix`, or `None` if no line can end after `prefix`.
 fn ended(prefix: LinePrefix, number: usize) -> Option<ScriptLine>
     ensures { result ≡ ended_line number prefix }
 {
@@ -228,8 +228,8 @@ fn set_line(
     })
 }
 
-/// Returns the line. If it copies from a value that does not come before the edited one, returns
-/// `ScriptFault::Later`.
+/// Returns the line. If the line copies from a value that does not come before the edited value,
+/// returns `ScriptFault::Later`.
 fn in_time(line: ScriptLine) -> Result<ScriptLine, ScriptFault>
     ensures { result ≡ in_time line }
 {
@@ -239,7 +239,7 @@ fn in_time(line: ScriptLine) -> Result<ScriptLine, ScriptFault>
     }
 }
 
-/// Returns the line for the result of reading its lexemes. The line must not be blank.
+/// Returns the line, given the result of reading the line's lexemes. The line must not be blank.
 fn line_of(
     known: LineLexemes,
     lexemes: Vec<Lexeme>,
@@ -267,7 +267,7 @@ fn line_of(
     }
 }
 
-/// Parses the lexemes of a line. Returns `None` if there are none.
+/// Parses the lexemes of a line. Returns `None` if the line has no lexemes.
 fn read_lexemes(
     alloc: Global,
     lexemes: Vec<Lexeme>,

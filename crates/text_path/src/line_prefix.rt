@@ -11,21 +11,21 @@ pub enum Role {
     Source(Path),
     Unshare,
     Graft,
-    /// The second path of `graft`. Holds the first path and the number of the value that is copied
-    /// from.
+    /// The second path of `graft`. Holds the first path and the number of the source value.
     Part(Path, u64),
 }
 
-/// The prefix of a line that was read, up to the `=` of `set`.
+/// A prefix of a line, at most up to the `=` of `set`.
 #[derive(Drop)]
 pub enum LinePrefix {
     Start,
-    /// The number of the edited value.
+    /// A prefix that consists of the number of the edited value.
     Value(u64),
-    /// The number of the edited value, the path's role, its steps so far, and whether a dot follows
-    /// them.
+    /// A prefix inside a path: the number of the edited value, the path's role, the steps read up
+    /// to now, and whether a dot follows the steps.
     Steps(u64, Role, Path, bool),
-    /// The number of the edited value and the first path of `graft`, up to and including the `=`.
+    /// A prefix of `graft` that ends with the `=`. Holds the number of the edited value and the
+    /// first path.
     Other(u64, Path),
 }
 
@@ -33,19 +33,20 @@ pub enum LinePrefix {
 #[derive(Drop)]
 pub enum LexemeResult {
     Onward(LinePrefix),
-    /// The `=` of `set`. Holds the number of the edited value and the path.
+    /// The lexeme is the `=` of `set`. Holds the number of the edited value and the path.
     Literal(u64, Path),
-    /// Syntax error: no line continues with this lexeme.
+    /// Syntax error: no line continues with the lexeme.
     Nowhere,
 }
 
 /// The result of reading the lexemes of a line.
 #[derive(Drop)]
 pub enum LineLexemes {
-    /// All lexemes were read. Holds the last state.
+    /// All lexemes were read. Holds the state after the last lexeme.
     All(LinePrefix),
-    /// A `set`: the number of the edited value, the path, and the index of the lexeme after `=`.
+    /// A `set` line. Holds the number of the edited value, the path, and the index of the lexeme
+    /// after `=`.
     Literal(u64, Path, usize),
-    /// Syntax error: no line continues at the lexeme with this index.
+    /// Syntax error: no line continues at a lexeme. Holds the lexeme's index.
     Stuck(usize),
 }

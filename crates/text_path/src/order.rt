@@ -1,4 +1,4 @@
-//! An index of a script's lines by the numbers of the values that they edit.
+//! An index of a script's lines by the numbers of the edited values.
 
 ghost use Rattle.std.specs.Prelude.{◌≡◌, IfOk, filter, not, nat_lt, nat_le};
 ghost use Rattle.text_path.specs.Order.{positions_from, positions_of, IsByValue, IsOrder};
@@ -7,7 +7,7 @@ use crate::edits::ScriptLine;
 use base_data::model::Memory;
 use std::alloc::Global;
 
-/// Returns, for each line, the number of its value and the line's index.
+/// Returns, for each line, the number of the edited value and the line's index.
 fn positions(alloc: Global, lines: &[ScriptLine]) -> Result<Vec<(u64, u64)>, Memory>
     ensures { IfOk result (λ positions. positions.items ≡ positions_from 0 lines.now) }
 {
@@ -22,8 +22,8 @@ fn positions(alloc: Global, lines: &[ScriptLine]) -> Result<Vec<(u64, u64)>, Mem
     Ok(positions)
 }
 
-/// Returns the indices of the lines, sorted by the numbers of their values. Lines of one value keep
-/// their order.
+/// Returns the entries of the lines, sorted by the numbers of the edited values. Lines of one value
+/// keep their order.
 pub fn order_of(alloc: Global, lines: &[ScriptLine]) -> Result<Vec<(u64, u64)>, Memory>
     ensures { IfOk result (λ order. IsOrder lines.now order.items) }
 {

@@ -1,6 +1,6 @@
 //! The parser for a path.
 
-ghost use Rattle.std.specs.Prelude.{◌≡◌, if◌then◌else◌, IfOk, IfErr, List, ℕ, Option, Some, None};
+ghost use Rattle.std.specs.Prelude.{◌≡◌, if◌then◌else◌, IfOk, IfErr, List, ℕ, Some, None};
 ghost use Rattle.std.specs.Prelude.{Result, Ok, Err};
 ghost use Rattle.text_path.specs.Answer.{IsAnswer, IsEncoded, UnlessMemory, Reports};
 ghost use Rattle.types_parse.specs.grammar.Lexemes.{number_of};
@@ -11,33 +11,9 @@ use crate::fault::{PathFault, lexer_fault};
 use base_data::model::Memory;
 use base_data::model::path::Path;
 use std::alloc::Global;
-use types_lex::lexeme::{Integer, Lexeme, LexemeKind, Suffix, Symbol};
+use types_lex::lexeme::{Lexeme, LexemeKind, Symbol};
 use types_lex::tokens;
-use types_parse::parse::byte_of;
-
-/// Returns the number of a lexeme, or `None` unless it is an integer without sign and suffix.
-pub fn number_of(kind: &LexemeKind) -> Option<u64>
-    ensures { result ≡ number_of kind.now }
-{
-    let LexemeKind::Integer(integer) = kind else {
-        return None;
-    };
-    let Integer {
-        minus,
-        value,
-        suffix,
-    } = *integer;
-    match suffix {
-        Suffix::Absent => {
-            if minus || value < 0 {
-                None
-            } else {
-                Some(value as u64)
-            }
-        }
-        _ => None,
-    }
-}
+use types_parse::parse::{byte_of, number_of};
 
 /// Returns true if the lexeme is a dot.
 fn is_dot(kind: &LexemeKind) -> bool
@@ -49,7 +25,7 @@ fn is_dot(kind: &LexemeKind) -> bool
     }
 }
 
-/// Extends the path by one lexeme. Returns false if no path continues with this lexeme.
+/// Extends the path by one lexeme. Returns false if no path continues with the lexeme.
 pub fn step(path: &mut Path, after_dot: bool, kind: &LexemeKind) -> Result<bool, Memory>
     ensures { IfOk result
         (λ goes. step (at path.old after_dot) kind.now ≡ stepped goes path.new after_dot) }
@@ -66,7 +42,8 @@ pub fn step(path: &mut Path, after_dot: bool, kind: &LexemeKind) -> Result<bool,
     }
 }
 
-/// Returns true if a path may end here.
+/// Returns true if a path may end after the steps of `path`. `after_dot` is true if a dot follows
+/// the steps.
 pub fn is_whole(path: &Path, after_dot: bool) -> bool
     ensures { accepted (at path.now after_dot) ≡ (if result then Some path.now else None) }
 {
@@ -108,13 +85,13 @@ fn read(alloc: Global, text: &[u8]) -> Result<Path, PathFault>
     }
 }
 
-/// Parses a path. A syntax error carries the byte offset in `text`.
+/// Parses a path. A syntax error carries a byte offset in `text`.
 pub fn read_path(alloc: Global, text: &[u8]) -> Result<Path, PathFault>
-    // The path, or the error, is the text's answer.
+    // If memory does not run out, the path or the error is the text's answer.
     ensures path { IfOk result (λ path. IsAnswer text.now (Ok path)) }
     ensures fault { IfErr result (UnlessMemory (λ fault. IsAnswer text.now (Err fault))) }
 
-    // If the text has an answer, this answer is returned, unless memory runs out.
+    // If the text has an answer and memory does not run out, the answer is returned.
     ensures only { (answer : Result (List ℕ) PathFault) → IsAnswer text.now answer
         → Reports result answer }
 {

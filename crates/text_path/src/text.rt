@@ -2,7 +2,6 @@
 
 ghost use Rattle.std.specs.Prelude.{◌≡◌, ◌++◌, ◌==◌, Option, Ok, Err, IfOk, IfErr, OnOk, Result};
 ghost use Rattle.std.specs.Prelude.{option_to_list};
-ghost use Rattle.std.specs.List.{position_or_len};
 ghost use Rattle.text_path.specs.ScriptAnswer.{AreEdits, IsScriptAnswer, UnlessMemory};
 ghost use Rattle.text_path.specs.ScriptAnswer.{ReportsScript};
 ghost use Rattle.text_path.specs.declared.edits.Script.{Script};
@@ -12,16 +11,10 @@ use crate::edits::{Script, ScriptFault, ScriptLine};
 use crate::line::read_line;
 use base_data::model::Memory;
 use base_data::model::list::List;
+use base_data::text::line_len;
 use std::alloc::Global;
 
-/// Returns the number of bytes before the first line feed, or the length if there is none.
-fn line_len(text: &[u8]) -> usize
-    ensures { result ≡ position_or_len (λ b. b == 10) text.now }
-{
-    text.iter().take_while(|b| **b != b'\n').count()
-}
-
-/// Appends a line, if there is one.
+/// Appends a line, if `line` is a line.
 fn add(lines: &mut List<ScriptLine>, line: Option<ScriptLine>) -> Result<(), Memory>
     ensures { OnOk result (lines.new ≡ lines.old ++ option_to_list line) }
 {
@@ -52,13 +45,13 @@ fn read(alloc: Global, text: &[u8]) -> Result<List<ScriptLine>, ScriptFault>
     }
 }
 
-/// Parses a script. If several lines have errors, the first one is reported.
+/// Parses a script. If several lines have errors, reports the error of the first such line.
 pub fn read_script(alloc: Global, text: &[u8]) -> Result<Script, ScriptFault>
-    // The script, or the error, is the text's answer.
+    // If memory does not run out, the script or the error is the text's answer.
     ensures script { IfOk result (λ script. IsScriptAnswer text.now (Ok script)) }
     ensures fault { IfErr result (UnlessMemory (λ fault. IsScriptAnswer text.now (Err fault))) }
 
-    // If the text has an answer, this answer is returned, unless memory runs out.
+    // If the text has an answer and memory does not run out, the answer is returned.
     ensures only { (answer : Result Script ScriptFault) → IsScriptAnswer text.now answer
         → ReportsScript result answer }
 {

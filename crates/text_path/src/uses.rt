@@ -1,5 +1,4 @@
-//! An index of the `graft` lines of a script: the values that they copy from, and the values that
-//! they edit.
+//! An index of the `graft` lines of a script: for each line, the source value and the edited value.
 
 ghost use Rattle.std.specs.Prelude.{◌≡◌, ◌++◌, ◌≤◌, [], IfOk, OnOk, MatchOption, All, Any};
 ghost use Rattle.std.specs.Prelude.{option_to_list};
@@ -11,8 +10,8 @@ use crate::order::positions_of;
 use base_data::model::Memory;
 use std::alloc::Global;
 
-/// If the line copies, returns the number of the value that it copies from and the number of the
-/// value that it edits.
+/// Returns the number of the source value and the number of the edited value, or `None` if the line
+/// does not copy.
 fn use_of(line: &ScriptLine) -> Option<(u64, u64)>
     ensures { result ≡ use_of line.now }
 {
@@ -22,7 +21,7 @@ fn use_of(line: &ScriptLine) -> Option<(u64, u64)>
     }
 }
 
-/// Appends a pair, if there is one.
+/// Appends a pair to the pairs, unless `used` is `None`.
 fn add(uses: &mut Vec<(u64, u64)>, used: Option<(u64, u64)>) -> Result<(), Memory>
     ensures { OnOk result (uses.new.items ≡ uses.old.items ++ option_to_list used) }
 {
@@ -32,7 +31,7 @@ fn add(uses: &mut Vec<(u64, u64)>, used: Option<(u64, u64)>) -> Result<(), Memor
     }
 }
 
-/// Returns the pairs of all lines, in order.
+/// Returns the pairs of source value and edited value of all lines that copy, in order.
 fn uses(alloc: Global, lines: &[ScriptLine]) -> Result<Vec<(u64, u64)>, Memory>
     ensures { IfOk result (λ uses. uses.items ≡ uses_in lines.now) }
 {
@@ -45,7 +44,8 @@ fn uses(alloc: Global, lines: &[ScriptLine]) -> Result<Vec<(u64, u64)>, Memory>
     Ok(uses)
 }
 
-/// Returns the pairs of all lines, sorted by the value that is copied from.
+/// Returns the pairs of source value and edited value of all lines that copy, sorted by the source
+/// value.
 pub fn uses_of(alloc: Global, lines: &[ScriptLine]) -> Result<Vec<(u64, u64)>, Memory>
     ensures { IfOk result (λ uses. AreUses lines.now uses.items) }
 {
@@ -55,7 +55,7 @@ pub fn uses_of(alloc: Global, lines: &[ScriptLine]) -> Result<Vec<(u64, u64)>, M
 }
 
 /// Returns the greatest second number among the pairs whose first number is `number`, or `None` if
-/// there are none.
+/// there are no such pairs.
 pub fn last_use(uses: &[(u64, u64)], number: u64) -> Option<u64>
     requires { IsByValue uses.now }
     ensures { MatchOption result (positions_of number uses.now ≡ [])

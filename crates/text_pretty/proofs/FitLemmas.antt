@@ -1,4 +1,4 @@
--- The count up to a closing bracket, byte by byte.
+-- The number of bytes up to a closing bracket, byte by byte.
 use Rattle.std.proofs.Common.{◌≡◌, ℕ, suc, ◌+◌, ◌<◌, leb, List, [], ◌∷◌, drop, Option, Some, None, refl, ap, sym, ◌∙◌, arith}
 use Rattle.std.specs.Prelude.{option_map}
 use Rattle.std.proofs.lemmas.Bool.{cond-false, lt-leb, cond_both}
@@ -6,7 +6,7 @@ use Rattle.text_pretty.specs.declared.break_point.BreakPoint.{BreakPoint}
 use Rattle.text_pretty.specs.BreakPoints.{mark_of, next_break_point}
 use Rattle.text_pretty.specs.Fit.{closing_length, depth_after, counted, to_close, within}
 
--- The count increased by `i`.
+-- The number of bytes, increased by `i`.
 abbrev pub more : ℕ → Option ℕ → Option ℕ
 more i found = option_map (λ n. n + i) found
 

@@ -1,5 +1,8 @@
--- Lines are narrow. In the invariant, the line so far is one of these: one word, a line that ends
--- by column 80 with a bracket that fits it, or a line after a closing bracket by column 80.
+-- Lines are narrow. By the invariant, the line so far has one of these forms:
+--
+-- - one word,
+-- - a line that ends by column 80 with a bracket that fits the line,
+-- - a line after a closing bracket by column 80.
 use Rattle.std.proofs.Common.{◌≡◌, ◌≢◌, ◌⊎◌, inl, inr, ℕ, zero, suc, ◌+◌, Bool, true, false, ◌==◌, List, ◌∷◌, ◌++◌, replicate, Some, refl, ap, sym, subst, ◌∙◌, ⊎_elim, arith}
 use Rattle.std.specs.Bool.{MatchBool}
 use Rattle.std.proofs.lemmas.Bool.{cond_both, both_ways, false≢true, ne_eqb, eqb-true}
@@ -19,7 +22,7 @@ Parts b = (b ≡ 124) ⊎ ((b ≡ 41) ⊎ ((b ≡ 125) ⊎ ((b ≡ 44) ⊎ (b �
 abbrev Opens : ℕ → Type 0
 Opens b = (b ≡ 40) ⊎ ((b ≡ 124) ⊎ (b ≡ 123))
 
--- A fact that follows from a test of a role.
+-- If the test is true of the role, then the fact holds.
 abbrev Gives : (ByteRole → Bool) → Type 0 → ByteRole → Type 0
 Gives test P mark = test mark ≡ true → P
 
@@ -65,7 +68,7 @@ opens_is break_points.TextEscape b h = absurd (false≢true h)
 opens_is break_points.Letter b h = absurd (false≢true h)
 opens_is break_points.LetterEscape b h = absurd (false≢true h)
 
--- A context outside of quotes.
+-- True if the context is outside of quotes.
 abbrev is_bare : BreakPoint → Bool
 is_bare break_points.Text = false
 is_bare break_points.TextEscape = false
@@ -73,7 +76,8 @@ is_bare break_points.Letter = false
 is_bare break_points.LetterEscape = false
 is_bare break_point = true
 
--- A fact about a separator or closing byte follows from the facts for each such byte.
+-- If a fact holds for each separator and each closing byte, then it holds for a byte that is one of
+-- them.
 at_parts : (P : ℕ → Type 0) (b : ℕ) → Parts b → P 124 → P 41 → P 125 → P 44 → P 59 → P b
 at_parts P b is bar paren brace comma semicolon =
     ⊎_elim (λ e. subst P (sym e) bar)
@@ -117,7 +121,8 @@ bare_by break_points.TextEscape b h = absurd (h refl)
 bare_by break_points.Letter b h = absurd (h refl)
 bare_by break_points.LetterEscape b h = absurd (h refl)
 
--- A separator or closing byte has the same role at the beginning of a line, and leads outside.
+-- After a separator or a closing byte, the next context does not depend on the context before the
+-- byte.
 pub parts_lead : (break_point : BreakPoint) (b : ℕ) → is_behind_position (mark_of break_point b) ≡ true → next_break_point break_point b ≡ next_break_point break_points.Outside b
 parts_lead break_point b h =
     let is : Parts b = parts_is break_point b h in

@@ -1,6 +1,8 @@
--- Lines are narrow, byte by byte. In the invariant, the line so far is one of these: one word, a
--- line that ends by column 80 with a bracket that fits it, or a line after a closing bracket by
--- column 80.
+-- Lines are narrow, byte by byte. By the invariant, the line so far has one of these forms:
+--
+-- - one word,
+-- - a line that ends by column 80 with a bracket that fits the line,
+-- - a line after a closing bracket by column 80.
 use Rattle.std.proofs.Common.{◌≡◌, ◌≢◌, ◌⊎◌, inl, inr, ℕ, suc, ◌+◌, ◌-◌, ◌<◌, ◌≤◌, Bool, true, false, not, ◌&&◌, ◌||◌, ◌==◌, cond, ltb, leb, List, [], ◌∷◌, ◌++◌, Option, Some, None, refl, ap, sym, subst, ◌∙◌, ⊎_elim, arith}
 use Rattle.std.specs.Prelude.{option_map}
 use Rattle.std.specs.List.{AllByRecursion}
@@ -103,7 +105,7 @@ list_found at (Some (kinds.Chain indent)) bytes some =
     (λ m. 0 < m → (to_close at.break_point 0 bytes ≡ Some m) × (m ≤ at.left)) (λ _ h. absurd (omega (arith, h)))
     (λ _ h. room_found at.left (to_close at.break_point 0 bytes) h) some
 
--- The facts after a byte, without regard to its role.
+-- The facts after a byte, without regard to the byte's role.
 record Passed (at : Layout) (columns : ℕ) (seen : Seen) (plain : List ℕ) : Type 0 where
   left : at.left ≡ 80 - columns
   break_point : seen.break_point ≡ at.break_point

@@ -11,14 +11,15 @@ use Rattle.text_pretty.specs.Narrow.{goes_on, has_no_blank, follows, is_regular}
 use Rattle.text_pretty.specs.Parts.{MayFollow, MayBegin, Leads, PartsAreRegular}
 use Rattle.text_pretty.proofs.NarrowLemmas.{parts_lead}
 
--- The text after a word.
+-- Suppose a word leads from one context to another. Then the word followed by a text is regular if
+-- and only if the text is regular.
 led : (word : List ℕ) (break_point to : BreakPoint) (rest : List ℕ) → Leads break_point word to → is_regular break_point (word ++ rest) ≡ is_regular to rest
 led [] break_point to rest leads = ap (λ s. is_regular s rest) leads
 led (b ∷ bytes) break_point to rest leads =
     ap (λ (m : ByteRole). follows m b (next_break_point break_point b) (bytes ++ rest) && is_regular (next_break_point break_point b) (bytes ++ rest)) leads.0
     ∙ led bytes (next_break_point break_point b) to rest leads.1
 
--- The same bytes may follow a name as any other part.
+-- If a text may follow a part, then the text is regular after a name.
 name_goes : (rest : List ℕ) → MayFollow rest → is_regular break_points.Name rest ≡ true
 name_goes [] may = refl
 name_goes (b ∷ bytes) may =

@@ -18,13 +18,14 @@ depth_after marks.OpensList depth = Some (depth + 1)
 depth_after marks.Closes depth = if depth == 0 then None else Some (depth - 1)
 depth_after mark depth = Some depth
 
--- The length of the closing bracket, or one byte and the count after it.
+-- The number of bytes up to the end of the bracket: `n` if the byte closes the bracket, and
+-- otherwise one more than the number after the byte.
 abbrev pub counted : ℕ → Option ℕ → (ℕ → Option ℕ) → Option ℕ
 counted n None more = Some n
 counted n (Some depth) more = option_map suc (more depth)
 
--- The number of bytes from here to the end of the innermost bracket, with its closing bracket, if
--- it closes. `depth` inner brackets are open.
+-- The number of bytes to the end of the innermost bracket, with its closing bracket, if the bytes
+-- close the bracket. `depth` inner brackets are open.
 abbrev pub to_close : BreakPoint → ℕ → List ℕ → Option ℕ
 to_close break_point depth [] = None
 to_close break_point depth (b ∷ bytes) =
@@ -34,7 +35,7 @@ to_close break_point depth (b ∷ bytes) =
 abbrev pub at_most : ℕ → ℕ → ℕ
 at_most left n = if nat_le n left then n else 0
 
--- The number, if that many bytes fit the line, otherwise 0.
+-- The number of bytes, if that number is at most `left`, and otherwise 0.
 abbrev pub within : ℕ → Option ℕ → ℕ
 within left None = 0
 within left (Some n) = at_most left n

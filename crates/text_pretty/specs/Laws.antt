@@ -4,8 +4,8 @@ use Rattle.std.specs.Prelude.{List, [], ◌∷◌, length}
 use Rattle.std.specs.List.{AllByRecursion}
 use Rattle.text_pretty.specs.Lines.{pretty}
 
--- The text without its line feeds and the blanks after each. `begun` is true if only blanks were
--- seen since the last line feed.
+-- The text without line feeds and without the blanks after each line feed. `begun` is true if only
+-- blanks follow the last line feed.
 abbrev pub joined_from : Bool → List ℕ → List ℕ
 joined_from begun [] = []
 joined_from begun (b ∷ bytes) =

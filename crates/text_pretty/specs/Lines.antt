@@ -1,15 +1,17 @@
--- Pretty-printing: the text of a value over lines of 80 columns, where this is possible. If a
--- bracket fits the rest of its line, it is printed unchanged. Otherwise it is broken:
+-- Pretty-printing: the text of a value over lines of 80 columns, if possible. If a bracket fits the
+-- remaining columns of the line, the bracket is printed unchanged. If the bracket does not fit, the
+-- bracket is broken:
 --
--- - Each of its parts begins a line, two columns to the right of the line of its opening bracket.
--- - The separator of two parts comes before the second one, in these two columns.
--- - Its closing bracket begins a line.
+-- - Each part of the bracket begins a line, two columns to the right of the line of the opening
+--   bracket.
+-- - The separator of two parts comes before the second part, in these two columns.
+-- - The closing bracket begins a line.
 --
--- A label or a field name comes before its part, on the same line.
+-- A label or a field name comes before its part, on the line of the part.
 --
--- The text of a list is `::(A, ::(B, []))`. If a list is broken, then all of its rest is broken
--- too. Its first item follows the opening bracket. The rest after each item begins a line with the
--- indentation of the list. The closing brackets follow one another.
+-- The text of a list is `::(A, ::(B, []))`. If a list is broken, then the list of its remaining
+-- items is broken, too. The first item follows the opening bracket. The remaining items begin a
+-- line with the indentation of the list. The closing brackets follow one another.
 --
 -- The indentation is at most 40, so a text of n bytes has a pretty text of at most 42 n bytes.
 use Rattle.std.specs.Prelude.{ℕ, ◌+◌, ◌-◌, Bool, true, false, not, ◌&&◌, ◌==◌, nat_lt}
@@ -36,7 +38,7 @@ base None = 0
 base (Some (brackets.Block indent)) = indent
 base (Some (brackets.Chain indent)) = indent
 
--- The indentation of a bracket that opens in this one. `parted` is true after a separator.
+-- The indentation of a bracket that opens in this bracket. `parted` is true after a separator.
 abbrev pub child_indent : Bool → Option BrokenBracket → ℕ
 child_indent parted None = 0
 child_indent parted (Some (brackets.Block indent)) = inner indent
@@ -44,8 +46,9 @@ child_indent parted (Some (brackets.Chain indent)) = if parted then indent else 
 
 -- ---- the beginnings of lines
 
--- The indentation of a line that begins with this closing bracket, if `left` bytes fit the line
--- before it. The closing bracket of a list begins a line only if it does not fit.
+-- The indentation of a line that begins with this closing bracket. `left` bytes fit the line before
+-- it. The closing bracket of a list begins a line only if the closing bracket does not fit the line
+-- before it.
 abbrev pub closing_line : ℕ → ℕ → Option BrokenBracket → Option ℕ
 closing_line left b None = Some 0
 closing_line left b (Some (brackets.Block indent)) = Some indent
@@ -59,7 +62,7 @@ line_at at marks.Closes b = closing_line at.left b (first at.brackets)
 line_at at mark b =
     if at.fresh && not (b == 32) then Some (inner (base (first at.brackets))) else None
 
--- The indentation of the line that begins with a byte, if it begins a line.
+-- The indentation of the line that begins with a byte, if the byte begins a line.
 abbrev pub line_before : Layout → ℕ → Option ℕ
 line_before at b = if nat_lt 0 at.flat then None else line_at at (mark_of at.break_point b) b
 
@@ -73,7 +76,7 @@ abbrev pub left_behind : Option ℕ → ℕ → ℕ
 left_behind None left = left - 1
 left_behind (Some indent) left = 80 - indent - 1
 
--- The state after a byte, without regard to its role.
+-- The state after a byte, without regard to the byte's role.
 abbrev pub passed : Option ℕ → ℕ → Layout → Layout
 passed line b at = record {
   break_point = next_break_point at.break_point b;
@@ -84,8 +87,8 @@ passed line b at = record {
   brackets = at.brackets;
 }
 
--- The state after a bracket is opened. `room` is the number of its bytes if it fits its line,
--- otherwise 0.
+-- The state after a bracket is opened. If the bracket fits its line, `room` is the bracket's number
+-- of bytes, and otherwise 0.
 abbrev pub opened : ℕ → Bool → BrokenBracket → Layout → Layout
 opened room fresh bracket at =
     if nat_lt 0 room then record at { flat = room; parted = false }
@@ -96,7 +99,7 @@ list_room at (Some (brackets.Chain indent)) bytes =
     if at.parted then 0 else within at.left (to_close at.break_point 0 bytes)
 list_room at top bytes = within at.left (to_close at.break_point 0 bytes)
 
--- The state after a byte with this role, before these bytes.
+-- The state after a byte with this role. `bytes` are the bytes after the byte.
 abbrev pub marked : ByteRole → List ℕ → Layout → Layout
 marked marks.Opens bytes at =
     opened (within at.left (to_close at.break_point 0 bytes)) true
@@ -108,7 +111,7 @@ marked marks.Parts bytes at = record at { parted = true }
 marked marks.Closes bytes at = record at { parted = false; brackets = others at.brackets }
 marked marks.Other bytes at = at
 
--- The state after a byte, before these bytes.
+-- The state after a byte. `bytes` are the bytes after the byte.
 abbrev pub behind : Option ℕ → ℕ → List ℕ → Layout → Layout
 behind line b bytes at =
     if nat_lt 0 at.flat then passed line b at
@@ -126,7 +129,7 @@ start = record {
   brackets = [];
 }
 
--- The pretty text from a state on.
+-- The pretty text of the bytes from a state on.
 abbrev pub laid : Layout → List ℕ → List ℕ
 laid at [] = []
 laid at (b ∷ bytes) =

@@ -1,6 +1,5 @@
--- Lines are narrow where this is possible: if a line has more than 80 bytes, then it contains no
--- position at which it could be broken. This holds for texts in which brackets occur as in the
--- texts of values.
+-- Lines are narrow. If a line has more than 80 bytes, then it contains no position at which it
+-- could be broken. The law is for texts in which brackets occur as in the texts of values.
 use Rattle.std.specs.Prelude.{◌≡◌, ◌≢◌, ◌+◌, ◌≤◌, ◌⊎◌, ℕ, Bool, true, false, not, ◌&&◌, ◌||◌, ◌==◌}
 use Rattle.std.specs.Prelude.{if◌then◌else◌, List, [], ◌∷◌}
 use Rattle.std.specs.List.{AllByRecursion}
@@ -25,9 +24,12 @@ abbrev pub is_before_position : ByteRole → Bool
 is_before_position marks.Opens = true
 is_before_position mark = false
 
--- The facts of a line up to a byte: whether it has a byte besides blanks, the context of the next
--- byte, whether the line may be broken after the last byte, and whether a break position came after
--- a byte besides blanks.
+-- The facts of a line up to a byte:
+--
+-- - `begun`: the line has a byte besides blanks,
+-- - `break_point`: the context of the next byte,
+-- - `opened`: the line may be broken after the last byte,
+-- - `placed`: the line may be broken at a position after a byte besides blanks.
 pub record Seen : Type 0 where
   pub begun : Bool
   pub break_point : BreakPoint
@@ -48,11 +50,13 @@ seen_more seen b = record {
       && (seen.placed || (seen.opened || is_behind_position (mark_of seen.break_point b)));
 }
 
--- A line of that many bytes with these facts is narrow.
+-- A line with `columns` bytes and with these facts is narrow: it has at most 80 bytes, or cannot be
+-- broken.
 abbrev pub IsNarrow : ℕ → Seen → Type 0
 IsNarrow columns seen = (columns ≤ 80) ⊎ (seen.placed ≡ false)
 
--- Each line of a text is narrow, after this beginning of the first one.
+-- Each line of a text is narrow. The first line begins with `columns` bytes that have the facts
+-- `seen`.
 abbrev pub AreNarrow : ℕ → Seen → List ℕ → Type 0
 AreNarrow columns seen [] = IsNarrow columns seen
 AreNarrow columns seen (b ∷ text) =

@@ -18,7 +18,7 @@ MayBegin text = (has_no_blank text ≡ true) × (is_regular break_points.Outside
 abbrev pub IsPart : List ℕ → Type 0
 IsPart text = (rest : List ℕ) → MayFollow rest → MayBegin (text ++ rest)
 
--- The bytes have no role for brackets, and lead from one context to another.
+-- The bytes have no role for brackets, and lead from the first context to the second.
 abbrev pub Leads : BreakPoint → List ℕ → BreakPoint → Type 0
 Leads break_point [] to = break_point ≡ to
 Leads break_point (b ∷ bytes) to =

@@ -4,7 +4,8 @@ use Rattle.text_pretty.specs.declared.break_point.BreakPoint.TheVariants as brea
 use Rattle.text_pretty.specs.Lines.{pretty}
 use Rattle.text_pretty.specs.Narrow.{is_regular}
 
--- The plain text has this pretty text, and its brackets occur as in the texts of values.
+-- The plain text has this pretty text, and the brackets of the plain text occur as in the texts of
+-- values.
 abbrev pub IsLaid : List ℕ → List ℕ → Type 0
 IsLaid plain lines = (pretty plain ≡ lines) × (is_regular break_points.Outside plain ≡ true)
 
@@ -16,7 +17,7 @@ pub record Worked : Type 0 where
   pub empty_list : IsLaid
       (codes "[]")
       (codes "[]")
-  -- A list that does not fit: its rest has the indentation of the list.
+  -- A list that does not fit a line. The remaining items have the indentation of the list.
   pub long_list : IsLaid
       (codes "::(1001, ::(1002, ::(1003, ::(1004, ::(1005, ::(1006, ::(1007, ::(1008, ::(100"
       ++ codes "9, ::(1010, ::(1011, ::(1012, []))))))))))))")

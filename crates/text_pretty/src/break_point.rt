@@ -8,19 +8,19 @@ ghost use Rattle.text_pretty.specs.BreakPoints.{quoted_break_point, next_break_p
 #[derive(Clone, Copy)]
 pub enum BreakPoint {
     Outside,
-    /// After a byte of a name.
+    /// The byte follows a byte of a name.
     Name,
-    /// After a `[`.
+    /// The byte follows a `[`.
     Square,
-    /// After a `:`.
+    /// The byte follows a `:`.
     Colon,
-    /// In a string.
+    /// The byte is in a string.
     Text,
-    /// After a backslash in a string.
+    /// The byte follows a backslash in a string.
     TextEscape,
-    /// In a character.
+    /// The byte is in a character.
     Letter,
-    /// After a backslash in a character.
+    /// The byte follows a backslash in a character.
     LetterEscape,
 }
 
@@ -29,7 +29,7 @@ pub enum BreakPoint {
 pub enum ByteRole {
     /// The byte opens a bracket.
     Opens,
-    /// The byte opens the bracket around the first item and the rest of a list.
+    /// The byte opens the bracket around the first item and the remaining items of a list.
     OpensList,
     /// The byte separates two parts of a bracket.
     Parts,

@@ -7,13 +7,14 @@ use base_data::model::Memory;
 use std::alloc::Global;
 use std::marker::Model;
 
-/// An open broken bracket, with the indentation of the lines that begin with a separator of its
-/// parts.
+/// An open broken bracket. The number is the indentation of the lines that begin with a separator
+/// of its parts.
 #[derive(Clone, Copy)]
 pub enum BrokenBracket {
-    /// A bracket in which each part begins a line, and the closing bracket too.
+    /// A bracket in which each part begins a line. The closing bracket begins a line, too.
     Block(u8),
-    /// The first item and the rest of a list. The rest begins a line.
+    /// The bracket around the first item and the remaining items of a list. The remaining items
+    /// begin a line.
     Chain(u8),
 }
 
@@ -48,7 +49,7 @@ impl Brackets {
         Ok(())
     }
 
-    /// Closes the innermost bracket, if there is one.
+    /// Closes the innermost bracket, if a bracket is open.
     pub fn pop(&mut self)
         ensures { self.new ≡ others self.old }
     {

@@ -1,4 +1,4 @@
-//! Whether the rest of a bracket fits the current line.
+//! Whether the remaining bytes of a bracket fit the current line.
 
 ghost use Rattle.std.specs.Prelude.{◌≡◌, ◌+◌, ◌<◌, ◌^◌};
 ghost use Rattle.text_pretty.specs.Fit.{closing_length, depth_after, to_close, at_most, within};
@@ -34,7 +34,7 @@ fn at_most(left: usize, n: usize) -> usize
 }
 
 /// Returns the number of bytes to the end of the innermost bracket, with its closing bracket, if
-/// they are at most `left`. Otherwise returns 0.
+/// the number is at most `left`. Otherwise returns 0.
 pub fn bytes_to_close(left: usize, break_point: BreakPoint, bytes: &[u8]) -> usize
     ensures { result ≡ within left (to_close break_point 0 bytes.now) }
 {

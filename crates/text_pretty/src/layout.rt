@@ -19,7 +19,7 @@ pub struct Layout {
     pub left: usize,
     // The number of bytes left of a bracket that fits its line, or 0 outside of such a bracket.
     pub flat: usize,
-    // True if a broken bracket was opened right before.
+    // True if the byte before the position opened a broken bracket.
     pub fresh: bool,
     // True if the position is right after a separator of two parts.
     pub parted: bool,
@@ -45,7 +45,8 @@ fn base(top: Option<BrokenBracket>) -> u8
     }
 }
 
-/// Returns the indentation of a bracket that opens in this one.
+/// Returns the indentation of a bracket that opens in the bracket `top`, or outside of all
+/// brackets. `parted` is true after a separator.
 fn child_indent(parted: bool, top: Option<BrokenBracket>) -> u8
     ensures { result ≡ child_indent parted top }
 {
@@ -56,7 +57,8 @@ fn child_indent(parted: bool, top: Option<BrokenBracket>) -> u8
     }
 }
 
-/// Returns the indentation of the line that begins with this closing bracket, if it begins a line.
+/// Returns the indentation of the line that begins with this closing bracket, if the closing
+/// bracket begins a line.
 fn closing_line(left: usize, byte: u8, top: Option<BrokenBracket>) -> Option<u8>
     ensures { result ≡ closing_line left byte top }
 {
@@ -100,8 +102,8 @@ impl Layout {
         }
     }
 
-    // Returns the indentation of the line that begins with this byte, if it begins a line. The byte
-    // has this mark and is outside of brackets that fit their line.
+    // Returns the indentation of the line that begins with this byte, if the byte begins a line.
+    // The byte has the role `mark`, and is outside of brackets that fit their line.
     fn line_at(&self, mark: ByteRole, byte: u8) -> Option<u8>
         ensures { result ≡ line_at self.now mark byte }
     {
@@ -119,7 +121,8 @@ impl Layout {
         }
     }
 
-    /// Returns the indentation of the line that begins with the next byte, if it begins a line.
+    /// Returns the indentation of the line that begins with the next byte, if the next byte begins
+    /// a line.
     pub fn line_before(&self, byte: u8) -> Option<u8>
         ensures { result ≡ line_before self.now byte }
     {
@@ -129,7 +132,7 @@ impl Layout {
         self.line_at(mark_of(self.break_point, byte), byte)
     }
 
-    // Advances over a byte, without regard to its mark.
+    // Advances over a byte, without regard to the byte's role.
     fn pass(&mut self, line: Option<u8>, byte: u8)
         ensures { self.new ≡ passed line byte self.old }
     {
@@ -139,7 +142,8 @@ impl Layout {
         self.fresh = false;
     }
 
-    // Opens a bracket. `room` is the number of its bytes if it fits its line, otherwise 0.
+    // Opens a bracket. If the bracket fits its line, `room` is the bracket's number of bytes, and
+    // otherwise 0.
     fn enter(&mut self, room: usize, fresh: bool, bracket: BrokenBracket) -> Result<(), Memory>
         ensures { OnOk result (self.new ≡ opened room fresh bracket self.old) }
     {
@@ -152,8 +156,8 @@ impl Layout {
         self.brackets.push(bracket)
     }
 
-    // Returns the number of bytes of a list if it fits its line, otherwise 0. In a broken list, the
-    // rest after each item is broken too.
+    // Returns the number of bytes to the end of a list, if these bytes fit the line, and otherwise
+    // 0. The remaining items of a broken list are broken, too.
     fn list_room(&self, top: Option<BrokenBracket>, bytes: &[u8]) -> usize
         ensures { result ≡ list_room self.now top bytes.now }
     {
@@ -163,7 +167,8 @@ impl Layout {
         }
     }
 
-    // Updates the state for the mark of the byte that was passed. `bytes` are the bytes after it.
+    // Updates the state for the role `mark` of the byte that was passed. `bytes` are the bytes
+    // after the passed byte.
     fn meet(&mut self, mark: ByteRole, bytes: &[u8]) -> Result<(), Memory>
         ensures { OnOk result (self.new ≡ marked mark bytes.now self.old) }
     {
@@ -191,7 +196,8 @@ impl Layout {
         }
     }
 
-    /// Advances over a byte. `bytes` are the bytes after it.
+    /// Advances over a byte and updates the state for the byte's role. `bytes` are the bytes after
+    /// the passed byte.
     pub fn go_over(&mut self, line: Option<u8>, byte: u8, bytes: &[u8]) -> Result<(), Memory>
         ensures { OnOk result (self.new ≡ behind line byte bytes.now self.old) }
     {

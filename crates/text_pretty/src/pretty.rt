@@ -7,7 +7,7 @@ use crate::layout::Layout;
 use base_data::model::Memory;
 use std::alloc::Global;
 
-/// Appends the pretty text of `plain`, which is assumed to begin a line.
+/// Appends the pretty text of `plain`, which begins at the first column of a line.
 pub fn write_pretty(text: &mut Vec<u8>, alloc: Global, plain: &[u8]) -> Result<(), Memory>
     ensures { OnOk result (text.new.items ≡ text.old.items ++ pretty plain.now) }
 {
@@ -21,7 +21,7 @@ pub fn write_pretty(text: &mut Vec<u8>, alloc: Global, plain: &[u8]) -> Result<(
     Ok(())
 }
 
-/// Appends a line feed and the indentation, if a line begins here.
+/// Appends a line feed and the indentation, if a line begins at the current position.
 fn write_line(text: &mut Vec<u8>, line: Option<u8>) -> Result<(), Memory>
     ensures { OnOk result (text.new.items ≡ text.old.items ++ line_text line) }
 {
@@ -34,7 +34,7 @@ fn write_line(text: &mut Vec<u8>, line: Option<u8>) -> Result<(), Memory>
     }
 }
 
-/// Appends that many blanks.
+/// Appends `many` blanks.
 fn write_blanks(text: &mut Vec<u8>, many: u8) -> Result<(), Memory>
     ensures { OnOk result (text.new.items ≡ text.old.items ++ replicate many 32) }
 {

@@ -11,7 +11,7 @@ mod leaves;
 mod strings;
 
 pub use at_type::{write_int_at, write_object_at};
-pub use bytes::{write, write_few};
+pub use bytes::write_few;
 pub use dump::{write_object_line, write_root_line};
 pub use escape::{write_char, write_escaped, write_string};
 pub use frame::{Frame, block_frame, doubles_frame_of};

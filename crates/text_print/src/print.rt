@@ -1,7 +1,7 @@
 //! Prints values: a graph without a type (`dump`), and a value at a type with labels for the
-//! objects that occur more than once (`show`). It also compares a given text with the text of a
-//! value (`is_shown`) without building that text as a whole. The definitions of the texts are in
-//! other crates.
+//! objects that occur more than once (`show`). `is_shown` compares a given text with the text of a
+//! value without building the value's whole text. The definitions of the texts are in other
+//! modules.
 
 mod block;
 mod dumped;

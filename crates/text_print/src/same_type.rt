@@ -1,6 +1,7 @@
-//! Laws: values that are isomorphic (`Isomorphism`, equal up to the numbering of objects) have the
-//! same types, the same first fault and the same text. So a report about a value that was read also
-//! holds for the value that is written. The crate contains no code besides lemma functions.
+//! Laws about isomorphic values: isomorphic values have the same types, the same first fault and
+//! the same text. Two values are isomorphic (`Isomorphism`) if they are equal up to the numbering
+//! of objects. A report about a value that was read therefore also holds for the value that is
+//! written. The module contains only lemma functions.
 
 mod laws;
 

@@ -1,7 +1,7 @@
-//! Defines the text of a value at a type, with labels for shared parts, the text of the part at a
-//! path, and the text of an untyped graph. The crate contains only definitions, examples of them
-//! worked out by hand (`Rows`), and laws about them (`laws`). The code that prints values is in
-//! other crates.
+//! Defines the text of a value at a type, with labels for shared parts. Also defines the text of
+//! the part at a path, and the text of an untyped graph. The module contains only definitions,
+//! examples of texts worked out by hand (`Rows`), and laws (`laws`). The code that prints values is
+//! in other modules.
 
 pub mod laws;
 

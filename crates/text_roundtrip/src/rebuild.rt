@@ -1,8 +1,8 @@
-//! Proves that the text of a value is read back as the value. This holds for each type that comes
-//! from an accepted text, over declarations of an accepted text. The names of such types are
-//! lexemes, and each has one meaning. The main law is `values_are_rebuilt`: the value that is read
-//! is isomorphic, with the same type, text and canonical bytes. Each function is a lemma function:
-//! it does nothing, and its contract is the law.
+//! Proves that the text of a value is read back as the value, for each type that comes from an
+//! accepted text, over declarations of an accepted text. The names of such types are lexemes, and
+//! each name has one meaning. The main law is `values_are_rebuilt`: the value that is read is
+//! isomorphic to the given value, with equal type, text and canonical bytes. Each function is a
+//! lemma function, whose contract is a law.
 
 mod laws;
 

@@ -1,7 +1,7 @@
 //! Checks sets and maps of OCaml's standard library as search trees: their heights, their balance
 //! and their order. The law `sound_trees_are_search_trees` says that a value has no fault if and
-//! only if all its sets and maps are search trees. The law `tree_verdicts_are_one` says that each
-//! value has exactly one verdict.
+//! only if all sets and maps in the value are search trees. The law `tree_verdicts_are_one` says
+//! that each value has exactly one verdict.
 
 mod element_span;
 mod judging;

@@ -1,4 +1,6 @@
 pub mod SpineLemmas
+pub mod SumLemmas
+pub mod BaseLemmas
 pub mod ReplacedLemmas
 pub mod PlainLemmas
 pub mod BracketLemmas

@@ -1,6 +1,6 @@
 //! Builds the table of the types that a type reaches: their shapes, heads, names and equivalence
-//! classes. `build` promises that the table represents exactly these types (`IsTypeTable`), or that
-//! there are more than 65,536 of them.
+//! classes. `build` promises that the table represents exactly the reached types (`IsTypeTable`),
+//! or that the type reaches more than 65,536 types.
 
 mod discovered_types;
 mod fault;

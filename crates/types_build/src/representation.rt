@@ -1,6 +1,6 @@
 //! Computes, for types over declarations, their heads, their shapes and the names of their
-//! constructors, fields and tags. Types are stored in a table and referred to by index. The results
-//! equal the definitions `head`, `shape` and `names_of` over the declarations.
+//! constructors, fields and tags. A store contains the types, and an index refers to each type. The
+//! results equal the definitions `head`, `shape` and `names_of` over the declarations.
 
 mod borrowed;
 mod bracket;
@@ -18,6 +18,7 @@ mod replaced;
 mod representation;
 mod settled_abbreviations;
 mod spine;
+mod sum;
 mod trees;
 
 pub use borrowed::Stored;

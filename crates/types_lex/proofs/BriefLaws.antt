@@ -19,7 +19,7 @@ use Rattle.types_lex.specs.Brief.{lone_symbol, IsBrief, FindsBrief, StepsBrief}
 use Rattle.types_lex.specs.Scan.{begins_with, cased_form, reserved_or, keyword_of, word_form, in_range, found, found_at, form_at, symbol_form, pair_at, pair_symbol, single_symbol, string_at, lexeme_at, step_at, word_of}
 use Rattle.types_lex.proofs.CharLaws.{chosen, some_is, no_value, ReadsChars, reads_plain}
 
--- ---- strings
+-- ---- brief strings
 
 pub reads_to_end : (text : List ℕ) (at : ℕ) (value : List ℕ) (end : ℕ) → ReadsChars text at value → end ≡ at + prefix_len is_plain (drop at text) → (more : List ℕ) × ReadsChars text end more
 reads_to_end text at value end r is = (_, reads_plain text at value end _ r (record { end_is = is; new_is = refl }))
@@ -149,7 +149,8 @@ unfolding step_at lexeme_at form_at symbol_form pair_at pair_symbol single_symbo
 close_step [] = refl
 close_step (b ∷ bs) = refl
 
--- The byte is the one tested, or one of the others.
+-- If a byte is the tested byte or satisfies the other tests, then the step at the byte is the
+-- symbol.
 one_symbol : (b k : ℕ) (bs : List ℕ) (s j : Symbol) (others : Option Symbol) → step_at (k ∷ bs) ≡ symbol_step j → cond (eqb b k) (Some j) others ≡ Some s
     → (others ≡ Some s → step_at (b ∷ bs) ≡ symbol_step s) → step_at (b ∷ bs) ≡ symbol_step s
 one_symbol b k bs s j others known e next =
@@ -184,9 +185,9 @@ steps_whole (Ok (Gap n)) e is = is
 steps_whole (Ok (Word w)) e is = subst (StepsBrief (Ok (Word w))) (sym is) (refl, inl refl)
 steps_whole (Err f) e is = is
 
--- ---- found lexemes
+-- ---- the lexeme with its contents
 
--- The whole lexeme at that position.
+-- The step finds a lexeme with its contents, and `w` is the lexeme with or without its contents.
 pub record Full (w : FoundLexeme) (e : Result LexStep LexFault) : Type 0 where
   pub full : FoundLexeme
   pub is : e ≡ Ok (Word full)

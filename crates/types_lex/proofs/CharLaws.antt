@@ -12,7 +12,7 @@ use Rattle.types_lex.specs.declared.found_lexeme.FoundLexeme.{FoundLexeme}
 use Rattle.types_lex.specs.Lexeme.{is_plain, Quoted, form_bytes, number_in, CharForm, Plain, Named, Decimal, Hexadecimal, char_bytes, char_value, named_char, IsCharForm}
 use Rattle.types_lex.specs.Scan.{hexadecimal_at, decimal_at, escape_at, char_at, char_found, chars_of, ended_string, string_at, TakesPlain}
 
--- The branch of a test, by its result.
+-- If the result of a test is known, then one branch of the conditional is the value.
 pub chosen : {A : Type 0} (b : Bool) (x y z : A) → cond b x y ≡ z → ((b ≡ true) × (x ≡ z)) ⊎ ((b ≡ false) × (y ≡ z))
 chosen true x y z e = inl (refl, e)
 chosen false x y z e = inr (refl, e)
@@ -23,7 +23,7 @@ no_value e = cc
 pub some_is : {A : Type 0} {x y : A} → Some x ≡ Some y → x ≡ y
 some_is e = cc
 
--- The form is valid, and the text begins with its bytes.
+-- The character form is valid, and the text begins with the bytes of the form.
 abbrev pub IsCharAt : ℕ → List ℕ → CharForm → Type 0
 IsCharAt quote text c = IsCharForm quote c × (text ≡ char_bytes c ++ drop (length (char_bytes c)) text)
 
@@ -75,7 +75,7 @@ char_at-is quote (b ∷ bs) c e =
       ]
     ]
 
--- ---- the converse
+-- ---- a valid form is found
 
 digits_apart : (d : ℕ) → is_ascii_digit d ≡ true → (is_some (named_char d) ≡ false) × (eqb d 120 ≡ false)
 digits_apart d e =
@@ -121,7 +121,7 @@ char_bytes-positive (Named b) = omega arith
 char_bytes-positive (Decimal d e f) = omega arith
 char_bytes-positive (Hexadecimal h l) = omega arith
 
--- The part of a string that is read up to a position.
+-- The characters of the text up to position `at` are valid and have the value `value`.
 pub record ReadsChars (text : List ℕ) (at : ℕ) (value : List ℕ) : Type 0 where
   pub chars : List CharForm
   pub each : AllByRecursion (IsCharForm 34) chars
@@ -130,7 +130,8 @@ pub record ReadsChars (text : List ℕ) (at : ℕ) (value : List ℕ) : Type 0 w
   pub inside : at ≤ length text
   pub values : value ≡ map char_value chars
 
--- The character of a found value.
+-- If a byte and a length were found, then the character at the start of the text has this byte and
+-- length.
 pub found_char : (o : Option CharForm) (value len : ℕ) → Some (value, len) ≡ char_found o → (c : CharForm) × (o ≡ Some c) × (value ≡ char_value c) × (len ≡ length (char_bytes c))
 found_char None value len e = absurd (no_value (sym e))
 found_char (Some c) value len e =
@@ -202,7 +203,7 @@ all_of_prefix p (b ∷ bs) = by_first (p b) refl (all_of_prefix p bs) where
       rw (e, one_more) (and_from (p b) (list_all p (take (prefix_len p bs) bs)) e rest)
   by_first false e rest = rw e refl
 
--- The state before the first character.
+-- Before the first character, the value is empty.
 pub reads_none : (text : List ℕ) → ReadsChars text 0 []
 reads_none text =
     record { chars = []; each = tt; is = refl; long = refl; inside = omega arith; values = refl }
@@ -219,13 +220,14 @@ reads_plain text at value end new r t =
 pub plain_onward : (text : List ℕ) (at : ℕ) (value : List ℕ) (end : ℕ) (new : List ℕ) → TakesPlain text at value end new → at ≤ end
 plain_onward text at value end new t = omega (arith, t.end_is)
 
--- Each iteration of the loop advances by at least one byte.
+-- If a character is read, then the loop advances by at least one byte and the characters stay
+-- valid.
 pub reads_further : (text : List ℕ) (at : ℕ) (value : List ℕ) (byte len : ℕ) → ReadsChars text at value → Some (byte, len) ≡ char_found (char_at 34 (drop at text)) → length text - (at + len) < length text - at
 reads_further text at value byte len r e =
     let f = found_char (char_at 34 (drop at text)) byte len e in
     omega (arith, (reads_more text at value byte len r e).inside, f.3, char_bytes-positive f.0)
 
--- The lexer reads exactly the characters of the string.
+-- If a text begins with valid characters, then the lexer reads exactly these characters.
 pub chars_of-forms : (n : ℕ) (cs : List CharForm) (rest : List ℕ) → AllByRecursion (IsCharForm 34) cs → char_at 34 rest ≡ None → length (flat_map char_bytes cs) ≤ n → chars_of n (flat_map char_bytes cs ++ rest) ≡ (cs, rest)
 unfolding chars_of
 chars_of-forms zero [] rest each none le = refl

@@ -9,14 +9,14 @@ pub plus-plus : (m n : ℕ) (o : Option ℕ) → plus m (plus n o) ≡ plus (m +
 plus-plus m n None = refl
 plus-plus m n (Some k) = ap (λ (i : ℕ). Some i) (omega arith)
 
--- The next two bytes.
+-- The bytes from position `i` on begin with the bytes at positions `i` and `i + 1`.
 at-two : (xs : List ℕ) (i : ℕ) → i + 1 < length xs → drop i xs ≡ get_or xs i 0 ∷ (get_or xs (i + 1) 0 ∷ drop (i + 2) xs)
 at-two xs i lt =
     let second = drop_more xs (i + 1) 0 lt in
     let e : i + 1 + 1 ≡ i + 2 = omega arith in
     drop_more xs i 0 (omega arith) ∙ ap (λ t. get_or xs i 0 ∷ t) (second ∙ ap (λ n. get_or xs (i + 1) 0 ∷ drop n xs) e)
 
--- The effect of the next two bytes on the end of the comment.
+-- The meaning of the next two bytes determines the end of the comment.
 pub closing-at : (xs : List ℕ) (i depth : ℕ) (b : CommentDelimiter) → i + 1 < length xs → b ≡ bracket_of (get_or xs i 0) (get_or xs (i + 1) 0)
     → closing depth (drop i xs) ≡ closing_by b depth (closing (suc depth) (drop (i + 2) xs)) (closing (pred depth) (drop (i + 2) xs)) (closing depth (drop (i + 1) xs))
 unfolding closing
@@ -34,7 +34,8 @@ closing-short (y ∷ z ∷ ys) depth le = absurd (omega arith)
 pub closing-end : (xs : List ℕ) (i depth : ℕ) → length xs ≤ i + 1 → closing depth (drop i xs) ≡ None
 closing-end xs i depth le = closing-short (drop i xs) depth (omega (arith, length-drop i xs))
 
--- The loop invariant: the bytes so far plus the bytes up to the end are the total.
+-- The loop invariant: the bytes so far and the bytes up to the end of the comment add up to
+-- `total`.
 module _ (xs : List ℕ) (i depth : ℕ) (total : Option ℕ) (lt : i + 1 < length xs) (so_far : plus i (closing depth (drop i xs)) ≡ total) where
   pub opens : Opening ≡ bracket_of (get_or xs i 0) (get_or xs (i + 1) 0) → plus (i + 2) (closing (depth + 1) (drop (i + 2) xs)) ≡ total
   opens is =

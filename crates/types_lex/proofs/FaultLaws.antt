@@ -1,5 +1,5 @@
--- The lexer finds the fault of the grammar, and whatever it finds is a part or a fault of the
--- grammar.
+-- The lexer finds each fault of the grammar, and each result of the lexer is a part or a fault of
+-- the grammar.
 use Rattle.std.proofs.Common.{◌≡◌, ◌≢◌, ℕ, suc, ◌+◌, ◌≤◌, false, ◌&&◌, eqb, List, [], ◌∷◌, ◌++◌, length, drop, Option, Some, None, Result, Ok, Err, refl, sym, ap, subst, ◌∙◌, arith, inl, inr, length-append}
 use Rattle.std.specs.List.{flat_map, AllByRecursion}
 use Rattle.std.proofs.lemmas.Bool.{eqb-true, eqb-false, cases_Bool}
@@ -17,7 +17,7 @@ use Rattle.types_lex.proofs.TakenLaws.{taken-found, none-found, found-none}
 use Rattle.types_lex.proofs.InsideLaws.{closing-inside, inside-closing}
 use Rattle.types_lex.proofs.StepLaws.{part_step, comment_test, no_comment_test, no_comment, comment_regrouped, string_form-at, lexeme-some, lexeme-none, step-lexeme, step-taken, is-in_range, is-too_big, too_big-is}
 
--- The step yields this fault, with its position counted from `position`.
+-- The step at the text returns this fault, if positions are counted from `position`.
 abbrev pub StepsTo : ℕ → List ℕ → LexFault → Type 0
 StepsTo position text fault = (found : LexFault) × (step_at text ≡ Err found) × (moved position found ≡ fault)
 
@@ -30,7 +30,8 @@ none-is text free = by_char (char_at 34 text) refl
     by_char None e = refl
     by_char (Some c) e = let is = char_at-is 34 text c e in absurd (free c (drop (length (char_bytes c)) text) is.0 (sym is.1))
 
--- The step at a string that ends at the rest.
+-- If a string begins the text and no character begins at `rest`, then the step at the text is the
+-- fault of the string.
 step-string : (text rest : List ℕ) (opens : OpensString text rest) → char_at 34 rest ≡ None → step_at text ≡ word_of (ended_string opens.0 rest)
 unfolding step_at lexeme_at string_at
 step-string text rest opens none =
@@ -93,7 +94,7 @@ abbrev pub IsStepAt : List ℕ → Result LexStep LexFault → Type 0
 IsStepAt text (Ok step) = IsPartAt text step
 IsStepAt text (Err fault) = IsFaultAt text fault
 
--- A comment, or an unterminated comment.
+-- If a comment begins the text, then the step is a comment or the fault of an unterminated comment.
 step_at-comment : (more : List ℕ) → IsStepAt (40 ∷ 42 ∷ more) (gap_of (closing 0 more))
 step_at-comment more = by_end (closing 0 more) refl
   where
@@ -114,7 +115,8 @@ step_at-comment more = by_end (closing 0 more) refl
           step_is = ap (λ n. steps.Gap n) (omega (arith, end.long, length-append (flat_map cut_bytes end.cuts) (42 ∷ 41 ∷ [])));
         }
 
--- A form, in range or not.
+-- If a form begins the text, then the step is the form's lexeme or the fault of an integer out of
+-- range.
 step_at-form : (text : List ℕ) (form : Form) → form_at text ≡ Some form → ((more : List ℕ) → text ≢ 40 ∷ 42 ∷ more) → IsStepAt text (word_of (found_at (Some form)))
 step_at-form text form e free =
     let taken = taken-found text form e free in
@@ -126,8 +128,8 @@ step_at-form text form e free =
 no_char-starts : (text : List ℕ) → char_at 34 text ≡ None → StartsNoChar text
 no_char-starts text none c more is e = let both : None ≡ Some c = sym none ∙ ap (char_at 34) (sym e) ∙ char_at-form 34 c more is in no_value both
 
--- If no character of a string begins here, and the byte is no backslash and no quote, then it is a
--- line feed.
+-- If no character of a string begins with a byte, and the byte is no backslash and no quote, then
+-- the byte is a line feed.
 none-line : (b : ℕ) (bs : List ℕ) → char_at 34 (b ∷ bs) ≡ None → eqb b 34 ≡ false → eqb b 92 ≡ false → b ≡ 10
 unfolding char_at
 none-line b bs none quote backslash =
@@ -136,7 +138,7 @@ none-line b bs none quote backslash =
       | inr other ↦ let some : Some (Plain b) ≡ None = rw (backslash, quote, other) at none in absurd cc
     ]
 
--- A string without its closing quote.
+-- If a string has no closing quote, then the text has the fault of the string.
 string_faults : (bs : List ℕ) (chars : List CharForm) (rest : List ℕ) → OpensString (34 ∷ bs) rest → AllByRecursion (IsCharForm 34) chars → bs ≡ flat_map char_bytes chars ++ rest → char_at 34 rest ≡ None → begins_with 34 rest ≡ false → IsStepAt (34 ∷ bs) (word_of (ended_string chars rest))
 string_faults bs chars [] opens each is none unclosed = record { breaks = λ position. (omega arith, inl opens); inside = omega arith }
 string_faults bs chars (b ∷ after) opens each is none unclosed =

@@ -42,7 +42,7 @@ quote_form-begins bs form e = by_character (character_form bs) refl e
 
 -- ---- strings
 
--- The characters that are read are a prefix of the text.
+-- The characters that are read are valid and are a prefix of the text.
 abbrev pub AreChars : List ℕ → List CharForm × List ℕ → Type 0
 AreChars text read = AllByRecursion (IsCharForm 34) read.0 × (text ≡ flat_map char_bytes read.0 ++ read.1)
 
@@ -58,7 +58,7 @@ chars_of-are (suc n) text = by_char (chars_of-are n) (char_at 34 text) refl
         let more = others (drop (length (char_bytes c)) text) in
         ((is.0, more.0), is.1 ∙ ap (λ t. char_bytes c ++ t) more.1 ∙ sym (append_assoc (char_bytes c) _ _))
 
--- If there is room for the whole text, then reading ends where no character begins.
+-- If the bound is at least the length of the text, then reading ends where no character begins.
 pub chars_of-stop : (n : ℕ) (text : List ℕ) → length text ≤ n → char_at 34 (chars_of n text).1 ≡ None
 unfolding chars_of char_at
 chars_of-stop zero [] le = refl

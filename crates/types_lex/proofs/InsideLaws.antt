@@ -1,4 +1,4 @@
--- The lexer finds the end of a comment exactly where its brackets close.
+-- The lexer finds the end of a comment exactly where the brackets of the comment close.
 use Rattle.std.proofs.Common.{◌≡◌, ℕ, zero, suc, pred, ◌+◌, false, ◌&&◌, eqb, List, [], ◌∷◌, ◌++◌, length, Option, Some, None, refl, sym, ap, subst, ◌∙◌, arith, inl, inr}
 use Rattle.std.specs.List.{flat_map}
 use Rattle.std.proofs.lemmas.Bool.{eqb-true, and_parts, or_parts, or_from, cases_Bool}
@@ -12,7 +12,7 @@ use Rattle.types_lex.proofs.CharLaws.{no_value, some_is}
 bracket_of-neither : (a b : ℕ) → is_bracket a b ≡ false → bracket_of a b ≡ Neither
 bracket_of-neither a b e = let apart = or_parts (eqb a 40 && eqb b 42) (eqb a 42 && eqb b 41) e in rw (apart.0, apart.1) refl
 
--- The kinds of two bytes.
+-- What two bytes are in a comment: an opening bracket, a closing bracket, or neither.
 data Kind (a b : ℕ) : Type 0 where
   is_open : a ≡ 40 → b ≡ 42 → bracket_of a b ≡ Opening → Kind a b
   is_close : a ≡ 42 → b ≡ 41 → bracket_of a b ≡ Closing → Kind a b
@@ -34,7 +34,7 @@ kind_of a b =
 abbrev pub inside_text : List Cut → List ℕ → List ℕ
 inside_text cuts after = flat_map cut_bytes cuts ++ 42 ∷ 41 ∷ after
 
--- A single byte is skipped.
+-- If no bracket begins at a byte, then the byte is skipped.
 closing-other : (depth b : ℕ) (rest : List ℕ) → begins_bracket (b ∷ rest) ≡ false → closing depth (b ∷ rest) ≡ plus 1 (closing depth rest)
 unfolding closing
 closing-other depth b [] e = refl
@@ -51,7 +51,8 @@ closing-inside (Other b ∷ cuts) depth after nests cut =
 
 -- ---- what the lexer finds is the inside of a comment
 
--- The first `n` bytes are units that are balanced from this depth on, and the end of the comment.
+-- The first `n` bytes are units and the end of the comment. The brackets of the units are balanced
+-- if `depth` brackets are open at the start.
 pub record IsEnd (depth : ℕ) (text : List ℕ) (n : ℕ) : Type 0 where
   pub cuts : List Cut
   pub after : List ℕ
@@ -64,7 +65,7 @@ plus-some : (k n : ℕ) (o : Option ℕ) → plus k o ≡ Some n → (m : ℕ) �
 plus-some k n None e = absurd (no_value e)
 plus-some k n (Some m) e = (m, refl, sym (some_is e))
 
--- One comment deeper, with the same end.
+-- If the text after `(*` ends a comment one level deeper, then the text ends the comment.
 end-opens : (depth m : ℕ) (bs : List ℕ) → IsEnd (suc depth) bs m → IsEnd depth (40 ∷ 42 ∷ bs) (2 + m)
 end-opens depth m bs end = record {
   cuts = Opens ∷ end.cuts;
@@ -98,7 +99,7 @@ end-other depth m a bs other end = record {
 end-here : (bs : List ℕ) → IsEnd 0 (42 ∷ 41 ∷ bs) 2
 end-here bs = record { cuts = []; after = bs; is = refl; long = refl; nests = refl; cut = tt }
 
--- Case: a closing bracket.
+-- Case: the next two bytes are a closing bracket.
 at_close : (depth n : ℕ) (bs : List ℕ) (deeper on : Option ℕ) → ((d m : ℕ) → closing d bs ≡ Some m → IsEnd d bs m) → closing_by Closing depth deeper (closing (pred depth) bs) on ≡ Some n → IsEnd depth (42 ∷ 41 ∷ bs) n
 at_close zero n bs deeper on others e = subst (IsEnd 0 (42 ∷ 41 ∷ bs)) (some_is e) (end-here bs)
 at_close (suc depth) n bs deeper on others e =

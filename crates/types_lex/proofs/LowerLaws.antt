@@ -1,4 +1,4 @@
--- The lowercase name at the start of a text, or its absence.
+-- The lowercase name at the start of a text, or the absence of a lowercase name.
 use Rattle.std.proofs.Common.{◌≡◌, ℕ, suc, ◌+◌, ◌<◌, true, false, List, [], ◌∷◌, ◌++◌, length, take, get_or, Option, Some, None, Result, Ok, Err, refl, sym, ap, ◌∙◌, arith, inl, inr}
 use Rattle.std.specs.List.{prefix_len, take_while}
 use Rattle.std.proofs.lemmas.Bool.{true≢false, cases_Bool}

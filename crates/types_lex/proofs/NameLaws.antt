@@ -13,13 +13,13 @@ use Rattle.types_lex.proofs.WordLaws.{keyword_of-some}
 use Rattle.types_lex.proofs.NumberLaws.{prefix_passes}
 use Rattle.types_lex.proofs.CharLaws.{no_value}
 
--- The form is valid, and the text begins with it.
+-- The form is valid, and the text begins with the bytes of the form.
 abbrev pub Begins : List ℕ → Form → Type 0
 Begins text form = IsForm form × ((rest : List ℕ) × (text ≡ form_bytes form ++ rest))
 
 -- ---- classes of bytes
 
--- If one byte passes a test and another fails it, then the two differ.
+-- If byte `b` passes a test and byte `n` fails the test, then the bytes differ.
 pub apart : (p : ℕ → Bool) (n b : ℕ) → p n ≡ false → p b ≡ true → eqb b n ≡ false
 apart p n b fails passes = ne_eqb b n (λ e. false≢true (sym fails ∙ ap p (sym e) ∙ passes))
 
@@ -33,7 +33,7 @@ name_byte-from_start b e =
       | inr upper ↦ or_left _ _ (or_left _ _ (or_left _ _ (or_right _ _ upper)))
     ]
 
--- ---- runs
+-- ---- runs of bytes that pass a test
 
 pub take_while-more : (p : ℕ → Bool) (xs ys : List ℕ) → list_all p xs ≡ true → take_while p (xs ++ ys) ≡ xs ++ take_while p ys
 take_while-more p [] ys all = refl
@@ -45,7 +45,7 @@ take_while-more p (x ∷ xs) ys all =
 take_while-cons : (p : ℕ → Bool) (b : ℕ) (bs : List ℕ) → p b ≡ true → take_while p (b ∷ bs) ≡ b ∷ take_while p bs
 take_while-cons p b bs e = take_while-more p (b ∷ []) bs (and_from _ _ e refl)
 
--- The name at the start of the text, if a name may start with the first byte.
+-- If a name may start with the first byte, then the text begins with a name.
 pub name_at : (starts : ℕ → Bool) (b : ℕ) (bs : List ℕ) → starts b ≡ true → is_name_byte b ≡ true → IsName starts (take_while is_name_byte (b ∷ bs))
 name_at starts b bs first name =
     let run = take_while-cons is_name_byte b bs name in

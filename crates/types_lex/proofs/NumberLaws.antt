@@ -21,7 +21,8 @@ number_in-push base (x ∷ xs) b =
     let l : length (xs ++ b ∷ []) ≡ length xs + 1 = omega (arith, length-append xs (b ∷ [])) in
     rw (l, e) (omega (arith, power-step base (value_of_digit x) (length xs)))
 
--- One more digit of a number that saturates at a limit.
+-- If one more digit is read, then the number that saturates at a limit is the exact number or the
+-- limit.
 stops-at : (base n d m limit : ℕ) → m ≡ min n limit → min (min (m * base) limit + d) limit ≡ min (base * n + d) limit
 stops-at zero n d m limit e = omega arith
 stops-at (suc k) n d m limit e =
@@ -30,7 +31,7 @@ stops-at (suc k) n d m limit e =
       | inr le ↦ let s : m ≡ limit = omega arith in rw s (omega arith)
     ]
 
--- The number with one more digit.
+-- If one more digit is read, then the saturating number is that of the longer digit sequence.
 pub number_in-more : (base : ℕ) (xs : List ℕ) (i n : ℕ) → i < length xs → n ≡ min (number_in base (take i xs)) (2 ^ 64 - 1) → min (min (n * base) (2 ^ 64 - 1) + value_of_digit (get_or xs i 0)) (2 ^ 64 - 1) ≡ min (number_in base (take (i + 1) xs)) (2 ^ 64 - 1)
 number_in-more base xs i n lt so_far = rw (take_more xs i 0 lt, number_in-push base (take i xs) (get_or xs i 0)) (stops-at base (number_in base (take i xs)) (value_of_digit (get_or xs i 0)) n (2 ^ 64 - 1) so_far)
 
@@ -43,7 +44,7 @@ pub list_all-hexdigit : (ds : List ℕ) → list_all is_ascii_digit ds ≡ true 
 list_all-hexdigit [] e = refl
 list_all-hexdigit (d ∷ ds) e = let p = and_parts (is_ascii_digit d) (list_all is_ascii_digit ds) e in rw (hexdigit-from_digit d p.0, list_all-hexdigit ds p.1) refl
 
--- The leading bytes that pass a test pass that test.
+-- The leading bytes that pass a test all pass the test.
 pub prefix_passes : (p : ℕ → Bool) (xs : List ℕ) → list_all p (take (prefix_len p xs) xs) ≡ true
 prefix_passes p [] = refl
 prefix_passes p (x ∷ xs) =

@@ -1,4 +1,4 @@
--- Sequences of parts, and the uniqueness of the reading of a text.
+-- Sequences of parts, and the proof that a text has only one reading.
 use Rattle.std.proofs.Common.{◌≡◌, ◌≢◌, ℕ, ◌+◌, ◌-◌, ◌<◌, ◌≤◌, List, [], ◌∷◌, ◌++◌, length, drop, Some, Result, Ok, Err, refl, sym, ap, subst, ◌∙◌, arith, inl, inr, length-append, append_assoc, ◌⊎◌, zero, suc}
 use Rattle.std.specs.Prelude.{IfOk, IfErr}
 use Rattle.std.specs.Global.{Vec}
@@ -38,7 +38,7 @@ lexemes_of-cons position (Separator b) parts = refl
 lexemes_of-cons position (Comment inside) parts = refl
 lexemes_of-cons position (Word form) parts = refl
 
--- No part is empty.
+-- The bytes of a valid form are not empty.
 form-positive : (form : Form) → IsForm form → 0 < length (form_bytes form)
 unfolding form_at
 form-positive form is = by_bytes (form_bytes form) (form-found form [] is).1
@@ -76,7 +76,7 @@ lexemes_push position (p ∷ parts) part =
 step_len-is : (text : List ℕ) (step : LexStep) (p : IsPartAt text step) → step_len step ≡ length (part_bytes p.part)
 step_len-is text step p = ap step_len (sym p.step_is) ∙ step_len-part p.part
 
--- A step advances by at least one byte.
+-- If a step is taken, then the position advances by at least one byte.
 pub reached_further : (text : List ℕ) (at : ℕ) (step : LexStep) → at ≤ length text → IsPartAt (drop at text) step → (0 < step_len step) × (at + step_len step ≤ length text)
 reached_further text at step le p =
     let len = step_len-is (drop at text) step p in
@@ -107,15 +107,15 @@ pub reached_fault : (text : List ℕ) (at : ℕ) (lexemes : List Lexeme) (fault 
 reached_fault text at lexemes fault r f =
     (r.parts, drop at text, r.are, r.is, subst (λ position. Breaks position (drop at text) (moved at fault)) r.long (f.breaks at))
 
--- The parts up to the end are all parts of the text.
+-- If parts reach the end of the text, then the lexemes among the parts are the lexemes of the text.
 pub reached_end : (text : List ℕ) (at : ℕ) (lexemes : List Lexeme) → Reached text at lexemes → length text ≤ at → Lexes text lexemes
 reached_end text at lexemes r end =
     let none : drop at text ≡ [] = drop_all at text end in
     (r.parts, subst (AreParts r.parts) none r.are, r.is ∙ ap (λ t. flat_map part_bytes r.parts ++ t) none ∙ append-nil (flat_map part_bytes r.parts), r.found)
 
--- ---- one reading
+-- ---- a text has one reading
 
--- The text begins with no part.
+-- No part begins at the start of the text.
 abbrev Stops : List ℕ → Type 0
 Stops text = (step : LexStep) → step_at text ≢ Ok step
 
@@ -160,7 +160,7 @@ fault_stops position text fault breaks step e =
     let both : Err at.0 ≡ Ok step = sym at.1 ∙ e in
     absurd cc
 
--- There is no fault at the end of a text.
+-- The empty text has no fault.
 no_end_fault : (position : ℕ) (fault : LexFault) → Breaks position [] fault → ⊥
 no_end_fault position (faults.BadByte fault) (inl nothing) = let e = nothing.1.is in absurd cc
 no_end_fault position (faults.BadByte fault) (inr escape) = let e = escape.1.2 in absurd cc
@@ -223,7 +223,7 @@ fault_here text at fault lt e = by_text (drop at text) (omega (arith, length-dro
     by_text [] long e = absurd (omega arith)
     by_text (b ∷ bs) long e = subst (IsStepAt (b ∷ bs)) e (step_at-is b bs)
 
--- The fault is the fault of the step, unless memory ran out.
+-- The fault is the result of the step at position `at`, unless memory ran out.
 abbrev pub Known : List ℕ → ℕ → LexFault → Type 0
 Known text at fault = UnlessMemory (λ f. step_at (drop at text) ≡ Err f) fault
 
@@ -259,7 +259,7 @@ goes_down text at len on = omega (arith, on.0, on.1)
 
 -- ---- spans
 
--- The bound before the spans may be smaller.
+-- If the spans lie after a bound, then the spans lie after each smaller bound.
 spans_earlier : (low from : ℕ) (xs : List Lexeme) (end : ℕ) → low ≤ from → SpansWithin from xs end → SpansWithin low xs end
 spans_earlier low from [] end le spans = omega (arith, spans)
 spans_earlier low from (x ∷ xs) end le spans = (omega (arith, spans.0), spans.1, spans.2)
@@ -297,7 +297,7 @@ spans_within text (Err fault) is = tt
 
 -- ---- each text has an outcome
 
--- Parts, followed by the end or a fault.
+-- The text is a sequence of parts that ends at the end of the text or at a fault.
 record Read (text : List ℕ) : Type 0 where
   parts : List Part
   rest : List ℕ
@@ -314,7 +314,7 @@ read_more part after is read = record {
   ending = read.ending;
 }
 
--- A text of at most `n` bytes.
+-- A text of at most `n` bytes has a reading.
 read : (n : ℕ) (text : List ℕ) → length text ≤ n → Read text
 read n [] le = record { parts = []; rest = []; are = tt; is = refl; ending = inl refl }
 read zero (b ∷ bs) le = absurd (omega arith)

@@ -1,4 +1,4 @@
--- Among the forms with which a text begins, the one that the lexer finds takes precedence.
+-- Among the forms with which a text begins, the form that the lexer finds takes precedence.
 use Rattle.std.proofs.Common.{◌≡◌, ◌≢◌, ◌⊎◌, ℕ, suc, ◌+◌, ◌<◌, ◌≤◌, Bool, true, false, ◌&&◌, eqb, ltb, List, [], ◌∷◌, ◌++◌, length, drop, Option, Some, None, refl, sym, ap, ◌∙◌, arith, inl, inr, length-append, append_assoc, leb}
 use Rattle.std.specs.List.{list_all, prefix_len, take_while, flat_map, AllByRecursion}
 use Rattle.std.specs.Char.{is_ascii_digit, is_ascii_hexdigit, is_ascii_uppercase}
@@ -17,7 +17,8 @@ use Rattle.types_lex.proofs.CharLaws.{no_value, char_at-form, chars_of-forms}
 use Rattle.types_lex.proofs.NameLaws.{apart, take_while-more, keyword_of-keyword, keyword_of-other, form_bytes-word, is_character-word}
 use Rattle.types_lex.proofs.SymbolLaws.{pair_at-is}
 
--- Either `form` is a character and `other` is none, or `form` is longer and neither is a character.
+-- Either `form` is a character and `other` is no character, or `form` is longer and neither form is
+-- a character.
 abbrev pub Beats : Form → Form → Type 0
 Beats form other =
     ((is_character form ≡ true) × (is_character other ≡ false))
@@ -26,13 +27,13 @@ Beats form other =
 abbrev pub Wins : Form → Form → Type 0
 Wins form other = (form ≡ other) ⊎ Beats form other
 
--- The lexer finds a form, which is `other` or takes precedence over it.
+-- The lexer finds a form that is `other` or takes precedence over `other`.
 abbrev pub IsFound : List ℕ → Form → Type 0
 IsFound text other = (form : Form) × (form_at text ≡ Some form) × Wins form other
 
 -- ---- names
 
--- A form that extends as far as the name.
+-- A form that extends as far as its name extends.
 module _ (make : List ℕ → Form) (mark : ℕ) (long : (name : List ℕ) → length (form_bytes (make name)) ≡ mark + length name) (plain : (name : List ℕ) → is_character (make name) ≡ false) where
   goes_on : (name extra : List ℕ) (other : Form) → make name ≡ other → Wins (make (name ++ extra)) other
   goes_on name [] other is = inl (ap make (append-nil name) ∙ is)
@@ -46,7 +47,7 @@ unfolding form_at
 form_at-word b bs first =
     rw (apart starts_name 34 b refl first, apart starts_name 39 b refl first, apart starts_name 96 b refl first, apart starts_name 36 b refl first, apart starts_name 45 b refl first, first) refl
 
--- A word followed by any bytes.
+-- If a text begins with a name, then the lexer finds the word or a longer word.
 word-found : (b : ℕ) (bs more : List ℕ) (other : Form) → starts_name b ≡ true → list_all is_name_byte (b ∷ bs) ≡ true → word_form (b ∷ bs) ≡ other → IsFound (b ∷ bs ++ more) other
 word-found b bs more other first name is =
     let run : take_while is_name_byte (b ∷ (bs ++ more)) ≡ b ∷ bs ++ take_while is_name_byte more = take_while-more is_name_byte (b ∷ bs) more name in (
@@ -59,7 +60,7 @@ pub word_form-lower : (b : ℕ) (bs : List ℕ) → starts_lower b ≡ true → 
 unfolding word_form
 word_form-lower b bs lower free = rw (keyword_of-other (b ∷ bs) free, lower) refl
 
--- If a byte is an uppercase letter, then no lowercase name starts with it.
+-- If a byte is an uppercase letter, then the byte starts no lowercase name.
 upper_alone : (b : ℕ) → is_ascii_uppercase b ≡ true → starts_lower b ≡ false
 upper_alone b upper =
     let below : b ≤ 90 = leb-true b 90 (and_parts (leb 65 b) (leb b 90) upper).1 in
@@ -86,7 +87,7 @@ reserved-found keywords.And more = word-found 97 (110 ∷ 100 ∷ []) more _ ref
 reserved-found keywords.Of more = word-found 111 (102 ∷ []) more _ refl refl (word_form-reserved keywords.Of)
 reserved-found keywords.Mutable more = word-found 109 (117 ∷ 116 ∷ 97 ∷ 98 ∷ 108 ∷ 101 ∷ []) more _ refl refl (word_form-reserved keywords.Mutable)
 
--- Forms that may extend into the bytes that follow.
+-- If a text begins with a tag, then the lexer finds the tag or a longer tag.
 tag-found : (b : ℕ) (bs more : List ℕ) → starts_name b ≡ true → list_all is_name_byte (b ∷ bs) ≡ true → IsFound (96 ∷ b ∷ bs ++ more) (Tag (b ∷ bs))
 unfolding form_at tag_form
 tag-found b bs more first name =
@@ -154,7 +155,7 @@ drop_while-more p (x ∷ xs) ys all =
     let one : 1 + prefix_len p (xs ++ ys) ≡ suc (prefix_len p (xs ++ ys)) = omega arith in
     rw (both.0, one) (drop_while-more p xs ys both.1)
 
--- Digits, and the digits that follow them.
+-- If digits follow the digits of an integer, then the lexer's integer contains all these digits.
 pub number_form-run : (minus : Bool) (d : ℕ) (ds tail : List ℕ) → list_all is_ascii_digit (d ∷ ds) ≡ true
     → number_form minus (d ∷ ds ++ tail) ≡ Some (Number minus (d ∷ ds ++ take_while is_ascii_digit tail) (suffix_at (drop (prefix_len is_ascii_digit tail) tail)))
 unfolding number_form
@@ -238,8 +239,8 @@ mark-found symbols.Hash more = symbol_form-found 35 _ more refl refl
 
 -- ---- all forms
 
--- If a text begins with a form, then the lexer finds one that takes precedence over it or is equal
--- to it.
+-- If a text begins with the form `other`, then the lexer finds `other` or a form that takes
+-- precedence over `other`.
 pub form-found : (other : Form) (more : List ℕ) → IsForm other → IsFound (form_bytes other ++ more) other
 form-found (Reserved k) more is = reserved-found k more
 form-found (Lower []) more is = absurd is.0

@@ -21,7 +21,8 @@ part_step (Word form) = steps.Word (found form)
 
 -- ---- separators and comments begin no form
 
--- If a byte begins no form alone and none before another byte, then it begins no form.
+-- If no form begins with a byte at the end of a text or before another byte, then no form begins
+-- with the byte.
 begins_none : (b : ℕ) → form_at (b ∷ []) ≡ None → ((next : ℕ) (bs : List ℕ) → form_at (b ∷ next ∷ bs) ≡ None) → (bs : List ℕ) → form_at (b ∷ bs) ≡ None
 begins_none b alone before [] = alone
 begins_none b alone before (next ∷ bs) = before next bs
@@ -43,7 +44,7 @@ separator_no_form b bs e =
           ]
     ]
 
--- The result of the two tests for a comment.
+-- If the two tests for a comment succeed, then the text begins with `(*`.
 pub comment_test : (b : ℕ) (bs : List ℕ) → (eqb b 40 && begins_with 42 bs) ≡ true → (more : List ℕ) × (b ∷ bs ≡ 40 ∷ 42 ∷ more)
 comment_test b bs e =
     let both = and_parts (eqb b 40) (begins_with 42 bs) e in
@@ -83,7 +84,8 @@ pub lexeme-none : (b : ℕ) (bs : List ℕ) → b ≢ 34 → form_at (b ∷ bs) 
 unfolding lexeme_at
 lexeme-none b bs no_string e = rw (ne_eqb b 34 no_string, e) refl
 
--- A step that is no separator and no comment.
+-- If the text begins with no separator and no comment, then the step is the lexeme at the start of
+-- the text.
 pub step-lexeme : (b : ℕ) (bs : List ℕ) → is_separator b ≡ false → (eqb b 40 && begins_with 42 bs) ≡ false → step_at (b ∷ bs) ≡ word_of (lexeme_at (b ∷ bs))
 unfolding step_at
 step-lexeme b bs no_separator no_bracket = rw (no_separator, no_bracket) refl
@@ -91,7 +93,7 @@ step-lexeme b bs no_separator no_bracket = rw (no_separator, no_bracket) refl
 pub no_separator-form : (b : ℕ) (bs : List ℕ) (form : Form) → form_at (b ∷ bs) ≡ Some form → is_separator b ≡ false
 no_separator-form b bs form e = false_from_ne_true _ (λ sep. no_value (sym (separator_no_form b bs sep) ∙ e))
 
--- The step at a form that is the lexeme of the grammar.
+-- If a form is the lexeme of the grammar at the start of the text, then the step finds the form.
 pub step-taken : (text : List ℕ) (form : Form) (after : List ℕ) → text ≡ form_bytes form ++ after → IsTaken form after → step_at text ≡ word_of (found_at (Some form))
 unfolding form_at
 step-taken text form after is taken = by_text text is (ap form_at is ∙ found-taken form after taken)

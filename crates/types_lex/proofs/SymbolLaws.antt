@@ -8,7 +8,7 @@ use Rattle.types_lex.specs.declared.lexeme.LexemeKind.TheVariants as kinds
 use Rattle.types_lex.specs.declared.found_lexeme.FoundLexeme.{FoundLexeme}
 use Rattle.types_lex.specs.Scan.{pair_symbol, single_symbol, pair_at, symbol_form, found_at}
 
--- One test in a chain.
+-- If a chain of tests returns a symbol, then the first test or a later test returns the symbol.
 tested : (test : Bool) (x s : Symbol) (others : Option Symbol) → cond test (Some x) others ≡ Some s → ((test ≡ true) × (x ≡ s)) ⊎ (others ≡ Some s)
 tested true x s others e = inl (refl, cc)
 tested false x s others e = inr e
@@ -16,11 +16,11 @@ tested false x s others e = inr e
 none : {s : Symbol} → None ≡ Some s → ⊥
 none e = cc
 
--- A test of one byte.
+-- If a test of one byte succeeds, then the byte is the text of the symbol.
 one : (a n : ℕ) (x s : Symbol) (others : Option Symbol) → symbol_text x ≡ n ∷ [] → cond (eqb a n) (Some x) others ≡ Some s → (others ≡ Some s → a ∷ [] ≡ symbol_text s) → a ∷ [] ≡ symbol_text s
 one a n x s others text e next = ⊎_elim (λ h. ap (λ (b : ℕ). b ∷ []) (eqb-true a n h.0) ∙ sym text ∙ ap symbol_text h.1) next (tested (eqb a n) x s others e)
 
--- A test of two bytes.
+-- If a test of two bytes succeeds, then the bytes are the text of the symbol.
 two : (a b m n : ℕ) (x s : Symbol) (others : Option Symbol) → symbol_text x ≡ m ∷ n ∷ [] → cond (eqb a m && eqb b n) (Some x) others ≡ Some s → (others ≡ Some s → a ∷ b ∷ [] ≡ symbol_text s) → a ∷ b ∷ [] ≡ symbol_text s
 two a b m n x s others text e next =
     ⊎_elim

@@ -8,7 +8,7 @@ use Rattle.types_lex.proofs.CharLaws.{some_is}
 use Rattle.types_lex.proofs.FormLaws.{form_at-begins}
 use Rattle.types_lex.proofs.PrefixLaws.{Beats, Wins, form-found}
 
--- If a form precedes another, then the other does not beat it.
+-- If `form` precedes `winner`, then `winner` does not beat `form`.
 not_beaten : (form winner : Form) → Precedes form winner → Beats winner form → ⊥
 not_beaten form winner (inl char) (inl beats) = true≢false (sym char ∙ beats.1)
 not_beaten form winner (inl char) (inr beats) = true≢false (sym char ∙ beats.1)
@@ -24,7 +24,7 @@ comes_first form other (inl same) =
       | inr plain ↦ inr (sym (ap is_character same) ∙ plain, omega (arith, ap (λ f. length (form_bytes f)) same))
     ]
 
--- The lexer finds the lexeme of the grammar.
+-- If a form is the lexeme of the grammar at the start of a text, then the lexer finds the form.
 pub found-taken : (form : Form) (after : List ℕ) → IsTaken form after → form_at (form_bytes form ++ after) ≡ Some form
 found-taken form after taken =
     let found = form-found form after taken.written in
@@ -51,14 +51,14 @@ taken-found text form e no_comment =
       },
     )
 
--- If the lexer finds no form, then the text begins with none.
+-- If the lexer finds no form, then the text begins with no form.
 pub none-found : (text : List ℕ) → form_at text ≡ None → (form : Form) (after : List ℕ) → IsForm form → form_bytes form ++ after ≢ text
 none-found text none form after written is =
     let found = form-found form after written in
     let both : Some found.0 ≡ None = sym found.1 ∙ ap form_at is ∙ none in
     absurd cc
 
--- If the text begins with no form, then the lexer finds none.
+-- If the text begins with no form, then the lexer finds no form.
 pub found-none : (text : List ℕ) → ((form : Form) (after : List ℕ) → IsForm form → form_bytes form ++ after ≢ text) → form_at text ≡ None
 found-none text free = by_form (form_at text) refl
   where

@@ -11,7 +11,8 @@ use Rattle.types_lex.specs.Lexeme.{keyword_text, is_name_byte}
 use Rattle.types_lex.specs.declared.found_lexeme.FoundLexeme.{FoundLexeme}
 use Rattle.types_lex.specs.Scan.{keyword_of, word_form, found}
 
--- A name that is equal to the text of a keyword.
+-- If a chain of tests returns a keyword, then the name is the text of the keyword or a later test
+-- returns the keyword.
 one-keyword : (name : List ℕ) (k j : Keyword) (b : Bool) (others : Option Keyword) → bytes_eq name (keyword_text j) ≡ b → cond b (Some j) others ≡ Some k → (name ≡ keyword_text k) ⊎ (others ≡ Some k)
 one-keyword name k j true others same e = inl ((bytes_eq-Decides name (keyword_text j)).0 same ∙ ap keyword_text cc)
 one-keyword name k j false others same e = inr e
@@ -36,7 +37,7 @@ keyword_of-some name k e =
 abbrev pub keyword_found : Keyword → ℕ → FoundLexeme
 keyword_found k len = record { kind = kinds.Keyword k; len = len }
 
--- A word that is a keyword.
+-- If a word is a keyword, then the form of the word is the keyword.
 pub reserved_word : (text : List ℕ) (k : Keyword) (len : ℕ) → len ≡ prefix_len is_name_byte text → keyword_of (take len text) ≡ Some k → found (word_form (take_while is_name_byte text)) ≡ keyword_found k len
 unfolding word_form
 reserved_word text k len is key =

@@ -1,6 +1,6 @@
--- The lexemes of a text, or its first fault. Separators and comments follow the lexical conventions
--- of OCaml's reference manual, except that comments may contain anything. The faults are specific
--- to this project.
+-- The lexemes of a text, or the first fault of the text. Separators and comments follow the lexical
+-- conventions of OCaml's reference manual, except that comments may contain anything. The faults
+-- are specific to this project.
 use Rattle.std.specs.Prelude.{◌≡◌, ◌≢◌, ◌⊎◌, ℕ, zero, suc, ◌+◌, ◌<◌, ◌≤◌, Bool, false, ◌&&◌, ◌||◌}
 use Rattle.std.specs.Prelude.{◌==◌, List, [], ◌∷◌, ◌++◌, length, IsTrue, Result, Ok, Err}
 use Rattle.std.specs.List.{flat_map, AllByRecursion}
@@ -12,7 +12,8 @@ use Rattle.types_lex.specs.Lexeme.{form_kind, IsForm, IsInRange, IsTooBig, Prece
 
 -- ---- comments: 40 is `(`, 42 is `*`, 41 is `)`
 
--- A unit of the inside of a comment, from left to right: `(*`, `*)`, or a single byte.
+-- A unit of the inside of a comment: `(*`, `*)`, or a single byte. The inside of a comment is
+-- divided into units from left to right.
 pub data Cut : Type 0 where
   Opens : Cut
   Closes : Cut
@@ -32,7 +33,8 @@ begins_bracket [] = false
 begins_bracket (a ∷ []) = false
 begins_bracket (a ∷ b ∷ bs) = is_bracket a b
 
--- A single byte is a unit only if neither bracket begins there.
+-- The units divide the inside of a comment from left to right. A single byte is a unit only if
+-- neither `(*` nor `*)` begins at the byte.
 abbrev pub IsCut : List Cut → List ℕ → Type 0
 IsCut [] after = Unit {0}
 IsCut (Opens ∷ cuts) after = IsCut cuts after
@@ -40,7 +42,8 @@ IsCut (Closes ∷ cuts) after = IsCut cuts after
 IsCut (Other b ∷ cuts) after =
     (begins_bracket (b ∷ (flat_map cut_bytes cuts ++ after)) ≡ false) × IsCut cuts after
 
--- The brackets are balanced, with `depth` brackets open at the start and none at the end.
+-- The brackets among the units are balanced, with `depth` brackets open at the start and none at
+-- the end.
 abbrev pub Nests : ℕ → List Cut → Type 0
 Nests depth [] = depth ≡ 0
 Nests depth (Opens ∷ cuts) = Nests (suc depth) cuts
@@ -48,14 +51,15 @@ Nests zero (Closes ∷ cuts) = ⊥
 Nests (suc depth) (Closes ∷ cuts) = Nests depth cuts
 Nests depth (Other b ∷ cuts) = Nests depth cuts
 
--- The units are the inside of a comment that is followed by its end and the bytes `after`.
+-- The units are the inside of a comment. The end of the comment and the bytes `after` follow the
+-- units.
 abbrev pub IsInside : List Cut → List ℕ → Type 0
 IsInside cuts after = Nests 0 cuts × IsCut cuts (42 ∷ 41 ∷ after)
 
--- ---- parts
+-- ---- parts of a text
 
--- The form is the lexeme at the start of the text. `(*` begins no lexeme. Among all forms with
--- which the text begins, the lexeme takes precedence.
+-- The form is the lexeme at the start of the text. The bytes `(*` begin no lexeme. Among all forms
+-- with which the text begins, the lexeme takes precedence.
 pub record IsTaken (form : Form) (after : List ℕ) : Type 0 where
   pub written : IsForm form
   pub no_comment : (more : List ℕ) → form_bytes form ++ after ≢ 40 ∷ 42 ∷ more
@@ -73,18 +77,18 @@ part_bytes (Separator b) = b ∷ []
 part_bytes (Comment inside) = 40 ∷ 42 ∷ (flat_map cut_bytes inside ++ 42 ∷ 41 ∷ [])
 part_bytes (Word form) = form_bytes form
 
--- The part may precede these bytes.
+-- The part may precede the bytes `after`.
 abbrev pub IsPart : Part → List ℕ → Type 0
 IsPart (Separator b) after = IsTrue (is_separator b)
 IsPart (Comment inside) after = IsInside inside after
 IsPart (Word form) after = IsTaken form after × IsInRange form
 
--- Each part may precede the parts after it and these bytes.
+-- Each part may precede the later parts and the bytes `rest`.
 abbrev pub AreParts : List Part → List ℕ → Type 0
 AreParts [] rest = Unit {0}
 AreParts (part ∷ parts) rest = IsPart part (flat_map part_bytes parts ++ rest) × AreParts parts rest
 
--- The lexemes among the parts. The first part begins at position `position`.
+-- The lexemes among the parts, if the first part begins at position `position`.
 abbrev pub lexemes_of : ℕ → List Part → List Lexeme
 lexemes_of position [] = []
 lexemes_of position (Word form ∷ parts) =
@@ -95,7 +99,7 @@ lexemes_of position (part ∷ parts) = lexemes_of (position + length (part_bytes
 
 -- ---- faults
 
--- A string begins, and its characters are valid up to the rest.
+-- A string begins the text, and the characters of the string are valid up to the bytes `rest`.
 abbrev pub OpensString : List ℕ → List ℕ → Type 0
 OpensString text rest =
     (chars : List CharForm) × AllByRecursion (IsCharForm 34) chars
@@ -122,11 +126,11 @@ IsBadEscape position text fault =
     (after : List ℕ) × OpensString text (92 ∷ after) × StartsNoChar (92 ∷ after)
     × (fault + length after ≡ position + length text)
 
--- A string begins and reaches the end of the text or a line feed.
+-- A string begins the text and reaches a line feed or the end of the text without a closing quote.
 abbrev pub IsOpenString : List ℕ → Type 0
 IsOpenString text = OpensString text [] ⊎ ((after : List ℕ) × OpensString text (10 ∷ after))
 
--- A comment begins, and no prefix of the text is a complete comment.
+-- A comment begins the text, and no prefix of the text is a complete comment.
 abbrev pub IsOpenComment : List ℕ → Type 0
 IsOpenComment text =
     ((more : List ℕ) × (text ≡ 40 ∷ 42 ∷ more))
@@ -139,7 +143,7 @@ IsOverlong text =
     (form : Form) × (after : List ℕ) × (text ≡ form_bytes form ++ after) × IsTaken form after
     × IsTooBig form
 
--- The fault at the start of a text that begins at position `position`.
+-- The fault is at the start of the text. The text begins at position `position`.
 abbrev pub Breaks : ℕ → List ℕ → LexFault → Type 0
 Breaks position text (faults.BadByte fault) =
     ((fault ≡ position) × StartsNothing text) ⊎ IsBadEscape position text fault
@@ -148,46 +152,47 @@ Breaks position text (faults.OpenComment fault) = (fault ≡ position) × IsOpen
 Breaks position text (faults.TooBig fault) = (fault ≡ position) × IsOverlong text
 Breaks position text faults.Memory = ⊥
 
--- ---- a text
+-- ---- the lexemes or the fault of a text
 
--- The text is a sequence of parts, and these are the lexemes among them.
+-- The text is a sequence of parts, and `lexemes` are the lexemes among the parts.
 abbrev pub Lexes : List ℕ → List Lexeme → Type 0
 Lexes text lexemes =
     (parts : List Part) × AreParts parts [] × (text ≡ flat_map part_bytes parts)
     × (lexemes ≡ lexemes_of 0 parts)
 
--- The text is a sequence of parts followed by this fault.
+-- The text is a sequence of parts, followed by the fault.
 abbrev pub Faults : List ℕ → LexFault → Type 0
 Faults text fault =
     (parts : List Part) × (rest : List ℕ) × AreParts parts rest
     × (text ≡ flat_map part_bytes parts ++ rest)
     × Breaks (length (flat_map part_bytes parts)) rest fault
 
--- ---- results
+-- ---- results of lexer functions
 
 abbrev pub UnlessMemory : (LexFault → Type 0) → LexFault → Type 0
 UnlessMemory P faults.Memory = Unit {0}
 UnlessMemory P fault = P fault
 
--- The result of a call, seen through `view`, is the expected result, unless memory ran out.
+-- The result of a call, mapped by `view`, is the expected result, unless memory ran out.
 abbrev pub Answers : {X Y : Type 0} → (X → Y) → Result X LexFault → Result Y LexFault → Type 0
 Answers view (Ok x) expected = expected ≡ Ok (view x)
 Answers view (Err fault) expected = UnlessMemory (λ f. expected ≡ Err f) fault
 
 -- ---- the outcome of a text
 
--- The outcome is the lexemes of the text, or its fault.
+-- The outcome of the text: the lexemes of the text, or the fault of the text.
 abbrev pub Outcome : List ℕ → Result (List Lexeme) LexFault → Type 0
 Outcome text (Ok lexemes) = Lexes text lexemes
 Outcome text (Err fault) = Faults text fault
 
--- The text has exactly one outcome.
+-- The text has exactly one outcome: its lexemes or its fault.
 abbrev pub HasOneOutcome : List ℕ → Type 0
 HasOneOutcome text =
     (outcome : Result (List Lexeme) LexFault) × Outcome text outcome
     × ((other : Result (List Lexeme) LexFault) → Outcome text other → other ≡ outcome)
 
--- The spans are nonempty and follow one another from position `from` up to position `end`.
+-- The spans of the lexemes are nonempty and follow one another from position `from` up to position
+-- `end`.
 abbrev pub SpansWithin : ℕ → List Lexeme → ℕ → Type 0
 SpansWithin from [] end = from ≤ end
 SpansWithin from (lexeme ∷ lexemes) end =

@@ -18,7 +18,7 @@ use Rattle.types_lex.specs.declared.lexeme.LexemeKind.TheVariants as kinds
 
 -- ---- bytes: 95 is `_`, 39 a quote, 34 a double quote, 92 a backslash, 10 a line feed
 
--- Space, tab, line feed, form feed and carriage return.
+-- Returns true for space, tab, line feed, form feed and carriage return.
 abbrev pub is_separator : ℕ → Bool
 is_separator b = b == 32 || b == 9 || b == 10 || b == 12 || b == 13
 
@@ -51,12 +51,12 @@ abbrev pub signed : Bool → ℕ → ℤ
 signed true n = pos 0 -ℤ pos n
 signed false n = pos n
 
--- The greatest absolute value that 64 bits can represent with this sign.
+-- The maximum absolute value of a 64-bit integer with this sign.
 abbrev pub greatest : Bool → ℕ
 greatest true = 2 ^ 63
 greatest false = 2 ^ 63 - 1
 
--- ---- one character inside quotes
+-- ---- one character of a character or string literal
 
 -- The four forms of a character: a plain byte, a backslash and a letter, a backslash and three
 -- decimal digits, or a backslash, `x` and two hexadecimal digits.
@@ -72,8 +72,8 @@ char_bytes (Named b) = 92 ∷ b ∷ []
 char_bytes (Decimal d e f) = 92 ∷ d ∷ e ∷ f ∷ []
 char_bytes (Hexadecimal h l) = 92 ∷ 120 ∷ h ∷ l ∷ []
 
--- The byte that a backslash and this byte represent: backslash, both quotes and space represent
--- themselves, and `n`, `t`, `b`, `r` represent 10, 9, 8, 13.
+-- The byte that a backslash and `b` represent. A backslash, a quote, a double quote and a space
+-- represent themselves. The letters `n`, `t`, `b`, `r` represent 10, 9, 8, 13.
 abbrev pub named_char : ℕ → Option ℕ
 named_char b =
     if b == 92 || b == 34 || b == 39 || b == 32 then Some b
@@ -92,7 +92,7 @@ char_value (Hexadecimal h l) = number_in 16 (h ∷ l ∷ [])
 abbrev pub is_plain : ℕ → Bool
 is_plain b = if b == 34 || b == 92 || b == 10 then false else true
 
--- The form is valid inside these quotes.
+-- The form of the character is valid inside quotes `quote`.
 abbrev pub IsCharForm : ℕ → CharForm → Type 0
 IsCharForm quote (Plain b) = (b ≢ quote) × (b ≢ 92) × (b ≢ 10)
 IsCharForm quote (Named b) = IsSome (named_char b)
@@ -138,7 +138,7 @@ abbrev pub minus_text : Bool → List ℕ
 minus_text true = codes "-"
 minus_text false = []
 
--- A lexeme as it is written.
+-- A lexeme as written in a text.
 pub data Form : Type 0 where
   Reserved : (keyword : Keyword) → Form
   Lower : (name : List ℕ) → Form
@@ -151,7 +151,7 @@ pub data Form : Type 0 where
   Double : (digits : List ℕ) → Form
   Mark : (symbol : Symbol) → Form
 
--- The bytes of a form. 96 is a backquote, 36 is `$`.
+-- The bytes of a form. Byte 96 is a backquote, and byte 36 is `$`.
 abbrev pub form_bytes : Form → List ℕ
 form_bytes (Reserved k) = keyword_text k
 form_bytes (Lower name) = name
@@ -179,7 +179,7 @@ form_kind (Quoted chars) = kinds.Text (map char_value chars)
 form_kind (Double digits) = kinds.Double (number_in 16 digits)
 form_kind (Mark s) = kinds.Symbol s
 
--- The form is valid. A lowercase name is no keyword; the names of tags and variables may be
+-- The form is valid. A lowercase name is no keyword, but the names of tags and variables may be
 -- keywords.
 abbrev pub IsForm : Form → Type 0
 IsForm (Reserved k) = Unit {0}
@@ -193,7 +193,7 @@ IsForm (Quoted chars) = AllByRecursion (IsCharForm 34) chars
 IsForm (Double digits) = (length digits ≡ 16) × IsTrue (list_all is_ascii_hexdigit digits)
 IsForm (Mark s) = Unit {0}
 
--- The form is an integer that fits in 64 bits, or it is no integer.
+-- If the form is an integer, then the integer fits in 64 bits.
 abbrev pub IsInRange : Form → Type 0
 IsInRange (Number minus digits suffix) = number_in 10 digits ≤ greatest minus
 IsInRange form = Unit {0}
@@ -206,8 +206,8 @@ abbrev pub is_character : Form → Bool
 is_character (Character c) = true
 is_character form = false
 
--- If a text begins with both forms, then `form` takes precedence over `other`: a character precedes
--- all other forms, and otherwise the longer form precedes the shorter one.
+-- If a text begins with both forms, then `form` takes precedence over `other`. A character precedes
+-- all other forms. If neither form is a character, the longer form precedes the shorter form.
 abbrev pub Precedes : Form → Form → Type 0
 Precedes form other =
     IsTrue (is_character form)

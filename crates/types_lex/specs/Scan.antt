@@ -74,7 +74,7 @@ decimal_at (d ∷ e ∷ f ∷ rest) =
     then Some (Decimal d e f)
     else None
 
--- The text follows a backslash.
+-- The escape at the start of a text that follows a backslash.
 unfoldable pub escape_at : List ℕ → Option CharForm
 escape_at [] = None
 escape_at (b ∷ bs) =
@@ -107,7 +107,7 @@ abbrev pub or_form : Option Form → Option Form → Option Form
 or_form None other = other
 or_form (Some form) other = Some form
 
--- The text follows a quote.
+-- The character or type variable at the start of a text that follows a quote.
 unfoldable pub quote_form : List ℕ → Option Form
 quote_form text = or_form (character_form text) (variable_form text)
 
@@ -119,7 +119,7 @@ one_more others text None = ([], text)
 one_more others text (Some c) =
     let more = others (drop (length (char_bytes c)) text) in (c ∷ more.0, more.1)
 
--- At most `n` characters of a string, and the bytes after them.
+-- At most `n` characters of a string at the start of the text, and the bytes after the characters.
 unfoldable pub chars_of : ℕ → List ℕ → List CharForm × List ℕ
 chars_of zero text = ([], text)
 chars_of (suc n) text = one_more (chars_of n) text (char_at 34 text)
@@ -127,13 +127,13 @@ chars_of (suc n) text = one_more (chars_of n) text (char_at 34 text)
 abbrev pub closed_string : List CharForm × List ℕ → Option Form
 closed_string read = if begins_with 34 read.1 then Some (Quoted read.0) else None
 
--- The bytes from position `at` on that represent themselves are appended to a value.
+-- The bytes from position `at` on that represent themselves are appended to the value `old`.
 pub record TakesPlain (text : List ℕ) (at : ℕ) (old : List ℕ) (end : ℕ) (new : List ℕ)
     : Type 0 where
   pub end_is : end ≡ at + prefix_len is_plain (drop at text)
   pub new_is : new ≡ old ++ take (prefix_len is_plain (drop at text)) (drop at text)
 
--- The text follows a double quote.
+-- The string literal at the start of a text that follows a double quote.
 unfoldable pub string_form : List ℕ → Option Form
 string_form text = closed_string (chars_of (length text) text)
 
@@ -207,7 +207,7 @@ form_at (b ∷ bs) =
     else (if is_ascii_digit b then number_form false (b ∷ bs)
     else symbol_form b bs))))))
 
--- ---- the results of the functions
+-- ---- the results of the lexer functions
 
 abbrev pub in_range : Form → Bool
 in_range (Number minus digits suffix) = nat_le (number_in 10 digits) (greatest minus)
@@ -243,16 +243,17 @@ abbrev pub bracket_of : ℕ → ℕ → CommentDelimiter
 bracket_of a b =
     if a == 40 && b == 42 then Opening else (if a == 42 && b == 41 then Closing else Neither)
 
--- One step of `closing`. At `(*` the comment is one level deeper, and the result is `deeper` plus
--- two bytes. At `*)` the result is `outer` plus two bytes, or the comment ends. Otherwise the
--- result is `on` plus one byte.
+-- One step of `closing`. If the next bytes are `(*`, the result is `deeper` plus two. If the next
+-- bytes are `*)`, the comment ends or the result is `outer` plus two. If neither bracket follows,
+-- the result is `on` plus one.
 abbrev pub closing_by : CommentDelimiter → ℕ → Option ℕ → Option ℕ → Option ℕ → Option ℕ
 closing_by Opening depth deeper outer on = plus 2 deeper
 closing_by Closing zero deeper outer on = Some 2
 closing_by Closing (suc depth) deeper outer on = plus 2 outer
 closing_by Neither depth deeper outer on = plus 1 on
 
--- The number of bytes up to the end of the comment, from this depth inside the comment.
+-- The number of bytes up to the end of the comment, if `depth` inner comments are open at the
+-- start.
 unfoldable pub closing : ℕ → List ℕ → Option ℕ
 closing depth [] = None
 closing depth (a ∷ []) = None
@@ -276,7 +277,7 @@ step_at (b ∷ bs) =
     (if b == 40 && begins_with 42 bs then gap_of (closing 0 (drop 1 bs))
     else word_of (lexeme_at (b ∷ bs)))
 
--- ---- positions
+-- ---- positions of faults
 
 abbrev pub position_of : LexFault → ℕ
 position_of (faults.BadByte position) = position

@@ -1,4 +1,4 @@
-//! Brief lexemes: the fast path of the lexer for literals. A brief lexeme may omit the contents of
+//! Brief lexemes, the fast path of the lexer for literals. A brief lexeme may omit the contents of
 //! a name or a string.
 
 ghost use Rattle.std.specs.Prelude.{◌≡◌, ◌<◌, ◌≤◌, List, length, slice_index, Result, IfOk, IfSome};
@@ -23,14 +23,15 @@ use crate::words::{copied, keyword_of};
 use base_data::model::list::List;
 use std::alloc::Global;
 
-/// Returns true if literals begin with this lowercase name.
+/// Returns true if a literal may begin with this lowercase name.
 fn begins_literal(name: &[u8]) -> bool
     ensures { result ≡ begins_literal name.now }
 {
     name == b"true".as_slice() || name == b"false".as_slice() || name == b"ref".as_slice()
 }
 
-/// Copies a lowercase name if literals begin with it. Returns the empty name otherwise.
+/// If literals begin with this lowercase name, copies the name. If no literal begins with this
+/// name, returns the empty name.
 fn brief_name(alloc: Global, name: &[u8]) -> Result<List<u8>, LexFault>
     ensures { Answers (λ l. l) result (Ok (brief_name name.now)) }
 {
@@ -41,7 +42,7 @@ fn brief_name(alloc: Global, name: &[u8]) -> Result<List<u8>, LexFault>
     }
 }
 
-/// Returns the brief lexeme of a name that is no keyword.
+/// Returns the brief lexeme of a name that is not a keyword.
 fn brief_cased(alloc: Global, name: &[u8]) -> Result<FoundLexeme, LexFault>
     requires { 0 < length name.now }
     ensures { FindsBrief result (Ok (found (cased_form name.now))) }
@@ -102,7 +103,7 @@ fn brief_string(alloc: Global, text: &[u8]) -> Result<FoundLexeme, LexFault>
     }
 }
 
-/// Returns the step for a lexeme.
+/// Wraps the result of a lexer function as a step.
 #[inline(always)]
 fn word_step(found: Result<FoundLexeme, LexFault>) -> Result<LexStep, LexFault>
     ensures { (e : Result FoundLexeme LexFault) → FindsBrief found e
@@ -114,7 +115,7 @@ fn word_step(found: Result<FoundLexeme, LexFault>) -> Result<LexStep, LexFault>
     }
 }
 
-/// Returns the symbol of a byte with which no longer symbol begins.
+/// Returns the symbol of a byte that begins no longer symbol and no comment.
 #[inline(always)]
 fn lone_symbol(byte: u8) -> Option<Symbol>
     ensures { result ≡ lone_symbol byte }
@@ -129,8 +130,8 @@ fn lone_symbol(byte: u8) -> Option<Symbol>
     }
 }
 
-/// Lexes the separator, comment or lexeme at the start of the text. Tests first for what is most
-/// frequent in literals.
+/// Lexes the separator, comment or lexeme at the start of the text. The lexemes that are most
+/// frequent in literals are tested first.
 #[inline(always)]
 fn brief_step(alloc: Global, text: &[u8]) -> Result<LexStep, LexFault>
     ensures { StepsBrief result (step_at text.now) }
@@ -156,18 +157,19 @@ fn brief_step(alloc: Global, text: &[u8]) -> Result<LexStep, LexFault>
     step_at(alloc, text)
 }
 
-/// Returns the next lexeme of a text from position `from` (in bytes) on, or `None` if no lexeme
-/// follows. The lexeme may omit the contents of a name or a string. Fails with the first fault.
+/// Returns the first lexeme of a text that begins at position `from` (in bytes) or later. If no
+/// lexeme follows, returns `None`. The lexeme may omit the contents of a name or a string. If the
+/// text has a fault before a lexeme, fails with the first fault.
 #[inline(always)]
 pub fn next_brief(alloc: Global, text: &[u8], from: usize) -> Result<Option<Lexeme>, LexFault>
     requires { from ≤ length text.now }
 
-    // Either the lexeme is the next one after those before `from`, or there are no more lexemes, or
-    // the text has this fault.
+    // If `prefix` are the lexemes before `from`, the result is the lexeme after `prefix`, the end
+    // of the text, or a fault of the text.
     ensures next { (prefix : List Lexeme) → Reached text.now from prefix
         → GoesOn text.now prefix (in_full text.now result) }
 
-    // The lexeme begins at `from` or later, and it is the lexeme at its own position.
+    // The lexeme begins at `from` or later, and equals the lexeme that begins at its position.
     ensures position { IfOk result (λ found. IfSome found (IsBriefNext text.now from)) }
 {
     let mut at = from;

@@ -31,7 +31,7 @@ pub fn starts_name(b: u8) -> bool
     starts_lower(b) || b.is_ascii_uppercase()
 }
 
-/// Returns true if a name may contain this byte after its first.
+/// Returns true if a name may contain this byte after the first byte.
 #[inline(always)]
 pub fn is_name_byte(b: u8) -> bool
     ensures { result ≡ is_name_byte b }
@@ -39,14 +39,15 @@ pub fn is_name_byte(b: u8) -> bool
     b.is_ascii_alphanumeric() || b == b'_' || b == b'\''
 }
 
-/// Returns the number of leading bytes that may occur in a name.
+/// Returns the number of leading bytes of the text that may occur in a name.
 pub fn name_len(text: &[u8]) -> usize
     ensures { result ≡ prefix_len is_name_byte text.now }
 {
     text.iter().take_while(|b| is_name_byte(**b)).count()
 }
 
-/// Returns true if this byte needs no escape in a string and ends no string.
+/// Returns true if this byte represents itself in a string: the byte needs no escape and does not
+/// end the string.
 fn is_plain(b: u8) -> bool
     ensures { result ≡ is_plain b }
 {
@@ -57,7 +58,7 @@ fn is_plain(b: u8) -> bool
     }
 }
 
-/// Returns the number of leading bytes that represent themselves in a string.
+/// Returns the number of leading bytes of the text that represent themselves in a string.
 pub fn plain_len(text: &[u8]) -> usize
     ensures { result ≡ prefix_len is_plain text.now }
 {

@@ -28,8 +28,8 @@ fn named_char(b: u8) -> Option<u8>
     }
 }
 
-/// Decodes two hexadecimal digits after a backslash and an `x`. This function and the next ones
-/// return the byte and the length of the whole escape in bytes.
+/// Decodes two hexadecimal digits that follow a backslash and an `x`. Returns the byte and the
+/// length of the whole escape in bytes.
 #[tactic(auto, unfolding(crate::specs::Scan::hexadecimal_at))]
 fn hexadecimal_at(text: &[u8]) -> Option<(u8, usize)>
     ensures { result ≡ char_found (hexadecimal_at text.now) }
@@ -44,7 +44,8 @@ fn hexadecimal_at(text: &[u8]) -> Option<(u8, usize)>
     }
 }
 
-/// Decodes three decimal digits after a backslash.
+/// Decodes three decimal digits that follow a backslash. Returns the byte and the length of the
+/// whole escape in bytes.
 #[tactic(auto, unfolding(crate::specs::Scan::decimal_at))]
 fn decimal_at(text: &[u8]) -> Option<(u8, usize)>
     ensures { result ≡ char_found (decimal_at text.now) }
@@ -63,7 +64,8 @@ fn decimal_at(text: &[u8]) -> Option<(u8, usize)>
     }
 }
 
-/// Decodes the escape whose backslash precedes the text.
+/// Decodes the escape whose backslash precedes the text. Returns the byte and the length of the
+/// whole escape in bytes.
 #[tactic(auto, unfolding(crate::specs::Scan::escape_at))]
 fn escape_at(text: &[u8]) -> Option<(u8, usize)>
     ensures { result ≡ char_found (escape_at text.now) }
@@ -83,8 +85,8 @@ fn escape_at(text: &[u8]) -> Option<(u8, usize)>
     }
 }
 
-/// Decodes the character at the start of the text, inside quotes `quote`. Returns the byte that it
-/// represents and its length in bytes.
+/// Decodes the character at the start of the text, inside quotes `quote`. Returns the byte that the
+/// character represents and the character's length in bytes.
 #[tactic(auto, unfolding(crate::specs::Scan::char_at))]
 pub(crate) fn char_at(quote: u8, text: &[u8]) -> Option<(u8, usize)>
     ensures { result ≡ char_found (char_at quote text.now) }
@@ -101,8 +103,8 @@ pub(crate) fn char_at(quote: u8, text: &[u8]) -> Option<(u8, usize)>
     }
 }
 
-/// Lexes the character or type variable whose quote precedes the text. If the text is both, then it
-/// is a character.
+/// Lexes the character or type variable whose quote precedes the text. A text that may be a
+/// character or a type variable is a character.
 #[tactic(auto, unfolding(crate::specs::Scan::quote_form, crate::specs::Scan::character_form))]
 pub fn quoted(alloc: Global, text: &[u8]) -> Result<FoundLexeme, LexFault>
     ensures { Answers (λ w. w) result (found_at (quote_form text.now)) }
@@ -118,7 +120,7 @@ pub fn quoted(alloc: Global, text: &[u8]) -> Result<FoundLexeme, LexFault>
     variable(alloc, text)
 }
 
-/// Returns the position after the bytes from `at` on that represent themselves in a string.
+/// Returns the position of the first byte from `at` on that does not represent itself in a string.
 pub(crate) fn plain_end(text: &[u8], at: usize) -> usize
     requires { at ≤ length text.now }
     ensures { result ≡ at + prefix_len is_plain (drop at text.now) }
@@ -126,8 +128,8 @@ pub(crate) fn plain_end(text: &[u8], at: usize) -> usize
     at + plain_len(&text[at..])
 }
 
-/// Appends the bytes from `at` on that represent themselves in a string. Returns the position after
-/// them.
+/// Appends the bytes from `at` on up to the first byte that does not represent itself in a string.
+/// Returns the position after the appended bytes.
 fn take_plain(value: &mut Vec<u8>, text: &[u8], at: usize) -> Result<usize, AllocError>
     requires { at ≤ length text.now }
     ensures { IfOk result (λ end. TakesPlain text.now at value.old.items end value.new.items) }

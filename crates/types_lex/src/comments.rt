@@ -1,9 +1,9 @@
-//! Comments.
+//! Finds the end of a comment.
 
 ghost use Rattle.std.specs.Prelude.{◌≡◌, ◌≤◌, length, IfSome};
 ghost use Rattle.types_lex.specs.Scan.{bracket_of, closing};
 
-/// The meaning of two bytes in a comment.
+/// What two bytes mean in a comment: the beginning of a comment, the end of a comment, or neither.
 #[derive(Clone, Copy)]
 enum CommentDelimiter {
     Opening,
@@ -24,8 +24,8 @@ fn bracket_of(first: u8, second: u8) -> CommentDelimiter
     }
 }
 
-/// Returns the number of bytes up to the end of the comment whose first two bytes precede the text,
-/// or `None` if the comment does not end. Comments nest. Strings inside comments are not
+/// Returns the number of bytes up to the end of the comment whose first two bytes precede the text.
+/// If the comment does not end, returns `None`. Comments nest. Strings inside comments are not
 /// recognized.
 pub fn closing(text: &[u8]) -> Option<usize>
     ensures value { result ≡ closing 0 text.now }

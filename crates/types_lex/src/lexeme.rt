@@ -6,7 +6,7 @@ ghost use Rattle.types_lex.specs.declared.lexeme.LexFault.TheVariants as faults;
 use base_data::model::list::List;
 use std::alloc::{AllocError, AllocFailed};
 
-/// A reserved word.
+/// A reserved word, such as `type`.
 #[derive(Clone, Copy)]
 pub enum Keyword {
     Type,
@@ -24,7 +24,7 @@ pub enum Suffix {
     Native,
 }
 
-/// An integer as written. `-0` differs from `0`.
+/// An integer as written in a text. The integer `-0` differs from `0`.
 #[derive(Clone, Copy)]
 pub struct Integer {
     pub minus: bool,
@@ -32,7 +32,7 @@ pub struct Integer {
     pub suffix: Suffix,
 }
 
-/// A symbol.
+/// A symbol of one or two bytes.
 #[derive(Clone, Copy)]
 pub enum Symbol {
     OpenArray,
@@ -55,8 +55,8 @@ pub enum Symbol {
     Hash,
 }
 
-/// The kind of a lexeme with its value. The name of a tag or a variable does not include its
-/// backquote or quote.
+/// The kind of a lexeme with the value of the lexeme. The name of a tag does not include the
+/// backquote, and the name of a variable does not include the quote.
 #[derive(Drop)]
 pub enum LexemeKind {
     Keyword(Keyword),
@@ -71,14 +71,14 @@ pub enum LexemeKind {
     Symbol(Symbol),
 }
 
-/// The location of a lexeme: the position of its first byte, and its length in bytes.
+/// The location of a lexeme: the position of the first byte, and the length in bytes.
 #[derive(Clone, Copy)]
 pub struct LexemeSpan {
     pub first: usize,
     pub len: usize,
 }
 
-/// A lexeme with its location.
+/// A lexeme with its location in the text.
 #[derive(Drop)]
 pub struct Lexeme {
     pub kind: LexemeKind,
@@ -88,10 +88,9 @@ pub struct Lexeme {
 /// The first fault of a text from the left, with its position in bytes.
 #[derive(Clone, Copy)]
 pub enum LexFault {
-    /// No lexeme begins at this position, or no escape continues here.
+    /// At this position, no lexeme begins or the escape in a string is invalid.
     BadByte(usize),
-    /// The string that begins at this position does not end before the end of its line or of the
-    /// text.
+    /// The string that begins at this position has no closing quote on its line.
     OpenString(usize),
     /// The comment that begins at this position does not end.
     OpenComment(usize),

@@ -1,4 +1,4 @@
-//! A list of lexemes, stored as a slice or as positions in a text.
+//! A list of lexemes, stored as a slice of lexemes or as positions in a text.
 
 ghost use Rattle.std.specs.Prelude.{◌≡◌, ◌<◌, ◌^◌, Some, length, map, option_map, slice_get, IfOk};
 ghost use Rattle.types_lex.specs.declared.lexeme.Lexeme.{Lexeme};
@@ -29,7 +29,8 @@ fn kind_from(alloc: Global, text: &[u8], position: usize) -> Result<LexemeKind, 
     }
 }
 
-/// Returns the lowercase name at a position of a text, or the empty name if there is none.
+/// Returns the lowercase name at a position of a text. If no lowercase name begins at the position,
+/// returns the empty name.
 #[inline(always)]
 fn lower_from(text: &[u8], position: usize) -> &[u8]
     ensures { result.now ≡ lower_name (Some (lexeme_from text.now position).kind) }
@@ -40,7 +41,8 @@ fn lower_from(text: &[u8], position: usize) -> &[u8]
     lower_at(&text[position..])
 }
 
-/// Returns the lowercase name at the start of the text, or the empty name if there is none.
+/// Returns the lowercase name at the start of the text. If the text begins with no lowercase name,
+/// returns the empty name.
 #[inline(always)]
 fn lower_at(text: &[u8]) -> &[u8]
     ensures { result.now ≡ lower_name (Some (lexeme_from text.now 0).kind) }
@@ -65,7 +67,7 @@ fn copy_list(alloc: Global, bytes: &List<u8>) -> Result<List<u8>, Memory>
     Ok(List::of(Vec::from_slice(alloc, bytes.as_slice())?))
 }
 
-/// Copies a kind.
+/// Copies a kind with its value.
 fn copy_kind(alloc: Global, kind: &LexemeKind) -> Result<LexemeKind, Memory>
     ensures { IfOk result (λ copy. copy ≡ kind.now) }
 {
@@ -83,7 +85,8 @@ fn copy_kind(alloc: Global, kind: &LexemeKind) -> Result<LexemeKind, Memory>
     }
 }
 
-/// Returns the name if the kind is a lowercase name, and the empty name otherwise.
+/// If the kind is a lowercase name, returns the name. If the kind is no lowercase name, returns the
+/// empty name.
 fn lower_of(kind: &LexemeKind) -> &[u8]
     ensures { result.now ≡ lower_name (Some kind.now) }
 {
@@ -93,14 +96,15 @@ fn lower_of(kind: &LexemeKind) -> &[u8]
     }
 }
 
-/// The storage of lexemes: a slice of lexemes, or a text and the positions where its lexemes begin.
+/// The storage of a list of lexemes: a slice of lexemes, or a text and the positions where the
+/// lexemes begin.
 #[derive(Clone, Copy)]
 enum LexemeStorage<'a> {
     Row(&'a [Lexeme]),
     Text(&'a [u8], &'a [u32]),
 }
 
-/// A list of lexemes. Its model is that list.
+/// A list of lexemes. The model of `Lexemes` is the list.
 #[derive(Drop)]
 pub struct Lexemes<'a> {
     source: LexemeStorage<'a>,
@@ -117,7 +121,7 @@ impl<'a> Model for Lexemes<'a> {
 }
 
 impl<'a> Lexemes<'a> {
-    /// Returns the lexemes of a slice.
+    /// Creates the list of the lexemes in a slice.
     pub fn of_row(row: &'a [Lexeme]) -> Lexemes<'a>
         ensures { result ≡ row.now }
     {
@@ -126,7 +130,8 @@ impl<'a> Lexemes<'a> {
         }
     }
 
-    /// Returns the lexemes at these positions of a text. They are lexed again on each access.
+    /// Creates the list of the lexemes at these positions of a text. Each access lexes the lexeme
+    /// again.
     pub fn of_text(text: &'a [u8], positions: &'a [u32]) -> Lexemes<'a>
         ensures { result ≡ map (lexeme_from text.now) positions.now }
     {
@@ -135,7 +140,7 @@ impl<'a> Lexemes<'a> {
         }
     }
 
-    /// Returns the number of lexemes.
+    /// Returns the number of lexemes in the list.
     pub fn len(&self) -> usize
         ensures count { result ≡ length self.now }
         ensures few { result < 2 ^ 63 }
@@ -146,7 +151,8 @@ impl<'a> Lexemes<'a> {
         }
     }
 
-    /// Returns the position of the first byte of lexeme `k`, or `None` if there is no such lexeme.
+    /// Returns the position of the first byte of lexeme `k`. If the list has no lexeme `k`, returns
+    /// `None`.
     #[inline(always)]
     pub fn first(&self, k: usize) -> Option<usize>
         ensures { result ≡ option_map (λ (l : Lexeme). l.span.first) (slice_get self.now k) }
@@ -163,7 +169,8 @@ impl<'a> Lexemes<'a> {
         }
     }
 
-    /// Returns the name of lexeme `k` if it is a lowercase name, and the empty name otherwise.
+    /// If lexeme `k` is a lowercase name, returns the name. If lexeme `k` is no lowercase name,
+    /// returns the empty name.
     pub fn lower(&self, k: usize) -> &[u8]
         ensures { result.now
             ≡ lower_name (option_map (λ (l : Lexeme). l.kind) (slice_get self.now k)) }
@@ -180,8 +187,8 @@ impl<'a> Lexemes<'a> {
         }
     }
 
-    /// Returns the kind of lexeme `k`, or `None` if there is no such lexeme. Fails with `Memory` if
-    /// memory runs out.
+    /// Returns the kind of lexeme `k`. If the list has no lexeme `k`, returns `None`. If memory
+    /// runs out, fails with `Memory`.
     #[inline(always)]
     pub fn kind(&self, alloc: Global, k: usize) -> Result<Option<LexemeKind>, Memory>
         ensures { IfOk result

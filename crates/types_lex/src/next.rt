@@ -9,17 +9,18 @@ use crate::lexeme::{LexFault, Lexeme, LexemeSpan};
 use crate::scan::{moved, step_at};
 use std::alloc::Global;
 
-/// Returns the next lexeme of a text from position `from` (in bytes) on, or `None` if no lexeme
-/// follows. Fails with the first fault.
+/// Returns the first lexeme of a text that begins at position `from` (in bytes) or later. If no
+/// lexeme follows, returns `None`. If the text has a fault before a lexeme, fails with the first
+/// fault.
 pub fn next_lexeme(alloc: Global, text: &[u8], from: usize) -> Result<Option<Lexeme>, LexFault>
     requires { from ≤ length text.now }
 
-    // Either the lexeme is the next one after those before `from`, or there are no more lexemes, or
-    // the text has this fault.
+    // If `prefix` are the lexemes before `from`, the result is the lexeme after `prefix`, the end
+    // of the text, or a fault of the text.
     ensures next { (prefix : List Lexeme) → Reached text.now from prefix
         → GoesOn text.now prefix result }
 
-    // The lexeme begins at `from` or later, and it is the lexeme at its own position.
+    // The lexeme begins at `from` or later, and equals the lexeme that begins at its position.
     ensures position { IfOk result (λ found. IfSome found (IsNext text.now from)) }
 {
     let mut at = from;
@@ -56,8 +57,8 @@ fn step_over(alloc: Global, text: &[u8], at: usize) -> Result<usize, LexFault>
     }
 }
 
-/// Checks that the text consists of lexemes from position `from` to its end. Fails with the first
-/// fault.
+/// Checks that the text consists of lexemes from position `from` to the end. If the text has a
+/// fault, fails with the first fault.
 pub fn see_lexemes(alloc: Global, text: &[u8], from: usize) -> Result<(), LexFault>
     requires { from ≤ length text.now }
     ensures { (prefix : List Lexeme) → Reached text.now from prefix → Ends text.now prefix result }

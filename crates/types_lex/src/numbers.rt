@@ -1,4 +1,4 @@
-//! Integers and doubles.
+//! Lexes integers and doubles.
 
 ghost use Rattle.std.specs.Prelude.{◌≡◌, ◌-◌, ◌^◌, min, length, Some, None, IsTrue, if◌then◌else◌};
 ghost use Rattle.std.specs.Prelude.{nat_le};
@@ -12,7 +12,7 @@ use crate::bytes::digit_value;
 use crate::found_lexeme::FoundLexeme;
 use crate::lexeme::{Integer, LexFault, LexemeKind, Suffix};
 
-/// Returns the number of leading decimal digits.
+/// Returns the number of leading decimal digits of the text.
 #[inline(always)]
 fn digits_len(text: &[u8]) -> usize
     ensures { result ≡ prefix_len is_ascii_digit text.now }
@@ -27,7 +27,8 @@ fn all_hexadecimal(bytes: &[u8]) -> bool
     bytes.iter().all(|b| b.is_ascii_hexdigit())
 }
 
-/// Returns the number that the digits represent, or 2^64 - 1 if that is less.
+/// Returns the number that the digits represent in this base. If the number exceeds 2^64 - 1,
+/// returns 2^64 - 1.
 #[inline(always)]
 fn number_in(base: u64, digits: &[u8]) -> u64
     requires { IsTrue (list_all is_ascii_hexdigit digits.now) }
@@ -42,7 +43,7 @@ fn number_in(base: u64, digits: &[u8]) -> u64
     number
 }
 
-/// Returns the number with its sign, if it fits in 64 bits.
+/// Returns the number with its sign. If the signed number does not fit in 64 bits, returns `None`.
 #[inline(always)]
 fn signed(minus: bool, number: u64) -> Option<i64>
     ensures { result
@@ -63,7 +64,8 @@ fn signed(minus: bool, number: u64) -> Option<i64>
     }
 }
 
-/// Returns the suffix at the start of the text and its length in bytes.
+/// Returns the suffix of an integer at the start of the text, and the length of the suffix in
+/// bytes.
 #[tactic(auto, unfolding(crate::specs::Scan::suffix_at))]
 #[inline(always)]
 fn suffix_at(text: &[u8]) -> (Suffix, usize)
@@ -78,8 +80,8 @@ fn suffix_at(text: &[u8]) -> (Suffix, usize)
     }
 }
 
-/// Lexes the integer at the start of the text. If `minus` is true, then a minus sign precedes the
-/// text.
+/// Lexes the integer whose digits begin the text. If `minus` is true, then a minus sign precedes
+/// the text.
 #[tactic(auto, unfolding(crate::specs::Scan::number_form))]
 #[inline(always)]
 pub fn integer(minus: bool, text: &[u8]) -> Result<FoundLexeme, LexFault>

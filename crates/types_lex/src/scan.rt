@@ -1,4 +1,4 @@
-//! The parts of a text, one after the other.
+//! Lexes a text part by part. A part is a separator, a comment or a lexeme.
 
 ghost use Rattle.std.specs.Prelude.{◌≡◌, ◌+◌, ◌<◌, ◌^◌, ℕ, IfOk, IfErr, List, length};
 ghost use Rattle.types_lex.specs.declared.lexeme.Lexeme.{Lexeme};
@@ -81,7 +81,7 @@ pub fn moved(fault: LexFault, by: usize) -> LexFault
     }
 }
 
-/// Lexes the whole text, step by step.
+/// Lexes the whole text, one step after another.
 fn scan(alloc: Global, text: &[u8]) -> Result<Vec<Lexeme>, LexFault>
     ensures lexemes { IfOk result (λ v. Lexes text.now v.items) }
     ensures fault { IfErr result (UnlessMemory (Faults text.now)) }
@@ -108,17 +108,18 @@ fn scan(alloc: Global, text: &[u8]) -> Result<Vec<Lexeme>, LexFault>
     Ok(lexemes)
 }
 
-/// Returns the lexemes of a text in their order, or its first fault.
+/// Returns the lexemes of a text in order. If the text has a fault, fails with the first fault.
 pub fn tokens(alloc: Global, text: &[u8]) -> Result<Vec<Lexeme>, LexFault>
-    // If the result is `Ok`, then it contains the lexemes of the text. If the result is a fault,
-    // then the text before the fault consists of complete parts.
+    // If the result is `Ok`, then the vector contains the lexemes of the text. If the result is a
+    // fault, then the text before the fault consists of complete parts.
     ensures lexemes { IfOk result (λ v. Lexes text.now v.items) }
     ensures fault { IfErr result (UnlessMemory (Faults text.now)) }
 
     // The spans of the lexemes follow one another without overlap.
     ensures spans { IfOk result (λ v. SpansWithin 0 v.items (length text.now)) }
 
-    // If the text has lexemes or a fault, then the result is equal to them, unless memory runs out.
+    // If the text has lexemes, then the result is these lexemes, unless memory runs out. If the
+    // text has a fault, then the result is this fault, unless memory runs out.
     ensures only_lexemes { (lexemes : List Lexeme) → Lexes text.now lexemes
         → Answers (λ v. v.items) result (Ok lexemes) }
     ensures only_fault { (fault : LexFault) → Faults text.now fault
@@ -127,8 +128,8 @@ pub fn tokens(alloc: Global, text: &[u8]) -> Result<Vec<Lexeme>, LexFault>
     scan(alloc, text)
 }
 
-/// Proves that each text has exactly one outcome: its lexemes or its first fault. This is a lemma
-/// function.
+/// Proves that each text has exactly one outcome: the lexemes of the text or the first fault of the
+/// text. `one_outcome` is a lemma function.
 pub fn one_outcome()
     ensures { (text : List ℕ) → HasOneOutcome text }
 {}

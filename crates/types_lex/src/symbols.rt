@@ -1,4 +1,4 @@
-//! Symbols.
+//! Lexes symbols of one or two bytes.
 
 ghost use Rattle.std.specs.Prelude.{◌≡◌};
 ghost use Rattle.types_lex.specs.Scan.{pair_symbol, single_symbol, pair_at, symbol_form, found_at};
@@ -7,7 +7,7 @@ ghost use Rattle.types_lex.specs.LexText.{Answers};
 use crate::found_lexeme::FoundLexeme;
 use crate::lexeme::{LexFault, LexemeKind, Symbol};
 
-/// Returns the symbol that two bytes form.
+/// Returns the symbol that two bytes form, or `None` if the bytes form no symbol.
 #[tactic(auto, unfolding(crate::specs::Scan::pair_symbol))]
 #[inline(always)]
 fn pair_symbol(first: u8, second: u8) -> Option<Symbol>
@@ -26,7 +26,7 @@ fn pair_symbol(first: u8, second: u8) -> Option<Symbol>
     }
 }
 
-/// Returns the symbol that one byte forms.
+/// Returns the symbol that one byte forms, or `None` if the byte forms no symbol.
 #[tactic(auto, unfolding(crate::specs::Scan::single_symbol))]
 #[inline(always)]
 fn single_symbol(byte: u8) -> Option<Symbol>
@@ -51,7 +51,8 @@ fn single_symbol(byte: u8) -> Option<Symbol>
     }
 }
 
-/// Returns the symbol that the first two bytes form, if there are two.
+/// Returns the symbol that `first` and the first byte of `rest` form. If `rest` is empty, returns
+/// `None`.
 #[tactic(auto, unfolding(crate::specs::Scan::pair_at))]
 #[inline(always)]
 fn pair_at(first: u8, rest: &[u8]) -> Option<Symbol>
@@ -63,7 +64,7 @@ fn pair_at(first: u8, rest: &[u8]) -> Option<Symbol>
     }
 }
 
-/// Lexes the symbol that begins with the byte `first`. Prefers a symbol of two bytes.
+/// Lexes the symbol that begins with the byte `first`. A symbol of two bytes is preferred.
 #[tactic(auto, unfolding(crate::specs::Scan::symbol_form))]
 #[inline(always)]
 pub fn symbol(first: u8, rest: &[u8]) -> Result<FoundLexeme, LexFault>

@@ -1,4 +1,4 @@
-//! Names, keywords, tags and type variables.
+//! Lexes names, keywords, tags and type variables.
 
 ghost use Rattle.std.specs.Prelude.{◌≡◌, ◌<◌, length, slice_index, IsTrue, Ok};
 ghost use Rattle.std.specs.List.{take_while};
@@ -13,7 +13,7 @@ use crate::lexeme::{Keyword, LexFault, LexemeKind};
 use base_data::model::list::List;
 use std::alloc::Global;
 
-/// Returns the keyword with this text, if there is one.
+/// Returns the keyword with this text. If the text is no keyword, returns `None`.
 pub fn keyword_of(name: &[u8]) -> Option<Keyword>
     ensures { result ≡ keyword_of name.now }
 {
@@ -37,7 +37,7 @@ pub(crate) fn copied(alloc: Global, text: &[u8]) -> Result<List<u8>, LexFault>
     Ok(List::of(Vec::from_slice(alloc, text)?))
 }
 
-/// Returns the lexeme of a name that is no keyword.
+/// Returns the lexeme of a name that is not a keyword.
 fn cased(alloc: Global, name: &[u8]) -> Result<FoundLexeme, LexFault>
     requires { 0 < length name.now }
     ensures { Answers (λ w. w) result (Ok (found (cased_form name.now))) }

@@ -1,8 +1,8 @@
 //! Finds the occurrences in the text of a type or of declarations: names, variables and brackets,
 //! each with the index of its lexeme. The functions need only the lexemes and the parsed type or
-//! declarations. They count the marks, which are the lexemes of names, tags, variables and included
-//! types. The laws `TypesAreCounted` and `FilesAreCounted` say that counting gives the occurrences
-//! of the grammar's tree. The result has the form that the scope rules read.
+//! declarations. The functions count the marks, which are the lexemes of names, tags, variables and
+//! included types. The laws `TypesAreCounted` and `FilesAreCounted` state that counting gives the
+//! occurrences of the grammar's tree. The result has the form that the scope rules read.
 
 mod bodies;
 mod fact;

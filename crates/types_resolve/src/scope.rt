@@ -1,7 +1,6 @@
 //! Checks the scope rules on names in a text of declarations, or in the text of a type. The
-//! functions `first_break` and `first_break_in_type` return the first broken rule with the least
-//! lexeme that breaks it. The crate also provides environments, which find the declaration of a
-//! name.
+//! functions `first_break` and `first_break_in_type` return the first broken rule and the least
+//! lexeme that breaks the rule. An environment finds the declaration of a name.
 
 mod brackets;
 mod cyclic;
@@ -11,7 +10,6 @@ mod graph;
 mod least;
 mod name_table;
 mod names;
-pub mod predeclared;
 mod ranks;
 mod rule;
 mod search;

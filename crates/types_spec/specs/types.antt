@@ -10,6 +10,8 @@ pub mod LeastFault
 pub mod Names
 pub mod Nodes
 pub mod Occurrence
+pub mod Predeclared
+pub mod PredeclaredCode
 pub mod Reached
 pub mod Scope
 pub mod Searched

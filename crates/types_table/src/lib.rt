@@ -4,20 +4,26 @@
 //! - `type_table`: The table of the types that a type reaches (`TypeTable`): for each number a
 //!   shape over numbers, a class of equal types, names and a text.
 //! - `partition`: Computes the classes of equal types by partition refinement (`classes`).
+//! - `fits`: Tests whether integers, atoms and arrays of doubles match a shape (`fits_int`).
 //!
-//! Promises: `Types::add_named`, `Types::add_part` and their siblings return the number of the
-//! type that they are given, which they add if it is new; after `Memory` the store is unchanged.
-//! `Types::len` ensures that the stored types are distinct. `TypeTable::holds`: each table
-//! satisfies `IsCheckable`. `TypeTable::text` returns the text of a type. `tables_are_lawful`:
-//! values can be checked by the table of a sound type over well-formed declarations. `classes`
-//! returns classes such that two numbers have the same class if and only if their types, given by
-//! heads over numbers, are equal.
+//! Promises:
+//!
+//! - `Types::add_named`, `Types::add_part` and similar functions return the number of a type, and
+//!   add the type if it is new. If they return `Memory`, the store is unchanged.
+//! - `Types::len` ensures that the stored types are distinct.
+//! - `TypeTable::holds`: each table satisfies `IsCheckable`.
+//! - `TypeTable::text` returns the text of a type.
+//! - `tables_are_lawful`: values can be checked by the table of a sound type over well-formed
+//!   declarations.
+//! - `classes` returns the classes of types that are given by heads over numbers. Two numbers have
+//!   one class if and only if their types are equal.
 //!
 //! Leaves out: computing heads, shapes and names (`types_build`), the theorem that a table decides
 //! what its types decide (`types_theory`), and the check (`check_heap`). A type keeps no source
 //! position.
 #![tactic(auto)]
 
+pub mod fits;
 pub mod partition;
 pub mod store;
 pub mod type_table;

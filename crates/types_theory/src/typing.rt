@@ -1,7 +1,6 @@
-//! Proves that it is decidable whether a value has a type: the value has the type or a fault, and a
-//! search finds the first (least) fault. The laws are `searches_find_the_least` and
-//! `checks_take_few_steps`. Both are lemma functions: they do nothing and exist only for their
-//! contracts.
+//! Theorems about searches: a search over objects at types finds the first (least) fault
+//! (`searches_find_the_least`) in a bounded number of steps (`checks_take_few_steps`). The
+//! functions are lemma functions, whose contracts state the theorems.
 
 mod laws;
 

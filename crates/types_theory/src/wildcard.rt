@@ -1,6 +1,6 @@
-//! Proves that hiding a declared type everywhere weakens the check: a value keeps its type if
-//! wildcards (`_`) replace declared types. The functions are lemma functions: they do nothing, and
-//! their contracts state the theorems.
+//! Theorems about hiding: if wildcards (`_`) replace a declared type everywhere, the check becomes
+//! weaker, and each value keeps its types. The functions are lemma functions, whose contracts state
+//! the theorems.
 
 mod laws;
 

@@ -1,7 +1,7 @@
 //! Parses OCaml type declarations and type expressions, and checks the scope rules. `read_decls`
-//! returns well-formed declarations or the first fault, and `read_type` does this for a type over
-//! declarations. The law `one_answer` says that the result for a text is unique. `fault_text`
-//! prints faults.
+//! returns well-formed declarations or the first fault, and `read_type` returns a sound type over
+//! declarations or the first fault. The law `one_answer` states that the result for a text is
+//! unique. `fault_text` prints faults.
 
 mod accept;
 mod fault;

@@ -1,7 +1,7 @@
-//! Checks the scope rules that depend on the heads of types: the types that brackets include,
-//! conflicts between tags of a bracket, and flat records. `first_head_break` returns the first
-//! violation in the text of a file, and `first_head_break_in_type` that in the text of a type. The
-//! other scope rules are checked elsewhere.
+//! Checks the scope rules that depend on the heads of types. The rules concern the types that
+//! brackets include, conflicts between tags of a bracket, and flat records. `first_head_break`
+//! returns the first violation in the text of a file. `first_head_break_in_type` returns the first
+//! violation in the text of a type. `types_resolve` checks the scope rules on names.
 
 mod apart;
 mod brackets;

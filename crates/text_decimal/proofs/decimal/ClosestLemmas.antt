@@ -1,5 +1,5 @@
--- If a decimal is no farther from the double than both neighbours that read as it, then it is the
--- nearest one.
+-- If a decimal is no farther from the double than each neighbour that reads as the double, then the
+-- decimal is the nearest decimal.
 use Rattle.std.proofs.Common.{◌≡◌, ◌≢◌, ℕ, ◌+◌, ◌-◌, ◌*◌, ◌%◌, ◌^◌, ◌<◌, ◌≤◌, inl, inr, arith, subst, sym, ◌∙◌}
 use Rattle.std.proofs.lemmas.Bool.{cases_lt}
 use native.Mathlib.Nat.{mul-le-mul_right, mul-pos}
@@ -11,14 +11,16 @@ use Rattle.text_decimal.proofs.decimal.NearestLemmas.{between}
 abbrev pub gap : ℕ → ℕ → ℕ
 gap x y = (x - y) + (y - x)
 
--- A position at least one unit above is no nearer.
+-- If a number is at least one unit above a number that is near enough to the double, then the
+-- higher number is no nearer to the double.
 above : (x u o y : ℕ) → x + u ≤ o → 2 * y ≤ 2 * x + u → gap x y ≤ gap o y
 above x u o y h k = omega arith
 
 above_tie : (x u o y : ℕ) → 0 < u → x + u ≤ o → 2 * y ≤ 2 * x + u → gap x y ≡ gap o y → 2 * y ≡ 2 * x + u
 above_tie x u o y p h k e = omega arith
 
--- A position at least one unit below is no nearer; `x` is one unit below the decimal.
+-- If a number is at least one unit below the decimal `x + u`, then the number is no nearer to the
+-- double.
 below : (x u o y : ℕ) → o ≤ x → 2 * x + u ≤ 2 * y → gap (x + u) y ≤ gap o y
 below x u o y h k = omega arith
 

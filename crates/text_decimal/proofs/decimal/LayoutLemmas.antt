@@ -1,4 +1,4 @@
--- The text of a decimal is that of a numeral whose number is the decimal.
+-- The text of a decimal is the text of a numeral whose number is the decimal.
 use Rattle.std.proofs.Common.{◌≡◌, ℕ, zero, suc, ◌+◌, ◌-◌, ◌*◌, ◌^◌, ◌<◌, ◌≤◌, Bool, true, false, cond, List, [], ◌∷◌, ◌++◌, length, take, drop, refl, sym, ap, inl, inr, arith, true≢false, append-nil, append_assoc, length-append, length-take, length-drop, take-append-drop, lt-ltb, le-ltb, le-leb}
 use Rattle.std.proofs.lemmas.Bool.{cases_lt, lt-leb}
 use Rattle.std.proofs.lemmas.Fmt.{decimal_is_IsNumeral, decimal_nonempty, length-decimal-le}
@@ -12,13 +12,13 @@ use Rattle.fast_float.proofs.Rows.{AllDigits-take, AllDigits-drop, AllDigits-app
 use Rattle.text_decimal.specs.decimal.Layout.{zeros, pointed, behind_point, scientific, placed, size_text}
 use Rattle.text_decimal.specs.decimal.Reading.{is_decimal}
 
--- The number of the parts is the decimal.
+-- The number of the numeral `p` is the decimal.
 abbrev pub IsWorth : Parts → ℕ → ℕ → Type 0
 IsWorth p digits power =
     digits_of p * 10 ^ tens_up p * 10 ^ (342 - power)
     ≡ digits * 10 ^ (power - 342) * 10 ^ tens_down p
 
--- The text is that of a decimal with this number.
+-- The text is a numeral whose number is the decimal.
 pub record IsNumeralOf (text : List ℕ) (digits power : ℕ) : Type 0 where
   pub parts : Parts
   pub text_is : text ≡ text_of parts
@@ -106,7 +106,8 @@ module _ (ds : List ℕ) (digits power : ℕ) (all : AllDigits 10 ds) (some : 0 
       (rw (digits_value-append (zeros z) ds, value_zeros z, value, length-append (zeros z) ds, length-replicate {A = ℕ} z 48)
       (omega (arith, tens_eq digits 0 (342 - power) (power - 342) (z + length ds + 0) (omega arith))))
 
-  -- The point stands among the digits, or after the last one.
+  -- If the point stands among the digits or after the last digit, then the text is a numeral of the
+  -- decimal.
   among_is : (m : ℕ) → 0 < m → m ≤ length ds → length ds + power ≡ m + 342 → IsNumeralOf (pointed ds m) digits power
   among_is m first few h =
       let none : m - length ds ≡ 0 = omega arith in
@@ -115,7 +116,7 @@ module _ (ds : List ℕ) (digits power : ℕ) (all : AllDigits 10 ds) (some : 0 
       (with_point (take m ds) (drop m ds) digits power (AllDigits-take m ds all) (AllDigits-drop m ds all) (omega arith)
       (rw (take-append-drop m ds, value, length-drop m ds) (omega (arith, tens_eq digits 0 (342 - power) (power - 342) (length ds - m + 0) (omega arith)))))
 
-  -- The point stands after zeros.
+  -- If the point stands after zeros, then the text is a numeral of the decimal.
   behind_is : (m : ℕ) → length ds < m → length ds + power ≡ m + 342 → IsNumeralOf (pointed ds m) digits power
   behind_is m more h =
       let k = m - length ds in

@@ -1,4 +1,4 @@
--- If a double is neither below nor above a positive double, then both are equal.
+-- If a double is neither below nor above a positive double, then the two doubles are equal.
 use Rattle.std.proofs.Common.{◌≡◌, ℕ, zero, suc, ◌+◌, ◌-◌, ◌*◌, ◌/◌, ◌^◌, ◌<◌, ◌≤◌, Bool, true, false, cond, eqb, ltb, ◌&&◌, ◌||◌, ◌⊎◌, T, refl, sym, ap, ◌∙◌, inl, inr, arith, true≢false}
 use native.Mathlib.Nat.{mul-div_cancel, eq_of_mul-eq-mul_right}
 use lib.Dec.{eqb→eq, ltb→lt}

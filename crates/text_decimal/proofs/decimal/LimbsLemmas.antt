@@ -36,7 +36,7 @@ unfolding number_below limb_weight
 number_below-lt xs zero h = omega arith
 number_below-lt xs (suc n) h = omega (arith, number_below-lt xs n h, pow-suc (2 ^ 64) n, mul-le-mul_right (limb_weight n) (h n))
 
--- Limbs that are 0 add nothing.
+-- Limbs that are 0 add nothing to the number.
 pub number_below_zeros : (xs : List ℕ) (n m : ℕ) → AreZeroFrom xs n → n ≤ m → number_below xs m ≡ number_below xs n
 unfolding number_below
 number_below_zeros xs n zero z h = let e : 0 ≡ n = omega arith in ap (number_below xs) e
@@ -46,7 +46,8 @@ number_below_zeros xs n (suc m) z h =
       | inr p ↦ omega (arith, number_below_zeros xs n m z (omega arith), ap (λ x. x * limb_weight m) (z m (omega arith)))
     ]
 
--- One limb's step of a multiplication.
+-- If the lower limbs are multiplied and one more limb is multiplied, then the product is right for
+-- one more limb.
 pub mul_add_step : (done old x by add carry w : ℕ) → done + carry * w ≡ old * by + add
     → done + (x * by + carry) % 2 ^ 64 * w + (x * by + carry) / 2 ^ 64 * (w * 2 ^ 64) ≡ (old + x * w) * by + add
 mul_add_step done old x by add carry w h =
@@ -54,7 +55,8 @@ mul_add_step done old x by add carry w h =
     let parts : wide % 2 ^ 64 + wide / 2 ^ 64 * 2 ^ 64 ≡ x * by + carry = omega arith in
     omega (arith, ap (λ t. t * w) parts)
 
--- The highest limb decides the comparison.
+-- If the highest limb of one number is less than the limb of the other number, then the number is
+-- less.
 pub number_below_less : (xs ys : List ℕ) (i : ℕ) → ((k : ℕ) → get_or xs k 0 < 2 ^ 64) → get_or xs i 0 < get_or ys i 0 → number_below xs (i + 1) < number_below ys (i + 1)
 number_below_less xs ys i fit h = omega (arith, number_below-suc xs i, number_below-suc ys i, number_below-lt xs i fit, mul-le-mul_right (limb_weight i) h)
 
@@ -66,7 +68,8 @@ power_pos : (b k : ℕ) → 0 < b → 0 < b ^ k
 power_pos b zero p = rw pow-zero (omega arith)
 power_pos b (suc k) p = rw pow-suc (mul-pos (power_pos b k p) p)
 
--- `k` of the `n` factors are multiplied first.
+-- If `k` of `n` factors are multiplied first and `n - k` factors later, then all `n` factors are
+-- multiplied.
 pub power_step : (b k x n : ℕ) → 0 < b → k ≤ n → ((x * b ^ k + 0) * b ^ (n - k) ≡ x * b ^ n) × (x * b ^ k ≤ x * b ^ n)
 power_step b k x n p h =
     let e : n ≡ k + (n - k) = omega arith in

@@ -1,5 +1,5 @@
--- Rounding is monotone: a greater number has no lesser double. So a number has one double, and a
--- number between two numbers of one double has the same double.
+-- Rounding is monotone: a greater number has no lesser double. A number therefore has one double. A
+-- number between two numbers of one double has the double.
 use Rattle.std.proofs.Common.{◌≡◌, ℕ, ◌+◌, ◌-◌, ◌*◌, ◌^◌, ◌<◌, ◌≤◌, false, T, sym, ap, ◌∙◌, subst, inl, inr, arith}
 use Rattle.std.proofs.lemmas.Bool.{cases_lt}
 use Rattle.std.proofs.lemmas.Float.{lt_irrefl, lt_of_lt_of_le}
@@ -20,7 +20,8 @@ use lib.Ieee.Fits.{round-fits}
 use Rattle.text_decimal.proofs.decimal.LevelLemmas.{same_value, value_of_level}
 use Rattle.text_decimal.proofs.decimal.SizeLemmas.{units_lt, value_of_size, no_infinity}
 
--- If one finite double is at most another one, then so is its size.
+-- If one finite double is at most another double, then the size of the first double is at most the
+-- size of the second.
 size_le : (x y : ℕ) → x < 2047 * 2 ^ 52 → y < 2047 * 2 ^ 52 → T (le (of_bits binary64 x) (of_bits binary64 y)) → x ≤ y
 size_le x y X Y h =
     elim (cases_lt y x) [
@@ -47,27 +48,28 @@ nearest_mono a b c d x y B D h p q =
       ]
     ]
 
--- A number has one double.
+-- If two doubles are nearest to one number, then the two doubles are equal.
 pub one_nearest : (a b x y : ℕ) → 0 < b → IsNearestBits binary64 a b x → IsNearestBits binary64 a b y → x ≡ y
 one_nearest a b x y B p q = omega (arith, nearest_mono a b a b x y B B (omega arith) p q, nearest_mono a b a b y x B B (omega arith) q p)
 
--- With one power.
+-- If two decimals have one power, then the decimal with more digits has no lesser double.
 pub power_mono : (x y power d e : ℕ) → d ≤ e → IsNearest x d power → IsNearest y e power → x ≤ y
 power_mono x y power d e h p q =
     nearest_mono _ _ _ _ x y (ten_to_pos (342 - power)) (ten_to_pos (342 - power)) (mul-le-mul_right (10 ^ (342 - power)) (mul-le-mul_right (10 ^ (power - 342)) h)) p q
 
--- The number is the same.
+-- If the power is lowered by `k` and the digits are multiplied by 10 ^ `k`, then the number is
+-- unchanged.
 moved : (digits power k : ℕ) → digits * 10 ^ (power + k - 342) * 10 ^ (342 - power) ≡ digits * 10 ^ k * 10 ^ (power - 342) * 10 ^ (342 - (power + k))
 moved digits power k =
     tens_eq digits (power + k - 342) (342 - power) (k + (power - 342)) (342 - (power + k)) (omega arith)
     ∙ ap (λ x. x * 10 ^ (342 - (power + k))) (ap (λ x. digits * x) (pow-add 10 k (power - 342)) ∙ sym (mul_assoc digits (10 ^ k) (10 ^ (power - 342))))
 
--- The same decimal with a lower power.
+-- If a decimal is written with a lower power, then the nearest double is unchanged.
 pub lowered : (size digits power k : ℕ) → IsNearest size digits (power + k) → IsNearest size (digits * 10 ^ k) power
 lowered size digits power k p =
     (p.0 ∙ round_same binary64 false _ _ _ _ (ten_to_pos (342 - (power + k))) (ten_to_pos (342 - power)) (moved digits power k), p.1)
 
--- The same decimal with a higher power.
+-- If a decimal is written with a higher power, then the nearest double is unchanged.
 pub lifted : (size digits power k : ℕ) → IsNearest size (digits * 10 ^ k) power → IsNearest size digits (power + k)
 lifted size digits power k p =
     (p.0 ∙ round_same binary64 false _ _ _ _ (ten_to_pos (342 - power)) (ten_to_pos (342 - (power + k))) (sym (moved digits power k)), p.1)
@@ -85,7 +87,7 @@ few_powers size digits power some r =
           absurd (omega (arith, some.1, e))
     ]
 
--- A decimal between two decimals that read as a double reads as it too.
+-- If two decimals read as a double, then a decimal between the two decimals reads as the double.
 pub between : (size x y z power : ℕ) → IsSome size → x ≤ y → y ≤ z → IsNearest size x power → IsNearest size z power → IsNearest size y power
 between size x y z power some h k p q =
     let v = round binary64 false (y * 10 ^ (power - 342)) (10 ^ (342 - power)) in

@@ -1,6 +1,6 @@
--- Let the decimal `digits`, `power` read as the double. At the next power, its neighbours have the
--- digits `digits / 10` and `digits / 10 + 1`. If neither neighbour reads as the double, then no
--- decimal of a greater power reads as the double.
+-- Let the decimal `digits`, `power` read as the double. At the next power, the decimal's neighbours
+-- have the digits `digits / 10` and `digits / 10 + 1`. If neither neighbour reads as the double,
+-- then no decimal of a greater power reads as the double.
 use Rattle.std.proofs.Common.{◌≡◌, ℕ, ◌+◌, ◌-◌, ◌*◌, ◌/◌, ◌^◌, ◌<◌, inl, inr, arith, sym, subst}
 use Rattle.std.proofs.lemmas.Bool.{cases_lt}
 use native.Mathlib.Nat.{mul-pos}

@@ -23,7 +23,8 @@ use Rattle.text_decimal.proofs.decimal.LayoutLemmas.{IsWorth, IsNumeralOf, size_
 number : (bits : ℕ) → size_of bits ≤ infinite → T (not (is_nan (of_bits binary64 bits)))
 number bits h = subst (λ b. T (not b)) (nan_bits_is binary64 bits) (not_nan_f64_bits bits h)
 
--- The double with these bits is the one nearest to the parts, with its sign.
+-- The double with the bits `bits` is the double nearest to the number of the parts, with the sign
+-- of `bits`.
 nearest_is : (bits digits power : ℕ) (p : Parts) → bits < 2 ^ 64 → size_of bits ≤ infinite → IsNearest (size_of bits) digits power → IsWorth p digits power → nearest binary64 (is_negative bits) p ≡ of_bits binary64 bits
 nearest_is bits digits power p few h near worth =
     round_same binary64 (is_negative bits) _ _ _ _ (ten_to_pos _) (ten_to_pos _) worth

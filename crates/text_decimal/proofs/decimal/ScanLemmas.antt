@@ -1,5 +1,5 @@
--- If the bytes after a numeral cannot continue it, then the numeral is read whole. The lengths of
--- what is read.
+-- If the bytes after a numeral cannot continue the numeral, then the whole numeral is read. Further
+-- lemmas state the lengths of numerals.
 use Rattle.std.proofs.Common.{◌≡◌, ◌≢◌, ◌∙◌, ℕ, ◌+◌, ◌-◌, ◌<◌, ◌≤◌, Bool, true, false, true≢false, cond, ◌&&◌, ◌||◌, eqb, List, [], ◌∷◌, ◌++◌, length, get_or, drop, slice_range, Option, Some, None, refl, sym, ap, subst, inl, inr, arith, append_assoc, length-append, length-take, add-zero, ne_eqb, le-leb, ltb-true, drop_at, take_at, get_or-append-add, get_or-drop}
 use Rattle.std.proofs.lemmas.Bool.{and_parts, and_right, cond_both, cases_Bool}
 use Rattle.std.proofs.lemmas.Str.Parse.{digit_from_value}
@@ -135,7 +135,8 @@ run_over : (p : ℕ → Bool) (xs ys : List ℕ) → list_all p xs ≡ true → 
 run_over p [] ys all = omega arith
 run_over p (x ∷ xs) ys all = let both = and_parts (p x) (list_all p xs) all in rw both.0 (omega (arith, run_over p xs ys both.1))
 
--- After the digits, of which there may be none, there is neither a point nor an exponent.
+-- If neither a point nor an exponent follows the digits, then there is no decimal. The number of
+-- digits may be 0.
 no_decimal : (bs : List ℕ) (a : ℕ) → digits_end bs 0 ≡ a → IsStop (drop a bs) → is_decimal (scan_numeral bs) ≡ false
 unfolding scan_numeral
 no_decimal bs a end stop =

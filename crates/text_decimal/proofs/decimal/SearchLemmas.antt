@@ -4,13 +4,13 @@ use Rattle.std.proofs.lemmas.Bool.{cases_lt}
 use Rattle.text_decimal.specs.decimal.Doubles.{IsNearest, Reads}
 use Rattle.text_decimal.proofs.decimal.NearestLemmas.{power_mono}
 
--- All digits below `low` read as lesser doubles.
+-- All digits below `low` read as doubles below the given double.
 abbrev pub AreLess : (size power low : ℕ) → Type 0
 AreLess size power low =
     (digits : ℕ) → 0 < digits → digits < low → (other : ℕ) → IsNearest other digits power
     → other < size
 
--- These digits read as no lesser double.
+-- The digits `high` read as a double that is not below the given double.
 abbrev pub IsNoLess : (size power high : ℕ) → Type 0
 IsNoLess size power high = (other : ℕ) → IsNearest other high power → size ≤ other
 
@@ -20,7 +20,8 @@ less_up_to size power middle bits p l digits some h other q = omega (arith, l, p
 pub no_less : (size power middle bits : ℕ) → IsNearest bits middle power → size ≤ bits → IsNoLess size power middle
 no_less size power middle bits p l other q = omega (arith, l, power_mono bits other power middle middle (omega arith) p q)
 
--- If the least digits do not read as the double, then no digits do.
+-- If the least digits do not read as the double, then no digits with the power `power` read as the
+-- double.
 pub none_at : (size power least bits : ℕ) → least < 10 ^ 19 → AreLess size power least → (least + 1 < 10 ^ 19 → IsNoLess size power least) → IsNearest bits least power → bits ≢ size
     → (digits : ℕ) → ¬ Reads size digits power
 none_at size power least bits few less reaches p n digits r =

@@ -1,4 +1,4 @@
--- The search of all decimals finds the shortest one.
+-- The search of all decimals finds the shortest decimal.
 use Rattle.std.proofs.Common.{◌≡◌, ◌≢◌, ◌∙◌, ℕ, zero, suc, ◌+◌, ◌*◌, ◌-◌, ◌%◌, ◌^◌, ◌<◌, ◌≤◌, Bool, true, false, true≢false, not, T, cond, eqb, ltb, Option, Some, None, refl, sym, ap, subst, inl, inr, arith, lt-ltb, ltb-true, ltb-false, eq-eqb, eqb-true}
 use Rattle.std.proofs.lemmas.Bool.{and_parts, cases_lt}
 use Rattle.std.proofs.lemmas.Float.{not_nan_f64_bits}
@@ -15,7 +15,7 @@ use Rattle.text_decimal.proofs.decimal.UniqueLemmas.{none_between}
 number : (size : ℕ) → size < infinite → T (not (is_nan (of_bits binary64 size)))
 number size h = subst (λ b. T (not b)) (nan_bits_is binary64 size) (not_nan_f64_bits size (omega arith))
 
--- If a decimal reads as the double, then it passes the test.
+-- If a decimal reads as the double, then the test `reads` returns true.
 pub passes : (size digits power : ℕ) → IsSome size → Reads size digits power → reads size digits power ≡ true
 unfolding reads
 passes size digits power some r =
@@ -23,7 +23,7 @@ passes size digits power some r =
     let e : to_bits binary64 v ≡ size = ap (to_bits binary64) (sym r.nearest.0) ∙ to_bits-of_bits binary64 size (omega (arith, some.1)) (number size some.1) in
     rw (lt-ltb 0 digits r.some, eq-eqb (to_bits binary64 v) size e) refl
 
--- If a decimal passes the test, then it reads as the double.
+-- If the test `reads` returns true for a decimal, then the decimal reads as the double.
 pub passed : (size digits power : ℕ) → IsSome size → digits < 10 ^ 19 → reads size digits power ≡ true → Reads size digits power
 unfolding reads
 passed size digits power some few is =
@@ -47,7 +47,7 @@ abbrev IsBestIn : (size power n : ℕ) → Option ℕ → Type 0
 IsBestIn size power n None = (other : ℕ) → other < n → reads size other power ≡ true → ⊥
 IsBestIn size power n (Some digits) = IsBest size power n digits
 
--- If a property holds below a number and at it, then it holds below the next one.
+-- If a property holds below `n` and at `n`, then the property holds below `n + 1`.
 one_more : (P : ℕ → Type 0) (n : ℕ) → ((m : ℕ) → m < n → P m) → P n → (m : ℕ) → m < suc n → P m
 one_more P n below here m l =
     elim (cases_lt m n) [ inl a ↦ below m a | inr b ↦ let e : n ≡ m = omega arith in subst P e here ]
@@ -163,7 +163,8 @@ module _ (size digits power : ℕ) (some : IsSome size) (top : IsTop size 651 di
   top_shortest : IsShortest size digits power
   top_shortest = record { reads = read; highest = highest; closest = near; even = even }
 
--- The decimal that is found is the shortest one. If none is found, there is none.
+-- A decimal that is found is the shortest decimal. If no decimal is found, then no decimal reads as
+-- the double.
 abbrev pub IsFound : ℕ → Option (ℕ × ℕ) → Type 0
 IsFound size None = HasNone size
 IsFound size (Some decimal) = IsShortest size decimal.0 decimal.1

@@ -51,7 +51,7 @@ field_is (suc j) t h =
     let q : n / 2 ^ 52 - 1 ≡ j = omega arith in
     sym (units_high n (omega arith) ∙ (λ i. (2 ^ 52 + p i) * 2 ^ q i))
 
--- The number of a finite double.
+-- The number of a finite double is its units divided by 2 ^ 1074.
 pub value_of_size : (n : ℕ) → n < 2047 * 2 ^ 52 → HasValue (of_bits binary64 n) false (units_of n) (2 ^ 1074)
 value_of_size n h =
     let e : n / 2 ^ 52 * 2 ^ 52 + n % 2 ^ 52 ≡ n = omega arith in

@@ -7,12 +7,12 @@ use Rattle.text_decimal.specs.decimal.Layout.{IsDecimalOf, IsByBits, IsDoubleTex
 use Rattle.text_decimal.proofs.decimal.NearestLemmas.{between}
 use Rattle.text_decimal.proofs.decimal.ClosestLemmas.{gap, some_unit, more, units_mono}
 
--- A point between two equally distant points is nearer.
+-- A point between two equally distant points is nearer than the two points.
 inside : (x u m z y : ℕ) → 0 < u → m ≡ x + u → m + u ≤ z → gap x y ≡ gap z y → gap x y ≤ gap m y → ⊥
 inside x u m z y p e h same k = omega arith
 
--- If two decimals are equally near and read as the double, then no digits between them are farther
--- from it.
+-- If two decimals are equally near and read as the double, then no digits between the two decimals
+-- are farther from the double.
 pub none_between : (size d e power : ℕ) → IsSome size → Reads size d power → Reads size e power → d + 1 < e → distance size d power ≡ distance size e power
     → (Reads size (d + 1) power → distance size d power ≤ distance size (d + 1) power) → ⊥
 none_between size d e power some r t l same near =
@@ -24,7 +24,7 @@ none_between size d e power some r t l same near =
     inside (decimal_units d power) (decimal_units 1 power) (decimal_units (d + 1) power) (decimal_units e power) (double_units size power) (some_unit power) (more d power)
     (omega (arith, more (d + 1) power, units_mono (d + 1 + 1) e power (omega arith))) same (near middle)
 
--- If two decimals are equally near and both have even digits, then the first is not less.
+-- Of two shortest decimals with one power, the first is not less than the second.
 no_two : (size d e power : ℕ) → IsSome size → IsShortest size d power → IsShortest size e power → d < e → ⊥
 no_two size d e power some s t l =
     let same : distance size d power ≡ distance size e power = omega (arith, s.closest e t.reads, t.closest d s.reads) in

@@ -1,5 +1,5 @@
--- No lexeme of the text of a literal contains a decimal, and the plain text of its text with
--- decimals is the text.
+-- No lexeme of the text of a literal contains a decimal. The plain text of the literal's text with
+-- decimals is the literal's text.
 use Rattle.std.proofs.Common.{◌≡◌, ◌≢◌, ◌∙◌, ℕ, ◌+◌, ◌==◌, true, false, List, [], ◌∷◌, ◌++◌, length, map, slice_index_or, refl, sym, ap, subst, arith, inl, inr, append-nil, append_assoc, length-append}
 use Rattle.std.specs.List.{flat_map, AllByRecursion}
 use Rattle.std.proofs.lemmas.Bool.{or_cases, false≢true, eqb-true}
@@ -17,7 +17,7 @@ use Rattle.text_decimal.proofs.texts.BackLemmas.{text_is_read_back}
 use Rattle.text_decimal.specs.readback.Laws.{LiteralsAreApart, TextsWithDecimalsAreReadBack}
 use Rattle.text_decimal.proofs.readback.KindLemmas.{shuts, AreShut, IsBefore, AreSpaced, literal_spaced}
 
--- No number continues with this byte.
+-- No number continues with the byte `b`.
 abbrev EndsNumber : ℕ → Type 0
 EndsNumber b = (b ≢ 46) × (is_name_byte b ≡ false)
 
@@ -62,7 +62,8 @@ symbol_ends symbols.Hash rest shut = absurd (false≢true shut)
 abbrev kinds_at : ℕ → List Part → Kinds
 kinds_at position ps = map (λ (l : Lexeme). l.kind) (lexemes_of position ps)
 
--- The rest of the text does not begin with a byte that continues a number.
+-- If the lexemes of the parts cannot continue a number, then the text of the parts begins with a
+-- byte that ends a number.
 parts_end : (ps : List Part) (position : ℕ) → AreParts ps [] → AreShut (kinds_at position ps) → EndsNumber (first_of (flat_map part_bytes ps))
 parts_end [] position are shut = ((λ h. omega arith), refl)
 parts_end (Separator b ∷ ps) position are shut = separator_ends b are.0

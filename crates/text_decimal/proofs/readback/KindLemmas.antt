@@ -7,7 +7,7 @@ use Rattle.types_lex.specs.declared.lexeme.Symbol.TheVariants as symbols
 use Rattle.types_parse.specs.grammar.Grammar.{Kinds, mark}
 use Rattle.text_literal.specs.grammar.Literal.{Literal, labelled, again, Plain, integer, character, string, double, truth, unit, constant, applied, fields, tuple, empty_array, array, Parts, no_parts, more_parts, Rows, no_rows, more_rows, Head, upper_head, tag_head, cons_head, empty_head, ref_head, head_kinds, owner_kinds, label_kinds, literal_kinds, plain_kinds, parts_kinds, rows_kinds, row_start}
 
--- The symbols that follow integers in literals. None of them can continue a number.
+-- The symbols that follow integers in literals, which cannot continue a number.
 abbrev pub shuts : Symbol → Bool
 shuts symbols.CloseArray = true
 shuts symbols.CloseParen = true
@@ -18,13 +18,13 @@ shuts symbols.Semicolon = true
 shuts symbols.Equals = true
 shuts symbol = false
 
--- The list is empty or begins with such a symbol.
+-- The list of kinds is empty or begins with a symbol that may follow an integer.
 abbrev pub AreShut : Kinds → Type 0
 AreShut [] = Unit {0}
 AreShut (kinds.Symbol symbol ∷ ks) = shuts symbol ≡ true
 AreShut (kind ∷ ks) = ⊥
 
--- These kinds may follow the lexeme.
+-- The kinds `ks` may follow the lexeme.
 abbrev pub IsBefore : LexemeKind → Kinds → Type 0
 IsBefore (kinds.Integer i) ks = AreShut ks
 IsBefore (kinds.Variable name) ks = ⊥
@@ -53,7 +53,8 @@ label_spaced : (o : Option ℕ) (ks : Kinds) → AreSpaced ks → AreSpaced (lab
 label_spaced None ks spaced = spaced
 label_spaced (Some k) ks spaced = (tt, (refl, (tt, spaced)))
 
--- A literal before a symbol and after other lexemes.
+-- If a literal between other lexemes and a symbol is spaced, then the whole list of kinds is
+-- spaced.
 row : (a kv : Kinds) (s : Symbol) (ks : Kinds) → AreSpaced (a ++ (kv ++ (kinds.Symbol s ∷ ks))) → AreSpaced (((a ++ kv) ++ mark s) ++ ks)
 row a kv s ks spaced = cut (a ++ kv) (mark s) ks (cut a kv (kinds.Symbol s ∷ ks) spaced)
 

@@ -45,13 +45,13 @@ module _ (text : List ℕ) (more : first_len text < length text) where
   decimals_more : decimals_of text ≡ decimals_in line ∷ decimals_of rest
   decimals_more = ap (λ ls. map decimals_in ls) lines_more
 
--- If a line is not the last one, then it ends before the text does.
+-- If a line is not the last line, then the line ends before the end of the text.
 pub shorter : (text : List ℕ) (len : ℕ) → len ≡ first_len text → len ≢ length text → len < length text
 shorter text len is other = omega (arith, is, other, prefix_len-le-length (λ b. not (is_feed b)) text)
 
 -- ---- the loop
 
--- The appended text is that of the original text before an offset.
+-- The appended text is the plain text of the original text before the offset `at`.
 pub record IsBegun (text : List ℕ) (at : ℕ) (plain : PlainScript) : Type 0 where
   pub inside : at ≤ length text
   pub text_is : plain_script text ≡ plain.text.items ++ plain_script (drop at text)

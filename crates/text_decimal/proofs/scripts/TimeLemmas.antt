@@ -1,5 +1,4 @@
--- Lines copy from values that come before the edited ones, whatever the offsets of their literals
--- are.
+-- Lines copy from values that come before the edited values, whatever the offsets of literals are.
 use Rattle.std.proofs.Common.{ℕ, List, [], ◌∷◌, map}
 use Rattle.text_path.specs.ScriptAnswer.{IsInTime, AreInTime}
 use Rattle.text_path.specs.declared.edits.Action.{Action}

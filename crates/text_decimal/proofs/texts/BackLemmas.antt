@@ -1,4 +1,4 @@
--- The text with its doubles as decimals denotes the text itself.
+-- The plain text of a text with its doubles as decimals is the text.
 use Rattle.std.proofs.Common.{◌≡◌, ◌⊎◌, ◌∙◌, ℕ, zero, suc, ◌^◌, ◌<◌, ◌≤◌, Bool, true, false, eqb, List, [], ◌∷◌, ◌++◌, length, Some, None, refl, sym, ap, subst, arith, inl, inr, append-nil, length-append, eqb-true}
 use Rattle.std.specs.List.{flat_map}
 use Rattle.std.specs.Char.{is_ascii_digit}
@@ -19,7 +19,7 @@ use Rattle.text_decimal.specs.texts.Laws.{AreApart}
 use Rattle.text_decimal.proofs.texts.LexedLemmas.{decimal_text_lexed}
 use Rattle.text_decimal.proofs.texts.PlainLemmas.{plain_from, plain_text_is, plain_none, plain_kept, plain_double}
 use Rattle.text_decimal.proofs.texts.EncodedLemmas.{first_of, ends_open, IsStart, Agree, agree_closed, IsKept, kept_part, kept_agree, closed_double, part_some}
-use Rattle.text_decimal.proofs.texts.NoneLemmas.{next_may, prefix_kept, open_may, stops_apart}
+use Rattle.text_decimal.proofs.texts.NoneLemmas.{next_may, prefix_kept, stops_apart}
 use Rattle.text_decimal.proofs.texts.PartsLemmas.{follows, IsDecimalWritten, IsWrittenPart, AreWritten, AreKept, are_written, are_kept}
 
 -- ---- the text written for a double
@@ -47,8 +47,8 @@ start_of (b ∷ bs) rest bits read = starts b bs bits (length (b ∷ bs)) (read_
 same_first : (p : Part) (after x y : List ℕ) → IsPart p after → first_of (part_bytes p ++ x) ≡ first_of (part_bytes p ++ y)
 same_first p after x y is = let some = part_some p after is in rw some.2 refl
 
--- By its bits, or as a decimal.
-module _ (opened : Bool) (p : Part) (r write after : List ℕ) (is : IsPart p after) (d : IsDecimalWritten opened p r write) where
+-- Lemmas on a double that is written by its bits or as a decimal.
+module _ (opened may : Bool) (p : Part) (r write after : List ℕ) (is : IsPart p after) (d : IsDecimalWritten opened may p r write) where
   double_form : IsForm (Double d.digits)
   double_form = (subst (λ q. IsPart q after) d.is is).0.written
 
@@ -61,19 +61,19 @@ module _ (opened : Bool) (p : Part) (r write after : List ℕ) (is : IsPart p af
   shut : ends_open (part_bytes p) ≡ false
   shut = ap (λ q. ends_open (part_bytes q)) d.is ∙ closed_double d.digits double_form
 
-like_double : (opened : Bool) (p : Part) (r write rest after x : List ℕ) → IsPart p after → IsDecimalWritten opened p r write → Agree opened (part_bytes p ++ x) (write ++ rest)
-like_double opened p r write rest after x is d = elim (either opened p r write after is d) [
+like_double : (opened may : Bool) (p : Part) (r write rest after x : List ℕ) → IsPart p after → IsDecimalWritten opened may p r write → Agree opened (part_bytes p ++ x) (write ++ rest)
+like_double opened may p r write rest after x is d = elim (either opened may p r write after is d) [
   | inl same ↦ inl (ap (λ t. first_of (t ++ rest)) same ∙ same_first p after rest x is)
   | inr read ↦ inr (d.before, start_of write rest (number_in 16 d.digits) read)
 ]
 
--- The written text begins as the parts do, or with a number after an opening byte.
-agree : (ps : List Part) (opened : Bool) (new : List ℕ) → AreParts ps [] → AreWritten opened ps new → Agree opened (flat_map part_bytes ps) new
-agree [] opened new parts is = inl (ap first_of is)
-agree (p ∷ ps) opened new parts (write, rest, inl same, more, is) =
+-- The written text begins with the first byte of the parts, or with a number after an opening byte.
+agree : (ps : List Part) (opened may : Bool) (new : List ℕ) → AreParts ps [] → AreWritten opened may ps new → Agree opened (flat_map part_bytes ps) new
+agree [] opened may new parts is = inl (ap first_of is)
+agree (p ∷ ps) opened may new parts (write, rest, inl same, more, is) =
     inl (ap first_of (is ∙ ap (λ t. t ++ rest) same) ∙ same_first p (flat_map part_bytes ps ++ []) rest (flat_map part_bytes ps) parts.0)
-agree (p ∷ ps) opened new parts (write, rest, inr d, more, is) =
-    subst (Agree opened (flat_map part_bytes (p ∷ ps))) (sym is) (like_double opened p (flat_map part_bytes ps) write rest (flat_map part_bytes ps ++ []) (flat_map part_bytes ps) parts.0 d)
+agree (p ∷ ps) opened may new parts (write, rest, inr d, more, is) =
+    subst (Agree opened (flat_map part_bytes (p ∷ ps))) (sym is) (like_double opened may p (flat_map part_bytes ps) write rest (flat_map part_bytes ps ++ []) (flat_map part_bytes ps) parts.0 d)
 
 -- ---- the bytes after a decimal end it
 
@@ -100,19 +100,19 @@ follow_stops s h = elim (or_cases _ (eqb (first_of s) 125) h) [
 
 -- ---- all parts
 
-write_long : (opened : Bool) (p : Part) (r write after : List ℕ) → IsPart p after → IsWrittenPart opened p r write → 0 < length write
-write_long opened p r write after is (inl same) = let some = part_some p after is in rw (same, some.2) (omega arith)
-write_long opened p r write after is (inr d) = elim (either opened p r write after is d) [
+write_long : (opened may : Bool) (p : Part) (r write after : List ℕ) → IsPart p after → IsWrittenPart opened may p r write → 0 < length write
+write_long opened may p r write after is (inl same) = let some = part_some p after is in rw (same, some.2) (omega arith)
+write_long opened may p r write after is (inr d) = elim (either opened may p r write after is d) [
   | inl same ↦ let some = part_some p after is in rw (same, some.2) (omega arith)
   | inr read ↦ decimal_long write (number_in 16 d.digits) (length write) (read_whole write (number_in 16 d.digits) read)
 ]
 
-module _ (p : Part) (ps : List Part) (opened : Bool) (rest : List ℕ) (parts : AreParts (p ∷ ps) []) (kept : AreKept (p ∷ ps)) (more : AreWritten (ends_open (part_bytes p)) ps rest) where
+module _ (p : Part) (ps : List Part) (opened may : Bool) (rest : List ℕ) (parts : AreParts (p ∷ ps) []) (kept : AreKept (p ∷ ps)) (more : AreWritten (ends_open (part_bytes p)) (next_may may p) ps rest) where
   here : IsPart p (flat_map part_bytes ps)
   here = subst (IsPart p) (append-nil (flat_map part_bytes ps)) parts.0
 
   like : Agree (ends_open (part_bytes p)) (flat_map part_bytes ps) rest
-  like = agree ps (ends_open (part_bytes p)) rest parts.1 more
+  like = agree ps (ends_open (part_bytes p)) (next_may may p) rest parts.1 more
 
   there : IsPart p rest
   there = kept_part p (flat_map part_bytes ps) rest here kept.0 like
@@ -120,53 +120,55 @@ module _ (p : Part) (ps : List Part) (opened : Bool) (rest : List ℕ) (parts : 
   kept_there : IsKept p rest
   kept_there = kept_agree p (flat_map part_bytes ps) rest here kept.0 like
 
-  prefix_is : (may : Bool) → prefix_at may (part_bytes p ++ rest) ≡ prefixes.Kept (length (part_bytes p)) (next_may p)
-  prefix_is may = prefix_kept may p rest there kept_there
+  prefix_is : prefix_at may (part_bytes p ++ rest) ≡ prefixes.Kept (length (part_bytes p)) (next_may may p)
+  prefix_is = prefix_kept may p rest there kept_there
 
-  double_is : (write : List ℕ) (d : IsDecimalWritten opened p (flat_map part_bytes ps) write) → IsRead write (number_in 16 d.digits) → prefix_at true (write ++ rest) ≡ prefixes.Double (number_in 16 d.digits) (length write)
+  double_is : (write : List ℕ) (d : IsDecimalWritten opened may p (flat_map part_bytes ps) write) → IsRead write (number_in 16 d.digits) → prefix_at true (write ++ rest) ≡ prefixes.Double (number_in 16 d.digits) (length write)
   double_is write d read =
-      let next = agree_closed (ends_open (part_bytes p)) (flat_map part_bytes ps) rest (shut opened p (flat_map part_bytes ps) write (flat_map part_bytes ps) here d) like in
-      ap (λ o. prefix_of o (step_at (write ++ rest))) (read rest (follow_stops rest (ap follows next ∙ d.behind)))
+      let next = agree_closed (ends_open (part_bytes p)) (flat_map part_bytes ps) rest (shut opened may p (flat_map part_bytes ps) write (flat_map part_bytes ps) here d) like in
+      ap (λ o. prefix_of true o (step_at (write ++ rest))) (read rest (follow_stops rest (ap follows next ∙ d.behind)))
 
--- One part, before others for which the lemma holds.
-plain_part : (p : Part) (ps : List Part) (n : ℕ) (opened may : Bool) (write rest : List ℕ) → AreParts (p ∷ ps) [] → AreKept (p ∷ ps) → IsWrittenPart opened p (flat_map part_bytes ps) write → AreWritten (ends_open (part_bytes p)) ps rest → (opened ≡ true → may ≡ true)
-    → ((next : Bool) → (ends_open (part_bytes p) ≡ true → next ≡ true) → plain_from n next rest ≡ flat_map part_bytes ps)
+-- If the lemma holds for the later parts, then the lemma holds for one part followed by the later
+-- parts.
+plain_part : (p : Part) (ps : List Part) (n : ℕ) (opened may : Bool) (write rest : List ℕ) → AreParts (p ∷ ps) [] → AreKept (p ∷ ps) → IsWrittenPart opened may p (flat_map part_bytes ps) write → AreWritten (ends_open (part_bytes p)) (next_may may p) ps rest
+    → plain_from n (next_may may p) rest ≡ flat_map part_bytes ps
     → plain_from (suc n) may (write ++ rest) ≡ part_bytes p ++ flat_map part_bytes ps
-plain_part p ps n opened may write rest parts kept how more opens others = by_written how
+plain_part p ps n opened may write rest parts kept how more others = by_written how
   where
     same : write ≡ part_bytes p → plain_from (suc n) may (write ++ rest) ≡ part_bytes p ++ flat_map part_bytes ps
     same e =
         ap (λ t. plain_from (suc n) may (t ++ rest)) e
-        ∙ plain_kept n may (next_may p) (part_bytes p) rest (prefix_is p ps opened rest parts kept more may)
-        ∙ ap (λ t. part_bytes p ++ t) (others (next_may p) (open_may p))
+        ∙ plain_kept n may (next_may may p) (part_bytes p) rest (prefix_is p ps opened may rest parts kept more)
+        ∙ ap (λ t. part_bytes p ++ t) others
 
-    by_written : IsWrittenPart opened p (flat_map part_bytes ps) write → plain_from (suc n) may (write ++ rest) ≡ part_bytes p ++ flat_map part_bytes ps
+    by_written : IsWrittenPart opened may p (flat_map part_bytes ps) write → plain_from (suc n) may (write ++ rest) ≡ part_bytes p ++ flat_map part_bytes ps
     by_written (inl e) = same e
-    by_written (inr d) = elim (either opened p (flat_map part_bytes ps) write (flat_map part_bytes ps ++ []) parts.0 d) [
+    by_written (inr d) = elim (either opened may p (flat_map part_bytes ps) write (flat_map part_bytes ps ++ []) parts.0 d) [
       | inl e ↦ same e
       | inr read ↦
           let bits = number_in 16 d.digits in
-          let prefix : prefix_at may (write ++ rest) ≡ prefixes.Double bits (length write) = ap (λ b. prefix_at b (write ++ rest)) (opens d.before) ∙ double_is p ps opened rest parts kept more write d read in
+          let prefix : prefix_at may (write ++ rest) ≡ prefixes.Double bits (length write) = ap (λ b. prefix_at b (write ++ rest)) d.allowed ∙ double_is p ps opened may rest parts kept more write d read in
           let text : float_text bits ≡ part_bytes p = sym d.written ∙ ap part_bytes (sym d.is) in
-          plain_double n may bits write rest prefix ∙ (λ i. text i ++ others true (λ e. refl) i)
+          let next : next_may may p ≡ true = ap (next_may may) d.is in
+          plain_double n may bits write rest prefix ∙ (λ i. text i ++ (ap (λ b. plain_from n b rest) (sym next) ∙ others) i)
     ]
 
-plain_parts : (ps : List Part) (n : ℕ) (opened may : Bool) (new : List ℕ) → length new ≤ n → AreParts ps [] → AreKept ps → AreWritten opened ps new → (opened ≡ true → may ≡ true) → plain_from n may new ≡ flat_map part_bytes ps
-plain_parts [] n opened may new short parts kept is opens = ap (plain_from n may) is ∙ plain_none n may
-plain_parts (p ∷ ps) zero opened may new short parts kept (write, rest, how, more, is) opens =
-    absurd (omega (arith, ap length is, length-append write rest, write_long opened p (flat_map part_bytes ps) write (flat_map part_bytes ps ++ []) parts.0 how))
-plain_parts (p ∷ ps) (suc n) opened may new short parts kept (write, rest, how, more, is) opens =
-    let less : length rest ≤ n = omega (arith, ap length is, length-append write rest, write_long opened p (flat_map part_bytes ps) write (flat_map part_bytes ps ++ []) parts.0 how) in
+plain_parts : (ps : List Part) (n : ℕ) (opened may : Bool) (new : List ℕ) → length new ≤ n → AreParts ps [] → AreKept ps → AreWritten opened may ps new → plain_from n may new ≡ flat_map part_bytes ps
+plain_parts [] n opened may new short parts kept is = ap (plain_from n may) is ∙ plain_none n may
+plain_parts (p ∷ ps) zero opened may new short parts kept (write, rest, how, more, is) =
+    absurd (omega (arith, ap length is, length-append write rest, write_long opened may p (flat_map part_bytes ps) write (flat_map part_bytes ps ++ []) parts.0 how))
+plain_parts (p ∷ ps) (suc n) opened may new short parts kept (write, rest, how, more, is) =
+    let less : length rest ≤ n = omega (arith, ap length is, length-append write rest, write_long opened may p (flat_map part_bytes ps) write (flat_map part_bytes ps ++ []) parts.0 how) in
     ap (plain_from (suc n) may) is
-    ∙ plain_part p ps n opened may write rest parts kept how more opens (λ next may_next. plain_parts ps n (ends_open (part_bytes p)) next rest less parts.1 kept.1 more may_next)
+    ∙ plain_part p ps n opened may write rest parts kept how more (plain_parts ps n (ends_open (part_bytes p)) (next_may may p) rest less parts.1 kept.1 more)
 
--- Parts that are written unchanged.
-same_written : (ps : List Part) (opened : Bool) → AreWritten opened ps (flat_map part_bytes ps)
-same_written [] opened = refl
-same_written (p ∷ ps) opened = (part_bytes p, flat_map part_bytes ps, inl refl, same_written ps (ends_open (part_bytes p)), refl)
+-- The text of parts that are written unchanged satisfies `AreWritten`.
+same_written : (ps : List Part) (opened may : Bool) → AreWritten opened may ps (flat_map part_bytes ps)
+same_written [] opened may = refl
+same_written (p ∷ ps) opened may = (part_bytes p, flat_map part_bytes ps, inl refl, same_written ps (ends_open (part_bytes p)) (next_may may p), refl)
 
-plain_of_written : (text : List ℕ) (ps : List Part) (new : List ℕ) → AreParts ps [] → text ≡ flat_map part_bytes ps → AreKept ps → AreWritten true ps new → plain_text new ≡ text
-plain_of_written text ps new parts is kept are = plain_text_is new ∙ plain_parts ps (length new) true true new (omega arith) parts kept are (λ e. refl) ∙ sym is
+plain_of_written : (text : List ℕ) (ps : List Part) (new : List ℕ) → AreParts ps [] → text ≡ flat_map part_bytes ps → AreKept ps → AreWritten true true ps new → plain_text new ≡ text
+plain_of_written text ps new parts is kept are = plain_text_is new ∙ plain_parts ps (length new) true true new (omega arith) parts kept are ∙ sym is
 
 pub text_is_read_back : (text : List ℕ) (lexemes : List Lexeme) → Lexes text lexemes → AreApart text lexemes → (plain_text (decimal_text text) ≡ text) × (plain_text text ≡ text)
 text_is_read_back text lexemes lexes apart = by_parts lexes
@@ -175,7 +177,7 @@ text_is_read_back text lexemes lexes apart = by_parts lexes
     by_parts (ps, parts, is, found) =
         let new = decimal_text text in
         let kept = are_kept ps text [] 0 is refl (subst (AreApart text) found apart) in
-        let write = are_written ps text [] [] 0 0 new parts is refl refl (subst (λ l. new ≡ replaced text 0 l) found (decimal_text_lexed text lexemes lexes)) in (
-          plain_of_written text ps new parts is kept (subst (λ t. AreWritten true ps t) (sym write.1) write.2),
-          plain_of_written text ps text parts is kept (subst (AreWritten true ps) (sym is) (same_written ps true)),
+        let write = are_written ps text [] [] 0 0 true new parts is refl refl (subst (λ l. new ≡ replaced text 0 true l) found (decimal_text_lexed text lexemes lexes)) in (
+          plain_of_written text ps new parts is kept (subst (λ t. AreWritten true true ps t) (sym write.1) write.2),
+          plain_of_written text ps text parts is kept (subst (AreWritten true true ps) (sym is) (same_written ps true true)),
         )

@@ -1,5 +1,5 @@
--- A part of a text stays a part if the text after it begins with the same byte, or with a number
--- after a blank, `(`, `=` or `|`.
+-- Let the text after a part be replaced by another text. If the new text begins with the old first
+-- byte, or with a number after a blank, `(`, `=` or `|`, then the part stays a part.
 use Rattle.std.proofs.Common.{◌≡◌, ◌≢◌, ◌⊎◌, ◌∙◌, ℕ, Bool, true, false, true≢false, ◌||◌, eqb, List, [], ◌∷◌, ◌++◌, Some, None, refl, sym, ap, subst, arith, inl, inr, append-nil, ne_eqb}
 use Rattle.std.specs.List.{list_all, take_while, flat_map}
 use Rattle.std.specs.Char.{is_ascii_digit, is_ascii_hexdigit}
@@ -24,16 +24,16 @@ use Rattle.text_decimal.specs.texts.Laws.{IsApart}
 
 -- ---- first and last bytes
 
--- The first byte, or a blank.
+-- The first byte of a text, or a blank if the text is empty.
 abbrev pub first_of : List ℕ → ℕ
 first_of [] = 32
 first_of (b ∷ bs) = b
 
--- A blank, `(`, `=` or `|`.
+-- The byte is a blank, `(`, `=` or `|`, after which a decimal may begin.
 abbrev pub opens : ℕ → Bool
 opens b = eqb b 32 || eqb b 40 || eqb b 61 || eqb b 124
 
--- The last byte is an opening one, or there is none.
+-- The last byte of the text is a blank, `(`, `=` or `|`, or the text is empty.
 abbrev pub ends_open : List ℕ → Bool
 ends_open [] = true
 ends_open (b ∷ []) = opens b
@@ -44,7 +44,7 @@ ends_append [] b bs = refl
 ends_append (a ∷ []) b bs = refl
 ends_append (a ∷ c ∷ x) b bs = ends_append (c ∷ x) b bs
 
--- No opening byte passes this test.
+-- None of the bytes blank, `(`, `=` and `|` passes the test `p`.
 abbrev Closes4 : (ℕ → Bool) → Type 0
 Closes4 p = (p 32 ≡ false) × (p 40 ≡ false) × (p 61 ≡ false) × (p 124 ≡ false)
 
@@ -57,7 +57,7 @@ closed p none b (c ∷ bs) all = closed p none c bs (and_parts (p b) (list_all p
 abbrev pub IsStart : ℕ → Type 0
 IsStart b = (is_ascii_digit b ≡ true) ⊎ (b ≡ 45)
 
--- The same first byte, or a number after an opening byte.
+-- The texts `r` and `s` have one first byte, or `s` begins with a number after an opening byte.
 abbrev pub Agree : Bool → List ℕ → List ℕ → Type 0
 Agree opened r s = (first_of s ≡ first_of r) ⊎ ((opened ≡ true) × IsStart (first_of s))
 
@@ -109,7 +109,8 @@ run_is b bs r name ends = take_while-more is_name_byte (b ∷ bs) r name ∙ ap 
 closed_name : (b : ℕ) (bs : List ℕ) → list_all is_name_byte (b ∷ bs) ≡ true → ends_open (b ∷ bs) ≡ false
 closed_name b bs name = closed is_name_byte (refl, refl, refl, refl) b bs name
 
--- If a word is found before one text, then it is found before the other.
+-- Let `r` and `s` satisfy `Agree`. If a word is found before the text `r`, then the word is found
+-- before the text `s`.
 word_found : (form : Form) (b : ℕ) (bs r s : List ℕ) → form_bytes form ≡ b ∷ bs → starts_name b ≡ true → list_all is_name_byte (b ∷ bs) ≡ true
     → form_at (b ∷ bs ++ r) ≡ Some form → Agree (ends_open (b ∷ bs)) r s → form_at (b ∷ bs ++ s) ≡ Some form
 word_found form b bs r s bytes first name found like =
@@ -145,7 +146,7 @@ closed_number minus d ds suffixes.Native digits = ends_append (minus_text minus)
 
 -- ---- symbols
 
--- A symbol, determined by its byte and the next one.
+-- A symbol is determined by its byte and the next byte.
 next_91 : (s : List ℕ) → form_at (91 ∷ s) ≡ or_symbol (pair_symbol 91 (first_of s)) (Some symbols.OpenBracket)
 unfolding form_at symbol_form pair_at pair_symbol single_symbol
 next_91 [] = refl
@@ -177,7 +178,8 @@ pair_start b start = rw (ne_eqb b 93 (start_not 93 b refl (λ e. omega arith) st
 alone : (m : Symbol) → ((s : List ℕ) → form_at (symbol_text m ++ s) ≡ Some (Mark m)) → (Mark m ≢ Mark symbols.OpenParen) → (s : List ℕ) → IsPart (Word (Mark m)) s
 alone m found other s = found_part (Mark m) s (found s) other tt
 
--- A symbol whose recognition depends on the next byte.
+-- If the recognition of a symbol depends on the next byte, then the symbol stays a part before a
+-- text with the old first byte.
 before_next : (m : Symbol) (a : ℕ) → symbol_text m ≡ a ∷ [] → ((s : List ℕ) → form_at (a ∷ s) ≡ or_symbol (pair_symbol a (first_of s)) (Some m)) → (Mark m ≢ Mark symbols.OpenParen)
     → (r s : List ℕ) → IsPart (Word (Mark m)) r → first_of s ≡ first_of r → IsPart (Word (Mark m)) s
 before_next m a text by other r s is same =
@@ -229,8 +231,8 @@ mark_part symbols.Hash r s is like = alone symbols.Hash (by_next _ refl (λ b bs
 
 -- ---- all parts
 
--- An integer is followed neither by a point nor by a byte of a name, and the part is not a
--- variable.
+-- The part is not a variable. If the part is an integer, then neither a point nor a byte of a name
+-- follows.
 abbrev pub IsKept : Part → List ℕ → Type 0
 IsKept (Separator b) r = Unit {0}
 IsKept (Comment inside) r = Unit {0}

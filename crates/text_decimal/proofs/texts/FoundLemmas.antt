@@ -14,7 +14,8 @@ within_push : (from : ℕ) (ds : List Decimal) (at : ℕ) (d : Decimal) → AreW
 within_push from [] at d is le some = (omega arith, some, omega arith)
 within_push from (e ∷ ds) at d is le some = (is.0, is.1, within_push (e.first + e.len) ds at d is.2 le some)
 
--- These are the decimals before an offset; `n` is at least the number of bytes left.
+-- `found` are the decimals before the offset `at`. The number `n` is at least the number of bytes
+-- left.
 pub record IsFound (text : List ℕ) (at : ℕ) (may : Bool) (found : List Decimal) : Type 0 where
   pub inside : at ≤ length text
   pub n : ℕ
@@ -25,7 +26,7 @@ pub record IsFound (text : List ℕ) (at : ℕ) (may : Bool) (found : List Decim
 pub found_none : (text : List ℕ) → IsFound text 0 true []
 found_none text = record { inside = omega arith; n = length text; enough = omega arith; is = refl; within = omega arith }
 
--- One more step, while bytes are left.
+-- If bytes are left, then the decimals from the offset on are given by one more step.
 left_by : (text : List ℕ) (at n : ℕ) (may : Bool) → at < length text → length text ≤ at + n
     → (m : ℕ) × (length text ≤ at + 1 + m) × (decimals_from n at may (drop at text) ≡ decimals_by at (λ len next. decimals_from m (at + len) next (drop len (drop at text))) (prefix_at may (drop at text)))
 unfolding decimals_from

@@ -1,4 +1,5 @@
--- The lexemes that are found step by step are those of the text, and so are its decimals.
+-- The lexemes that are found step by step are the lexemes of the text. The decimals that are found
+-- are the decimals of the text.
 use Rattle.std.proofs.Common.{ℕ, zero, suc, ◌≡◌, ◌∙◌, ◌+◌, ◌<◌, ◌≤◌, ◌++◌, Bool, true, false, cond, eqb, List, [], ◌∷◌, length, drop, Option, Some, None, Result, Ok, Err, refl, sym, ap, subst, arith, append-nil, append_assoc, eqb-true}
 use Rattle.std.proofs.lemmas.Bool.{eqb-false}
 use Rattle.std.proofs.lemmas.List.{drop-drop, length-drop}
@@ -14,7 +15,7 @@ use Rattle.types_lex.proofs.FaultLaws.{IsPartAt, IsStepAt, step_at-is}
 use Rattle.types_lex.proofs.PartLaws.{step_len, step_lexemes, reached_further, reached_more, reached_fault, reached_end, one_list, list_or_fault}
 use Rattle.text_decimal.specs.texts.Texts.{lexed_by, lexed_from, replaced, replaced_or, decimal_text}
 
--- The lexemes after the first ones, or the text has a lexical error.
+-- The text has the lexemes `prefix ++ more`, or has a lexical error.
 abbrev IsLexed : List ℕ → List Lexeme → Option (List Lexeme) → Type 0
 IsLexed text prefix None = (fault : LexFault) × Faults text fault
 IsLexed text prefix (Some more) = Lexes text (prefix ++ more)
@@ -26,7 +27,7 @@ step_here (b ∷ bs) some = step_at-is b bs
 lexed_end : (text : List ℕ) (at : ℕ) (prefix : List Lexeme) → Reached text at prefix → length text ≤ at → Lexes text (prefix ++ [])
 lexed_end text at prefix r end = subst (Lexes text) (sym (append-nil prefix)) (reached_end text at prefix r end)
 
--- With one more lexeme before the others.
+-- If the lexemes after the lexeme `l` are found, then the lexemes from `l` on are found.
 lexed_word : (text : List ℕ) (prefix : List Lexeme) (l : Lexeme) (more : Option (List Lexeme)) → IsLexed text (prefix ++ l ∷ []) more
     → IsLexed text prefix (option_map (λ (ls : List Lexeme). l ∷ ls) more)
 lexed_word text prefix l None fault = fault
@@ -60,13 +61,13 @@ lexed_is text (suc n) at prefix r room =
 none_reached : (text : List ℕ) → Reached text 0 []
 none_reached text = record { parts = []; are = tt; is = refl; long = refl; inside = omega arith; found = refl }
 
-pub decimal_text_lexed : (text : List ℕ) (lexemes : List Lexeme) → Lexes text lexemes → decimal_text text ≡ replaced text 0 lexemes
+pub decimal_text_lexed : (text : List ℕ) (lexemes : List Lexeme) → Lexes text lexemes → decimal_text text ≡ replaced text 0 true lexemes
 unfolding decimal_text
 decimal_text_lexed text lexemes is = by_lexed (lexed_from (length text) 0 text) (lexed_is text (length text) 0 [] (none_reached text) (omega arith))
   where
-    by_lexed : (found : Option (List Lexeme)) → IsLexed text [] found → replaced_or text found ≡ replaced text 0 lexemes
+    by_lexed : (found : Option (List Lexeme)) → IsLexed text [] found → replaced_or text found ≡ replaced text 0 true lexemes
     by_lexed None (fault, faults) = absurd (list_or_fault text lexemes fault is faults)
-    by_lexed (Some found) lexes = ap (replaced text 0) (one_list text found lexemes lexes is)
+    by_lexed (Some found) lexes = ap (replaced text 0 true) (one_list text found lexemes lexes is)
 
 pub decimal_text_faults : (text : List ℕ) (fault : LexFault) → Faults text fault → decimal_text text ≡ text
 unfolding decimal_text
@@ -78,7 +79,7 @@ decimal_text_faults text fault is = by_lexed (lexed_from (length text) 0 text) (
 
 -- ---- the appended text
 
-pub write_lexed : {X E : Type 0} (text old new : List ℕ) (lexemes : List Lexeme) (r : Result X E) → OnOk r (new ≡ old ++ replaced text 0 lexemes) → Lexes text lexemes → OnOk r (new ≡ old ++ decimal_text text)
+pub write_lexed : {X E : Type 0} (text old new : List ℕ) (lexemes : List Lexeme) (r : Result X E) → OnOk r (new ≡ old ++ replaced text 0 true lexemes) → Lexes text lexemes → OnOk r (new ≡ old ++ decimal_text text)
 write_lexed text old new lexemes (Ok x) h is = h ∙ ap (λ t. old ++ t) (sym (decimal_text_lexed text lexemes is))
 write_lexed text old new lexemes (Err e) h is = tt
 

@@ -1,4 +1,5 @@
--- No decimal begins at a part of a text without decimals, so the part is the first token there.
+-- No decimal begins at a part of a text without decimals, and therefore the part is the first token
+-- at its offset.
 use Rattle.std.proofs.Common.{◌≡◌, ◌≢◌, ◌∙◌, ℕ, ◌<◌, Bool, true, false, true≢false, ◌&&◌, leb, List, [], ◌∷◌, ◌++◌, length, None, Option, Ok, refl, sym, ap, arith, inl, inr, append_assoc, if◌then◌else◌}
 use Rattle.std.specs.List.{list_all}
 use Rattle.std.specs.Char.{is_ascii_digit}
@@ -16,12 +17,12 @@ use Rattle.text_roundtrip.proofs.lexed.TakenLemmas.{no_digit}
 use Rattle.text_decimal.specs.decimal.Reading.{Stops, decimal_at}
 use Rattle.text_decimal.proofs.decimal.ScanLemmas.{integer_no_decimal, other_no_decimal}
 use Rattle.text_decimal.specs.declared.texts.decimal_prefix.DecimalPrefix.TheVariants as prefixes
-use Rattle.text_decimal.specs.texts.Plain.{is_point, prefix_of, prefix_at}
-use Rattle.text_decimal.proofs.texts.EncodedLemmas.{first_of, ends_open, IsKept}
+use Rattle.text_decimal.specs.texts.Plain.{may_after, prefix_of, prefix_at}
+use Rattle.text_decimal.proofs.texts.EncodedLemmas.{first_of, IsKept}
 
 -- ---- first bytes
 
--- If a byte passes a test that no digit passes, then it is not a digit.
+-- If a byte passes a test that no digit passes, then the byte is not a digit.
 not_digit : (p : ℕ → Bool) (b : ℕ) → ((c : ℕ) → c < 58 → (is_ascii_digit c && p c) ≡ false) → p b ≡ true → is_ascii_digit b ≡ false
 not_digit p b none passes = elim (cases_Bool (is_ascii_digit b)) [
   | inr fails ↦ fails
@@ -122,57 +123,22 @@ part_none (Word form) s is kept = form_none form s is kept
 
 -- ---- the first token
 
--- True if a decimal may begin after the part.
-abbrev pub next_may : Part → Bool
-next_may (Separator b) = true
-next_may (Comment inside) = true
-next_may (Word form) = if is_point (form_kind form) then false else true
+-- True if a decimal may begin after the part, given whether a decimal may begin before the part.
+abbrev pub next_may : Bool → Part → Bool
+next_may may (Separator b) = may
+next_may may (Comment inside) = may
+next_may may (Word form) = may_after (form_kind form)
 
-kept_step : (p : Part) → prefix_of None (Ok (part_step p)) ≡ prefixes.Kept (length (part_bytes p)) (next_may p)
-kept_step (Separator b) = refl
-kept_step (Comment inside) = refl
-kept_step (Word form) = refl
+kept_step : (may : Bool) (p : Part) → prefix_of may None (Ok (part_step p)) ≡ prefixes.Kept (length (part_bytes p)) (next_may may p)
+kept_step may (Separator b) = refl
+kept_step may (Comment inside) = refl
+kept_step may (Word form) = refl
 
 none_if : (may : Bool) (o : Option (ℕ × ℕ)) → o ≡ None → (if may then o else None) ≡ None
 none_if true o e = e
 none_if false o e = refl
 
-pub prefix_kept : (may : Bool) (p : Part) (s : List ℕ) → IsPart p s → IsKept p s → prefix_at may (part_bytes p ++ s) ≡ prefixes.Kept (length (part_bytes p)) (next_may p)
+pub prefix_kept : (may : Bool) (p : Part) (s : List ℕ) → IsPart p s → IsKept p s → prefix_at may (part_bytes p ++ s) ≡ prefixes.Kept (length (part_bytes p)) (next_may may p)
 prefix_kept may p s is kept =
-    (λ i. prefix_of (none_if may (decimal_at (part_bytes p ++ s)) (part_none p s is kept) i) (step-part p s is i))
-    ∙ kept_step p
-
-mark_may : (m : Symbol) → ends_open (symbol_text m) ≡ true → next_may (Word (Mark m)) ≡ true
-mark_may symbols.Dot e = e
-mark_may symbols.OpenArray e = refl
-mark_may symbols.CloseArray e = refl
-mark_may symbols.DoubleSemicolon e = refl
-mark_may symbols.DoubleColon e = refl
-mark_may symbols.OpenParen e = refl
-mark_may symbols.CloseParen e = refl
-mark_may symbols.OpenBrace e = refl
-mark_may symbols.CloseBrace e = refl
-mark_may symbols.OpenBracket e = refl
-mark_may symbols.CloseBracket e = refl
-mark_may symbols.Bar e = refl
-mark_may symbols.Comma e = refl
-mark_may symbols.Semicolon e = refl
-mark_may symbols.Colon e = refl
-mark_may symbols.Equals e = refl
-mark_may symbols.Star e = refl
-mark_may symbols.Hash e = refl
-
--- A decimal may begin after an opening byte.
-pub open_may : (p : Part) → ends_open (part_bytes p) ≡ true → next_may p ≡ true
-open_may (Separator b) e = refl
-open_may (Comment inside) e = refl
-open_may (Word (Reserved k)) e = refl
-open_may (Word (Lower name)) e = refl
-open_may (Word (Upper name)) e = refl
-open_may (Word (Tag name)) e = refl
-open_may (Word (Variable name)) e = refl
-open_may (Word (Character c)) e = refl
-open_may (Word (Number minus digits suffix)) e = refl
-open_may (Word (Quoted cs)) e = refl
-open_may (Word (Double ds)) e = refl
-open_may (Word (Mark m)) e = mark_may m e
+    (λ i. prefix_of may (none_if may (decimal_at (part_bytes p ++ s)) (part_none p s is kept) i) (step-part p s is i))
+    ∙ kept_step may p

@@ -7,7 +7,7 @@ use Rattle.text_decimal.specs.declared.texts.decimal_prefix.DecimalPrefix.{Decim
 use Rattle.text_decimal.specs.declared.texts.decimal_prefix.DecimalPrefix.TheVariants as prefixes
 use Rattle.text_decimal.specs.texts.Plain.{prefix_at, decimals_by, decimals_from, plain_with, plain_text}
 
--- The first token in plain form, before the rest.
+-- The first token in plain form, followed by the plain text after the first token.
 abbrev pub plain_by : List ℕ → (ℕ → Bool → List ℕ) → DecimalPrefix → List ℕ
 plain_by text behind (prefixes.Double bits len) = float_text bits ++ behind len true
 plain_by text behind (prefixes.Kept len may) = take len text ++ behind len may
@@ -34,7 +34,8 @@ module _ (text : List ℕ) (from at : ℕ) (le : from ≤ at) where
 
 -- ---- the steps give the plain text
 
--- For a text of at most `n` bytes after an offset.
+-- The steps from an offset on give the plain text, for a text of at most `n` bytes after the
+-- offset.
 abbrev IsPlainAt : ℕ → List ℕ → Type 0
 IsPlainAt n text =
     (from at : ℕ) (may : Bool) → from ≤ at

@@ -1,4 +1,4 @@
--- The first token of a text lies within it.
+-- The first token of a text lies within the text.
 use Rattle.std.proofs.Common.{◌≡◌, ℕ, ◌<◌, ◌≤◌, List, length, Ok, arith}
 use Rattle.types_lex.specs.declared.found_lexeme.LexStep.{LexStep}
 use Rattle.types_lex.specs.Scan.{step_at}

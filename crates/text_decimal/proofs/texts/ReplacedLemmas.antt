@@ -1,33 +1,36 @@
 -- A text with its doubles as decimals, lexeme by lexeme.
-use Rattle.std.proofs.Common.{ℕ, ◌≡◌, ◌∙◌, ◌+◌, ◌<◌, ◌≤◌, ◌++◌, List, [], ◌∷◌, length, drop, get_or, append_assoc, subst, sym, ap, arith}
+use Rattle.std.proofs.Common.{ℕ, ◌≡◌, ◌∙◌, ◌+◌, ◌<◌, ◌≤◌, ◌++◌, Bool, true, List, [], ◌∷◌, length, drop, get_or, append_assoc, subst, sym, ap, arith}
 use Rattle.std.proofs.lemmas.List.{drop_more}
 use Rattle.std.specs.Prelude.{slice_range}
 use Rattle.types_lex.specs.LexText.{SpansWithin}
 use Rattle.types_lex.specs.declared.lexeme.Lexeme.{Lexeme}
+use Rattle.text_decimal.specs.texts.Plain.{may_after}
 use Rattle.text_decimal.specs.texts.Texts.{write_for, replaced}
 
--- The text written so far, followed by the text for the remaining lexemes, is the text for all
+-- The text written up to now, followed by the text for the remaining lexemes, is the text for all
 -- lexemes.
-abbrev pub IsSoFar : (text : List ℕ) (all : List Lexeme) (at : ℕ) (left : List Lexeme) (old new : List ℕ) → Type 0
-IsSoFar text all at left old new =
-    (write : List ℕ) × (new ≡ old ++ write) × (replaced text 0 all ≡ write ++ replaced text at left)
+abbrev pub IsSoFar : (text : List ℕ) (all : List Lexeme) (at : ℕ) (may : Bool) (left : List Lexeme) (old new : List ℕ) → Type 0
+IsSoFar text all at may left old new =
+    (write : List ℕ) × (new ≡ old ++ write) × (replaced text 0 true all ≡ write ++ replaced text at may left)
 
 pub so_far_more :
-    (text : List ℕ) (all : List Lexeme) (at : ℕ) (l : Lexeme) (left : List Lexeme)
+    (text : List ℕ) (all : List Lexeme) (at : ℕ) (may next : Bool) (l : Lexeme) (left : List Lexeme)
     (old new between behind : List ℕ)
-    → IsSoFar text all at (l ∷ left) old new
+    → IsSoFar text all at may (l ∷ left) old new
     → between ≡ new ++ slice_range text at l.span.first
-    → behind ≡ between ++ write_for text l.kind l.span.first (l.span.first + l.span.len)
-    → IsSoFar text all (l.span.first + l.span.len) left old behind
-so_far_more text all at l left old new between behind (done, is, all_is) first last =
+    → behind ≡ between ++ write_for text may l.kind l.span.first (l.span.first + l.span.len)
+    → next ≡ may_after l.kind
+    → IsSoFar text all (l.span.first + l.span.len) next left old behind
+so_far_more text all at may next l left old new between behind (done, is, all_is) first last after =
     let end = l.span.first + l.span.len in
     let gap = slice_range text at l.span.first in
-    let write = write_for text l.kind l.span.first end in
-    let rest = replaced text end left in (
+    let write = write_for text may l.kind l.span.first end in
+    let rest = replaced text end (may_after l.kind) left in (
       done ++ (gap ++ write),
       last ∙ (λ i. first i ++ write) ∙ (λ i. (is i ++ gap) ++ write)
           ∙ append_assoc (old ++ done) gap write ∙ append_assoc old done (gap ++ write),
-      all_is ∙ sym (append_assoc done (gap ++ write) rest ∙ (λ i. done ++ append_assoc gap write rest i)),
+      all_is ∙ sym (append_assoc done (gap ++ write) rest ∙ (λ i. done ++ append_assoc gap write rest i))
+          ∙ (λ i. (done ++ (gap ++ write)) ++ replaced text end (sym after i) left),
     )
 
 -- ---- the offsets of the lexemes
@@ -60,7 +63,7 @@ module _ (all : List Lexeme) (at i : ℕ) (l : Lexeme) (n : ℕ) (below : i < le
   first_within is = ((spans_here is).0, omega (arith, last_within is))
 
   pub so_far_here :
-      (text old new : List ℕ) → IsSoFar text all at (drop i all) old new
-      → IsSoFar text all at (l ∷ drop (i + 1) all) old new
-  so_far_here text old new is =
-      subst (λ ls. IsSoFar text all at ls old new) (left_is all i l below read) is
+      (text old new : List ℕ) (may : Bool) → IsSoFar text all at may (drop i all) old new
+      → IsSoFar text all at may (l ∷ drop (i + 1) all) old new
+  so_far_here text old new may is =
+      subst (λ ls. IsSoFar text all at may ls old new) (left_is all i l below read) is

@@ -1,4 +1,4 @@
--- Doubles and the decimals that read as them. A decimal denotes digits * 10 ^ (power - 342). The
+-- Doubles and the decimals that read as doubles. A decimal denotes digits * 10 ^ (power - 342). The
 -- size of a double is its bits without the sign.
 use Rattle.std.specs.Prelude.{ℕ, ◌+◌, ◌-◌, ◌*◌, ◌/◌, ◌%◌, ◌^◌, ◌<◌, ◌≤◌, ◌≡◌, ◌≢◌, Bool, nat_lt}
 use Rattle.std.specs.Prelude.{nat_le, if◌then◌else◌}
@@ -15,16 +15,16 @@ size_of bits = bits % 2 ^ 63
 abbrev pub infinite : ℕ
 infinite = 2047 * 2 ^ 52
 
--- Neither 0 nor infinite.
+-- The double is neither 0 nor infinite nor a NaN.
 abbrev pub IsSome : ℕ → Type 0
 IsSome size = (0 < size) × (size < infinite)
 
--- The double of this size is the one nearest to the decimal.
+-- The double with size `size` is the double nearest to the decimal.
 abbrev pub IsNearest : (size digits power : ℕ) → Type 0
 IsNearest size digits power =
     IsNearestBits binary64 (digits * 10 ^ (power - 342)) (10 ^ (342 - power)) size
 
--- A decimal of 1 to 19 digits that reads as the double of this size.
+-- The decimal has 1 to 19 digits and reads as the double with size `size`.
 pub record Reads (size digits power : ℕ) : Type 0 where
   pub some : 0 < digits
   pub few : digits < 10 ^ 19
@@ -37,7 +37,8 @@ abbrev pub units_of : ℕ → ℕ
 units_of size =
     if nat_lt size (2 ^ 52) then size else (2 ^ 52 + size % 2 ^ 52) * 2 ^ (size / 2 ^ 52 - 1)
 
--- A decimal with this power, and the double, as multiples of one common unit.
+-- A decimal with the power `power`, as a multiple of a unit that the decimal shares with the
+-- double.
 abbrev pub decimal_units : ℕ → ℕ → ℕ
 decimal_units digits power = digits * 10 ^ (power - 342) * 2 ^ 1074
 
@@ -52,12 +53,13 @@ distance size digits power =
 
 -- ---- the shortest decimal
 
--- No decimal with a greater power reads as the double.
+-- No decimal with a power greater than `power` reads as the double.
 abbrev pub IsHighest : ℕ → ℕ → Type 0
 IsHighest size power = (digits above : ℕ) → Reads size digits above → above ≤ power
 
--- Among the decimals that read as the double, the shortest one has the greatest power. Among these
--- it is the nearest one. If two are equally near, it is the one with even digits.
+-- The decimal has the greatest power among the decimals that read as the double. Among the decimals
+-- with the greatest power, the decimal is the nearest. If two decimals are equally near, the
+-- decimal has even digits.
 pub record IsShortest (size digits power : ℕ) : Type 0 where
   pub reads : Reads size digits power
   pub highest : IsHighest size power
@@ -72,15 +74,16 @@ HasNone size = (digits power : ℕ) → ¬ Reads size digits power
 
 -- ---- steps of the search
 
--- The next digits are no better choice. If they read as the double, then twice the double is at
--- most twice the halfway point. If both are equal, the digits are even.
+-- The digits `digits + 1` are no better choice than `digits`. If `digits + 1` reads as the double,
+-- then the double is at most the halfway point. If the double is the halfway point, `digits` is
+-- even.
 abbrev pub IsNoBetterAbove : (size digits power : ℕ) → Type 0
 IsNoBetterAbove size digits power =
     Reads size (digits + 1) power
     → (2 * double_units size power ≤ decimal_units (2 * digits + 1) power)
     × (2 * double_units size power ≡ decimal_units (2 * digits + 1) power → digits % 2 ≡ 0)
 
--- The previous digits are no better choice.
+-- The digits `digits - 1` are no better choice than `digits`.
 abbrev pub IsNoBetterBelow : (size digits power : ℕ) → Type 0
 IsNoBetterBelow size digits power =
     Reads size (digits - 1) power

@@ -5,7 +5,7 @@ use Rattle.text_decimal.specs.decimal.Layout.{IsDoubleText}
 use Rattle.text_decimal.specs.decimal.Reading.{IsRead}
 use Rattle.text_decimal.specs.decimal.Shortest.{double_text}
 
--- A double has exactly one text, which is this function of its bits.
+-- A double has exactly one text, which is `double_text` of the double's bits.
 abbrev pub DoublesHaveOneText : Type 0
 DoublesHaveOneText =
     (bits : ℕ) → IsDoubleText bits (double_text bits)

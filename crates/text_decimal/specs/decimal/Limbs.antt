@@ -1,4 +1,4 @@
--- A number as limbs of 64 bits, the lowest first.
+-- A number as limbs of 64 bits. The lowest limb comes first.
 use Rattle.std.specs.Prelude.{ℕ, zero, suc, ◌+◌, ◌*◌, ◌^◌, ◌≤◌, ◌≡◌, List, slice_index}
 
 -- The weight of limb `i`.

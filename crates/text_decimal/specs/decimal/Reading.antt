@@ -6,22 +6,22 @@ use Rattle.std.specs.Char.{is_ascii_digit}
 use Rattle.std.specs.Float.Ieee.{binary64}
 use Rattle.fast_float.specs.Text.{Parts, scan, nearest}
 
--- 45 is the minus.
+-- The text begins with a minus, the byte 45.
 abbrev pub begins_with_minus : List ℕ → Bool
 begins_with_minus text = slice_index text 0 == 45
 
 abbrev pub minus_len : List ℕ → ℕ
 minus_len text = if begins_with_minus text then 1 else 0
 
--- The longest numeral at the beginning of the text, after a minus if there is one.
+-- The longest numeral at the beginning of the text, after an optional minus.
 abbrev pub numeral_in : List ℕ → Parts
 numeral_in text = scan (drop (minus_len text) text)
 
--- There are digits before the point, and there is a point or an exponent.
+-- The numeral has digits before the point, and has a point or an exponent.
 abbrev pub is_decimal : Parts → Bool
 is_decimal p = nat_lt 0 (length p.whole) && (p.point || nat_lt 0 (length p.exponent))
 
--- The bits of the double nearest to the number.
+-- The bits of the double nearest to the number of a numeral.
 abbrev pub bits_of : Bool → Parts → ℕ
 bits_of negative p = to_bits binary64 (nearest binary64 negative p)
 
@@ -35,13 +35,13 @@ decimal_at text =
     )
     else None
 
--- No decimal continues with these bytes: 46 is the point, 101 and 69 are `e` and `E`.
+-- No decimal continues with the bytes. The byte 46 is the point, and 101 and 69 are `e` and `E`.
 abbrev pub Stops : List ℕ → Type 0
 Stops [] = Unit {0}
 Stops (b ∷ bs) = (is_ascii_digit b ≡ false) × (b ≢ 46) × (b ≢ 101) × (b ≢ 69)
 
--- The whole text is a decimal that denotes the double with these bits, if followed by bytes that
--- continue no decimal.
+-- If bytes that continue no decimal follow the text, then the whole text is read as a decimal of
+-- the double with the bits `bits`.
 abbrev pub IsRead : List ℕ → ℕ → Type 0
 IsRead text bits =
     (after : List ℕ) → Stops after → decimal_at (text ++ after) ≡ Some (bits, length text)

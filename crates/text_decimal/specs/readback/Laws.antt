@@ -13,14 +13,14 @@ use Rattle.text_decimal.specs.texts.Plain.{plain_text}
 use Rattle.text_decimal.specs.texts.Texts.{decimal_text}
 use Rattle.text_decimal.specs.texts.Laws.{AreApart}
 
--- If the lexemes of a text are a literal, then none of them contains a decimal.
+-- If the lexemes of a text are a literal, then no lexeme contains a decimal.
 abbrev pub LiteralsAreApart : Type 0
 LiteralsAreApart =
     (text : List ℕ) (lexemes : List Lexeme) (literal : Literal) → Lexes text lexemes
     → literal_kinds literal ≡ map (λ (l : Lexeme). l.kind) lexemes → AreApart text lexemes
 
--- The plain text of the text itself is the text, and so is the plain text of its text with
--- decimals. Therefore both are read as the same value.
+-- The plain text of `text` is `text`, and the plain text of `text` with decimals is `text`.
+-- Therefore `text` and the text with decimals are read as one value.
 pub record StandsForIt (text : List ℕ) : Type 0 where
   pub decimals : plain_text (decimal_text text) ≡ text
   pub plain : plain_text text ≡ text

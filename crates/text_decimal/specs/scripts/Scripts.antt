@@ -18,27 +18,28 @@ use Rattle.text_path.specs.ScriptAnswer.{lines_of, Edits, AreEdits, edits_in}
 use Rattle.text_decimal.specs.declared.texts.decimals.Decimal.{Decimal}
 use Rattle.text_decimal.specs.texts.Plain.{decimals_in, plain_text, given_position}
 
--- The lines, each as its plain text.
+-- The plain text of a script: the plain texts of the lines, joined by line feeds.
 abbrev pub plain_script : List ℕ → List ℕ
 plain_script text = join_with_byte 10 (map plain_text (lines_of text))
 
--- The decimals of each line.
+-- The decimals of each line of a script.
 abbrev pub decimals_of : List ℕ → List (List Decimal)
 decimals_of text = map decimals_in (lines_of text)
 
--- The decimals of the line with this number, counted from 1.
+-- The decimals of line `number`, where lines are counted from 1.
 abbrev pub decimals_on : List (List Decimal) → ℕ → List Decimal
 decimals_on all number = slice_index_or all (number - 1) []
 
 -- ---- offsets
 
--- The offset in a line for an offset in its plain text. Offsets from 2^63 on are unchanged; no line
--- is that long.
+-- The offset in a line for an offset in the line's plain text. Offsets from 2^63 on are unchanged,
+-- because no line has 2^63 bytes.
 abbrev pub line_position : List Decimal → ℕ → ℕ
 line_position decimals position =
     if nat_lt position (2 ^ 63) then given_position decimals position else position
 
--- A lexeme with its offset in the original line. Its length is that in the plain text.
+-- A lexeme with its offset in the original line. The lexeme's length is the length in the plain
+-- text.
 abbrev pub given_lexeme : List Decimal → Lexeme → Lexeme
 given_lexeme decimals lexeme = record {
   kind = lexeme.kind;
@@ -65,7 +66,7 @@ given_lex decimals lexer.Memory = lexer.Memory
 
 -- ---- answers
 
--- A line of the plain script, with original offsets.
+-- A line of the plain script, with offsets in the original line.
 abbrev pub given_line : List (List Decimal) → ScriptLine → ScriptLine
 given_line all line = record {
   number = line.number;
@@ -73,7 +74,7 @@ given_line all line = record {
   action = given_action (decimals_on all line.number) line.action;
 }
 
--- The error, with its original offset.
+-- The error of a script, with its offset in the original line.
 abbrev pub given_fault : List (List Decimal) → ScriptFault → ScriptFault
 given_fault all (faults.Lex number fault) =
     faults.Lex number (given_lex (decimals_on all number) fault)
@@ -86,12 +87,12 @@ abbrev pub given_edits : List (List Decimal) → Edits → Edits
 given_edits all (Ok lines) = Ok (map (given_line all) lines)
 given_edits all (Err fault) = Err (given_fault all fault)
 
--- The edits, or the error, of a text with decimals.
+-- The edits, or the error, of a script with decimals.
 abbrev pub AreGivenEdits : List ℕ → Edits → Type 0
 AreGivenEdits text all =
     (plain : Edits) × AreEdits 1 (plain_script text) plain
     × (all ≡ given_edits (decimals_of text) plain)
 
--- The answer of a text with decimals.
+-- The result of parsing a script with decimals.
 abbrev pub IsGivenAnswer : List ℕ → Result Script ScriptFault → Type 0
 IsGivenAnswer text answer = AreGivenEdits text (edits_in answer)

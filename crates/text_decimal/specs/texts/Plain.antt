@@ -1,4 +1,4 @@
--- A text in which decimals may denote doubles, and the plain text that it denotes.
+-- A text in which decimals may denote doubles, and the text's plain text.
 use Rattle.std.specs.Prelude.{ℕ, zero, suc, ◌+◌, ◌-◌, ◌<◌, ◌≤◌, Bool, true, false, nat_lt}
 use Rattle.std.specs.Prelude.{if◌then◌else◌, List, [], ◌∷◌, ◌++◌, length, drop, slice_range, Option}
 use Rattle.std.specs.Prelude.{Some, None, Result, Ok, Err}
@@ -17,24 +17,25 @@ use Rattle.text_decimal.specs.declared.texts.decimal_prefix.DecimalPrefix.TheVar
 
 -- ---- the decimals of a text
 
-abbrev pub is_point : LexemeKind → Bool
-is_point (kinds.Symbol symbols.Dot) = true
-is_point kind = false
+-- A decimal may be the next lexeme after the lexeme: the lexeme is not a point.
+abbrev pub may_after : LexemeKind → Bool
+may_after (kinds.Symbol symbols.Dot) = false
+may_after kind = true
 
--- The first token, given the decimal at the beginning of the text and the first token of a text
--- without decimals. No decimal begins directly after a point.
-abbrev pub prefix_of : Option (ℕ × ℕ) → Result LexStep LexFault → DecimalPrefix
-prefix_of (Some decimal) step = prefixes.Double decimal.0 decimal.1
-prefix_of None (Ok (Gap len)) = prefixes.Kept len true
-prefix_of None (Ok (Word word)) =
-    prefixes.Kept word.len (if is_point word.kind then false else true)
-prefix_of None (Err fault) = prefixes.Fault
+-- The first token of a text, given the decimal at the beginning of the text and the first token of
+-- a text without decimals. If `may` is true, a decimal may follow the lexeme before the text. A
+-- blank or comment changes nothing, so a decimal after a point and a gap is not read.
+abbrev pub prefix_of : Bool → Option (ℕ × ℕ) → Result LexStep LexFault → DecimalPrefix
+prefix_of may (Some decimal) step = prefixes.Double decimal.0 decimal.1
+prefix_of may None (Ok (Gap len)) = prefixes.Kept len may
+prefix_of may None (Ok (Word word)) = prefixes.Kept word.len (may_after word.kind)
+prefix_of may None (Err fault) = prefixes.Fault
 
--- The first token. It may be a decimal if `may` is true.
+-- The first token of a text. If `may` is true, the token may be a decimal.
 abbrev pub prefix_at : Bool → List ℕ → DecimalPrefix
-prefix_at may text = prefix_of (if may then decimal_at text else None) (step_at text)
+prefix_at may text = prefix_of may (if may then decimal_at text else None) (step_at text)
 
--- The decimals from an offset on, given those after the first token.
+-- The decimals from an offset on, given the first token and the decimals after the first token.
 abbrev pub decimals_by : ℕ → (ℕ → Bool → List Decimal) → DecimalPrefix → List Decimal
 decimals_by position behind (prefixes.Double bits len) =
     record { first = position; len = len; bits = bits } ∷ behind len true
@@ -59,20 +60,21 @@ AreWithin from (d ∷ ds) end = (from ≤ d.first) × (0 < d.len) × AreWithin (
 
 -- ---- the plain text
 
--- The text from an offset on, with these decimals replaced by the bits of their doubles.
+-- The text from the offset `at` on, in which each given decimal is replaced by the bits of its
+-- double.
 abbrev pub plain_with : List ℕ → ℕ → List Decimal → List ℕ
 plain_with text at [] = drop at text
 plain_with text at (d ∷ ds) =
     slice_range text at d.first ++ (float_text d.bits ++ plain_with text (d.first + d.len) ds)
 
--- The plain text that the text denotes.
+-- The plain text of a text: each decimal is replaced by the bits of its double.
 abbrev pub plain_text : List ℕ → List ℕ
 plain_text text = plain_with text 0 (decimals_in text)
 
 -- ---- offsets
 
 -- The offset in the text of a byte of the plain text, from two corresponding offsets on. A double
--- has 17 bytes in the plain text. All of them are mapped to the beginning of its decimal.
+-- has 17 bytes in the plain text. All 17 bytes are mapped to the beginning of the double's decimal.
 abbrev pub given_from : ℕ → ℕ → List Decimal → ℕ → ℕ
 given_from at plain [] byte = at + (byte - plain)
 given_from at plain (d ∷ ds) byte =
@@ -82,7 +84,7 @@ given_from at plain (d ∷ ds) byte =
     (if nat_lt byte (begins + 17) then d.first
     else given_from (d.first + d.len) (begins + 17) ds byte)
 
--- The offset, in the text with these decimals, of a byte of the plain text or of its end.
+-- The offset in a text, given the text's decimals and an offset in the plain text.
 abbrev pub given_position : List Decimal → ℕ → ℕ
 given_position decimals byte = given_from 0 0 decimals byte
 

@@ -9,7 +9,8 @@ use std::marker::Model;
 
 const LIMBS: usize = 74;
 
-/// A natural number of 64-bit limbs, the lowest first. The limbs from `len` on are 0.
+/// A natural number of 64-bit limbs. The lowest limb comes first, and the limbs from `len` on are
+/// 0.
 #[derive(Drop)]
 pub struct Big {
     limbs: [u64; LIMBS],

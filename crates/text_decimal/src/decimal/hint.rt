@@ -1,11 +1,12 @@
-//! A first guess of the digits. Nothing is proved about the guess; it is tested afterwards.
+//! A first guess of the digits of a decimal. Nothing is proved about the guess, which is tested
+//! afterwards.
 
 use crate::decimal::reads::BIAS;
 use crate::decimal::size::Size;
 use fast_float::Numeral;
 use ryu::Buffer;
 
-/// Appends decimal digits to a number. Wraps around on overflow.
+/// Appends decimal digits to a number. If the number overflows, wraps around.
 fn with_digits(number: u64, digits: &[u8]) -> u64 {
     let mut all = number;
     for digit in digits {
@@ -29,7 +30,7 @@ fn decimal_of(numeral: &Numeral<'_>) -> (u64, u64) {
     (digits, power.wrapping_sub(fraction.len() as u64))
 }
 
-/// Returns a decimal that should read as the double of this size. Uses the formatter of the
+/// Returns a decimal that should read as the double with the given size. Uses the formatter of the
 /// library.
 pub fn hint(size: Size) -> (u64, u64) {
     let double = f64::from_bits(size.bits);

@@ -1,4 +1,4 @@
-//! The laws. The functions do nothing and exist only for their contracts.
+//! The laws of doubles as decimals. Each function does nothing and exists only for its contract.
 
 ghost use Rattle.text_decimal.specs.decimal.Laws.{DoublesAreReadBack, DoublesHaveOneText};
 

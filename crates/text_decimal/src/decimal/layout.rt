@@ -5,8 +5,8 @@ ghost use Rattle.std.specs.Fmt.{sign_text};
 ghost use Rattle.text_decimal.specs.decimal.Layout.{zeros, pointed, scientific, placed, size_text};
 
 use base_data::model::Memory;
+use base_data::text::write;
 use itoa::Buffer;
-use text_print::leaves::write;
 
 /// Appends `count` zeros.
 fn write_zeros(text: &mut Vec<u8>, count: usize) -> Result<(), Memory>
@@ -17,8 +17,8 @@ fn write_zeros(text: &mut Vec<u8>, count: usize) -> Result<(), Memory>
     write(text, &all[..count])
 }
 
-/// Appends digits with a decimal point after the first `count` ones. If there are fewer digits,
-/// zeros fill the gap.
+/// Appends digits with a decimal point after the first `count` digits. If there are fewer than
+/// `count` digits, zeros fill the gap.
 fn write_pointed(text: &mut Vec<u8>, digits: &[u8], count: usize) -> Result<(), Memory>
     requires { count ≤ 16 }
     ensures { OnOk result (text.new.items ≡ text.old.items ++ pointed digits.now count) }
@@ -30,7 +30,7 @@ fn write_pointed(text: &mut Vec<u8>, digits: &[u8], count: usize) -> Result<(), 
     write(text, &digits[whole..])
 }
 
-/// Appends the exponent.
+/// Appends an exponent: the letter `e`, the sign and the digits.
 fn write_exponent(text: &mut Vec<u8>, negative: bool, exponent: u64) -> Result<(), Memory>
     ensures { OnOk result (text.new.items
         ≡ text.old.items ++ 101 ∷ (sign_text negative ++ decimal exponent)) }
@@ -39,7 +39,7 @@ fn write_exponent(text: &mut Vec<u8>, negative: bool, exponent: u64) -> Result<(
     write(text, Buffer::new().format(exponent).as_bytes())
 }
 
-/// Appends the first digit, the other digits after a decimal point, and the exponent.
+/// Appends the first digit, the later digits after a decimal point, and the exponent.
 fn write_scientific(
     text: &mut Vec<u8>,
     digits: &[u8],
@@ -77,7 +77,7 @@ fn write_placed(text: &mut Vec<u8>, digits: &[u8], position: u64) -> Result<(), 
     }
 }
 
-/// Appends a decimal.
+/// Appends the text of the decimal with given digits and a given power.
 #[tactic(auto, using(std::proofs::lemmas::Fmt::decimal_nonempty))]
 pub fn write_size(text: &mut Vec<u8>, digits: u64, power: u64) -> Result<(), Memory>
     requires { power < 651 }

@@ -1,4 +1,4 @@
-//! Finds, among the decimals with one power that read as a double, the nearest one.
+//! Finds the nearest decimal among the decimals with one power that read as a double.
 
 ghost use Rattle.std.specs.Prelude.{◌≡◌, ◌*◌, ◌+◌, ◌-◌, ◌<◌, ◌^◌, true, false};
 ghost use Rattle.std.specs.Ordering.{nat_cmp};
@@ -10,8 +10,8 @@ use crate::decimal::reads::{BIAS, reads};
 use crate::decimal::size::Size;
 use std::cmp::Ordering;
 
-/// Returns the significand of the double as an integer, and the exponent of the power of two by
-/// which it is multiplied.
+/// Returns the significand of a double as an integer, and the exponent of the power of two by which
+/// the significand is multiplied.
 fn parts_of(size: Size) -> (u64, u64)
     ensures value { result.0 * 2 ^ result.1 ≡ units_of size.bits }
     ensures small { (result.0 < 2 ^ 53) × (result.1 < 2046) }
@@ -23,8 +23,8 @@ fn parts_of(size: Size) -> (u64, u64)
     ((1 << 52) + (size.bits & ((1 << 52) - 1)), field - 1)
 }
 
-/// Compares the double with the decimal halfway between `digits` and `digits + 1`. Both sides are
-/// doubled.
+/// Compares a double with the decimal halfway between `digits` and `digits + 1`. Both compared
+/// numbers are doubled.
 fn against_halfway(size: Size, digits: u64, power: u64) -> Ordering
     requires small { power < 651 }
     ensures { result
@@ -41,7 +41,7 @@ fn against_halfway(size: Size, digits: u64, power: u64) -> Ordering
     double.compare(&decimal)
 }
 
-/// Returns true if `digits + 1` is a better choice.
+/// Returns true if `digits + 1` is a better choice than `digits`.
 fn is_better_above(size: Size, digits: u64, power: u64) -> bool
     requires reads { Reads size.bits digits power }
     ensures so { result ≡ true → Reads size.bits (digits + 1) power }
@@ -57,8 +57,7 @@ fn is_better_above(size: Size, digits: u64, power: u64) -> bool
     }
 }
 
-/// Returns true if `digits - 1` is a better choice. In that case `digits` is no better than `digits
-/// - 1`.
+/// Returns true if `digits - 1` is at least as good a choice as `digits`.
 fn is_better_below(size: Size, digits: u64, power: u64) -> bool
     requires reads { Reads size.bits digits power }
     ensures so { result ≡ true → Reads size.bits (digits - 1) power }
@@ -75,7 +74,7 @@ fn is_better_below(size: Size, digits: u64, power: u64) -> bool
     }
 }
 
-/// Increments the digits while this is better.
+/// Increments the digits as long as the incremented digits are better.
 fn up(size: Size, digits: u64, power: u64) -> u64
     requires reads { Reads size.bits digits power }
     ensures reads { Reads size.bits result power }
@@ -88,7 +87,7 @@ fn up(size: Size, digits: u64, power: u64) -> u64
     digits
 }
 
-/// Decrements the digits while this is better.
+/// Decrements the digits as long as the decremented digits are better.
 fn down(size: Size, digits: u64, power: u64) -> u64
     requires reads { Reads size.bits digits power }
     requires above { IsNoBetterAbove size.bits digits power }
@@ -103,8 +102,8 @@ fn down(size: Size, digits: u64, power: u64) -> u64
     digits
 }
 
-/// Returns, for a decimal that reads as the double, the digits of the nearest one with the same
-/// power.
+/// Returns the digits of the decimal that is nearest to a double among the decimals with the power
+/// `power`. The decimal `digits`, `power` must read as the double.
 pub fn nearest(size: Size, digits: u64, power: u64) -> u64
     requires reads { Reads size.bits digits power }
     ensures reads { Reads size.bits result power }

@@ -6,7 +6,8 @@ ghost use Rattle.text_decimal.specs.decimal.Doubles.{IsNearest, Reads, IsHighest
 use crate::decimal::reads::reads;
 use crate::decimal::size::Size;
 
-/// Returns the digits of a decimal with the next power that reads as the double, if there is one.
+/// Returns the digits of a decimal with the power `power + 1` that reads as the double, or `None`
+/// if there is no such decimal.
 fn higher(size: Size, digits: u64, power: u64) -> Option<u64>
     requires reads { Reads size.bits digits power }
     ensures { MatchOption result
@@ -23,8 +24,8 @@ fn higher(size: Size, digits: u64, power: u64) -> Option<u64>
     }
 }
 
-/// Returns, for a decimal that reads as the double, a decimal with the greatest power that reads as
-/// it.
+/// Returns a decimal with the greatest power among the decimals that read as a double. The decimal
+/// `digits`, `power` must read as the double.
 pub fn raised(size: Size, digits: u64, power: u64) -> (u64, u64)
     requires reads { Reads size.bits digits power }
     ensures reads { Reads size.bits result.0 result.1 }

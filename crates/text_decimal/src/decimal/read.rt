@@ -16,8 +16,8 @@ fn begins_with_minus(text: &[u8]) -> bool
     }
 }
 
-/// Returns true if the numeral is a decimal: it has digits before the point, and it has a point or
-/// an exponent.
+/// Returns true if the numeral is a decimal. A decimal has digits before the point, and has a point
+/// or an exponent.
 fn is_decimal(numeral: &Numeral<'_>) -> bool
     ensures { result ≡ is_decimal numeral.now }
 {
@@ -25,7 +25,8 @@ fn is_decimal(numeral: &Numeral<'_>) -> bool
 }
 
 /// Reads the decimal at the beginning of a text. Returns the bits of the nearest double, which may
-/// be infinite, and the decimal's length in bytes. Returns `None` if there is no decimal.
+/// be infinite, and the decimal's length in bytes. If the text does not begin with a decimal,
+/// returns `None`.
 pub fn read_decimal(text: &[u8]) -> Option<(u64, usize)>
     ensures value { result ≡ decimal_at text.now }
     ensures within { IfSome result (λ r. r.1 ≤ length text.now) }

@@ -6,19 +6,19 @@ ghost use Rattle.text_decimal.specs.decimal.Doubles.{Reads};
 use crate::decimal::size::Size;
 use fast_float::nearest_bits;
 
-/// The size of infinity: its bits without the sign.
+/// The size of infinity: the bits of infinity without the sign.
 pub const INFINITE: u64 = 0x7ff0_0000_0000_0000;
 
 /// The bias of powers: a decimal denotes digits * 10 ^ (power - BIAS).
 pub const BIAS: u64 = 342;
 
-/// Decimals with this power or a greater one read as infinity.
+/// The least power of which each decimal reads as infinity.
 pub const POWERS: u64 = 651;
 
 /// The least number with more than 19 digits.
 pub const TOO_MANY: u64 = 10_000_000_000_000_000_000;
 
-/// Returns true if a decimal of at most 19 digits reads as the double of this size.
+/// Returns true if a decimal of at most 19 digits reads as the double with the given size.
 #[inline]
 pub fn reads(size: Size, digits: u64, power: u64) -> bool
     ensures so { result ≡ true → Reads size.bits digits power }

@@ -1,4 +1,5 @@
-//! Searches for a decimal that reads as a double, if the guess does not.
+//! Searches for a decimal that reads as a double, if the guessed decimal does not read as the
+//! double.
 
 ghost use Rattle.std.specs.Prelude.{ℕ, ◌+◌, ◌<◌, ◌≤◌, ◌^◌, MatchOption};
 ghost use Rattle.text_decimal.specs.decimal.Doubles.{IsNearest, Reads, HasNone};
@@ -8,8 +9,8 @@ use crate::decimal::reads::{POWERS, TOO_MANY, reads};
 use crate::decimal::size::Size;
 use fast_float::nearest_bits;
 
-/// Returns the least digits whose decimal with this power reads as a double of at least this size.
-/// If there are none, returns the greatest digits.
+/// Returns the least digits whose decimal with the power `power` reads as a double of at least the
+/// given size. If there are no such digits, returns the greatest digits.
 fn least_digits(size: u64, power: u64) -> u64
     requires { power < 651 }
     ensures range { (0 < result) × (result < 10 ^ 19) }
@@ -31,8 +32,8 @@ fn least_digits(size: u64, power: u64) -> u64
     low
 }
 
-/// Searches all powers for a decimal that reads as the double of this size. No input is known that
-/// needs this search.
+/// Searches all powers for a decimal that reads as the double with the given size. No input is
+/// known that needs this search.
 #[cold]
 #[inline(never)]
 fn search(size: Size) -> Option<(u64, u64)>
@@ -47,7 +48,8 @@ fn search(size: Size) -> Option<(u64, u64)>
     None
 }
 
-/// Returns a decimal that reads as the double of this size, if there is one.
+/// Returns a decimal that reads as the double with the given size, or `None` if there is no such
+/// decimal.
 pub fn some_decimal(size: Size) -> Option<(u64, u64)>
     ensures { MatchOption result (HasNone size.bits) (λ d. Reads size.bits d.0 d.1) }
 {

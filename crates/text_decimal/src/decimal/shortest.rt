@@ -8,8 +8,8 @@ use crate::decimal::raised::raised;
 use crate::decimal::search::some_decimal;
 use crate::decimal::size::Size;
 
-/// Returns the digits and the power of the shortest decimal, or `None` if no decimal of at most 19
-/// digits reads as the double.
+/// Returns the digits and the power of the shortest decimal of a double, or `None` if no decimal of
+/// at most 19 digits reads as the double.
 pub fn shortest(size: Size) -> Option<(u64, u64)>
     ensures { MatchOption result (HasNone size.bits) (λ d. IsShortest size.bits d.0 d.1) }
 {

@@ -11,19 +11,20 @@ use crate::decimal::reads::INFINITE;
 use crate::decimal::shortest::shortest;
 use crate::decimal::size::Size;
 use base_data::model::Memory;
-use text_print::leaves::{write, write_float};
+use base_data::text::write;
+use text_print::leaves::write_float;
 
-/// The sign bit.
+/// The sign bit of a double.
 const SIGN: u64 = 1 << 63;
 
-/// Appends the minus of a negative double.
+/// Appends a minus if the double is negative.
 fn write_sign(text: &mut Vec<u8>, bits: u64) -> Result<(), Memory>
     ensures { OnOk result (text.new.items ≡ text.old.items ++ sign_text (is_negative bits)) }
 {
     write(text, if bits >= SIGN { b"-" } else { b"" })
 }
 
-/// Appends a zero with its sign.
+/// Appends a zero with the sign of the double.
 fn write_zero(text: &mut Vec<u8>, bits: u64) -> Result<(), Memory>
     ensures { OnOk result (text.new.items
         ≡ text.old.items ++ (sign_text (is_negative bits) ++ codes "0.")) }
@@ -42,7 +43,8 @@ fn write_signed(text: &mut Vec<u8>, bits: u64, digits: u64, power: u64) -> Resul
     write_size(text, digits, power)
 }
 
-/// Appends a double: a finite one as the shortest decimal, any other one by its bits.
+/// Appends the text of a double. A finite double is printed as its shortest decimal, and any other
+/// double is printed by its bits.
 pub fn write_double(text: &mut Vec<u8>, bits: u64) -> Result<(), Memory>
     ensures { OnOk result (text.new.items ≡ text.old.items ++ double_text bits) }
 {

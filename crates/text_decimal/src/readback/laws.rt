@@ -1,15 +1,15 @@
-//! The laws, stated as contracts.
+//! The laws of reading back texts with decimals, stated as contracts.
 
 ghost use Rattle.text_decimal.specs.readback.Laws.{LiteralsAreApart, TextsWithDecimalsAreReadBack};
 
-/// If the lexemes of a text are a literal, then none of them contains a decimal, however the text
-/// is written.
+/// States that if the lexemes of a text are a literal, then no lexeme contains a decimal, however
+/// the text is written.
 pub fn texts_of_literals_are_apart()
     ensures { LiteralsAreApart }
 {}
 
-/// The plain text of the text of a value is this text itself. The plain text of its text with
-/// decimals is this text too.
+/// States that the text of a value is its own plain text, and is the plain text of the text with
+/// decimals.
 pub fn texts_with_decimals_are_read_back()
     ensures { TextsWithDecimalsAreReadBack }
 {}

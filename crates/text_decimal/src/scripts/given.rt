@@ -10,13 +10,13 @@ ghost use Rattle.text_decimal.specs.scripts.Plain.{Fit};
 use crate::texts::{Decimal, given_position};
 use base_data::model::Memory;
 use base_data::model::list::List;
-use base_data::model::path::Path;
 use std::alloc::Global;
 use text_path::{Action, Edit, ScriptFault, ScriptLine};
 use types_lex::Lexemes;
 use types_lex::lexeme::{LexFault, Lexeme, LexemeSpan};
 
-/// Returns the offset in a line for an offset in its plain text, given the decimals of the line.
+/// Returns the offset in a line for an offset in the plain text of the line, given the decimals of
+/// the line.
 fn line_position(decimals: &[Decimal], position: usize) -> usize
     requires { Fit decimals.now }
     ensures { result ≡ line_position decimals.now position }
@@ -28,7 +28,7 @@ fn line_position(decimals: &[Decimal], position: usize) -> usize
     }
 }
 
-/// Returns the decimals of the line with this number, counted from 1.
+/// Returns the decimals of line `number`, where lines are counted from 1.
 fn decimals_on(all: &[List<Decimal>], number: usize) -> &[Decimal]
     requires { All Fit all.now }
     ensures are { result.now ≡ decimals_on all.now number }
@@ -38,17 +38,6 @@ fn decimals_on(all: &[List<Decimal>], number: usize) -> &[Decimal]
         Some(decimals) => decimals.as_slice(),
         None => &[],
     }
-}
-
-/// Returns a copy of a path.
-fn copy_path(alloc: Global, path: &Path) -> Result<Path, Memory>
-    ensures { IfOk result (λ copy. copy ≡ path.now) }
-{
-    let mut copy = Path::new(alloc);
-    for i in 0..path.len() {
-        copy.push(path.step(i))?;
-    }
-    Ok(copy)
 }
 
 /// Returns the lexemes of a literal with their offsets in the original line.
@@ -77,26 +66,27 @@ fn given_literal(
     Ok(given)
 }
 
-/// Returns an edit with the offsets of its literal in the original line.
+/// Returns an edit. The lexemes of the edit's literal have their offsets in the original line.
 fn given_edit(alloc: Global, decimals: &[Decimal], edit: &Edit) -> Result<Edit, Memory>
     requires { Fit decimals.now }
     ensures { IfOk result (λ given. given ≡ given_edit decimals.now edit.now) }
 {
     match edit {
         Edit::Set(path, literal, end) => {
-            let path = copy_path(alloc, path)?;
+            let path = path.copied(alloc)?;
             let literal = given_literal(alloc, decimals, literal.as_slice())?;
             Ok(Edit::Set(path, literal, line_position(decimals, *end)))
         }
         Edit::Link(path, source) => {
-            let path = copy_path(alloc, path)?;
-            Ok(Edit::Link(path, copy_path(alloc, source)?))
+            let path = path.copied(alloc)?;
+            Ok(Edit::Link(path, source.copied(alloc)?))
         }
-        Edit::Unshare(path) => Ok(Edit::Unshare(copy_path(alloc, path)?)),
+        Edit::Unshare(path) => Ok(Edit::Unshare(path.copied(alloc)?)),
     }
 }
 
-/// Returns the request of a line with the offsets of its literal in the original line.
+/// Returns the request of a line. The lexemes of the request's literal have their offsets in the
+/// original line.
 fn given_action(alloc: Global, decimals: &[Decimal], action: &Action) -> Result<Action, Memory>
     requires { Fit decimals.now }
     ensures { IfOk result (λ given. given ≡ given_action decimals.now action.now) }
@@ -104,13 +94,13 @@ fn given_action(alloc: Global, decimals: &[Decimal], action: &Action) -> Result<
     match action {
         Action::Edit(edit) => Ok(Action::Edit(given_edit(alloc, decimals, edit)?)),
         Action::Graft(path, other, source) => {
-            let path = copy_path(alloc, path)?;
-            Ok(Action::Graft(path, *other, copy_path(alloc, source)?))
+            let path = path.copied(alloc)?;
+            Ok(Action::Graft(path, *other, source.copied(alloc)?))
         }
     }
 }
 
-/// Returns the lines with offsets in the original lines.
+/// Returns the lines of a script. All lexemes have their offsets in the original lines.
 pub fn given_lines(
     alloc: Global,
     all: &[List<Decimal>],
@@ -146,7 +136,7 @@ fn given_lex(decimals: &[Decimal], fault: LexFault) -> LexFault
     }
 }
 
-/// Returns the error with its offset in the original line.
+/// Returns the error of a script with its offset in the original line.
 pub fn given_fault(all: &[List<Decimal>], fault: ScriptFault) -> ScriptFault
     requires { All Fit all.now }
     ensures { result ≡ given_fault all.now fault }

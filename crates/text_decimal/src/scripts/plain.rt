@@ -1,12 +1,12 @@
 //! The plain text of a script.
 
-ghost use Rattle.std.specs.Prelude.{◌≡◌, ◌==◌, OnOk, IfOk};
-ghost use Rattle.std.specs.List.{position_or_len};
+ghost use Rattle.std.specs.Prelude.{◌==◌, OnOk, IfOk};
 ghost use Rattle.text_decimal.specs.scripts.Plain.{IsLineWritten, IsPlainScript};
 
 use crate::texts::{Decimal, write_plain_text};
 use base_data::model::Memory;
 use base_data::model::list::List;
+use base_data::text::line_len;
 use std::alloc::Global;
 
 /// The plain text of a script, and the decimals of each of its lines.
@@ -14,13 +14,6 @@ use std::alloc::Global;
 pub struct PlainScript {
     pub text: Vec<u8>,
     pub decimals: Vec<List<Decimal>>,
-}
-
-/// Returns the number of bytes before the first line feed, or the length if there is none.
-fn line_len(text: &[u8]) -> usize
-    ensures { result ≡ position_or_len (λ b. b == 10) text.now }
-{
-    text.iter().take_while(|b| **b != b'\n').count()
 }
 
 /// Appends the plain text of a line, and the list of its decimals.
@@ -32,7 +25,7 @@ fn write_line(alloc: Global, plain: &mut PlainScript, line: &[u8]) -> Result<(),
     Ok(())
 }
 
-/// Returns the plain text of a script, and its decimals.
+/// Returns the plain text of a script, and the decimals of each line.
 pub fn plain_script(alloc: Global, text: &[u8]) -> Result<PlainScript, Memory>
     ensures { IfOk result (IsPlainScript text.now) }
 {

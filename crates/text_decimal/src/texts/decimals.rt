@@ -1,4 +1,4 @@
-//! The decimals in a text, and the mapping of offsets in its plain text to offsets in the text.
+//! The decimals in a text, and the mapping of offsets in the plain text to offsets in the text.
 
 ghost use Rattle.std.specs.Prelude.{◌≡◌, ◌<◌, ◌^◌};
 ghost use Rattle.text_decimal.specs.texts.Plain.{AreWithin, given_position};
@@ -12,7 +12,8 @@ pub struct Decimal {
     pub bits: u64,
 }
 
-/// Returns the offset, in the text with these decimals, of a byte of the plain text or of its end.
+/// Returns the offset in a text, given the text's decimals and an offset in the plain text. The
+/// offset may be the end of the plain text.
 pub fn given_position(decimals: &[Decimal], byte: usize) -> usize
     requires within { AreWithin 0 decimals.now (2 ^ 63) }
     requires small { byte < 2 ^ 63 }

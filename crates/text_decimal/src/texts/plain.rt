@@ -5,9 +5,10 @@ ghost use Rattle.text_decimal.specs.texts.Plain.{plain_with, AreWithin};
 
 use crate::texts::decimals::Decimal;
 use base_data::model::Memory;
-use text_print::leaves::{write, write_float};
+use base_data::text::write;
+use text_print::leaves::write_float;
 
-/// Appends a text in which each of these decimals is replaced by the bits of its double.
+/// Appends a text in which each of the decimals `decimals` is replaced by the bits of its double.
 pub fn write_plain(new: &mut Vec<u8>, text: &[u8], decimals: &[Decimal]) -> Result<(), Memory>
     requires { AreWithin 0 decimals.now (length text.now) }
     ensures { OnOk result (new.new.items

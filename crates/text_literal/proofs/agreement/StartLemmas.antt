@@ -1,5 +1,5 @@
--- The start of a literal at a type depends on the parts of the shape only through the types of its
--- own parts.
+-- The start of a literal at a type depends on the parts of the type's shape only through the types
+-- of the literal's own parts.
 use Rattle.std.proofs.Common.{ℕ, suc, ◌≡◌, ◌∙◌, ℤ, List, [], ◌∷◌, ◌++◌, length, map, Bool, true, false, Option, Some, None, refl, ap, sym, subst}
 use Rattle.std.specs.Prelude.{slice_get, option_map, option_and_then, unwrap_or, ◌==◌, ◌&&◌, nat_lt, bytes_eq, find, if◌then◌else◌}
 use Rattle.std.proofs.lemmas.List.{length-map}
@@ -106,7 +106,7 @@ module _ {T V : Type 0} (f : T → V) where
   type_mapped : (ts : List T) (t : T) (i : ℕ) → f (type_in ts t i) ≡ type_in (map f ts) (f t) i
   type_mapped ts t i = found_mapped (slice_get ts i) t ∙ ap (λ found. unwrap_or found (f t)) (sym (slice_get-map f ts i))
 
-  -- A block with a required number of parts.
+  -- The starts of a block with a required number of parts correspond.
   sized_mapped : (test : ℕ → Bool) (tag : ℕ) (ts : List T) (t : T)
       → Mapped (if_fits (test (length ts)) (block tag [] (type_in ts t))) (if_fits (test (length (map f ts))) (block tag [] (type_in (map f ts) (f t))))
   sized_mapped test tag ts t =

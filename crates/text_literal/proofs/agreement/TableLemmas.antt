@@ -1,5 +1,5 @@
--- The reading of a literal at an index of a table agrees with its reading at the type with this
--- index.
+-- The reading of a literal at an index of a table agrees with the literal's reading at the type
+-- with this index.
 use Rattle.std.proofs.Common.{ℕ, ◌≡◌, ◌∙◌, List, Option, Some, ap, sym, subst}
 use Rattle.std.specs.Prelude.{slice_get, option_map, unwrap_or}
 use Rattle.types_spec.specs.declared.types.decl.Decl.{Decl}

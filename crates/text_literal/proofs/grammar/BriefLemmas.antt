@@ -1,4 +1,4 @@
--- A lexeme in brief form has the same effect as the lexeme.
+-- The brief form of a lexeme has the same effect on the parser as the lexeme.
 use Rattle.std.proofs.Common.{ℕ, ◌+◌, ◌^◌, ◌≡◌, ◌∙◌, ◌<◌, ◌≤◌, List, [], ◌∷◌, ◌++◌, length, Option, Some, None, refl, sym, ap, subst, inl, inr, ◌||◌}
 use Rattle.std.specs.Prelude.{Ok, option_map}
 use Rattle.std.specs.Str.{bytes_eq}
@@ -141,7 +141,7 @@ brief_next text at l b = record {
 module _ (text : List ℕ) (at : ℕ) (positions : List ℕ) (ns : List LiteralNode) (os : List PendingNode) (stage : Stage) (prefix : Prefix text at positions ns os stage)
     (short : length text < 2 ^ 32) (l : Lexeme) (next : IsBriefNext text at l)
     (on : lex.Reached text ((lexeme_from text l.span.first).span.first + (lexeme_from text l.span.first).span.len) (lexemes_at text positions ++ lexeme_from text l.span.first ∷ [])) where
-  -- The text up to the end of the lexeme.
+  -- The text up to the end of the lexeme consists of the lexemes before and this lexeme.
   pub brief_reached : lex.Reached text (l.span.first + l.span.len) (lexemes_at text positions ++ lexeme_from text l.span.first ∷ [])
   brief_reached = subst (λ (s : LexemeSpan). lex.Reached text (s.first + s.len) (lexemes_at text positions ++ lexeme_from text l.span.first ∷ [])) next.span on
 

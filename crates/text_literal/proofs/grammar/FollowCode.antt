@@ -1,5 +1,5 @@
--- The code agrees with the table: the state of the table determines the nodes, the brackets and the
--- stage.
+-- The executable parser agrees with the parsing table: the state of the table determines the nodes,
+-- the brackets and the stage.
 use Rattle.std.proofs.Common.{ℕ, suc, ◌+◌, ◌-◌, ◌^◌, ◌≡◌, ◌≤◌, ◌<◌, ◌∙◌, Bool, true, false, List, [], ◌∷◌, ◌++◌, length, Option, Some, None, refl, sym, ap, arith, append_assoc, append-nil, length-append}
 use Rattle.std.specs.Prelude.{◌==◌, option_map, slice_set, if◌then◌else◌}
 use Rattle.std.specs.Str.{bytes_eq}
@@ -28,7 +28,8 @@ abbrev owner_form : Option Head → NodeForm
 owner_form None = forms.Fields
 owner_form (Some h) = forms.Named
 
--- The node as it is while its parts are read, and the nodes of those parts.
+-- The node of an open bracket as it is while the node's parts are read, followed by the nodes of
+-- these parts.
 abbrev frame_nodes : ℕ → Frame → List LiteralNode
 frame_nodes k (in_arguments l h ps) = node forms.Named l k 0 ∷ parts_nodes symbols.Comma (k + length (label_kinds l ++ (head_kinds h ++ mark symbols.OpenParen))) ps
 frame_nodes k (in_parens l ps) = node forms.Unit l k 0 ∷ parts_nodes symbols.Comma (k + length (label_kinds l ++ mark symbols.OpenParen)) ps

@@ -1,4 +1,4 @@
--- The lexemes of a literal lead the table to that literal.
+-- The lexemes of a literal lead the parsing table to a state that has read the literal.
 use Rattle.std.proofs.Common.{ℕ, ◌≡◌, true, false, List, [], ◌∷◌, ◌++◌, Option, Some, None, refl}
 use Rattle.types_lex.specs.declared.lexeme.LexemeKind.{LexemeKind}
 use Rattle.types_lex.specs.declared.lexeme.LexemeKind.TheVariants as kinds
@@ -8,7 +8,7 @@ use Rattle.types_parse.specs.grammar.Grammar.{Name, Kinds, mark}
 use Rattle.text_literal.specs.grammar.Literal.{Head, upper_head, tag_head, cons_head, empty_head, ref_head, Literal, labelled, again, Plain, integer, character, string, double, truth, unit, constant, applied, fields, tuple, empty_array, array, Parts, no_parts, more_parts, Rows, no_rows, more_rows, label_kinds, head_kinds, owner_kinds, row_start, literal_kinds, plain_kinds, parts_kinds, rows_kinds}
 use Rattle.text_literal.specs.grammar.Machine.{Frame, in_arguments, in_parens, in_array, in_fields, due, number_read, plain_due, head_read, field_due, whole, State, at, begin_plain, close, after_number, after_head, step}
 
--- Reading these lexemes leads from the first state to the second.
+-- Reading the lexemes leads the parsing table from the first state to the second state.
 pub data Goes : State → Kinds → State → Type 0 where
   stay : {s : State} → Goes s [] s
   go_on : {s next t : State} {kind : LexemeKind} {rest : Kinds} → step s kind ≡ Some next → Goes next rest t → Goes s (kind ∷ rest) t
@@ -41,7 +41,7 @@ first_step None fs kind n h = h
 begins : (l : Option ℕ) (fs : List Frame) (kind : LexemeKind) (n : State) → begin_plain fs l kind ≡ Some n → Goes (start_plain l fs) (kind ∷ []) n
 begins l fs kind n h = one_more (first_step l fs kind n h)
 
--- If a lexeme does not continue the literal, then it closes the literal.
+-- If a lexeme does not continue a literal, then the lexeme closes the literal.
 closing : (v : Literal) (fs : List Frame) (kind : LexemeKind) → ((k : ℕ) → after_number fs k kind ≡ close fs (again k) kind)
     → ((l : Option ℕ) (h : Head) → after_head fs l h kind ≡ close fs (labelled l (constant h)) kind) → step (read_in fs v) kind ≡ close fs v kind
 closing (again k) fs kind a b = a k

@@ -1,4 +1,5 @@
--- If the table accepts a lexeme, then the lexemes read grow by this lexeme.
+-- If the parsing table accepts a lexeme, then the lexemes that the state has read grow by this
+-- lexeme.
 use Rattle.std.proofs.Common.{ℕ, ◌≡◌, ◌∙◌, Bool, true, false, List, [], ◌∷◌, ◌++◌, Option, Some, None, refl, sym, ap, append_assoc, append-nil}
 use Rattle.std.specs.Prelude.{IfSome, option_map, if◌then◌else◌}
 use Rattle.std.specs.Str.{bytes_eq}
@@ -60,7 +61,7 @@ word_fits fs l x false false true h i j = let e = (bytes_eq-Decides x ref_name).
     stays (frames_prefix fs) (label_kinds l) (label_kinds l ++ lower ref_name) (kinds.Lower x) (ap (λ n. label_kinds l ++ lower n) (sym e))
 word_fits fs l x false false false h i j = tt
 
--- One lexeme after the label.
+-- If one lexeme follows a label, then the lexemes read grow by this lexeme.
 labelled_one : (fs : List Frame) (l : Option ℕ) (kind : LexemeKind) → frames_prefix fs ++ (label_kinds l ++ kind ∷ []) ≡ frames_prefix fs ++ label_kinds l ++ kind ∷ []
 labelled_one fs l kind = stays (frames_prefix fs) (label_kinds l) (label_kinds l ++ kind ∷ []) kind refl
 

@@ -1,4 +1,4 @@
--- The table reads literals.
+-- The parsing table reads exactly the literals.
 use Rattle.std.proofs.Common.{ℕ, ◌≡◌, ◌∙◌, List, [], ◌∷◌, ◌++◌, Option, Some, None, refl, sym, ap, arith, append_assoc, append-nil}
 use Rattle.std.specs.Prelude.{IfSome}
 use Rattle.types_lex.specs.declared.lexeme.LexemeKind.{LexemeKind}
@@ -14,11 +14,11 @@ use Rattle.text_literal.specs.grammar.Machine.{Frame, in_arguments, in_parens, i
 use Rattle.text_literal.proofs.grammar.LiteralPrefixes.{step_prefixes, shut}
 use Rattle.text_literal.proofs.grammar.LiteralGoes.{Goes, stay, go_on, read_in, literal_goes}
 
--- No lexeme of a literal ends a type.
+-- The number of types that end in a state, which is 0 for literals.
 abbrev pub none : State → ℕ
 none s = 0
 
--- The number of open brackets.
+-- The number of open brackets in a state.
 abbrev pub brackets : State → ℕ
 brackets s = open_after 0 (prefix s)
 
@@ -84,7 +84,7 @@ closed_is (f ∷ fs) v =
           ∙ deeper (frames_prefix fs) (frame_kinds f) (literal_kinds v) (filled_rest f v) i.0,
     )
 
--- Some literal begins with what was read last.
+-- Some literal begins with the lexemes that the phase has read.
 abbrev Begun : Phase → Type 0
 Begun phase = (v : Literal) × (rest : Kinds) × (literal_kinds v ≡ phase_kinds phase ++ rest)
 

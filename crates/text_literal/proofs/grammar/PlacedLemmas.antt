@@ -1,4 +1,4 @@
--- The state of the code at a byte offset, and the lexemes that follow there.
+-- The state of the parser at a byte offset, and the lexemes from this offset on.
 use Rattle.std.proofs.Common.{ℕ, zero, suc, ◌+◌, ◌^◌, ◌≡◌, ◌≢◌, ◌∙◌, ◌<◌, ◌≤◌, List, [], ◌∷◌, ◌++◌, length, take, get_or, Option, Some, None, refl, sym, ap, subst, arith, append_assoc}
 use Rattle.std.specs.Prelude.{true, false, Ok, option_map, unwrap_or, slice_get}
 use Rattle.std.proofs.lemmas.List.{map-append, length-map, length-append}
@@ -21,7 +21,8 @@ use Rattle.text_literal.specs.grammar.Code.{step_code, end_code, Steps}
 use Rattle.text_literal.specs.grammar.Placed.{lexemes_at, StopsAt, IsLexed, Stopped, IsPlacedFault, IsPlaced}
 use Rattle.text_literal.proofs.grammar.ReadLemmas.{Reached, begins, goes_at, stops_at, is_tree_where, ends_early_where}
 
--- The lexemes before this byte have these offsets and lead to the state of the code.
+-- The lexemes before the byte `at` have the offsets `positions` and lead to the given nodes,
+-- brackets and stage.
 pub record Prefix (text : List ℕ) (at : ℕ) (positions : List ℕ) (ns : List LiteralNode) (os : List PendingNode) (stage : Stage) : Type 0 where
   pub reached : lex.Reached text at (lexemes_at text positions)
   pub read : Reached (lexemes_at text positions) (length positions) ns os stage
@@ -39,7 +40,7 @@ prefix_of (x ∷ xs) ys zero e = refl
 prefix_of [] ys (suc n) e = absurd (omega (arith, e))
 prefix_of (x ∷ xs) ys (suc n) e = ap (λ all. x ∷ all) (prefix_of xs ys n (omega (arith, e)))
 
--- The lexemes that follow do not change the state reached before them.
+-- If further lexemes are appended, then the state reached before these lexemes does not change.
 further : (xs ys : List Lexeme) (n : ℕ) (ns : List LiteralNode) (os : List PendingNode) (stage : Stage) → length xs ≡ n → Reached xs n ns os stage → Reached (xs ++ ys) n ns os stage
 further xs ys n ns os stage e r =
     let all : kinds_of (xs ++ ys) ≡ kinds_of xs ++ kinds_of ys = map-append (λ (l : Lexeme). l.kind) xs ys in
@@ -90,7 +91,7 @@ module _ (text : List ℕ) (at : ℕ) (positions : List ℕ) (ns : List LiteralN
   count_is : length (lexemes_at text positions) ≡ length positions
   count_is = length-map positions (lexeme_from text)
 
-  -- No further lexeme follows.
+  -- If no further lexeme follows, then the state holds at the end of the text.
   pub prefix_ends : lex.Reached text (length text) (lexemes_at text positions) → Prefix text (length text) positions ns os stage
   prefix_ends r = record { reached = r; read = prefix.read; few = omega (arith, prefix.few, prefix.reached.inside) }
 

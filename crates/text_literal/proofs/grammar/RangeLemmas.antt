@@ -1,4 +1,4 @@
--- The first lexeme of each node is one of the literal's own lexemes.
+-- The first lexeme of each node of a literal is one of the literal's own lexemes.
 use Rattle.std.proofs.Common.{ℕ, ◌+◌, ◌≤◌, ◌<◌, List, [], ◌∷◌, ◌++◌, length, Option, arith, length-append}
 use Rattle.types_lex.specs.declared.lexeme.Symbol.{Symbol}
 use Rattle.types_lex.specs.declared.lexeme.Symbol.TheVariants as symbols

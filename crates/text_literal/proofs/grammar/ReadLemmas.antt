@@ -1,6 +1,6 @@
--- The state of the code at a lexeme, and the result at the end.
+-- The state of the parser at a lexeme, and the result of the parser at the end.
 use Rattle.std.proofs.Common.{ℕ, suc, ◌^◌, ◌≡◌, ◌∙◌, ◌<◌, List, [], ◌∷◌, ◌++◌, length, take, get_or, Option, Some, None, refl, sym, ap, subst, ⊎_elim, arith, append_assoc, append-nil}
-use Rattle.std.specs.Prelude.{Bool, true, false, if◌then◌else◌, Result, Ok, Err, IfOk, IfErr, IfSome, option_map, option_and_then}
+use Rattle.std.specs.Prelude.{Bool, true, false, if◌then◌else◌, Result, Ok, Err, IfSome, option_map, option_and_then}
 use Rattle.types_lex.specs.declared.lexeme.Lexeme.{Lexeme}
 use Rattle.types_parse.specs.grammar.Grammar.{Kinds}
 use Rattle.types_parse.specs.grammar.Refusals.{IsSyntax}
@@ -8,8 +8,6 @@ use Rattle.types_parse.specs.grammar.Machine.{run}
 use Rattle.types_parse.proofs.grammar.TableLemmas.{taken, take_whole, run_more, is_syntax_at, syntax_end, text_is_read, one_text}
 use Rattle.types_parse.proofs.grammar.LawLemmas.{text_or_syntax, no_syntax}
 use Rattle.text_literal.specs.declared.grammar.literal_node.LiteralNode.{LiteralNode}
-use Rattle.text_literal.specs.declared.grammar.literal_node.TreeFault.{TreeFault}
-use Rattle.text_literal.specs.declared.grammar.literal_node.TreeFault.TheVariants as faults
 use Rattle.text_literal.specs.declared.grammar.pending_node.PendingNode.{PendingNode}
 use Rattle.text_literal.specs.declared.grammar.pending_node.Stage.{Stage}
 use Rattle.text_literal.specs.declared.grammar.pending_node.Stage.TheVariants as stages
@@ -17,7 +15,7 @@ use Rattle.text_literal.specs.grammar.Literal.{Literal, literal_kinds}
 use Rattle.text_literal.specs.grammar.Machine.{due, hash_read, number_read, plain_due, bracket_read, head_read, field_due, name_read, whole, State, at, start, step, accepted, prefix}
 use Rattle.types_parse.specs.grammar.Lexemes.{kinds_of}
 use Rattle.types_parse.proofs.grammar.LexemeLemmas.{kinds_length, kinds_next}
-use Rattle.text_literal.specs.grammar.Nodes.{literal_nodes, IsTreeOf, IsTreeFault, GivesTree, GivesSyntax}
+use Rattle.text_literal.specs.grammar.Nodes.{literal_nodes, IsTreeOf, IsTreeAnswer}
 use Rattle.text_literal.specs.grammar.Code.{Code, code, step_code, end_code, Steps}
 use Rattle.text_literal.proofs.grammar.LiteralPrefixes.{step_prefixes}
 use Rattle.text_literal.proofs.grammar.LiteralTable.{literal_table}
@@ -40,7 +38,7 @@ none_map : {X Y : Type 0} (f : X → Y) (o : Option X) → option_map f o ≡ No
 none_map f None h = refl
 none_map f (Some x) h = absurd (cc)
 
--- The lexemes before this index lead to a state with these nodes, brackets and stage.
+-- The lexemes before the index `position` lead to a state with the given nodes, brackets and stage.
 abbrev pub Reached : List Lexeme → ℕ → List LiteralNode → List PendingNode → Stage → Type 0
 Reached lexemes position ns os stage = (s : State) × (run step start (take position (kinds_of lexemes)) ≡ Some s) × (code_of s ≡ code ns os stage)
 
@@ -124,11 +122,9 @@ module _ (lexemes : List Lexeme) (position : ℕ) (ns : List LiteralNode) (os : 
 -- ---- at most one result
 
 module _ (lexemes : List Lexeme) where
-  pub gives_tree : (result : Result (List LiteralNode) TreeFault) → IfOk result (IsTreeOf lexemes) → IfErr result (IsTreeFault lexemes) →
-      (v : Literal) → literal_kinds v ≡ kinds_of lexemes → GivesTree (literal_nodes 0 v) result
-  gives_tree (Ok all) p f v e = p.2 ∙ ap (literal_nodes 0) (one_text literal_table p.0 v (p.1 ∙ sym e))
-  gives_tree (Err (faults.Syntax k)) p f v e = no_syntax literal_table v k (subst (λ all. IsSyntax literal_kinds all k) (sym e) f)
-  gives_tree (Err faults.Memory) p f v e = tt
+  pub gives_tree : (answer : Result (List LiteralNode) ℕ) → IsTreeAnswer lexemes answer → (v : Literal) → literal_kinds v ≡ kinds_of lexemes → answer ≡ Ok (literal_nodes 0 v)
+  gives_tree (Ok all) p v e = ap Ok (p.2 ∙ ap (literal_nodes 0) (one_text literal_table p.0 v (p.1 ∙ sym e)))
+  gives_tree (Err k) f v e = absurd (no_syntax literal_table v k (subst (λ all. IsSyntax literal_kinds all k) (sym e) f))
 
   one_position : (j k : ℕ) → IsSyntax literal_kinds (kinds_of lexemes) j → IsSyntax literal_kinds (kinds_of lexemes) k → j ≡ k
   one_position j k a b = ⊎_elim
@@ -136,8 +132,6 @@ module _ (lexemes : List Lexeme) where
       (λ (n, s, alone). alone j a ∙ sym (alone k b))
       (text_or_syntax literal_table (kinds_of lexemes))
 
-  pub gives_syntax : (result : Result (List LiteralNode) TreeFault) → IfOk result (IsTreeOf lexemes) → IfErr result (IsTreeFault lexemes) →
-      (k : ℕ) → IsSyntax literal_kinds (kinds_of lexemes) k → GivesSyntax k result
-  gives_syntax (Ok all) p f k s = no_syntax literal_table p.0 k (subst (λ all. IsSyntax literal_kinds all k) (sym p.1) s)
-  gives_syntax (Err (faults.Syntax j)) p f k s = one_position j k f s
-  gives_syntax (Err faults.Memory) p f k s = tt
+  pub gives_syntax : (answer : Result (List LiteralNode) ℕ) → IsTreeAnswer lexemes answer → (k : ℕ) → IsSyntax literal_kinds (kinds_of lexemes) k → answer ≡ Err k
+  gives_syntax (Ok all) p k s = absurd (no_syntax literal_table p.0 k (subst (λ all. IsSyntax literal_kinds all k) (sym p.1) s))
+  gives_syntax (Err j) f k s = ap Err (one_position j k f s)

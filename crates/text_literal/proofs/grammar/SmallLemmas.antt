@@ -1,4 +1,5 @@
--- Nodes in eight bytes: appending a node does not change the others, and a node can be replaced.
+-- Nodes in eight bytes: appending a node does not change the earlier nodes, and a node can be
+-- replaced.
 use Rattle.std.proofs.Common.{ℕ, zero, suc, ◌≡◌, ◌<◌, ◌∙◌, List, [], ◌∷◌, ◌++◌, length, Option, Some, None, refl, ap, arith, length-append}
 use Rattle.std.specs.Prelude.{slice_get, slice_set, unwrap_or}
 use Rattle.text_literal.specs.declared.grammar.literal_node.NodeForm.{NodeForm}
@@ -28,7 +29,7 @@ module _ (others more : List LiteralNode) where
       let rest = keeps_more all held.1 in
       (ap (λ (n : LiteralNode). n ∷ nodes_in (others ++ more) all) (same_by s.first s.parts s.form held.0) ∙ ap (λ (ns : List LiteralNode). node_in others s ∷ ns) rest.0, (held_by s.first s.form held.0, rest.1))
 
--- The last of the other nodes.
+-- If a node is appended to the list `others`, then the node is at the previous length of the list.
 pub last_found : (others new : List LiteralNode) (n : LiteralNode) (number : ℕ) → number ≡ length others → new ≡ others ++ n ∷ [] → unwrap_or (slice_get new number) (plain_node forms.Unit 0 0) ≡ n
 last_found others new n number last is =
     ap (λ (found : Option LiteralNode). unwrap_or found (plain_node forms.Unit 0 0))
@@ -40,7 +41,7 @@ nodes_written others [] (suc k) s = refl
 nodes_written others (x ∷ all) zero s = refl
 nodes_written others (x ∷ all) (suc k) s = ap (λ (ns : List LiteralNode). node_in others x ∷ ns) (nodes_written others all k s)
 
--- Replacing one node by another.
+-- If the entry at index `k` is replaced, then the list denotes the nodes with node `k` replaced.
 pub write :
     (old new : List LiteralNode) (all : List SmallNode) (n : LiteralNode) (s : SmallNode) (k : ℕ) → Keeps old new → AreHeld (length old) all → Holds new n s
     → nodes_in new (slice_set all k s) ≡ slice_set (nodes_in old all) k n

@@ -1,4 +1,4 @@
--- Lexemes have exactly one answer at a type: that of their literal, or their syntax error.
+-- Lexemes have exactly one answer at a type: the answer of their literal, or their syntax error.
 use Rattle.std.proofs.Common.{refl, sym, ap, ◌∙◌, subst, ⊎_elim}
 use Rattle.std.specs.Prelude.{ℕ, suc, ◌+◌, ◌≡◌, Bool, true, false, if◌then◌else◌, Option, Some, None, Result, Ok, Err, List, [], ◌∷◌, ◌++◌, length, slice_get}
 use Rattle.base_data.specs.declared.model.value.Val.{Val}
@@ -18,7 +18,7 @@ use Rattle.text_literal.specs.parser.Starts.{Start, mismatch, out_of_range, smal
 use Rattle.text_literal.specs.parser.Reading.{Reading, Refusal, mismatch_at, int_range_at, label_at, reading, is_next, again_read, small_read, block_read, begun, literal_read, inside}
 use Rattle.text_literal.specs.parser.LiteralAnswers.{byte_of, in_bytes, fault_of, shape_in, names_in, IsValue, IsMisread, IsAnswer, HasOneAnswer}
 
--- If lexemes are a literal, then they have no syntax error.
+-- If lexemes are a literal, then the lexemes have no syntax error.
 pub literal_excludes : (lexemes : List Lexeme) (v : Literal) (k : ℕ) → literal_kinds v ≡ kinds_of lexemes
     → IsSyntax literal_kinds (kinds_of lexemes) k → ⊥
 literal_excludes lexemes v k encoded s = no_syntax literal_table v k (subst (λ all. IsSyntax literal_kinds all k) (sym encoded) s)
@@ -74,7 +74,7 @@ module _ (table : Tabled) (at : ℕ) (lexemes : List Lexeme) (end : ℕ) (old : 
   abbrev pub reading_of : Literal → Result Reading (Refusal ℕ)
   reading_of v = literal_read (shape_in table) (names_in table) 0 v (length old) [] at
 
-  -- If the reading of a literal fails, then its fault is an answer.
+  -- If the reading of a literal fails, then the fault of the reading is an answer.
   is_fault : (v : Literal) (refusal : Refusal ℕ) → literal_kinds v ≡ kinds_of lexemes → reading_of v ≡ Err refusal
       → IsAnswer table at lexemes end old (Err (fault_of (in_bytes lexemes end refusal)))
   is_fault v (mismatch_at k t) encoded e = record { literal = v; refusal = mismatch_at k t; encoded = encoded; refused = e; is = refl }
@@ -94,7 +94,7 @@ module _ (table : Tabled) (at : ℕ) (lexemes : List Lexeme) (end : ℕ) (old : 
         behind = refl;
       })
 
-  -- Trees of the same lexemes are equal.
+  -- If the lexemes of a literal are misread with a fault, then the fault is the literal's answer.
   misread_stated : (v : Literal) (fault : LiteralFault) → literal_kinds v ≡ kinds_of lexemes → IsMisread table at lexemes end (length old) fault
       → Err fault ≡ stated lexemes end old (reading_of v)
   misread_stated v fault encoded m =
@@ -115,7 +115,7 @@ module _ (table : Tabled) (at : ℕ) (lexemes : List Lexeme) (end : ℕ) (old : 
   other_stated v encoded (Err (faults.Label position)) a = misread_stated v _ encoded a
   other_stated v encoded (Err faults.Memory) a = absurd a
 
-  -- The lexemes have a syntax error.
+  -- If the lexemes have a syntax error, then each answer is this syntax error.
   other_syntax : (k : ℕ) → ((j : ℕ) → IsSyntax literal_kinds (kinds_of lexemes) j → j ≡ k) → IsSyntax literal_kinds (kinds_of lexemes) k
       → (other : Result (List Obj × Val) LiteralFault) → IsAnswer table at lexemes end old other → other ≡ Err (faults.Syntax (byte_of lexemes end k))
   other_syntax k same s (Ok (new, value)) a = absurd (literal_excludes lexemes a.literal k a.encoded s)

@@ -1,4 +1,4 @@
--- The doubles of nodes equal the doubles of the parts with these nodes.
+-- The doubles of consecutive nodes equal the doubles of the parts that have these nodes.
 use Rattle.std.proofs.Common.{refl, sym, ap, ◌∙◌, arith, get_or, take, drop, min, subst, inl, inr, ⊎_elim}
 use Rattle.std.specs.Prelude.{ℕ, zero, suc, ◌+◌, ◌-◌, ◌<◌, ◌≤◌, ◌≡◌, ◌⊎◌, Option, Some, None, List, [], ◌∷◌, ◌++◌, length, slice_get}
 use Rattle.std.proofs.lemmas.List.{take_min, length-drop}
@@ -43,7 +43,8 @@ found_first [] (suc i) n e = absurd cc
 found_first (m ∷ nodes) zero n e = let same : m ≡ n = cc in ap (λ own. own ∷ nodes) same
 found_first (m ∷ nodes) (suc i) n e = found_first nodes i n e
 
--- The next node, and the remaining nodes.
+-- The bits of the remaining nodes are the bits of the next node and of the nodes after the next
+-- node.
 pub next_bits :
     (all : Kinds) (nodes : List LiteralNode) (from many k : ℕ) (n : LiteralNode) (before : Option (List ℕ)) → k < many → slice_get nodes (from + k) ≡ Some n
     → bits_of_nodes all before (take (many - k) (drop (from + k) nodes))
@@ -55,7 +56,7 @@ next_bits all nodes from many k n before inside found =
     ∙ ap (λ (rest : List LiteralNode). bits_of_nodes all before (take (suc (many - (k + 1))) rest)) (found_first nodes (from + k) n found)
     ∙ ap (λ i. bits_of_nodes all (and_bits before (bits_of_node all n)) (take (many - (k + 1)) (drop i nodes))) on
 
--- The next node is not a double.
+-- If the next node is not a double, then the nodes have no bits.
 pub none_here :
     (all : Kinds) (nodes : List LiteralNode) (from many k : ℕ) (n : LiteralNode) (before : List ℕ) (bits : Option (List ℕ)) → k < many → slice_get nodes (from + k) ≡ Some n
     → bits_of_node all n ≡ None → bits_of_nodes all (Some before) (take (many - k) (drop (from + k) nodes)) ≡ bits → None ≡ bits
@@ -65,7 +66,7 @@ none_here all nodes from many k n before bits inside found e so_far =
     ∙ none_of_nodes all (take (many - (k + 1)) (drop (from + (k + 1)) nodes)))
     ∙ so_far
 
--- The next node is a double.
+-- If the next node is a double, then the bits grow by the bits of this double.
 pub one_here :
     (all : Kinds) (nodes : List LiteralNode) (from many k d : ℕ) (n : LiteralNode) (before after : List ℕ) (bits : Option (List ℕ)) → k < many → slice_get nodes (from + k) ≡ Some n
     → bits_of_node all n ≡ Some d → after ≡ before ++ d ∷ [] → bits_of_nodes all (Some before) (take (many - k) (drop (from + k) nodes)) ≡ bits
@@ -85,7 +86,7 @@ none_left all nodes from many k own bits done so_far =
 
 -- ---- one node
 
--- A literal is a double without a label, or neither it nor its node has bits.
+-- The literal is a double without a label.
 abbrev IsDouble : Literal → Type 0
 IsDouble v = (d : ℕ) × (v ≡ labelled None (double d))
 
@@ -109,7 +110,7 @@ double_or_not all k (labelled None empty_array) = inr (refl, refl)
 double_or_not all k (labelled None (array ps v)) = inr (refl, refl)
 
 module _ (all : Kinds) (k : ℕ) (parts : List (ℕ × Literal)) (rest : List LiteralNode) (before : Option (List ℕ)) where
-  -- The result for the nodes from the first part on, and the result for the parts.
+  -- The bits of the nodes from the first part on.
   abbrev of_nodes : Literal → Option (List ℕ)
   of_nodes v = bits_of_nodes all before (take (suc (length parts)) (literal_nodes k v ++ nodes_of_parts parts ++ rest))
 

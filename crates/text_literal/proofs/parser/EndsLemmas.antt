@@ -71,7 +71,7 @@ ends_more nodes ends from i end d len inside same is known j k v h at =
     (λ other. get_or-set_other ends i j end 0 other ∙ known j k v (omega (arith, h, other)) at)
     (cases_eq j i)
 
--- There are no entries from the end on.
+-- If the index `i` is at or beyond the end of the nodes, then no entry from `i` on is required.
 pub ends_none : (nodes : List LiteralNode) (ends : List ℕ) (i : ℕ) → length nodes ≤ i → AreEndsFrom i nodes ends
 ends_none nodes ends i all j k v h at = absurd (omega (arith, all, h, position_in nodes j k v at))
 

@@ -1,4 +1,4 @@
--- The names found before the values of fields are the names of the fields.
+-- The names found before the values of a literal's fields are the names of the fields.
 use Rattle.std.proofs.Common.{arith, refl, sym, ap, ◌∙◌, get_or, cond, length-append, append_assoc}
 use Rattle.std.specs.Prelude.{ℕ, suc, ◌+◌, ◌-◌, ◌<◌, ◌≡◌, Option, Some, List, [], ◌∷◌, ◌++◌, length, map, slice_get}
 use Rattle.std.proofs.lemmas.Bool.{lt-ltb}
@@ -37,7 +37,7 @@ names_next nodes ends all position n m d e h =
     ap (λ i. names_from nodes ends all position i) e
     ∙ names_found nodes ends all position m (get_or nodes position d) h (slice_get-get_or nodes position d h)
 
--- One more name.
+-- If the name of the next field is collected, then the collected names grow by this name.
 pub names_step :
     (nodes : List LiteralNode) (ends : List ℕ) (all : Kinds) (position n m next : ℕ) (d : LiteralNode) (before after names : List Name) (x : Name)
     → n ≡ suc m → position < length nodes → after ≡ before ++ x ∷ [] → x ≡ name_before all (get_or nodes position d).first → next ≡ sibling ends position 1

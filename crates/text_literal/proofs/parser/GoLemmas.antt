@@ -1,4 +1,4 @@
--- One step of the reader, by the first lexeme of a part.
+-- One step of the reader, by cases on the first lexeme of a part.
 use Rattle.std.proofs.Common.{arith, refl, sym, ap, ◌∙◌, subst, get_or}
 use Rattle.std.specs.Prelude.{ℕ, ◌+◌, ◌<◌, ◌≡◌, Option, Some, None, Result, Ok, List, [], ◌∷◌, length, All, slice_get, slice_index}
 use Rattle.std.proofs.lemmas.Option.{get_or_from_slice_get}
@@ -48,7 +48,7 @@ no_again (tuple ps u v) e = absurd (cc)
 no_again empty_array e = absurd (cc)
 no_again (array ps v) e = absurd (cc)
 
--- The form of its node decides if a literal is the use of a label.
+-- If the node of a literal has the form `Again`, then the literal is a reference to a label.
 pub again_only : (P : Literal → Type 0) (k : ℕ) → ((n : ℕ) → P (again n)) → (v : Literal) → (own_node k v).form ≡ forms.Again → P v
 again_only P k f (again n) e = f n
 again_only P k f (labelled l p) e = absurd (no_again p e)
@@ -72,7 +72,7 @@ end_is text j k v good stands = good.ends j k v stands.nodes_at
 pub end_behind : (text : LiteralText) (j : ℕ) → IsText text → HasPart text j → j < slice_index text.ends.now j
 end_behind text j good (k, v, stands) = omega (arith, end_is text j k v good stands, own_length k v)
 
--- A plain literal has a lexeme after its label.
+-- A plain literal has at least one lexeme after its label.
 pub first_within :
     (text : LiteralText) (j : ℕ) (d : LiteralNode) → HasPart text j → slice_get text.nodes.now j ≡ Some d → (d.form ≡ forms.Again → ⊥)
     → d.first + length (label_kinds d.label) < length text.lexemes.now
@@ -104,7 +104,7 @@ all_finished text old outcome stack j graph labels empty u =
 -- ---- one more part
 
 module _ (text : LiteralText) (block : Opened) (stack : List Opened) (j : ℕ) (graph : List Obj) (labels : List ℕ) (t : ℕ) (type_is : t ≡ types_in block.at block.types block.part) where
-  -- A property of the part that begins here.
+  -- The property `P` holds for the part that begins at node `j`.
   abbrev Here : (ℕ → Literal → Type 0) → Type 0
   Here P = (k : ℕ) (v : Literal) → Stands text.nodes.now text.lexemes.now j k v → All (λ o. o < length graph) labels → P k v
 

@@ -1,4 +1,4 @@
--- Lists of names.
+-- Lemmas on lists of names.
 use Rattle.std.proofs.Common.{arith, refl, sym, ap, ◌∙◌, drop, get_or, Bor, true≢false}
 use Rattle.std.proofs.Math.Seq.{drop-cons}
 use Rattle.std.proofs.lemmas.List.{drop_all, drop-map}

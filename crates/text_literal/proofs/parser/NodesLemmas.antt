@@ -1,4 +1,4 @@
--- The nodes of a plain literal are its own node and then the nodes of its parts.
+-- The nodes of a plain literal are the literal's own node and the nodes of the literal's parts.
 use Rattle.std.proofs.Common.{arith, refl, sym, ap, ◌∙◌}
 use Rattle.std.specs.Prelude.{ℕ, suc, ◌+◌, ◌≡◌, Option, List, [], ◌∷◌, ◌++◌, length}
 use Rattle.std.proofs.lemmas.List.{append_assoc, append-nil, length-append}
@@ -19,7 +19,7 @@ nodes_append : (xs ys : List (ℕ × Literal)) → nodes_of_parts (xs ++ ys) ≡
 nodes_append [] ys = refl
 nodes_append (x ∷ xs) ys = ap (λ all. part_nodes x ++ all) (nodes_append xs ys) ∙ sym (append_assoc (part_nodes x) (nodes_of_parts xs) (nodes_of_parts ys))
 
--- One more part.
+-- If a part is appended to a list of parts, then the part's nodes are appended to the list's nodes.
 and_last : (xs : List (ℕ × Literal)) (k j : ℕ) (v : Literal) → k ≡ j → nodes_of_parts (xs ++ (k, v) ∷ []) ≡ nodes_of_parts xs ++ literal_nodes j v
 and_last xs k j v same = nodes_append xs ((k, v) ∷ []) ∙ ap (λ all. nodes_of_parts xs ++ all) (append-nil (literal_nodes k v)) ∙ ap (λ n. nodes_of_parts xs ++ literal_nodes n v) same
 
@@ -45,11 +45,13 @@ count_rows k no_rows = refl
 count_rows k (more_rows rs x v) =
     omega (arith, length-append (listed_rows k rs) ((k + length (rows_kinds rs ++ row_start x), v) ∷ []), count_rows k rs)
 
--- The lexeme index after a label.
+-- The index of a lexeme after two lists of lexemes is the index after the concatenation of the
+-- lists.
 moved : (k : ℕ) (prefix rest : Kinds) → k + length prefix + length rest ≡ k + length (prefix ++ rest)
 moved k prefix rest = omega (arith, length-append prefix rest)
 
--- The lexeme index after a label and a parenthesis.
+-- The index of a lexeme after a prefix, a parenthesis and a list is the index after their
+-- concatenation.
 tuple_last : (k : ℕ) (prefix rest : Kinds) → k + length prefix + 1 + length rest ≡ k + length (prefix ++ (mark symbols.OpenParen ++ rest))
 tuple_last k prefix rest = omega (arith, length-append prefix (mark symbols.OpenParen ++ rest), length-append (mark symbols.OpenParen) rest)
 

@@ -1,4 +1,4 @@
--- Open blocks when a value is stored into one of them and objects are appended.
+-- Open blocks stay open when a value is stored into one of the blocks and objects are appended.
 use Rattle.std.proofs.Common.{arith, refl, sym, ap, ◌∙◌, get_or, ⊎_elim, get_or-set_other, get_or-set_same, take}
 use Rattle.std.specs.Prelude.{ℕ, ◌+◌, ◌<◌, ◌≤◌, ◌≡◌, List, [], ◌∷◌, ◌++◌, length, pos}
 use Rattle.std.proofs.lemmas.Bool.{cases_eq}
@@ -34,7 +34,7 @@ set_as_many graph b i v o inside = ⊎_elim
     (λ other. ap (λ object. length (fields_of object)) (get_or-set_other graph b o (with_field (object_at graph b) i v) (objects.I32 (pos 0)) other))
     (cases_eq o b)
 
--- A value is stored, and objects are appended.
+-- If a value is stored and objects are appended, then each old object keeps its number of fields.
 module _ (graph : List Obj) (b i : ℕ) (v : Val) (os : List Obj) (inside : b < length graph) where
   pub as_many : (o : ℕ) → o < length graph → length (fields_of (object_at (set_field graph b i v ++ os) o)) ≡ length (fields_of (object_at graph o))
   as_many o h =
@@ -67,7 +67,8 @@ module _ (graph : List Obj) (b i : ℕ) (v : Val) (os : List Obj) (inside : b < 
   all_kept old all [] (parts ∷ rest) h = h
   all_kept old all (o ∷ stack) [] h = h
 
-  -- The block itself, if more parts are still to be read.
+  -- If more parts of a block are still to be read, then the block stays open after its next part
+  -- has begun.
   pub more_parts_kept :
       (old : List Obj) (all : Kinds) (o new : Opened) (p : ℕ × Literal) (parts : PartList) → IsOpen old graph all o (p ∷ parts) → IsAdvanced o new → 0 < length parts
       → IsOpen old (set_field graph b i v ++ os) all new parts

@@ -1,4 +1,4 @@
--- One more part does not change the result of the open blocks.
+-- Reading one more part does not change the result of the open blocks.
 use Rattle.std.proofs.Common.{arith, refl, sym, ap, ◌∙◌, subst, drop, take}
 use Rattle.std.specs.Prelude.{ℕ, suc, ◌+◌, ◌<◌, ◌≡◌, true, Option, if◌then◌else◌, Result, Ok, Err, List, [], ◌∷◌, ◌++◌, length, pos, replicate, All}
 use Rattle.std.proofs.lemmas.Bool.{lt-ltb, le-ltb}
@@ -71,7 +71,7 @@ module _ (text : LiteralText) (old : List Obj) (outcome : Result (List Obj) (Ref
     kinds_at = n.open_block.encoded.0;
   }
 
-  -- If the part is refused, then the whole has the same refusal.
+  -- If a part is refused, then the outcome of the open blocks is the refusal of the part.
   pub part_refused :
       (n : IsNext text old outcome block stack j graph labels) (refusal : Refusal ℕ)
       → literal_read (shape_in text.table.now) (names_in text.table.now) n.part.0 n.part.1 (length graph) labels (types_in block.at block.types block.part) ≡ Err refusal
@@ -93,8 +93,8 @@ write_same f g same graph b i (Ok r) = same _ r.labels
 abbrev pub opened_with : Opened → PartList → Open ℕ
 opened_with o parts = open_at o.block o.field o.part (types_in o.at o.types) parts
 
--- A block with these parts to be read, on a stack. If there are no parts, the stack does not have
--- the block.
+-- The stack of open blocks. The block is on top if parts of the block are still to be read. If no
+-- part is left, the stack does not have the block.
 record IsSettled (text : LiteralText) (old graph : List Obj) (block : Opened) (parts : PartList) (stack : List Opened) (rest : List PartList) (result : List Opened) : Type 0 where
   all : List PartList
   open_blocks : AreOpen old graph (kinds_of text.lexemes.now) result all
@@ -129,7 +129,7 @@ advanced_with : (old new : Opened) (parts : PartList) → IsAdvanced old new
     → open_at old.block (suc old.field) (suc old.part) (types_in old.at old.types) parts ≡ opened_with new parts
 advanced_with old new parts a = cc
 
--- The part is a block.
+-- Case: the part is a block whose own parts are still to be read.
 stepped_inner :
     (text : LiteralText) (b i n : ℕ) (types : ℕ → ℕ) (k : ℕ) (v : Literal) (ps : PartList) (opens : List (Open ℕ)) (graph : List Obj) (labels : List ℕ)
     (l : Option ℕ) (p : Plain) (tag : ℕ) (prefix : List Val) (inside : ℕ → ℕ) → v ≡ labelled l p → b < length graph
@@ -185,7 +185,7 @@ module _ (text : LiteralText) (old : List Obj) (outcome : Result (List Obj) (Ref
       ∙ ap (λ rest. drop (length (literal_nodes n.part.0 n.part.1)) rest) (sym n.come)
       ∙ drop_at (literal_nodes n.part.0 n.part.1) _ (length (literal_nodes n.part.0 n.part.1)) refl)
 
-  -- The part was read completely.
+  -- Case: the part was read completely.
   pub after_whole :
       IsWhole (literal_read (shape_in text.table.now) (names_in text.table.now) n.part.0 n.part.1 (length graph) labels (types_in block.at block.types block.part)) graph new more value
       → (next : ℕ) → next ≡ j + length (literal_nodes n.part.0 n.part.1)
@@ -207,7 +207,7 @@ module _ (text : LiteralText) (old : List Obj) (outcome : Result (List Obj) (Ref
         kept = kept_after w.objects;
       })
 
-  -- The part is a block.
+  -- Case: the part is a block whose own parts are still to be read.
   module _ (inner : Opened) (w : IsInner text.table.now n.part.0 n.part.1 (types_in block.at block.types block.part) graph new labels more value inner) where
     abbrev own : PartList
     own = inner_parts n.part.0 n.part.1
@@ -265,7 +265,8 @@ module _ (text : LiteralText) (old : List Obj) (outcome : Result (List Obj) (Ref
         (after made) inner.block inner.field (row_read (shape_in text.table.now) (names_in text.table.now) own (length (after made)) more inner.part (types_in inner.at inner.types))
         ∙ inner_stepped
 
-    -- The part is open.
+    -- If the part is a block, then the invariant holds with the block of the part as the innermost
+    -- open block.
     pub after_inner : Underway (inner ∷ if_open advanced stack) (j + 1) (set_field new block.block block.field value)
     after_inner =
         let s = settled made in

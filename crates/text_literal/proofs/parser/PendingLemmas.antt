@@ -1,4 +1,4 @@
--- One step of the reader: beginning the next part does not change the result of the open blocks.
+-- If the reader begins the next part, then the result of the open blocks does not change.
 use Rattle.std.proofs.Common.{arith, refl, sym, ap, ◌∙◌}
 use Rattle.std.specs.Prelude.{ℕ, suc, ◌+◌, ◌<◌, ◌≡◌, true, if◌then◌else◌, Option, Result, Ok, Err, List, [], ◌∷◌, ◌++◌, length, pos, replicate}
 use Rattle.std.proofs.lemmas.List.{append_assoc, append-nil, length-append, length-replicate, set_at}
@@ -106,7 +106,8 @@ first_part T c types (Err refusal) next = refl
 first_part T c types (Ok one) next = ap (λ n. added one (next (c + length one.objects) one.labels (types n))) (omega arith)
 
 module _ {T : Type 0} (shape : T → ShapeOf T) (names : T → Names) where
-  -- One more part.
+  -- The reading of a list of parts with one more part is the reading of the list, followed by the
+  -- reading of the part.
   and_last :
       (parts : List (ℕ × Literal)) (k : ℕ) (v : Literal) (c : ℕ) (labels : List ℕ) (types : ℕ → T) (row : Result Reading (Refusal T)) → row ≡ row_read shape names parts c labels 0 types
       → and_next c types row (literal_read shape names k v) ≡ row_read shape names (parts ++ (k, v) ∷ []) c labels 0 types
@@ -153,7 +154,8 @@ fill-append xs ys b i (v ∷ values) h =
     ap (λ all. fill all b (suc i) values) (set_field-append xs ys b i v h)
     ∙ fill-append (set_field xs b i v) ys b (suc i) values (rw length-set_field h)
 
--- Fills the fields of the last block after its first fields.
+-- If the fields of the last block from index `i` on are filled, then the block has its first `i`
+-- fields and the new values.
 pub fill_from : (xs : List Obj) (tag : ℕ) (prefix rest : List Val) (b i : ℕ) (values : List Val) → length xs ≡ b → length prefix ≡ i → length rest ≡ length values
     → fill (xs ++ objects.Block tag (prefix ++ rest) ∷ []) b i values ≡ xs ++ objects.Block tag (prefix ++ values) ∷ []
 fill_from xs tag prefix [] b i [] e d l = refl
@@ -178,7 +180,7 @@ module _ {T : Type 0} (shape : T → ShapeOf T) (names : T → Names) where
       (sym (append_assoc (fill (set_field graph b i x) b (suc i) r.values) objs r.objects)
       ∙ ap (λ all. all ++ r.objects) (sym (fill-append (set_field graph b i x) objs b (suc i) r.values (rw length-set_field h))))
 
-  -- The part is read completely.
+  -- Case: the next part is read completely.
   pub stepped :
       (b i n : ℕ) (types : ℕ → T) (k : ℕ) (v : Literal) (ps : List (ℕ × Literal)) (opens : List (Open T)) (graph : List Obj) (labels : List ℕ)
       (x : Val) (objs : List Obj) (more : List ℕ) → b < length graph → literal_read shape names k v (length graph) labels (types n) ≡ Ok (reading (x ∷ []) objs more)
@@ -189,7 +191,7 @@ module _ {T : Type 0} (shape : T → ShapeOf T) (names : T → Names) where
       ∙ ap (λ d. write (finished shape names opens) (set_field graph b i x ++ objs) b (suc i) (row_read shape names ps d more (suc n) types))
       (omega (arith, length-append (set_field graph b i x) objs, length-set_field graph b i x))
 
-  -- The part is refused.
+  -- Case: the next part is refused.
   pub refused :
       (b i n : ℕ) (types : ℕ → T) (k : ℕ) (v : Literal) (ps : List (ℕ × Literal)) (opens : List (Open T)) (graph : List Obj) (labels : List ℕ) (refusal : Refusal T)
       → literal_read shape names k v (length graph) labels (types n) ≡ Err refusal
@@ -197,13 +199,14 @@ module _ {T : Type 0} (shape : T → ShapeOf T) (names : T → Names) where
   refused b i n types k v ps opens graph labels refusal read =
       ap (λ one. write (finished shape names opens) graph b i (then_row (length graph) one (λ d all. row_read shape names ps d all (suc n) types))) read
 
-  -- The block has no parts to be read.
+  -- Case: the innermost block has no parts still to be read.
   pub popped :
       (b i n : ℕ) (types : ℕ → T) (opens : List (Open T)) (graph : List Obj) (labels : List ℕ)
       → finished shape names (open_at b i n types [] ∷ opens) graph labels ≡ finished shape names opens graph labels
   popped b i n types opens graph labels = ap (λ all. finished shape names opens all labels) (append-nil graph)
 
-  -- The reading of a plain part that is a block.
+  -- If the start of a plain part is a block, then the reading of the part is the reading of the
+  -- block.
   pub block_reads :
       (k : ℕ) (l : Option ℕ) (p : Plain) (c : ℕ) (labels : List ℕ) (t : T) (tag : ℕ) (prefix : List Val) (types : ℕ → T)
       → is_next labels l ≡ true → start_at t (shape t) (names t) p ≡ block tag prefix types
@@ -218,7 +221,8 @@ module _ {T : Type 0} (shape : T → ShapeOf T) (names : T → Names) where
       q = k + length (label_kinds l)
 
 module _ {T : Type 0} (shape : T → ShapeOf T) (names : T → Names) where
-  -- The parts of the new block are stored into it, and then the parts after it are read.
+  -- The result is the same if the parts of the new block are stored into the block before the parts
+  -- after the block are read.
   block_written :
       (b i n : ℕ) (types : ℕ → T) (k : ℕ) (v : Literal) (ps : List (ℕ × Literal)) (opens : List (Open T)) (graph : List Obj) (labels : List ℕ)
       (tag : ℕ) (prefix : List Val) (many : ℕ) → b < length graph → (row : Result Reading (Refusal T)) → HasValues many row
@@ -235,7 +239,7 @@ module _ {T : Type 0} (shape : T → ShapeOf T) (names : T → Names) where
       (length-set_field graph b i (vals.Ref (length graph))) refl (length-replicate many (vals.Int (pos 0)) ∙ sym full))
       ∙ append_assoc (set_field graph b i (vals.Ref (length graph))) (objects.Block tag (prefix ++ r.values) ∷ []) r.objects))
 
-  -- If the part is a block, then it becomes the innermost open block.
+  -- If the next part is a block, then the block becomes the innermost open block.
   pub stepped_in :
       (b i n : ℕ) (types : ℕ → T) (k : ℕ) (l : Option ℕ) (p : Plain) (ps : List (ℕ × Literal)) (opens : List (Open T)) (graph : List Obj) (labels : List ℕ)
       (tag : ℕ) (prefix : List Val) (inner : ℕ → T) → b < length graph

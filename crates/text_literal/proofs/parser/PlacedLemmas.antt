@@ -1,4 +1,4 @@
--- The use of a label, and a label whose number is not the next one.
+-- Lemmas on a reference to a label, and on a label that does not have the next number.
 use Rattle.std.proofs.Common.{sym, ap, ◌∙◌, subst}
 use Rattle.std.specs.Prelude.{ℕ, suc, ◌+◌, ◌<◌, ◌≡◌, false, if◌then◌else◌, Option, Some, None, Result, Err, List, [], length, All, slice_get}
 use Rattle.std.proofs.lemmas.List.{append-nil}
@@ -50,7 +50,7 @@ module _ (text : LiteralText) (node : LiteralNode) (k t : ℕ) (l : Option ℕ) 
   same_label : node.label ≡ l
   same_label = ap (λ (n : LiteralNode). n.label) is
 
-  -- If the label does not have the next number, then the part is refused.
+  -- If the label of a part does not have the next number, then the part is refused.
   pub number_refused :
       (byte : ℕ) → is_next labels node.label ≡ false → byte ≡ byte_of text.lexemes.now text.end node.first → MayRefuse text.lexemes.now text.end read (faults.Label byte)
   number_refused byte other at = record {

@@ -1,4 +1,4 @@
--- The answer for lexemes, from the result of reading them.
+-- The answer for lexemes follows from the result of reading the lexemes.
 use Rattle.std.proofs.Common.{sym, ◌∙◌, take}
 use Rattle.std.specs.Prelude.{ℕ, ◌≡◌, true, false, is_err, Result, Ok, Err, List, [], length}
 use Rattle.base_data.specs.declared.model.value.Val.{Val}
@@ -69,7 +69,7 @@ module _ (table : Tabled) (at : ℕ) (lexemes : List Lexeme) (end : ℕ) (old ne
   answered_there (Ok value) err r = r.0
   answered_there (Err fault) err r = absurd (cc)
 
-  -- There is no other answer.
+  -- If two answers hold for the same lexemes, type and heap, then the answers are equal.
   same_answer : (one other : Result (List Obj × Val) LiteralFault) → IsAnswer table at lexemes end old one → IsAnswer table at lexemes end old other → one ≡ other
   same_answer one other a b = let answer = one_answer table at lexemes end old in answer.2 one a ∙ sym (answer.2 other b)
 

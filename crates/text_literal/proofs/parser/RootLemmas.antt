@@ -1,4 +1,5 @@
--- The whole literal: a value that begins as a block, and the result of its parts.
+-- Lemmas on the whole literal: a value that begins as a block, and the result of reading the
+-- block's parts.
 use Rattle.std.proofs.Common.{arith, refl, sym, ap, ◌∙◌, subst, drop, take}
 use Rattle.std.specs.Prelude.{ℕ, suc, ◌<◌, ◌≡◌, Some, Result, Ok, Err, List, [], ◌∷◌, ◌++◌, length, pos, replicate, All, ⊤}
 use Rattle.std.proofs.lemmas.List.{append_assoc, append-nil, length-append, length-replicate, get_or_at}
@@ -42,12 +43,13 @@ tree_stands text v encoded nodes = record {
 
 -- ---- the result of the parts is the graph of the whole
 
--- The graph after a reading.
+-- The graph after a reading: the old objects and the objects that the reading makes, or the
+-- reading's refusal.
 abbrev pub graph_of : List Obj → Result Reading (Refusal ℕ) → Result (List Obj) (Refusal ℕ)
 graph_of old (Err refusal) = Err refusal
 graph_of old (Ok r) = Ok (old ++ r.objects)
 
--- The parts of the block at the end of the graph, stored into it.
+-- The graph after the parts of the last block are read and stored into the block.
 abbrev finished_row : List Obj → ℕ → List Val → ℕ → Result Reading (Refusal ℕ) → Result (List Obj) (Refusal ℕ)
 finished_row old tag prefix many row =
     write (λ g labels. Ok g) (old ++ objects.Block tag (prefix ++ replicate many (vals.Int (pos 0))) ∷ []) (length old) (length prefix) row
@@ -63,7 +65,7 @@ graph_finished old tag prefix many (Ok r) full =
 same_written : {R : Type 0} (F : List Obj → ℕ → ℕ → ℕ → ℕ → R) (g h : List Obj) (b d i e c n m o : ℕ) → g ≡ h → b ≡ d → i ≡ e → c ≡ n → m ≡ o → F g b i c m ≡ F h d e n o
 same_written F g h b d i e c n m o p q r s t = cc
 
--- The value is one of the graph.
+-- The reading of the whole literal gives `value`, and `final` is the graph after the reading.
 pub record IsWholeRoot (all : Result Reading (Refusal ℕ)) (old final : List Obj) (value : Val) : Type 0 where
   pub labels : List ℕ
   pub whole : IsWhole all old final labels value
@@ -139,7 +141,8 @@ module _ (text : LiteralText) (k : ℕ) (v : Literal) (t : ℕ) (old new : List 
     encoded = encoded;
   }
 
-  -- The block is open, and the outcome is that of the whole.
+  -- If the whole literal begins as a block, then the block is open and the outcome is that of the
+  -- whole literal.
   pub root_underway : Stands text.nodes.now text.lexemes.now 0 k v → literal_nodes k v ≡ text.nodes.now → All (λ o. o < length new) more
       → IsUnderway text old (graph_of old whole_reading) (opened ∷ []) 1 new more
   root_underway stands nodes labels_in = record {
@@ -151,11 +154,11 @@ module _ (text : LiteralText) (k : ℕ) (v : Literal) (t : ℕ) (old new : List 
     kept = ap (λ (g : List Obj). take (length old) g) w.behind ∙ take-append_seam old (objects.Block w.tag (w.prefix ++ replicate (length own) (vals.Int (pos 0))) ∷ []);
   }
 
-  -- The result of the parts is the whole reading.
+  -- If the parts of the root's block are read, then the result is the reading of the whole literal.
   pub root_whole : (final : List Obj) → graph_of old whole_reading ≡ Ok final → IsWholeRoot whole_reading old final value
   root_whole final same = whole_of_row old w.tag w.prefix row whole_reading value final as_row w.value_is same
 
--- If the result is a refusal, then the reading has this refusal.
+-- If a fault may refuse the graph after a reading, then the fault may refuse the reading.
 pub root_refused : (lexemes : List Lexeme) (end : ℕ) (old : List Obj) (r : Result Reading (Refusal ℕ)) (fault : LiteralFault) → MayRefuse lexemes end (graph_of old r) fault → MayRefuse lexemes end r fault
 root_refused lexemes end old r faults.Memory m = tt
 root_refused lexemes end old r (faults.Syntax position) m = record { refusal = m.refusal; is = refused_back old r m.refusal m.is; position = m.position }

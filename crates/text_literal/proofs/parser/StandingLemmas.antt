@@ -1,4 +1,5 @@
--- If a literal is at a location, then so are its parts and its own first lexeme.
+-- If a literal stands at a location, then the literal's parts and its first lexeme stand at the
+-- locations that follow.
 use Rattle.std.proofs.Common.{arith, refl, sym, ap, ◌∙◌, length-append, append_assoc, get_or}
 use Rattle.std.specs.Prelude.{ℕ, ◌+◌, ◌<◌, ◌≡◌, Option, Some, None, List, [], ◌∷◌, ◌++◌, length, drop, slice_get, option_map}
 use Rattle.std.proofs.lemmas.List.{drop-drop, drop_at, length-drop, append-nil, get_or-drop, length-map}
@@ -82,7 +83,7 @@ rows_encoded all k (more_rows rs x v) h =
     (rows_encoded all k rs (at_prefix all k (rows_kinds rs) (row_start x) (at_prefix all k (rows_kinds rs ++ row_start x) (literal_kinds v) both)))
     (at_back all k (rows_kinds rs ++ row_start x) (literal_kinds v) both, tt)
 
--- The last part, between brackets and after the lexemes before it.
+-- The lexemes of the last part stand between the lexemes before the part and the closing bracket.
 last_encoded : (all : Kinds) (k : ℕ) (prefix : Kinds) (v : Literal) (end : Kinds) → IsAt all k (prefix ++ literal_kinds v ++ end) → IsAt all (k + length prefix) (literal_kinds v)
 last_encoded all k prefix v end h = at_back all k prefix (literal_kinds v) (at_prefix all k (prefix ++ literal_kinds v) end h)
 
@@ -131,7 +132,7 @@ plain_encoded all k (array ps v) h =
     (parts_encoded all symbols.Semicolon (k + 1) ps (at_back all k (mark symbols.OpenArray) parts (prefix_encoded all k start v (mark symbols.CloseArray) h)))
     (at_position all _ _ (literal_kinds v) (omega (arith, length-append (mark symbols.OpenArray) parts)) (last_encoded all k start v (mark symbols.CloseArray) h), tt)
 
--- The parts of a literal begin at their indices.
+-- The lexemes of each part of a literal begin at the index of the part.
 pub literal_encoded : (all : Kinds) (k : ℕ) (v : Literal) → IsAt all k (literal_kinds v) → AreEncoded all (inner_parts k v)
 literal_encoded all k (labelled l p) h = plain_encoded all (k + length (label_kinds l)) p (at_back all k (label_kinds l) (plain_kinds p) h)
 literal_encoded all k (again n) h = tt
@@ -148,7 +149,8 @@ head_led cons_head more = (_, refl)
 head_led empty_head more = (_, refl)
 head_led ref_head more = (_, refl)
 
--- Appending more lexemes keeps the first one.
+-- If lexemes are appended to a list that begins with a lexeme, then the list still begins with this
+-- lexeme.
 led_more : (own more : Kinds) (kind : LexemeKind) → BeginsWith own kind → BeginsWith (own ++ more) kind
 led_more own more kind h = (h.0 ++ more, ap (λ all. all ++ more) h.1)
 
@@ -184,11 +186,11 @@ module _ (lexemes : List Lexeme) (k : ℕ) (l : Option ℕ) (p : Plain) (h : IsA
   own : IsAt (kinds_of lexemes) (k + length (label_kinds l)) (lead_of_plain p ∷ (plain_led p).0)
   own = at_same _ _ _ _ (plain_led p).1 (at_back _ k (label_kinds l) (plain_kinds p) h)
 
-  -- A literal has a lexeme of its own after its label.
+  -- A plain literal has a lexeme of its own after its label.
   pub lead_in : k + length (label_kinds l) < length lexemes
   lead_in = omega (arith, first_in _ _ _ _ own, length-map lexemes (λ (lexeme : Lexeme). lexeme.kind))
 
-  -- The kind of this lexeme is the lead of the literal.
+  -- The lexeme after the label of a plain literal is the lead of the literal.
   pub lead_is : (kind : LexemeKind) → Some kind ≡ option_map (λ (lexeme : Lexeme). lexeme.kind) (slice_get lexemes (k + length (label_kinds l))) → kind ≡ lead_of_plain p
   lead_is kind e =
       let found : Some kind ≡ Some (lead_of_plain p) =

@@ -1,4 +1,4 @@
--- A literal by its first lexeme and its node.
+-- Lemmas on a literal that is given by its first lexeme and its node.
 use Rattle.std.proofs.Common.{arith, add-one, refl, sym, ap, ◌∙◌, set}
 use Rattle.std.specs.Prelude.{ℕ, suc, ◌+◌, ◌<◌, ◌≡◌, Option, Some, None, List, [], ◌∷◌, ◌++◌, length, replicate, slice_get, unwrap_or}
 use Rattle.std.proofs.lemmas.List.{length-append}
@@ -20,7 +20,7 @@ use Rattle.text_literal.specs.parser.Leaves.{lead_of}
 use Rattle.text_literal.specs.parser.Standing.{lead_of_owner}
 use Rattle.text_literal.proofs.parser.NodesLemmas.{count_parts, count_rows}
 
--- Only a record without a constructor name begins with a brace.
+-- No head begins with a brace.
 no_brace : (h : Head) → kinds.Symbol symbols.OpenBrace ≡ lead_of h → ⊥
 no_brace (upper_head x) e = absurd (cc)
 no_brace (tag_head x) e = absurd (cc)

@@ -1,5 +1,5 @@
--- Readings of literals that agree: both have the same values and objects, or both are refused at
--- corresponding types.
+-- Readings of literals that agree. Two readings agree if both give the same values and objects, or
+-- if both are refused at corresponding types.
 use Rattle.std.specs.Prelude.{ℕ, ◌≡◌, Result, Ok, Err, List, slice_get, Some}
 use Rattle.types_spec.specs.declared.types.decl.Decl.{Decl}
 use Rattle.types_spec.specs.types.Names.{names_of}
@@ -24,8 +24,8 @@ module _ {T U : Type 0} (Of : T → U → Type 0) where
   ReadAgree (Err r) (Err s) = RefusalsAgree r s
   ReadAgree one other = ⊥
 
--- The reading of a literal at an index of a table agrees with its reading at the type with this
--- index.
+-- The reading of a literal at an index of a table agrees with the literal's reading at the type
+-- with this index.
 abbrev pub TablesReadAgree : Type 0
 TablesReadAgree =
     (decls : List Decl) (t : Ty) (table : Tabled) → IsTypeTable decls t table

@@ -1,4 +1,4 @@
--- The parsing table on indices of nodes: what the code does at a lexeme.
+-- The parsing table on indices of nodes, that is, what the executable parser does at a lexeme.
 use Rattle.std.specs.Prelude.{ℕ, suc, ◌-◌, ◌^◌, ◌≡◌, ◌==◌, nat_lt, Bool, false, if◌then◌else◌}
 use Rattle.std.specs.Prelude.{Option, Some, None, option_map, Result, Ok, Err, List, [], ◌∷◌, ◌++◌}
 use Rattle.std.specs.Prelude.{length, slice_set, ⊤}
@@ -26,7 +26,7 @@ pub data Code : Type 0 where
 abbrev pub bare_node : NodeForm → Option ℕ → ℕ → LiteralNode
 bare_node form label first = record { form = form; label = label; first = first; parts = 0 }
 
--- One more, saturating at the greatest number.
+-- The number `n` plus one, saturating at the greatest number.
 abbrev pub next_number : ℕ → ℕ
 next_number n = if nat_lt n (2 ^ 64 - 1) then suc n else n
 
@@ -199,7 +199,7 @@ take_equals_code ns os index node (kinds.Symbol symbols.Equals) =
     Some (code ns (opened brackets.Fields index node ∷ os) stages.Due)
 take_equals_code ns os index node kind = None
 
--- The step on the lexeme with index `position`.
+-- The step of the parser on the lexeme with index `position`.
 abbrev pub step_code : List LiteralNode → List PendingNode → Stage → ℕ → LexemeKind → Option Code
 step_code ns os stages.Due position kind = begin_code ns os position kind
 step_code ns os (stages.Hash first) position kind = take_number_code ns os first kind
@@ -211,7 +211,7 @@ step_code ns os (stages.FieldDue index node) position kind = take_name_code ns o
 step_code ns os (stages.NameRead index node) position kind = take_equals_code ns os index node kind
 step_code ns os stages.Whole position kind = close_code ns os kind
 
--- The nodes at the end, if a literal can end there.
+-- The nodes of the literal that ends at this stage, or `None` if no literal can end at this stage.
 abbrev pub end_code : List LiteralNode → List PendingNode → Stage → Option (List LiteralNode)
 end_code ns [] stages.Whole = Some ns
 end_code ns [] (stages.Head index node) = Some ns

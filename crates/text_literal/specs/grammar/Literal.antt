@@ -1,4 +1,5 @@
--- The grammar of literals, the textual form of values. A tree has one case for each production.
+-- The grammar of literals, the textual form of values. The type of trees has one case for each
+-- production of the grammar.
 use Rattle.std.specs.Prelude.{ℕ, Bool, true, false, Option, Some, None, List, [], ◌∷◌, ◌++◌, codes}
 use Rattle.types_lex.specs.declared.lexeme.LexemeKind.TheVariants as kinds
 use Rattle.types_lex.specs.declared.lexeme.Integer.{Integer}
@@ -7,7 +8,7 @@ use Rattle.types_lex.specs.declared.lexeme.Symbol.TheVariants as symbols
 use Rattle.types_parse.specs.grammar.Grammar.{Name, Kinds, mark, lower}
 use Rattle.types_parse.specs.grammar.Lexemes.{number}
 
--- The lexemes before arguments or fields, or a constant.
+-- A head: the lexemes before arguments or fields, or a constant.
 pub data Head : Type 0 where
   upper_head : Name → Head
   tag_head : Name → Head
@@ -16,7 +17,7 @@ pub data Head : Type 0 where
   ref_head : Head
 
 mutual
-  -- A plain literal with or without a label, or a reference to a label.
+  -- A literal: a plain literal with or without a label, or a reference to a label.
   pub data Literal : Type 0 where
     labelled : Option ℕ → Plain → Literal
     again : ℕ → Literal
@@ -29,32 +30,32 @@ mutual
     truth : Bool → Plain
     unit : Plain
     constant : Head → Plain
-    -- The arguments before the last one, and the last one.
+    -- A head with arguments: the arguments before the last argument, and the last argument.
     applied : Head → Parts → Literal → Plain
-    -- The fields before the last one, and the last one.
+    -- Fields in braces: the fields before the last field, and the name and value of the last field.
     fields : Option Head → Rows → Name → Literal → Plain
-    -- Two or more parts.
+    -- A tuple of two or more parts.
     tuple : Parts → Literal → Literal → Plain
     empty_array : Plain
     array : Parts → Literal → Plain
 
-  -- Parts that are followed by further ones.
+  -- A list of parts, each of which is followed by a further part.
   pub data Parts : Type 0 where
     no_parts : Parts
     more_parts : Parts → Literal → Parts
 
-  -- Fields that are followed by further ones.
+  -- A list of fields, each of which is followed by a further field.
   pub data Rows : Type 0 where
     no_rows : Rows
     more_rows : Rows → Name → Literal → Rows
 
 -- ---- the lexemes of a tree
 
--- `#k`
+-- The lexemes of a reference `#k`.
 abbrev pub reference : ℕ → Kinds
 reference k = kinds.Symbol symbols.Hash ∷ number k ∷ []
 
--- `#k=`
+-- The lexemes of a label `#k=`, or no lexemes if there is no label.
 abbrev pub label_kinds : Option ℕ → Kinds
 label_kinds None = []
 label_kinds (Some k) = reference k ++ mark symbols.Equals
@@ -83,7 +84,7 @@ abbrev pub owner_kinds : Option Head → Kinds
 owner_kinds None = []
 owner_kinds (Some h) = head_kinds h
 
--- A field's name and the equals sign after it.
+-- The lexemes before a field's value: the field's name and the equals sign.
 abbrev pub row_start : Name → Kinds
 row_start x = kinds.Lower x ∷ kinds.Symbol symbols.Equals ∷ []
 
@@ -115,7 +116,7 @@ abbrev mutual
       mark symbols.OpenArray ++ parts_kinds symbols.Semicolon ps ++ literal_kinds v
       ++ mark symbols.CloseArray
 
-  -- Each part, followed by the separator.
+  -- The lexemes of the parts, each part followed by the separator.
   pub parts_kinds : Symbol → Parts → Kinds
   parts_kinds separator no_parts = []
   parts_kinds separator (more_parts ps v) =

@@ -1,5 +1,5 @@
--- The table that reads a literal's lexemes one by one. A state holds the open brackets, the
--- innermost first, and what was read last.
+-- The parsing table, which reads a literal's lexemes one by one. A state holds the open brackets,
+-- the innermost bracket first, and what was read last.
 use Rattle.std.specs.Prelude.{ℕ, true, false, if◌then◌else◌, Option, Some, None, option_map, List}
 use Rattle.std.specs.Prelude.{[], ◌∷◌, ◌++◌, map}
 use Rattle.std.specs.Str.{bytes_eq}
@@ -17,19 +17,19 @@ use Rattle.text_literal.specs.grammar.Literal.{reference, label_kinds, true_name
 use Rattle.text_literal.specs.grammar.Literal.{ref_name, head_kinds, owner_kinds, row_start}
 use Rattle.text_literal.specs.grammar.Literal.{literal_kinds, parts_kinds, rows_kinds}
 
--- The context of a literal, with its label and the parts before.
+-- An open bracket around a literal, with the label of the enclosing literal and the parts before.
 pub data Frame : Type 0 where
   in_arguments : Option ℕ → Head → Parts → Frame
   in_parens : Option ℕ → Parts → Frame
   in_array : Option ℕ → Parts → Frame
   in_fields : Option ℕ → Option Head → Rows → Name → Frame
 
--- What was read last, with the label before it.
+-- What the table read last, with the label before it.
 pub data Phase : Type 0 where
   due : Phase
   hash_read : Phase
   number_read : ℕ → Phase
-  -- After `#k=`.
+  -- The table has read `#k=`, and a plain literal must follow.
   plain_due : ℕ → Phase
   bracket_read : Option ℕ → Phase
   head_read : Option ℕ → Head → Phase
@@ -69,7 +69,7 @@ begin_plain fs l (kinds.Symbol symbols.OpenArray) = Some (at (in_array l no_part
 begin_plain fs l (kinds.Symbol symbols.OpenBrace) = Some (at fs (field_due l None no_rows))
 begin_plain fs l kind = None
 
--- Parentheses, or an array, that close without parts.
+-- The state after parentheses close without parts.
 abbrev pub close_unit : List Frame → Option State
 close_unit (in_parens l no_parts ∷ fs) = read fs l unit
 close_unit fs = None
@@ -196,7 +196,7 @@ phase_kinds (whole v) = literal_kinds v
 abbrev pub prefix : State → Kinds
 prefix (at fs phase) = frames_prefix fs ++ phase_kinds phase
 
--- No lexeme of a literal ends a type.
+-- The number of closed types at each lexeme, which is 0 because no lexeme of a literal ends a type.
 abbrev pub zeros : Kinds → List ℕ
 zeros lexemes = map (λ (kind : LexemeKind). 0) lexemes
 

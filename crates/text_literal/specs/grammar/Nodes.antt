@@ -1,7 +1,7 @@
--- A literal as a list of nodes in preorder: each node comes before its parts, and the nodes are in
+-- A literal as a list of nodes in preorder. Each node comes before its parts, and the nodes are in
 -- the order of their first lexemes.
 use Rattle.std.specs.Prelude.{ℕ, suc, ◌+◌, ◌≡◌, ◌<◌, Option, Some, Result, Ok, Err, List, [], ◌∷◌}
-use Rattle.std.specs.Prelude.{◌++◌, length, ⊤}
+use Rattle.std.specs.Prelude.{◌++◌, length}
 use Rattle.std.specs.List.{AllByRecursion}
 use Rattle.types_lex.specs.declared.lexeme.Lexeme.{Lexeme}
 use Rattle.types_lex.specs.declared.lexeme.Symbol.{Symbol}
@@ -12,8 +12,6 @@ use Rattle.types_parse.specs.grammar.Refusals.{IsSyntax}
 use Rattle.text_literal.specs.declared.grammar.literal_node.NodeForm.{NodeForm}
 use Rattle.text_literal.specs.declared.grammar.literal_node.NodeForm.TheVariants as forms
 use Rattle.text_literal.specs.declared.grammar.literal_node.LiteralNode.{LiteralNode}
-use Rattle.text_literal.specs.declared.grammar.literal_node.TreeFault.{TreeFault}
-use Rattle.text_literal.specs.declared.grammar.literal_node.TreeFault.TheVariants as faults
 use Rattle.text_literal.specs.grammar.Literal.{Literal, labelled, again, Plain, integer, character}
 use Rattle.text_literal.specs.grammar.Literal.{string, double, truth, unit, constant, applied}
 use Rattle.text_literal.specs.grammar.Literal.{fields}
@@ -35,7 +33,7 @@ rows_count no_rows = 0
 rows_count (more_rows rs x v) = suc (rows_count rs)
 
 abbrev mutual
-  -- The nodes of a literal whose first lexeme has this index.
+  -- The nodes of a literal whose first lexeme has index `k`.
   pub literal_nodes : ℕ → Literal → List LiteralNode
   literal_nodes k (labelled l p) = plain_nodes k l p
   literal_nodes k (again n) = node forms.Again (Some n) k 0 ∷ []
@@ -104,27 +102,16 @@ abbrev mutual
 
 -- ---- the result of parsing lexemes
 
--- The lexemes are a literal, and these are its nodes.
+-- The lexemes are a literal, and `nodes` are the nodes of the literal.
 abbrev pub IsTreeOf : List Lexeme → List LiteralNode → Type 0
 IsTreeOf lexemes nodes =
     (v : Literal) × (literal_kinds v ≡ kinds_of lexemes) × (nodes ≡ literal_nodes 0 v)
 
-abbrev pub IsTreeFault : List Lexeme → TreeFault → Type 0
-IsTreeFault lexemes (faults.Syntax k) = IsSyntax literal_kinds (kinds_of lexemes) k
-IsTreeFault lexemes faults.Memory = ⊤
+-- The lexemes are the literal with these nodes, or have a syntax error at this position.
+abbrev pub IsTreeAnswer : List Lexeme → Result (List LiteralNode) ℕ → Type 0
+IsTreeAnswer lexemes (Ok nodes) = IsTreeOf lexemes nodes
+IsTreeAnswer lexemes (Err k) = IsSyntax literal_kinds (kinds_of lexemes) k
 
--- A call returns these nodes, unless memory runs out.
-abbrev pub GivesTree : List LiteralNode → Result (List LiteralNode) TreeFault → Type 0
-GivesTree nodes (Ok all) = all ≡ nodes
-GivesTree nodes (Err (faults.Syntax k)) = ⊥
-GivesTree nodes (Err faults.Memory) = ⊤
-
--- A call returns this position, unless memory runs out.
-abbrev pub GivesSyntax : ℕ → Result (List LiteralNode) TreeFault → Type 0
-GivesSyntax k (Ok all) = ⊥
-GivesSyntax k (Err (faults.Syntax j)) = j ≡ k
-GivesSyntax k (Err faults.Memory) = ⊤
-
--- The index of each node's first lexeme is below this number.
+-- The index of each node's first lexeme is below `m`.
 abbrev pub FirstsBelow : ℕ → List LiteralNode → Type 0
 FirstsBelow m nodes = AllByRecursion (λ (n : LiteralNode). n.first < m) nodes

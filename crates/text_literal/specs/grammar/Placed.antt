@@ -16,8 +16,8 @@ use Rattle.text_literal.specs.grammar.Nodes.{IsTreeOf}
 abbrev pub lexemes_at : List ℕ → List ℕ → List Lexeme
 lexemes_at text positions = map (lexeme_from text) positions
 
--- The text has at least one lexeme, and its lexemes are not a literal. The first error is at this
--- byte offset.
+-- The text has at least one lexeme, and the text's lexemes are not a literal. The first error is at
+-- the byte offset `byte`.
 pub record StopsAt (text : List ℕ) (byte : ℕ) : Type 0 where
   pub lexemes : List Lexeme
   pub lexeme : ℕ
@@ -35,7 +35,7 @@ IsLexed text (faults.Lex fault) = Faults text fault
 IsLexed text faults.Memory = ⊤
 IsLexed text fault = ⊥
 
--- The text's lexemes begin with these, and no literal continues at the last one.
+-- The text's lexemes begin with `prefix`, and no literal continues at the last lexeme of `prefix`.
 abbrev pub Stopped : List ℕ → List Lexeme → ℕ → PlacedFault → Type 0
 Stopped text prefix first (faults.Syntax byte) =
     (byte ≡ first) × ((more : List Lexeme) × Lexes text (prefix ++ more))
@@ -47,8 +47,8 @@ IsPlacedFault text (faults.Syntax byte) = StopsAt text byte
 IsPlacedFault text faults.TooLong = 2 ^ 32 ≤ length text
 IsPlacedFault text faults.Memory = ⊤
 
--- The offsets are those of the text's lexemes, and the nodes are those of the literal with these
--- lexemes.
+-- `positions` are the byte offsets of the text's lexemes, and `nodes` are the nodes of the literal
+-- with these lexemes.
 abbrev pub IsPlaced : List ℕ → List ℕ → List LiteralNode → Type 0
 IsPlaced text positions nodes =
     Lexes text (lexemes_at text positions) × IsTreeOf (lexemes_at text positions) nodes

@@ -1,4 +1,4 @@
--- The innermost bracket, removed from the stack.
+-- The effect of removing the innermost bracket from the stack.
 use Rattle.std.specs.Prelude.{◌≡◌, List, [], ◌∷◌, Option, Some, None}
 use Rattle.text_literal.specs.declared.grammar.pending_node.PendingNode.{PendingNode}
 

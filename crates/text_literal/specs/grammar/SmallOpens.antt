@@ -1,5 +1,5 @@
--- Brackets in sixteen bytes, and the others beside them. In both lists the innermost bracket comes
--- first.
+-- Open brackets in sixteen bytes, and the list of the brackets that do not fit. In both lists, the
+-- innermost bracket comes first.
 use Rattle.std.specs.Prelude.{◌≡◌, Option, Some, None, List, [], ◌∷◌}
 use Rattle.text_literal.specs.declared.grammar.literal_node.NodeForm.{NodeForm}
 use Rattle.text_literal.specs.declared.grammar.literal_node.NodeForm.TheVariants as forms
@@ -16,7 +16,8 @@ abbrev pub blank_open : PendingNode
 blank_open =
     record { bracket = brackets.Parens; index = 0; node = plain_node forms.Unit 0 0 }
 
--- A bracket given by its form, or the innermost of the others.
+-- The bracket that an entry of sixteen bytes denotes. If the entry has a form, the form gives the
+-- bracket. If not, the bracket is the innermost bracket of `others`.
 abbrev pub open_by : SmallOpen → Option NodeForm → List PendingNode → PendingNode
 open_by s (Some form) others = plain_open s form
 open_by s None [] = blank_open
@@ -31,7 +32,7 @@ abbrev pub opens_in : List SmallOpen → List PendingNode → List PendingNode
 opens_in [] others = []
 opens_in (s ∷ all) others = open_by s s.form others ∷ opens_in all (others_behind s.form others)
 
--- The entry is the bracket, independently of the others.
+-- The entry denotes the bracket, independently of the brackets in `others`.
 abbrev pub IsSmallOpen : PendingNode → SmallOpen → Type 0
 IsSmallOpen outer small =
     (form : NodeForm) × (small.form ≡ Some form) × (plain_open small form ≡ outer)

@@ -28,7 +28,8 @@ alone p = labelled None p
 abbrev pub small : ℕ → Literal
 small n = alone (integer (record { minus = false; value = pos n; suffix = suffixes.Absent }))
 
--- The literal that the table reads from these lexemes.
+-- The literal that the parsing table reads from the lexemes, or `None` if the table reads no
+-- literal.
 abbrev pub reading : Kinds → Option Literal
 reading lexemes = option_and_then accepted (run step start lexemes)
 
@@ -84,7 +85,7 @@ abbrev pub carrying_lexemes : Kinds
 carrying_lexemes =
     kinds.Tag (codes "B") ∷ symbol symbols.OpenParen ∷ number 3 ∷ symbol symbols.CloseParen ∷ []
 
--- The nodes, if the literal begins at lexeme 0.
+-- The nodes of a literal that begins at lexeme 0.
 abbrev pub nodes : Literal → List LiteralNode
 nodes v = literal_nodes 0 v
 
@@ -107,13 +108,13 @@ pub record Rows : Type 0 where
       ≡ symbol symbols.OpenParen ∷ symbol symbols.CloseParen ∷ []
   pub unit_read : reading (symbol symbols.OpenParen ∷ symbol symbols.CloseParen ∷ [])
       ≡ Some (alone unit)
-  -- One part in parentheses is not a literal, and neither is a name with empty parentheses.
+  -- One part in parentheses is not a literal. A name with empty parentheses is not a literal.
   pub alone_refused : reading (symbol symbols.OpenParen ∷ number 1 ∷ symbol symbols.CloseParen ∷ [])
       ≡ None
   pub nothing_applied : reading
       (kinds.Upper (codes "C") ∷ symbol symbols.OpenParen ∷ symbol symbols.CloseParen ∷ [])
       ≡ None
-  -- The nodes: form, label, index of the first lexeme, number of parts.
+  -- Each node has a form, a label, the index of its first lexeme, and its number of parts.
   pub cyclic_nodes : nodes cyclic
       ≡ node forms.Named (Some 0) 0 2 ∷ node forms.Integer None 5 0 ∷ node forms.Again (Some 0) 7 0
       ∷ []

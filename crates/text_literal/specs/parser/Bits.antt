@@ -1,4 +1,4 @@
--- The doubles of consecutive nodes.
+-- The bits of the doubles that consecutive nodes denote.
 use Rattle.std.specs.Prelude.{ℕ, Option, Some, None, List, slice_get}
 use Rattle.std.specs.List.{fold}
 use Rattle.types_lex.specs.declared.lexeme.LexemeKind.{LexemeKind}
@@ -14,7 +14,8 @@ abbrev pub double_in : Option LexemeKind → Option ℕ
 double_in (Some (kinds.Double bits)) = Some bits
 double_in kind = None
 
--- The bits of a node, from its label, its form and the double at its first lexeme.
+-- The bits of a node, from the node's label, the node's form, and the double at the node's first
+-- lexeme.
 abbrev pub unlabelled_bits : Option ℕ → NodeForm → Option ℕ → Option ℕ
 unlabelled_bits None forms.Double bits = bits
 unlabelled_bits label form bits = None
@@ -22,7 +23,7 @@ unlabelled_bits label form bits = None
 abbrev pub bits_of_node : Kinds → LiteralNode → Option ℕ
 bits_of_node all n = unlabelled_bits n.label n.form (double_in (slice_get all n.first))
 
--- The bits of all nodes, if each is a double without a label.
+-- The bits `before` and the bits of all nodes, if each node is a double without a label.
 abbrev pub bits_of_nodes : Kinds → Option (List ℕ) → List LiteralNode → Option (List ℕ)
 bits_of_nodes all before nodes = fold (λ bits n. and_bits bits (bits_of_node all n)) before nodes
 

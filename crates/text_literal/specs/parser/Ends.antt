@@ -1,4 +1,4 @@
--- For each literal in a list of nodes, the index of the node after it.
+-- For each literal in a list of nodes, the index of the node after the literal.
 use Rattle.std.specs.Prelude.{ℕ, zero, suc, ◌+◌, ◌≡◌, ◌≤◌, nat_lt, if◌then◌else◌, List, length}
 use Rattle.std.specs.Prelude.{slice_index}
 use Rattle.text_literal.specs.declared.grammar.literal_node.LiteralNode.{LiteralNode}
@@ -6,8 +6,8 @@ use Rattle.text_literal.specs.grammar.Literal.{Literal}
 use Rattle.text_literal.specs.grammar.Nodes.{literal_nodes}
 use Rattle.text_literal.specs.parser.Standing.{IsAt}
 
--- If the nodes of a literal begin at node j, then entry j is the index of the node after the last
--- of them. This holds for all nodes from i on.
+-- Let j be a node from i on. If the nodes of a literal begin at j, then entry j is the index of the
+-- node after the literal's last node.
 abbrev pub AreEndsFrom : ℕ → List LiteralNode → List ℕ → Type 0
 AreEndsFrom i nodes ends =
     (j k : ℕ) (v : Literal) → i ≤ j → IsAt nodes j (literal_nodes k v)
@@ -18,7 +18,7 @@ AreEnds nodes ends =
     (j k : ℕ) (v : Literal) → IsAt nodes j (literal_nodes k v)
     → slice_index ends j ≡ j + length (literal_nodes k v)
 
--- The node that is a given number of siblings later.
+-- The index of the node that is a given number of siblings after the node `position`.
 abbrev pub sibling : List ℕ → ℕ → ℕ → ℕ
 sibling ends position zero = position
 sibling ends position (suc n) =

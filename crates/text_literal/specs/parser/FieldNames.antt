@@ -1,4 +1,4 @@
--- Field names. The name of a field is two lexemes before its value.
+-- The names of fields. The name of a field is two lexemes before the field's value.
 use Rattle.std.specs.Prelude.{ℕ, zero, suc, ◌-◌, nat_lt, if◌then◌else◌, Option, Some, None, List}
 use Rattle.std.specs.Prelude.{[], ◌∷◌, length, slice_get}
 use Rattle.types_lex.specs.Lexemes.{lower_name}
@@ -14,7 +14,7 @@ abbrev pub name_of_node : Kinds → Option LiteralNode → Name
 name_of_node all None = []
 name_of_node all (Some n) = name_before all n.first
 
--- The names of a given number of siblings.
+-- The field names of a given number of siblings from the node `position` on.
 abbrev pub names_from : List LiteralNode → List ℕ → Kinds → ℕ → ℕ → List Name
 names_from nodes ends all position zero = []
 names_from nodes ends all position (suc n) =

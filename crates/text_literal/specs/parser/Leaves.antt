@@ -1,4 +1,4 @@
--- The result that the definitions give for each `Leaf` of the code.
+-- What each `Leaf` of the executable code means in the definitions.
 use Rattle.std.specs.Prelude.{ℕ, pos, ◌==◌}
 use Rattle.base_data.specs.model.Graph.{IsValue}
 use Rattle.base_data.specs.declared.model.value.Val.TheVariants as vals
@@ -23,14 +23,14 @@ leaf_in (leaves.Bytes bytes) = whole (objects.Bytes bytes.now)
 leaf_in (leaves.Double bits) = whole (objects.Double bits)
 leaf_in (leaves.Custom c) = whole (custom_object c)
 
--- A small leaf is sound if its value is an integer of at most 63 bits, or an atom whose tag is at
--- most 243. All other leaves are sound.
+-- If the leaf is small, then its value is an integer of at most 63 bits, or an atom whose tag is at
+-- most 243. Every other leaf is sound.
 abbrev pub IsSound : Leaf → Type 0
 IsSound (leaves.Small v) = IsValue 0 v
 IsSound leaf = Unit {0}
 
--- The integer `n`, if the shape allows exactly the integers from 0 to `many - 1`. Otherwise it is a
--- mismatch.
+-- If the shape allows exactly the integers from 0 to `many - 1`, the integer `n`. For any other
+-- shape, a mismatch.
 abbrev pub below_of : ShapeOf ℕ → ℕ → ℕ → Start ℕ
 below_of (shapes.Below limit) many n = if_fits (limit == many) (small (vals.Int (pos n)))
 below_of shape many n = mismatch

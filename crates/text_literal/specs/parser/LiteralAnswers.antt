@@ -1,4 +1,4 @@
--- The answer for lexemes at a type of a table. Positions are byte offsets.
+-- The answer for lexemes at a type of a table. Positions in answers are byte offsets.
 use Rattle.std.specs.Prelude.{ℕ, ◌≡◌, option_map, unwrap_or, Result, Ok, Err, List, ◌++◌, length}
 use Rattle.std.specs.Prelude.{slice_get, ⊤}
 use Rattle.base_data.specs.declared.model.value.Val.{Val}
@@ -17,12 +17,12 @@ use Rattle.types_parse.specs.grammar.Lexemes.{kinds_of}
 use Rattle.text_literal.specs.parser.Reading.{Refusal, mismatch_at, int_range_at, label_at, IsRead}
 use Rattle.text_literal.specs.parser.Reading.{IsRefused}
 
--- The byte offset at which a lexeme begins, or the end.
+-- The byte offset at which lexeme `k` begins, or `end` if there is no lexeme `k`.
 abbrev pub byte_of : List Lexeme → ℕ → ℕ → ℕ
 byte_of lexemes end k =
     unwrap_or (option_map (λ (lexeme : Lexeme). lexeme.span.first) (slice_get lexemes k)) end
 
--- A refusal with byte offsets instead of lexeme indices.
+-- The refusal with byte offsets in place of lexeme indices.
 abbrev pub in_bytes : {T : Type 0} → List Lexeme → ℕ → Refusal T → Refusal T
 in_bytes lexemes end (mismatch_at k t) = mismatch_at (byte_of lexemes end k) t
 in_bytes lexemes end (int_range_at k) = int_range_at (byte_of lexemes end k)
@@ -43,7 +43,8 @@ names_in table i = unwrap_or (slice_get table.names i) no_names
 
 -- ---- answers
 
--- The lexemes are a literal with this value at the type. The new objects follow the old ones.
+-- The lexemes are a literal whose value at the type is `value`. The new objects follow the old
+-- objects.
 pub record IsValue (table : Tabled) (at : ℕ) (lexemes : List Lexeme) (old new : List Obj)
     (value : Val) : Type 0 where
   pub literal : Literal
@@ -52,7 +53,7 @@ pub record IsValue (table : Tabled) (at : ℕ) (lexemes : List Lexeme) (old new 
   pub read : IsRead (shape_in table) (names_in table) literal at (length old) value objects
   pub behind : new ≡ old ++ objects
 
--- The lexemes are a literal with this fault at the type.
+-- The lexemes are a literal whose reading at the type gives this fault.
 pub record IsMisread (table : Tabled) (at : ℕ) (lexemes : List Lexeme) (end : ℕ) (count : ℕ)
     (fault : LiteralFault) : Type 0 where
   pub literal : Literal
@@ -61,7 +62,7 @@ pub record IsMisread (table : Tabled) (at : ℕ) (lexemes : List Lexeme) (end : 
   pub refused : IsRefused (shape_in table) (names_in table) literal at count refusal
   pub is : fault ≡ fault_of (in_bytes lexemes end refusal)
 
--- The lexemes are not a literal, and this offset is the syntax error.
+-- The lexemes are not a literal, and the syntax error is at the byte offset `position`.
 pub record IsNoLiteral (lexemes : List Lexeme) (end position : ℕ) : Type 0 where
   pub lexeme : ℕ
   pub syntax : IsSyntax literal_kinds (kinds_of lexemes) lexeme
@@ -83,8 +84,8 @@ IsAnswer table at lexemes end old (Err faults.Memory) = ⊥
 
 -- ---- results of a call
 
--- The result is an answer, and `new` is the heap afterwards. After a fault, or if memory runs out,
--- the heap is unchanged.
+-- The result is an answer, and `new` is the heap after the call. After a fault, or if memory runs
+-- out, the heap is unchanged.
 abbrev pub IsAnswered : Tabled → ℕ → List Lexeme → ℕ → List Obj → List Obj
     → Result Val LiteralFault → Type 0
 IsAnswered table at lexemes end old new (Ok value) =
@@ -93,14 +94,14 @@ IsAnswered table at lexemes end old new (Err faults.Memory) = new ≡ old
 IsAnswered table at lexemes end old new (Err fault) =
     (new ≡ old) × IsAnswer table at lexemes end old (Err fault)
 
--- A call returns this answer, unless memory runs out.
+-- A call returns the given answer, unless memory runs out.
 abbrev pub Gives : Result (List Obj × Val) LiteralFault → List Obj → Result Val LiteralFault
     → Type 0
 Gives answer new (Ok value) = answer ≡ Ok (new, value)
 Gives answer new (Err faults.Memory) = ⊤
 Gives answer new (Err fault) = answer ≡ Err fault
 
--- There is exactly one answer.
+-- The lexemes have exactly one answer at the type and the heap.
 abbrev pub HasOneAnswer : Tabled → ℕ → List Lexeme → ℕ → List Obj → Type 0
 HasOneAnswer table at lexemes end old =
     (answer : Result (List Obj × Val) LiteralFault) × IsAnswer table at lexemes end old answer

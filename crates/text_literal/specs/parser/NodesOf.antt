@@ -1,4 +1,4 @@
--- The nodes of a literal, expressed by the nodes of its parts.
+-- The nodes of a literal, in terms of the nodes of the literal's parts.
 use Rattle.std.specs.Prelude.{ℕ, List, flat_map}
 use Rattle.text_literal.specs.declared.grammar.literal_node.NodeForm.{NodeForm}
 use Rattle.text_literal.specs.declared.grammar.literal_node.NodeForm.TheVariants as forms
@@ -29,6 +29,6 @@ part_nodes part = literal_nodes part.0 part.1
 abbrev pub nodes_of_parts : List (ℕ × Literal) → List LiteralNode
 nodes_of_parts parts = flat_map part_nodes parts
 
--- The nodes still to be read while these blocks are open.
+-- The nodes of all parts of the open blocks that are still to be read.
 abbrev pub nodes_to_come : {T : Type 0} → List (Open T) → List LiteralNode
 nodes_to_come opens = flat_map (λ o. nodes_of_parts o.parts) opens

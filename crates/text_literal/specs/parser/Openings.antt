@@ -1,4 +1,4 @@
--- The meaning of an `Opening` of the code.
+-- What each `Opening` of the executable code means in the definitions.
 use Rattle.std.specs.Prelude.{ℕ, ℤ, ◌≤◌, IfSome, List, [], ◌∷◌, Option, Some, None}
 use Rattle.base_data.specs.model.Graph.{IsInteger}
 use Rattle.base_data.specs.declared.model.value.Val.{Val}
@@ -11,7 +11,7 @@ use Rattle.text_literal.specs.declared.parser.opening.PartTypes.{PartTypes}
 use Rattle.text_literal.specs.declared.parser.opening.PartTypes.TheVariants as parts
 use Rattle.text_literal.specs.parser.Starts.{Start, mismatch, block, type_in}
 
--- The type of a part by its index. If the part has no type, the type is t.
+-- The type of part `i` of a block. If the part has no type of its own, the type is t.
 abbrev pub types_in : ℕ → PartTypes → ℕ → ℕ
 types_in t (parts.Listed types) i = type_in types.now t i
 types_in t (parts.Each u) i = u
@@ -24,8 +24,7 @@ abbrev pub opening_in : ℕ → Opening → Start ℕ
 opening_in t openings.Mismatch = mismatch
 opening_in t (openings.Block tag hash types) = block tag (prefix_of hash) (types_in t types)
 
--- An opening is sound if its tag is one of a block and the hash before its parts has at most 63
--- bits.
+-- The opening's tag is the tag of a block, and the hash before the parts has at most 63 bits.
 abbrev pub IsSound : Opening → Type 0
 IsSound openings.Mismatch = Unit {0}
 IsSound (openings.Block tag hash types) = (tag ≤ 243) × IfSome hash IsInteger

@@ -1,5 +1,5 @@
--- Open blocks, innermost first, with the parts still to be read, and the result of reading them.
--- The parts are read in order, and each value is stored into the next field of its block.
+-- Open blocks, innermost first, with the parts still to be read, and the result of reading these
+-- parts. The parts are read in order, and each value is stored into the next field of its block.
 use Rattle.std.specs.Prelude.{ℕ, suc, ◌+◌, Result, Ok, Err, List, [], ◌∷◌, ◌++◌, length}
 use Rattle.base_data.specs.declared.model.value.Val.{Val}
 use Rattle.base_data.specs.declared.model.value.Obj.{Obj}
@@ -51,8 +51,8 @@ abbrev pub fill : List Obj → ℕ → ℕ → List Val → List Obj
 fill graph o i [] = graph
 fill graph o i (v ∷ vs) = fill (set_field graph o i v) o (suc i) vs
 
--- An open block: its next field, the index of its next part, the types of its parts, and the parts
--- still to be read.
+-- An open block: its number, its next field, the index of its next part, the parts' types, and the
+-- parts still to be read.
 pub record Open (T : Type 0) : Type 0 where
   pub block : ℕ
   pub field : ℕ
@@ -69,14 +69,15 @@ abbrev pub open_at : {T : Type 0} → ℕ → ℕ → ℕ → (ℕ → T) → Li
 open_at block field part types parts =
     record { block = block; field = field; part = part; types = types; parts = parts }
 
--- Stores the values of a list of parts into fields, and continues with the rest.
+-- Stores the values of a reading into the fields of a block, and continues with `rest`. If the
+-- reading is refused, the result is the refusal.
 abbrev pub write : {T : Type 0} → (List Obj → List ℕ → Result (List Obj) (Refusal T)) → List Obj → ℕ
     → ℕ → Result Reading (Refusal T) → Result (List Obj) (Refusal T)
 write rest graph block field (Err refusal) = Err refusal
 write rest graph block field (Ok r) = rest (fill graph block field r.values ++ r.objects) r.labels
 
 module _ {T : Type 0} (shape : T → ShapeOf T) (names : T → Names) where
-  -- Reads parts in order. The first of them has index i.
+  -- Reads parts in order. The first part of the list has index i in its block.
   abbrev pub row_read : List (ℕ × Literal) → ℕ → List ℕ → ℕ → (ℕ → T) → Result Reading (Refusal T)
   row_read [] c labels i types = Ok (reading [] [] labels)
   row_read (p ∷ parts) c labels i types =

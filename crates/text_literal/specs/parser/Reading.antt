@@ -1,6 +1,6 @@
 -- The reading of a literal at a type, for any shapes and names. The result is the value with the
--- objects that the literal makes, in the order of their first lexemes, or its first fault in that
--- order. Positions are lexeme indices.
+-- objects that the literal makes, or the first fault of the literal. Objects and faults are in the
+-- order of their first lexemes. Positions are lexeme indices.
 use Rattle.std.specs.Prelude.{ℕ, suc, ◌+◌, ◌==◌, ◌≡◌, Bool, true, if◌then◌else◌, Option, Some, None}
 use Rattle.std.specs.Prelude.{Result, Ok, Err, List, [], ◌∷◌, ◌++◌, length, slice_get}
 use Rattle.base_data.specs.declared.model.value.Val.{Val}
@@ -20,15 +20,15 @@ use Rattle.text_literal.specs.grammar.Literal.{rows_kinds}
 use Rattle.text_literal.specs.parser.Starts.{Start, mismatch, out_of_range, small, whole, block}
 use Rattle.text_literal.specs.parser.Starts.{start_at}
 
--- A list of values, the objects that they make, and the object of each label so far. The labels are
--- indexed by label number.
+-- A list of values, the objects that the values make, and the object of each label so far. The list
+-- of labels is indexed by label number.
 pub record Reading : Type 0 where
   pub values : List Val
   pub objects : List Obj
   pub labels : List ℕ
 
--- The reason why there is no value: the first part with a type mismatch, an integer out of range,
--- or a `#` with an invalid label. Each has its position.
+-- The reason why a literal has no value: a type mismatch, an integer out of range, or a `#` with an
+-- invalid label. Each reason has a position.
 pub data Refusal (T : Type 0) : Type 0 where
   mismatch_at : ℕ → T → Refusal T
   int_range_at : ℕ → Refusal T
@@ -39,7 +39,7 @@ reading values objects labels = record { values = values; objects = objects; lab
 
 -- ---- labels
 
--- Labels are numbered from 0.
+-- The label is absent, or its number is the next number. Labels are numbered from 0.
 abbrev pub is_next : List ℕ → Option ℕ → Bool
 is_next labels None = true
 is_next labels (Some n) = n == length labels
@@ -49,12 +49,13 @@ with_label labels None o = labels
 with_label labels (Some n) o = labels ++ o ∷ []
 
 module _ {T : Type 0} where
-  -- The use of a label refers to the object of the label and makes no new object.
+  -- The reading of a reference to a label. The value refers to the object of the label, and the
+  -- reading makes no new object.
   abbrev pub again_read : ℕ → List ℕ → Option ℕ → Result Reading (Refusal T)
   again_read k labels None = Err (label_at k)
   again_read k labels (Some o) = Ok (reading (vals.Ref o ∷ []) [] labels)
 
-  -- An integer or an atom cannot have a label.
+  -- The reading of an integer or an atom, which cannot have a label.
   abbrev pub small_read : ℕ → List ℕ → Val → Option ℕ → Result Reading (Refusal T)
   small_read k labels v None = Ok (reading (v ∷ []) [] labels)
   small_read k labels v (Some n) = Err (label_at k)
@@ -66,14 +67,15 @@ module _ {T : Type 0} where
   added one (Ok other) =
       Ok (reading (one.values ++ other.values) (one.objects ++ other.objects) other.labels)
 
-  -- Reads one more part after those already read. Object indices begin at c.
+  -- Reads one more part after the parts that are already read. Object indices begin at c.
   abbrev pub and_next : ℕ → (ℕ → T) → Result Reading (Refusal T)
       → (ℕ → List ℕ → T → Result Reading (Refusal T)) → Result Reading (Refusal T)
   and_next c types (Err refusal) next = Err refusal
   and_next c types (Ok one) next =
       added one (next (c + length one.objects) one.labels (types (length one.values)))
 
-  -- A block precedes the objects of its parts.
+  -- The reading of a block, given the reading of its parts. The block precedes the objects of its
+  -- parts.
   abbrev pub block_read : ℕ → ℕ → List Val → Result Reading (Refusal T) → Result Reading (Refusal T)
   block_read c tag prefix (Err refusal) = Err refusal
   block_read c tag prefix (Ok parts) =
@@ -81,8 +83,8 @@ module _ {T : Type 0} where
       (reading (vals.Ref c ∷ []) (objects.Block tag (prefix ++ parts.values) ∷ parts.objects)
       parts.labels)
 
-  -- Reads a part from its start at its type. Its first lexeme is k, the first lexeme after its
-  -- label is p, and its first object has index c.
+  -- Reads a part from the part's start at its type. The part's first lexeme is k, the first lexeme
+  -- after the part's label is p, and the part's first object has index c.
   abbrev pub begun : ℕ → ℕ → ℕ → List ℕ → Option ℕ → T
       → (List ℕ → (ℕ → T) → Result Reading (Refusal T)) → Start T → Result Reading (Refusal T)
   begun k p c labels l t inside mismatch = Err (mismatch_at p t)
@@ -95,8 +97,8 @@ module _ {T : Type 0} where
 
 module _ {T : Type 0} (shape : T → ShapeOf T) (names : T → Names) where
   abbrev mutual
-    -- Reads a literal with first lexeme k at the type t. Before it there are c objects and these
-    -- labels.
+    -- Reads a literal with first lexeme k at the type t. Before the literal, there are c objects
+    -- and the labels `labels`.
     pub literal_read : ℕ → Literal → ℕ → List ℕ → T → Result Reading (Refusal T)
     literal_read k (again n) c labels t = again_read k labels (slice_get labels n)
     literal_read k (labelled l p) c labels t =
@@ -143,11 +145,11 @@ module _ {T : Type 0} (shape : T → ShapeOf T) (names : T → Names) where
         and_next c types (rows_read k rs c labels types)
         (literal_read (k + length (rows_kinds rs ++ row_start x)) v)
 
-  -- The literal has this value at the type. The new objects follow c old ones.
+  -- The literal has the value `value` at the type. The new objects follow c old objects.
   pub record IsRead (v : Literal) (t : T) (c : ℕ) (value : Val) (objects : List Obj) : Type 0 where
     pub labels : List ℕ
     pub read : literal_read 0 v c [] t ≡ Ok (reading (value ∷ []) objects labels)
 
-  -- The literal has no value at the type, and this is the first reason.
+  -- The literal has no value at the type, and the refusal is the first reason.
   abbrev pub IsRefused : Literal → T → ℕ → Refusal T → Type 0
   IsRefused v t c refusal = literal_read 0 v c [] t ≡ Err refusal

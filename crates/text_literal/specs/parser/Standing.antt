@@ -1,4 +1,4 @@
--- The location of a literal in a list of nodes and in the lexemes.
+-- The location of a literal in a list of nodes and in a list of lexemes.
 use Rattle.std.specs.Prelude.{ℕ, ◌+◌, ◌≡◌, Option, Some, None, List, [], ◌++◌, length, drop}
 use Rattle.std.specs.List.{AllByRecursion}
 use Rattle.types_lex.specs.declared.lexeme.Lexeme.{Lexeme}
@@ -23,7 +23,7 @@ pub record IsAt {T : Type 0} (all : List T) (i : ℕ) (own : List T) : Type 0 wh
   pub rest : List T
   pub is : drop i all ≡ own ++ rest
 
--- The nodes of the literal begin at node j, and its lexemes begin at lexeme k.
+-- The nodes of the literal begin at node j, and the literal's lexemes begin at lexeme k.
 pub record Stands (nodes : List LiteralNode) (lexemes : List Lexeme) (j k : ℕ)
     (v : Literal) : Type 0 where
   pub nodes_at : IsAt nodes j (literal_nodes k v)

@@ -1,4 +1,4 @@
--- The meaning of a `Start` of the code.
+-- What each `Start` of the executable code means in the definitions.
 use Rattle.std.specs.Prelude.{ℕ}
 use Rattle.base_data.specs.declared.model.value.Obj.TheVariants as objects
 use Rattle.text_literal.specs.declared.parser.start.Start.{Start as Code}
@@ -7,7 +7,7 @@ use Rattle.text_literal.specs.parser.Starts.{Start, whole}
 use Rattle.text_literal.specs.parser.Leaves as leaves
 use Rattle.text_literal.specs.parser.Openings as openings
 
--- The start at the type with index t.
+-- The start in the definitions that the code's start denotes at the type with index t.
 abbrev pub start_in : ℕ → Code → Start ℕ
 start_in t (codes.Leaf leaf) = leaves.leaf_in leaf
 start_in t (codes.Doubles all) = whole (objects.Doubles all.items)

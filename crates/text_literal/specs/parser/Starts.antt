@@ -1,5 +1,5 @@
--- The start of a literal at the shape and names of a type, before its parts are read. It depends on
--- the form of the literal, its name, and its number of parts or its fields.
+-- The start of a literal at the shape and names of a type, before the literal's parts are read. The
+-- start depends on the form of the literal, its name, and its number of parts or its fields.
 use Rattle.std.specs.Prelude.{ℕ, ℤ, pos, negsuc, suc, ◌==◌, ◌^◌, ◌&&◌, nat_lt, Bool, true, false}
 use Rattle.std.specs.Prelude.{if◌then◌else◌, List, [], ◌∷◌, ◌++◌, length, slice_get, find, codes}
 use Rattle.std.specs.Prelude.{Option, Some, None, option_and_then, unwrap_or}
@@ -30,15 +30,16 @@ use Rattle.text_literal.specs.grammar.Literal.{more_parts}
 use Rattle.text_literal.specs.grammar.Literal.{Rows, no_rows, more_rows, ref_name}
 use Rattle.text_literal.specs.grammar.Nodes.{count, rows_count}
 
--- The start of a literal at a type.
+-- The start of a literal at a type: a mismatch, or what the literal begins.
 pub data Start (T : Type 0) : Type 0 where
   mismatch : Start T
   out_of_range : Start T
-  -- An integer or an atom.
+  -- The literal is an integer or an atom.
   small : Val → Start T
-  -- An object without parts.
+  -- The literal is an object without parts.
   whole : Obj → Start T
-  -- A block: its tag, its fields before the parts, and the type of each part by index.
+  -- The literal is a block: its tag, its fields before the parts, and the type of each part by
+  -- index.
   block : ℕ → List Val → (ℕ → T) → Start T
 
 -- ---- numbers
@@ -73,13 +74,13 @@ names_of_rows (more_rows rs x v) = names_of_rows rs ++ x ∷ []
 abbrev pub is_constr : Name → List Name → ConstrNames → Bool
 is_constr name wanted names = bytes_eq names.name name && same_names names.fields wanted
 
--- The index of a constant constructor.
+-- The index of the constant constructor that the head names.
 abbrev pub constant_of_name : Names → Head → Option ℕ
 constant_of_name names head =
     option_and_then (λ name. position (bytes_eq name) names.constants) (constructor_name head)
 
--- The tag of a constructor whose inline record has these fields, or that has no inline record if
--- the list is empty.
+-- The tag of the constructor that the head names and whose inline record has the fields `wanted`.
+-- If `wanted` is empty, the constructor has no inline record.
 abbrev pub tag_of_name : Names → List Name → Head → Option ℕ
 tag_of_name names wanted head =
     option_and_then (λ name. position (is_constr name wanted) names.constructors)
@@ -95,7 +96,7 @@ abbrev pub and_bits : Option (List ℕ) → Option ℕ → Option (List ℕ)
 and_bits (Some all) (Some bits) = Some (all ++ bits ∷ [])
 and_bits all bits = None
 
--- The bits of all parts, if each is a double without a label.
+-- The bits of all parts, if each part is a double without a label.
 abbrev pub bits_of_parts : Parts → Option (List ℕ)
 bits_of_parts no_parts = Some []
 bits_of_parts (more_parts ps v) = and_bits (bits_of_parts ps) (bits_of v)
@@ -149,7 +150,7 @@ module _ {T : Type 0} where
   double_start (double bits) = whole (objects.Double bits)
   double_start p = mismatch
 
-  -- Several doubles in one object.
+  -- The start of a literal that makes one object of several doubles.
   abbrev pub doubles_start : Option (List ℕ) → Start T
   doubles_start None = mismatch
   doubles_start (Some all) = whole (objects.Doubles all)
@@ -189,7 +190,7 @@ module _ {T : Type 0} where
 
   -- ---- constructors
 
-  -- A name among the constant constructors.
+  -- The start of a name, given the index of the name among the constant constructors.
   abbrev pub constant_start : ℕ → Option ℕ → Start T
   constant_start constants None = mismatch
   constant_start constants (Some i) = if_fits (nat_lt i constants) (small (vals.Int (pos i)))

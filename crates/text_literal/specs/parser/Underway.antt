@@ -46,11 +46,12 @@ pub record IsAdvanced (old new : Opened) : Type 0 where
   pub types_are : new.types ≡ old.types
   pub at_is : new.at ≡ old.at
 
--- A block stays open while parts of it are still to be read.
+-- The open blocks with `block` on top if parts of `block` are still to be read, and without `block`
+-- if not.
 abbrev pub if_open : Opened → List Opened → List Opened
 if_open block stack = if nat_lt 0 block.left then block ∷ stack else stack
 
--- The invariant of the input for reading parts.
+-- The invariant of the input from which the parts of a literal are read.
 pub record IsText (text : LiteralText) : Type 0 where
   pub many : length text.ends.now ≡ length text.nodes.now
   pub ends : AreEnds text.nodes.now text.ends.now
@@ -58,7 +59,7 @@ pub record IsText (text : LiteralText) : Type 0 where
 
 -- ---- parts that have begun
 
--- There is no value, and the fault is the refusal with its byte offset.
+-- The reading gives no value, and the fault is the reading's refusal with its byte offset.
 pub record IsRefusedAs {A : Type 0} (lexemes : List Lexeme) (end : ℕ) (r : Result A (Refusal ℕ))
     (fault : LiteralFault) : Type 0 where
   pub refusal : Refusal ℕ
@@ -69,7 +70,8 @@ abbrev pub MayRefuse : {A : Type 0} → List Lexeme → ℕ → Result A (Refusa
 MayRefuse lexemes end r faults.Memory = ⊤
 MayRefuse lexemes end r fault = IsRefusedAs lexemes end r fault
 
--- The reading is complete: one value, new objects after those of `graph`, and the labels `more`.
+-- The reading is complete: it has one value, new objects after those of `graph`, and the labels
+-- `more`.
 pub record IsWhole (r : Result Reading (Refusal ℕ)) (graph new : List Obj) (more : List ℕ)
     (value : Val) : Type 0 where
   pub objects : List Obj
@@ -159,13 +161,14 @@ Grows old new = (objects : List Obj) × (new ≡ old ++ objects)
 abbrev pub PartList : Type 0
 PartList = List (ℕ × Literal)
 
--- The open blocks, each with its parts still to be read.
+-- The open blocks, each with the list of its parts still to be read.
 abbrev pub opens_with : List Opened → List PartList → List (Open ℕ)
 opens_with (o ∷ os) (parts ∷ all) =
     open_at o.block o.field o.part (types_in o.at o.types) parts ∷ opens_with os all
 opens_with os all = []
 
--- An open block is one of the new objects, and its parts still to be read fill it exactly.
+-- The open block is one of the new objects, and the block's parts still to be read fill the block
+-- exactly.
 pub record IsOpen (old graph : List Obj) (all : Kinds) (o : Opened) (parts : PartList)
     : Type 0 where
   pub behind : length old ≤ o.block
@@ -201,7 +204,8 @@ CanGoOn text stack j graph labels =
     (old : List Obj) × (outcome : Result (List Obj) (Refusal ℕ))
     × IsUnderway text old outcome stack j graph labels
 
--- The outcome is the graph afterwards, or the refusal is returned.
+-- If the call succeeds, the outcome is the graph after the call. If the call fails, the fault is
+-- the outcome's refusal, or memory ran out.
 abbrev pub Finishes : LiteralText → List Obj → Result (List Obj) (Refusal ℕ) → List Obj
     → Result ⊤ LiteralFault → Type 0
 Finishes text old outcome new (Ok done) = outcome ≡ Ok new
@@ -210,8 +214,8 @@ Finishes text old outcome new (Err fault) =
 
 -- ---- whole literals
 
--- The result is the value of the tree of these nodes at a type, or its refusal. The old objects are
--- unchanged.
+-- The result is the value of the tree of the text's nodes at a type, or the tree's refusal. The old
+-- objects are unchanged.
 abbrev pub ReadsTree : LiteralText → ℕ → List Obj → List Obj → Result Val LiteralFault → Type 0
 ReadsTree text at old new (Ok value) =
     ((v : Literal) → literal_kinds v ≡ kinds_of text.lexemes.now
@@ -228,7 +232,7 @@ ReadsTree text at old new (Err fault) =
     (literal_read (shape_in text.table.now) (names_in text.table.now) 0 v (length old) [] at) fault)
     × (take (length old) new ≡ old)
 
--- The result is the answer for the lexemes. The old objects are unchanged.
+-- The result is the answer for the lexemes at the type. The old objects are unchanged.
 abbrev pub Reads : Tabled → ℕ → List Lexeme → ℕ → List Obj → List Obj → Result Val LiteralFault
     → Type 0
 Reads table at lexemes end old new (Ok value) =

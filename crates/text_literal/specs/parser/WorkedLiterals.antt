@@ -1,5 +1,5 @@
--- Worked literals: their lexemes, each with the offset of its first byte, and their reading at a
--- type in an empty heap.
+-- Worked literals: the literals' lexemes, each with the offset of its first byte, and the literals'
+-- readings at a type in an empty heap.
 use Rattle.std.specs.Prelude.{ℕ, ℤ, pos, negsuc, ◌≡◌, Bool, true, false, Option, Some, option_map}
 use Rattle.std.specs.Prelude.{Result, Ok, Err, List, [], ◌∷◌, map, codes}
 use Rattle.text_literal.specs.grammar.WorkedTrees.{symbol as mark, reading as tree_of}
@@ -43,8 +43,8 @@ a_variable = variable (codes "a")
 abbrev pub field : List ℕ → Ty → Field
 field name t = record { name = name; mutable = false; ty = t }
 
--- Two records, the second a flat float record, and a variant `A | B of {x : int; y : string} | C of
--- int * bool`.
+-- A record, a flat float record, and the variant `A | B of {x : int; y : string} | C of int *
+-- bool`.
 abbrev pub decls : List Decl
 decls =
     record {
@@ -83,7 +83,7 @@ decls =
 abbrev pub number : Bool → ℤ → Suffix → LexemeKind
 number minus value suffix = kinds.Integer (record { minus = minus; value = value; suffix = suffix })
 
--- Only the offset of the first byte matters.
+-- A lexeme at a byte offset, with length 0, because only the offset of the first byte matters.
 abbrev pub lexeme : ℕ × LexemeKind → Lexeme
 lexeme l = record { kind = l.1; span = record { first = l.0; len = 0 } }
 

@@ -1,4 +1,5 @@
-//! Laws of the grammar's definitions. The functions do nothing and exist only for their contracts.
+//! Laws of the grammar's definitions. Each function here does nothing and exists only for its
+//! contract.
 
 ghost use Rattle.std.specs.Prelude.{length};
 ghost use Rattle.types_parse.specs.grammar.Laws.{HasOneTree, IsTextOrSyntax, HasNoSyntax};
@@ -11,8 +12,8 @@ pub fn one_literal()
     ensures { HasOneTree literal_kinds }
 {}
 
-/// Proves that every list of lexemes either is a literal or has exactly one position of a syntax
-/// error, and never both.
+/// Proves that every list of lexemes is a literal or has exactly one position of a syntax error,
+/// and never both.
 pub fn literal_or_syntax()
     ensures either { IsTextOrSyntax literal_kinds }
     ensures not_both { HasNoSyntax literal_kinds }
@@ -23,7 +24,8 @@ pub fn firsts_in_range()
     ensures { (v : Literal) → FirstsBelow (length (literal_kinds v)) (literal_nodes 0 v) }
 {}
 
-/// Proves that the example literals have the expected lexemes and that the table reads them.
+/// Proves that the example literals have the expected lexemes and that the parsing table reads
+/// these lexemes.
 pub fn worked_literals()
     ensures { Rows }
 {}

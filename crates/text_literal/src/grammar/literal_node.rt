@@ -1,11 +1,6 @@
-//! A literal as a list of nodes, and the parser's errors.
+//! Defines a literal's nodes.
 
-ghost use Rattle.std.specs.Prelude.{◌≡◌};
-ghost use Rattle.text_literal.specs.declared.grammar.literal_node.TreeFault.TheVariants as faults;
-
-use base_data::model::Memory;
-
-/// The form of a node. The node's lexemes determine its value.
+/// The form of a node. The form and the node's lexemes determine the node's value.
 #[derive(Clone, Copy)]
 pub enum NodeForm {
     Integer,
@@ -24,7 +19,7 @@ pub enum NodeForm {
     Again,
 }
 
-/// A node: its form, its label (or the label that it refers to), the index of its first lexeme, and
+/// A node: its form, its label or the label to which it refers, the index of its first lexeme, and
 /// the number of its parts.
 #[derive(Clone, Copy)]
 pub struct LiteralNode {
@@ -32,22 +27,4 @@ pub struct LiteralNode {
     pub label: Option<u64>,
     pub first: usize,
     pub parts: usize,
-}
-
-/// An error of the parser for literals.
-#[derive(Clone, Copy)]
-pub enum TreeFault {
-    /// Syntax error: the index of the first lexeme at which no literal continues, or the number of
-    /// lexemes.
-    Syntax(usize),
-    /// Out of memory.
-    Memory,
-}
-
-impl From<Memory> for TreeFault {
-    ghost from_gives = { λ _ e. e ≡ faults.Memory };
-
-    fn from(_e: Memory) -> TreeFault {
-        TreeFault::Memory
-    }
 }

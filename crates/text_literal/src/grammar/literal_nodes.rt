@@ -9,8 +9,8 @@ use base_data::model::Memory;
 use std::alloc::Global;
 use std::marker::Model;
 
-/// A node in eight bytes: a node without a label whose numbers are small. If `form` is `None`, it
-/// is the index of a node in the list of other nodes.
+/// A node in eight bytes. The node has no label and its numbers are small. If `form` is `None`,
+/// `first` is the index of a node in the list `others`.
 #[derive(Clone, Copy)]
 pub struct SmallNode {
     pub first: u32,
@@ -20,8 +20,8 @@ pub struct SmallNode {
 
 const _: () = prove!(size_of::<SmallNode>() == 8);
 
-/// A list of nodes. Contracts see only the list. `others` stores the nodes that do not fit into
-/// eight bytes.
+/// A list of nodes. Contracts see only the list. The field `others` stores the nodes that do not
+/// fit into eight bytes.
 #[derive(Drop)]
 pub struct LiteralNodes {
     small: Vec<SmallNode>,
@@ -41,7 +41,7 @@ impl Model for LiteralNodes {
     ghost invariant = { λ n. AreHeld (length n.others.items) n.small.items };
 }
 
-/// Returns the node in eight bytes, or `None` if it does not fit.
+/// Returns the node in eight bytes, or `None` if the node does not fit into eight bytes.
 #[inline(always)]
 fn small_of(node: &LiteralNode) -> Option<SmallNode>
     ensures { IfSome result (IsSmall node.now) }
@@ -56,7 +56,8 @@ fn small_of(node: &LiteralNode) -> Option<SmallNode>
     })
 }
 
-/// Returns the node in eight bytes. If it does not fit, appends it to `others`.
+/// Returns the entry of eight bytes for a node. If the node does not fit into eight bytes, appends
+/// the node to `others`. Fails with `Memory` if memory runs out.
 #[inline(always)]
 fn hold(others: &mut Vec<LiteralNode>, node: LiteralNode) -> Result<SmallNode, Memory>
     ensures kept { Keeps others.old.items others.new.items }
@@ -87,7 +88,7 @@ impl LiteralNodes {
         }
     }
 
-    /// Returns an empty list. Tries to reserve memory for `many` nodes.
+    /// Returns an empty list, and tries to reserve memory for `many` nodes.
     pub(crate) fn with_room(alloc: Global, many: usize) -> LiteralNodes
         ensures { result ≡ [] }
     {

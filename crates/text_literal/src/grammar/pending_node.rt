@@ -1,5 +1,5 @@
-//! The brackets that are open while a literal is read. The innermost bracket comes first in the
-//! model.
+//! The brackets that are open while a literal is read. In the model, the innermost bracket comes
+//! first.
 
 ghost use Rattle.std.specs.Prelude.{◌≡◌, None, List, [], ◌∷◌, reverse, IfOk, IfSome};
 ghost use Rattle.text_literal.specs.grammar.Popped.{Popped};
@@ -19,7 +19,7 @@ pub enum OpenKind {
     Fields,
 }
 
-/// An open bracket, the index of its node, and that node with the number of parts so far.
+/// An open bracket, the index of the bracket's node, and the node with its number of parts so far.
 #[derive(Clone, Copy)]
 pub struct PendingNode {
     pub bracket: OpenKind,
@@ -27,7 +27,7 @@ pub struct PendingNode {
     pub node: LiteralNode,
 }
 
-/// What the parser read last, with the index of its first lexeme or of its node.
+/// What the parser read last, with the index of the first lexeme or of the node that was read.
 #[derive(Clone, Copy)]
 pub enum Stage {
     Due,
@@ -41,8 +41,8 @@ pub enum Stage {
     Whole,
 }
 
-/// An open bracket in sixteen bytes: its node has no label and its numbers are small. If `form` is
-/// `None`, it stands for the last bracket in `others`.
+/// An open bracket in sixteen bytes. The bracket's node has no label and its numbers are small. If
+/// `form` is `None`, the entry stands for the last bracket in `others`.
 #[derive(Clone, Copy)]
 pub struct SmallOpen {
     pub index: u32,
@@ -54,8 +54,8 @@ pub struct SmallOpen {
 
 const _: () = prove!(size_of::<SmallOpen>() == 16);
 
-/// The stack of open brackets. In memory, the innermost bracket comes last. `others` stores the
-/// brackets that do not fit into sixteen bytes.
+/// The stack of open brackets. In memory, the innermost bracket comes last. The field `others`
+/// stores the brackets that do not fit into sixteen bytes.
 #[derive(Drop)]
 pub struct Opens {
     small: Vec<SmallOpen>,
@@ -73,7 +73,7 @@ impl Model for Opens {
     ghost view = { λ s. opens_in (reverse s.small.items) (reverse s.others.items) };
 }
 
-/// Returns the bracket in sixteen bytes, or `None` if it does not fit.
+/// Returns the bracket in sixteen bytes, or `None` if the bracket does not fit into sixteen bytes.
 #[inline(always)]
 fn small_of(outer: &PendingNode) -> Option<SmallOpen>
     ensures { IfSome result (IsSmallOpen outer.now) }

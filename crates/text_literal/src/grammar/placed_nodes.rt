@@ -1,4 +1,4 @@
-//! The parser for a literal's text. It lexes and parses one lexeme at a time.
+//! The parser for a literal's text. The parser reads one lexeme of the text at a time.
 
 ghost use Rattle.std.specs.Prelude.{◌≡◌, ◌+◌, ◌<◌, ◌≤◌, ◌^◌, ℕ, List, [], length, IfOk};
 ghost use Rattle.types_lex.specs.declared.lexeme.Lexeme.{Lexeme};
@@ -9,19 +9,19 @@ ghost use Rattle.text_literal.specs.grammar.Placed.{IsLexed, Stopped, ReadsAt, R
 
 use crate::grammar::literal_nodes::LiteralNodes;
 use crate::grammar::pending_node::{Opens, Stage};
-use crate::grammar::step::{end, step};
+use crate::grammar::so_far::{LiteralSoFar, NextStage};
 use base_data::model::Memory;
 use std::alloc::Global;
 use types_lex::lexeme::{LexFault, Lexeme, LexemeSpan};
 use types_lex::{next_brief, see_lexemes};
 
-/// Estimates for reserving memory: few texts have more lexemes or nodes per byte. Memory reserved
-/// in advance need not be copied as it grows, and unused memory costs nothing.
+/// An estimate for reserving memory: few texts have more lexemes or nodes per byte. If memory is
+/// reserved in advance, growth copies nothing. Unused reserved memory costs nothing.
 const BYTES_A_LEXEME: usize = 2;
 
 const BYTES_A_NODE: usize = 6;
 
-/// The nodes of a literal, and the byte offsets of the lexemes in its text.
+/// The nodes of a literal, and the byte offsets of the lexemes in the literal's text.
 #[derive(Drop)]
 pub struct PlacedNodes {
     pub positions: Vec<u32>,
@@ -42,7 +42,7 @@ pub enum PlacedFault {
     Memory,
 }
 
-/// Returns the error for a lexical error.
+/// Converts a lexical error to an error in the text of a literal.
 fn lexed(fault: LexFault) -> PlacedFault
     ensures { (text : List ℕ) → UnlessMemory (Faults text) fault → IsLexed text result }
 {
@@ -52,8 +52,8 @@ fn lexed(fault: LexFault) -> PlacedFault
     }
 }
 
-/// Returns the error of a text in which no literal continues at the lexeme with this span. A
-/// lexical error in the rest of the text takes precedence.
+/// Returns the error of a text in which no literal continues at the lexeme with this span. If the
+/// remaining text has a lexical error, the lexical error takes precedence.
 fn stopped(alloc: Global, text: &[u8], span: LexemeSpan) -> PlacedFault
     requires { span.first + span.len ≤ length text.now }
     ensures { (prefix : List Lexeme) → Reached text.now (span.first + span.len) prefix
@@ -65,35 +65,30 @@ fn stopped(alloc: Global, text: &[u8], span: LexemeSpan) -> PlacedFault
     }
 }
 
-/// Parses one lexeme.
+/// Parses one lexeme and returns the next stage, or `None` if no literal continues with the lexeme.
 #[inline(always)]
-fn take(
-    nodes: &mut LiteralNodes,
-    opens: &mut Opens,
-    stage: Stage,
-    position: usize,
-    lexeme: Lexeme,
-) -> Result<Option<Stage>, Memory>
-    ensures { Steps result nodes.new opens.new
-        (step_code nodes.old opens.old stage position lexeme.kind) }
+fn take(so_far: &mut LiteralSoFar, stage: Stage, position: usize, lexeme: Lexeme) -> NextStage
+    ensures { Steps result so_far.new.nodes so_far.new.opens
+        (step_code so_far.old.nodes so_far.old.opens stage position lexeme.kind) }
 {
-    step(nodes, opens, stage, position, &lexeme.kind)
+    so_far.step(stage, position, &lexeme.kind)
 }
 
-/// Returns the nodes of the literal that ends here, or `None` if no literal can end here.
-fn ended(nodes: LiteralNodes, opens: Opens, stage: Stage) -> Result<Option<LiteralNodes>, Memory>
-    ensures { IfOk result (λ tree. tree ≡ end_code nodes opens stage) }
+/// Returns the nodes of the literal that ends at the current stage, or `None` if no literal can end
+/// at this stage.
+fn ended(so_far: LiteralSoFar, stage: Stage) -> Result<Option<LiteralNodes>, Memory>
+    ensures { IfOk result (λ tree. tree ≡ end_code so_far.nodes so_far.opens stage) }
 {
-    let mut nodes = nodes;
-    let mut opens = opens;
-    if end(&mut nodes, &mut opens, stage)? {
-        Ok(Some(nodes))
+    let mut so_far = so_far;
+    if so_far.end(stage)? {
+        Ok(Some(so_far.nodes))
     } else {
         Ok(None)
     }
 }
 
-/// Parses a text that is not blank, and appends the offsets of its lexemes to `positions`.
+/// Parses a text that is not blank, and appends the byte offsets of the text's lexemes to
+/// `positions`.
 fn read_at(
     alloc: Global,
     text: &[u8],
@@ -103,15 +98,16 @@ fn read_at(
     requires short { length text.now < 2 ^ 32 }
     ensures { ReadsAt text.now positions.new.items result }
 {
-    let mut nodes = LiteralNodes::with_room(alloc, text.len() / BYTES_A_NODE);
-    let mut opens = Opens::new(alloc);
+    let nodes = LiteralNodes::with_room(alloc, text.len() / BYTES_A_NODE);
+    let opens = Opens::new(alloc);
+    let mut so_far = LiteralSoFar { nodes, opens };
     let mut stage = Stage::Due;
     let mut at: usize = 0;
     while at < text.len() {
         match next_brief(alloc, text, at) {
             Ok(Some(lexeme)) => {
                 let span = lexeme.span;
-                match take(&mut nodes, &mut opens, stage, positions.len(), lexeme) {
+                match take(&mut so_far, stage, positions.len(), lexeme) {
                     Ok(Some(next)) => stage = next,
                     Ok(None) => return Err(stopped(alloc, text, span)),
                     Err(_) => return Err(PlacedFault::Memory),
@@ -128,17 +124,19 @@ fn read_at(
     if positions.is_empty() {
         return Ok(None);
     }
-    match ended(nodes, opens, stage) {
+    match ended(so_far, stage) {
         Ok(Some(tree)) => Ok(Some(tree)),
         Ok(None) => Err(PlacedFault::Syntax(text.len())),
         Err(_) => Err(PlacedFault::Memory),
     }
 }
 
-/// Parses the text of a literal. Returns `None` if the text is blank.
+/// Parses the text of a literal. Returns `None` if the text is blank. Fails with the first error of
+/// the text.
 pub fn read_placed_tree(alloc: Global, text: &[u8]) -> Result<Option<PlacedNodes>, PlacedFault>
-    // The offsets are those of the text's lexemes, and the nodes are those of the literal with
-    // these lexemes. Otherwise the text has no lexemes, or it has the returned error.
+    // If nodes are returned, the offsets are those of the text's lexemes, and the nodes are those
+    // of the literal with these lexemes. If no nodes are returned, the text has no lexemes or has
+    // the returned error.
     ensures { ReadsPlaced text.now result }
 {
     if text.len() >= 1 << 32 {

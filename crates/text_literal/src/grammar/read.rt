@@ -1,53 +1,57 @@
-//! The parser for the lexemes of a literal.
+//! The parser for a literal that is given as lexemes.
 
-ghost use Rattle.std.specs.Prelude.{◌≡◌, ℕ, IfOk, IfErr};
+ghost use Rattle.std.specs.Prelude.{◌≡◌, ℕ, Ok, Err, IfOk};
 ghost use Rattle.types_parse.specs.grammar.Refusals.{IsSyntax};
 ghost use Rattle.text_literal.specs.grammar.Literal.{Literal, literal_kinds};
 ghost use Rattle.types_parse.specs.grammar.Lexemes.{kinds_of};
-ghost use Rattle.text_literal.specs.grammar.Nodes.{literal_nodes, IsTreeOf, IsTreeFault, GivesTree};
-ghost use Rattle.text_literal.specs.grammar.Nodes.{GivesSyntax};
+ghost use Rattle.text_literal.specs.grammar.Nodes.{literal_nodes, IsTreeAnswer};
 
-use crate::grammar::literal_node::TreeFault;
 use crate::grammar::literal_nodes::LiteralNodes;
 use crate::grammar::pending_node::{Opens, Stage};
-use crate::grammar::step::{end, step};
+use crate::grammar::so_far::LiteralSoFar;
+use base_data::model::Memory;
 use std::alloc::Global;
 use types_lex::lexeme::Lexeme;
 
-/// Parses a literal from its lexemes.
-fn read(alloc: Global, lexemes: &[Lexeme]) -> Result<LiteralNodes, TreeFault>
-    ensures tree { IfOk result (IsTreeOf lexemes.now) }
-    ensures fault { IfErr result (IsTreeFault lexemes.now) }
+/// Parses a literal from its lexemes. Returns the literal's nodes, or the position of the first
+/// syntax error.
+fn read(alloc: Global, lexemes: &[Lexeme]) -> Result<Result<LiteralNodes, usize>, Memory>
+    ensures { IfOk result (IsTreeAnswer lexemes.now) }
 {
-    let mut nodes = LiteralNodes::new(alloc);
-    let mut opens = Opens::new(alloc);
+    let nodes = LiteralNodes::new(alloc);
+    let opens = Opens::new(alloc);
+    let mut so_far = LiteralSoFar { nodes, opens };
     let mut stage = Stage::Due;
     for (position, lexeme) in lexemes.iter().enumerate() {
-        let Some(next) = step(&mut nodes, &mut opens, stage, position, &lexeme.kind)? else {
-            return Err(TreeFault::Syntax(position));
+        let Some(next) = so_far.step(stage, position, &lexeme.kind)? else {
+            return Ok(Err(position));
         };
         stage = next;
     }
-    if end(&mut nodes, &mut opens, stage)? {
-        Ok(nodes)
+    if so_far.end(stage)? {
+        Ok(Ok(so_far.nodes))
     } else {
-        Err(TreeFault::Syntax(lexemes.len()))
+        Ok(Err(lexemes.len()))
     }
 }
 
-/// Parses a literal from its lexemes and returns its nodes. A syntax error carries the index of the
-/// first lexeme at which no literal continues.
-pub fn read_literal_tree(alloc: Global, lexemes: &[Lexeme]) -> Result<LiteralNodes, TreeFault>
-    // The nodes are those of the literal with these lexemes, or the error is theirs.
-    ensures tree { IfOk result (IsTreeOf lexemes.now) }
-    ensures fault { IfErr result (IsTreeFault lexemes.now) }
+/// Parses a literal from its lexemes. Returns the literal's nodes, or the position of the first
+/// syntax error: the index of the first lexeme at which no literal continues, or the number of
+/// lexemes.
+pub fn read_literal_tree(
+    alloc: Global,
+    lexemes: &[Lexeme],
+) -> Result<Result<LiteralNodes, usize>, Memory>
+    // If nodes are returned, the nodes are those of the literal with these lexemes. If a position
+    // is returned, the lexemes have a syntax error at the position.
+    ensures answer { IfOk result (IsTreeAnswer lexemes.now) }
 
-    // If the lexemes are a literal, its nodes are returned. If they have a syntax error, its
-    // position is returned. The exception is that memory runs out.
+    // If the lexemes are a literal, the literal's nodes are returned. If the lexemes have a syntax
+    // error, its position is returned. The exception is that memory runs out.
     ensures literal { (v : Literal) → literal_kinds v ≡ kinds_of lexemes.now
-        → GivesTree (literal_nodes 0 v) result }
+        → IfOk result (λ answer. answer ≡ Ok (literal_nodes 0 v)) }
     ensures syntax { (k : ℕ) → IsSyntax literal_kinds (kinds_of lexemes.now) k
-        → GivesSyntax k result }
+        → IfOk result (λ answer. answer ≡ Err k) }
 {
     read(alloc, lexemes)
 }

@@ -21,40 +21,16 @@ ghost use Rattle.text_literal.specs.grammar.Code.{end_code, Steps, code};
 use crate::grammar::literal_node::{LiteralNode, NodeForm};
 use crate::grammar::literal_nodes::LiteralNodes;
 use crate::grammar::pending_node::{OpenKind, Opens, PendingNode, Stage};
+use crate::grammar::so_far::{LiteralSoFar, NextStage};
 use base_data::model::Memory;
-use types_lex::lexeme::{Integer, LexemeKind, Suffix, Symbol};
+use types_lex::lexeme::{Integer, LexemeKind, Symbol};
+use types_parse::parse::number_of;
 
-/// Returns the number of a lexeme, or `None` unless it is an integer without sign and suffix.
-fn number_of(kind: &LexemeKind) -> Option<u64>
-    ensures { result ≡ number_of kind.now }
-{
-    let LexemeKind::Integer(integer) = kind else {
-        return None;
-    };
-    let Integer {
-        minus,
-        value,
-        suffix,
-    } = *integer;
-    match suffix {
-        Suffix::Absent => {
-            if minus || value < 0 {
-                None
-            } else {
-                Some(value as u64)
-            }
-        }
-        _ => None,
-    }
-}
-
-/// Returns the form that begins with this word, or `None` if no literal does.
+/// Returns the form that begins with this word, or `None` if no form begins with this word.
 fn word_form(word: &[u8]) -> Option<NodeForm>
     ensures { result ≡ word_form word.now }
 {
-    if word == b"true".as_slice() {
-        Some(NodeForm::Truth)
-    } else if word == b"false".as_slice() {
+    if word == b"true".as_slice() || word == b"false".as_slice() {
         Some(NodeForm::Truth)
     } else if word == b"ref".as_slice() {
         Some(NodeForm::Named)
@@ -63,7 +39,7 @@ fn word_form(word: &[u8]) -> Option<NodeForm>
     }
 }
 
-/// Returns the form that begins with this lexeme, or `None` if no literal does.
+/// Returns the form that begins with this lexeme, or `None` if no form begins with this lexeme.
 #[inline(always)]
 fn form_of(kind: &LexemeKind) -> Option<NodeForm>
     ensures { result ≡ form_of kind.now }
@@ -85,7 +61,7 @@ fn form_of(kind: &LexemeKind) -> Option<NodeForm>
     }
 }
 
-/// Appends a node and returns its index.
+/// Appends a node and returns the node's index. Fails with `Memory` if memory runs out.
 #[inline(always)]
 fn add(nodes: &mut LiteralNodes, node: LiteralNode) -> Result<usize, Memory>
     ensures number { IfOk result (λ n. n ≡ length nodes.old) }
@@ -130,7 +106,7 @@ fn with_form(form: NodeForm, node: LiteralNode) -> LiteralNode
     }
 }
 
-/// Returns the stage after the first lexeme of a name.
+/// Returns the stage after the first lexeme of a head, which is a name or `[`.
 #[inline(always)]
 fn head_stage(kind: &LexemeKind, index: usize, node: LiteralNode) -> Stage
     ensures { result ≡ head_stage kind.now index node }
@@ -141,7 +117,7 @@ fn head_stage(kind: &LexemeKind, index: usize, node: LiteralNode) -> Stage
     }
 }
 
-/// Opens the bracket that the last node begins.
+/// Opens the bracket that the last node begins, and returns the next stage.
 #[inline(always)]
 fn enter(
     opens: &mut Opens,
@@ -177,32 +153,6 @@ fn enter(
     }
 }
 
-/// Parses the first lexeme of a literal after its label, if it has one.
-#[inline(always)]
-fn begin_plain(
-    nodes: &mut LiteralNodes,
-    opens: &mut Opens,
-    first: usize,
-    label: Option<u64>,
-    kind: &LexemeKind,
-) -> Result<Option<Stage>, Memory>
-    ensures { Steps result nodes.new opens.new
-        (begin_plain_code nodes.old opens.old first label kind.now) }
-{
-    let Some(form) = form_of(kind) else {
-        return Ok(None);
-    };
-    let node = LiteralNode {
-        form,
-        label,
-        first,
-        parts: 0,
-    };
-    let index = add(nodes, node)?;
-    let stage = enter(opens, kind, index, node, form)?;
-    Ok(Some(stage))
-}
-
 #[inline(always)]
 fn is_unit(bracket: OpenKind, parts: usize) -> bool
     ensures { result ≡ is_unit bracket parts }
@@ -223,219 +173,6 @@ fn is_empty_array(bracket: OpenKind, parts: usize) -> bool
     }
 }
 
-/// Closes parentheses without parts.
-fn close_unit(nodes: &mut LiteralNodes, opens: &mut Opens) -> Result<Option<Stage>, Memory>
-    ensures { Steps result nodes.new opens.new (close_unit_code nodes.old opens.old) }
-{
-    match opens.pop() {
-        None => Ok(None),
-        Some(outer) => {
-            if is_unit(outer.bracket, outer.node.parts) {
-                Ok(Some(Stage::Whole))
-            } else {
-                Ok(None)
-            }
-        }
-    }
-}
-
-/// Closes an array without parts.
-fn close_empty(nodes: &mut LiteralNodes, opens: &mut Opens) -> Result<Option<Stage>, Memory>
-    ensures { Steps result nodes.new opens.new (close_empty_code nodes.old opens.old) }
-{
-    match opens.pop() {
-        None => Ok(None),
-        Some(outer) => {
-            if is_empty_array(outer.bracket, outer.node.parts) {
-                Ok(Some(Stage::Whole))
-            } else {
-                Ok(None)
-            }
-        }
-    }
-}
-
-/// Parses lexeme `position` as the first one of a literal.
-#[inline(always)]
-fn begin(
-    nodes: &mut LiteralNodes,
-    opens: &mut Opens,
-    position: usize,
-    kind: &LexemeKind,
-) -> Result<Option<Stage>, Memory>
-    ensures { Steps result nodes.new opens.new
-        (begin_code nodes.old opens.old position kind.now) }
-{
-    match kind {
-        LexemeKind::Symbol(Symbol::Hash) => Ok(Some(Stage::Hash(position))),
-        LexemeKind::Symbol(Symbol::CloseParen) => close_unit(nodes, opens),
-        LexemeKind::Symbol(Symbol::CloseArray) => close_empty(nodes, opens),
-        _ => begin_plain(nodes, opens, position, None, kind),
-    }
-}
-
-/// Returns the stage in which one more part must follow.
-#[inline(always)]
-fn next(
-    nodes: &mut LiteralNodes,
-    opens: &mut Opens,
-    outer: PendingNode,
-) -> Result<Option<Stage>, Memory>
-    ensures { Steps result nodes.new opens.new (next_code nodes.old opens.old outer) }
-{
-    opens.push(PendingNode {
-        bracket: outer.bracket,
-        index: outer.index,
-        node: with_part(outer.node),
-    })?;
-    Ok(Some(Stage::Due))
-}
-
-/// Closes a bracket after its last part.
-#[inline(always)]
-fn shut(
-    nodes: &mut LiteralNodes,
-    opens: &mut Opens,
-    outer: PendingNode,
-) -> Result<Option<Stage>, Memory>
-    ensures { Steps result nodes.new opens.new (shut_code nodes.old opens.old outer) }
-{
-    nodes.set(outer.index, with_part(outer.node))?;
-    Ok(Some(Stage::Whole))
-}
-
-/// Closes a tuple after its last part. Returns `None` if the tuple has only one part.
-#[inline(always)]
-fn shut_tuple(
-    nodes: &mut LiteralNodes,
-    opens: &mut Opens,
-    outer: PendingNode,
-) -> Result<Option<Stage>, Memory>
-    ensures { Steps result nodes.new opens.new
-        (shut_tuple_code nodes.old opens.old outer) }
-{
-    if outer.node.parts == 0 {
-        return Ok(None);
-    }
-    nodes.set(
-        outer.index,
-        with_form(NodeForm::Tuple, with_part(outer.node)),
-    )?;
-    Ok(Some(Stage::Whole))
-}
-
-#[inline(always)]
-fn close_arguments(
-    nodes: &mut LiteralNodes,
-    opens: &mut Opens,
-    outer: PendingNode,
-    kind: &LexemeKind,
-) -> Result<Option<Stage>, Memory>
-    ensures { Steps result nodes.new opens.new
-        (close_arguments_code nodes.old opens.old outer kind.now) }
-{
-    match kind {
-        LexemeKind::Symbol(Symbol::Comma) => next(nodes, opens, outer),
-        LexemeKind::Symbol(Symbol::CloseParen) => shut(nodes, opens, outer),
-        _ => Ok(None),
-    }
-}
-
-#[inline(always)]
-fn close_parens(
-    nodes: &mut LiteralNodes,
-    opens: &mut Opens,
-    outer: PendingNode,
-    kind: &LexemeKind,
-) -> Result<Option<Stage>, Memory>
-    ensures { Steps result nodes.new opens.new
-        (close_parens_code nodes.old opens.old outer kind.now) }
-{
-    match kind {
-        LexemeKind::Symbol(Symbol::Comma) => next(nodes, opens, outer),
-        LexemeKind::Symbol(Symbol::CloseParen) => shut_tuple(nodes, opens, outer),
-        _ => Ok(None),
-    }
-}
-
-#[inline(always)]
-fn close_array(
-    nodes: &mut LiteralNodes,
-    opens: &mut Opens,
-    outer: PendingNode,
-    kind: &LexemeKind,
-) -> Result<Option<Stage>, Memory>
-    ensures { Steps result nodes.new opens.new
-        (close_array_code nodes.old opens.old outer kind.now) }
-{
-    match kind {
-        LexemeKind::Symbol(Symbol::Semicolon) => next(nodes, opens, outer),
-        LexemeKind::Symbol(Symbol::CloseArray) => shut(nodes, opens, outer),
-        _ => Ok(None),
-    }
-}
-
-#[inline(always)]
-fn close_fields(
-    nodes: &mut LiteralNodes,
-    opens: &mut Opens,
-    outer: PendingNode,
-    kind: &LexemeKind,
-) -> Result<Option<Stage>, Memory>
-    ensures { Steps result nodes.new opens.new
-        (close_fields_code nodes.old opens.old outer kind.now) }
-{
-    match kind {
-        LexemeKind::Symbol(Symbol::Semicolon) => Ok(Some(Stage::FieldDue(
-            outer.index,
-            with_part(outer.node),
-        ))),
-        LexemeKind::Symbol(Symbol::CloseBrace) => shut(nodes, opens, outer),
-        _ => Ok(None),
-    }
-}
-
-/// Parses the lexeme after a complete literal.
-#[inline(always)]
-fn close(
-    nodes: &mut LiteralNodes,
-    opens: &mut Opens,
-    kind: &LexemeKind,
-) -> Result<Option<Stage>, Memory>
-    ensures { Steps result nodes.new opens.new
-        (close_code nodes.old opens.old kind.now) }
-{
-    match opens.pop() {
-        None => Ok(None),
-        Some(outer) => match outer.bracket {
-            OpenKind::Arguments => close_arguments(nodes, opens, outer, kind),
-            OpenKind::Parens => close_parens(nodes, opens, outer, kind),
-            OpenKind::Array => close_array(nodes, opens, outer, kind),
-            OpenKind::Fields => close_fields(nodes, opens, outer, kind),
-        },
-    }
-}
-
-/// Parses the lexeme after `#` and a number.
-fn after_number(
-    nodes: &mut LiteralNodes,
-    opens: &mut Opens,
-    first: usize,
-    number: u64,
-    kind: &LexemeKind,
-) -> Result<Option<Stage>, Memory>
-    ensures { Steps result nodes.new opens.new
-        (after_number_code nodes.old opens.old first number kind.now) }
-{
-    match kind {
-        LexemeKind::Symbol(Symbol::Equals) => Ok(Some(Stage::PlainDue(first, number))),
-        _ => {
-            add(nodes, again(first, number))?;
-            close(nodes, opens, kind)
-        }
-    }
-}
-
 /// Returns the node of a reference to a label.
 fn again(first: usize, number: u64) -> LiteralNode
     ensures { result ≡ bare_node forms.Again (Some number) first }
@@ -448,153 +185,311 @@ fn again(first: usize, number: u64) -> LiteralNode
     }
 }
 
-/// Parses the lexeme after a name.
-#[inline(always)]
-fn after_head(
-    nodes: &mut LiteralNodes,
-    opens: &mut Opens,
-    index: usize,
-    node: LiteralNode,
-    kind: &LexemeKind,
-) -> Result<Option<Stage>, Memory>
-    ensures { Steps result nodes.new opens.new
-        (after_head_code nodes.old opens.old index node kind.now) }
-{
-    match kind {
-        LexemeKind::Symbol(Symbol::OpenParen) => {
-            opens.push(PendingNode {
-                bracket: OpenKind::Arguments,
-                index,
-                node,
-            })?;
-            Ok(Some(Stage::Due))
-        }
-        LexemeKind::Symbol(Symbol::OpenBrace) => Ok(Some(Stage::FieldDue(
-            index,
-            with_form(NodeForm::Fields, node),
-        ))),
-        _ => close(nodes, opens, kind),
+impl LiteralSoFar {
+    /// Parses the first lexeme of a literal after the literal's label, if the literal has a label.
+    #[inline(always)]
+    fn begin_plain(&mut self, first: usize, label: Option<u64>, kind: &LexemeKind) -> NextStage
+        ensures { Steps result self.new.nodes self.new.opens
+            (begin_plain_code self.old.nodes self.old.opens first label kind.now) }
+    {
+        let Some(form) = form_of(kind) else {
+            return Ok(None);
+        };
+        let node = LiteralNode {
+            form,
+            label,
+            first,
+            parts: 0,
+        };
+        let index = add(&mut self.nodes, node)?;
+        let stage = enter(&mut self.opens, kind, index, node, form)?;
+        Ok(Some(stage))
     }
-}
 
-/// Parses the lexeme after a field's name.
-#[inline(always)]
-fn take_equals(
-    nodes: &mut LiteralNodes,
-    opens: &mut Opens,
-    index: usize,
-    node: LiteralNode,
-    kind: &LexemeKind,
-) -> Result<Option<Stage>, Memory>
-    ensures { Steps result nodes.new opens.new
-        (take_equals_code nodes.old opens.old index node kind.now) }
-{
-    match kind {
-        LexemeKind::Symbol(Symbol::Equals) => {
-            opens.push(PendingNode {
-                bracket: OpenKind::Fields,
-                index,
-                node,
-            })?;
-            Ok(Some(Stage::Due))
-        }
-        _ => Ok(None),
-    }
-}
-
-/// Parses the lexeme after `#`.
-fn take_number(
-    nodes: &mut LiteralNodes,
-    opens: &mut Opens,
-    first: usize,
-    kind: &LexemeKind,
-) -> Result<Option<Stage>, Memory>
-    ensures { Steps result nodes.new opens.new
-        (take_number_code nodes.old opens.old first kind.now) }
-{
-    match number_of(kind) {
-        None => Ok(None),
-        Some(number) => Ok(Some(Stage::Number(first, number))),
-    }
-}
-
-/// Parses the lexeme after `[`.
-#[inline(always)]
-fn after_bracket(
-    nodes: &mut LiteralNodes,
-    opens: &mut Opens,
-    index: usize,
-    node: LiteralNode,
-    kind: &LexemeKind,
-) -> Result<Option<Stage>, Memory>
-    ensures { Steps result nodes.new opens.new
-        (after_bracket_code nodes.old opens.old index node kind.now) }
-{
-    match kind {
-        LexemeKind::Symbol(Symbol::CloseBracket) => Ok(Some(Stage::Head(index, node))),
-        _ => Ok(None),
-    }
-}
-
-/// Parses the lexeme at the position of a field's name.
-#[inline(always)]
-fn take_name(
-    nodes: &mut LiteralNodes,
-    opens: &mut Opens,
-    index: usize,
-    node: LiteralNode,
-    kind: &LexemeKind,
-) -> Result<Option<Stage>, Memory>
-    ensures { Steps result nodes.new opens.new
-        (take_name_code nodes.old opens.old index node kind.now) }
-{
-    match kind {
-        LexemeKind::Lower(_) => Ok(Some(Stage::NameRead(index, node))),
-        _ => Ok(None),
-    }
-}
-
-/// Parses the lexeme with index `position`.
-#[inline(always)]
-pub fn step(
-    nodes: &mut LiteralNodes,
-    opens: &mut Opens,
-    stage: Stage,
-    position: usize,
-    kind: &LexemeKind,
-) -> Result<Option<Stage>, Memory>
-    ensures { Steps result nodes.new opens.new
-        (step_code nodes.old opens.old stage position kind.now) }
-{
-    match stage {
-        Stage::Due => begin(nodes, opens, position, kind),
-        Stage::Hash(first) => take_number(nodes, opens, first, kind),
-        Stage::Number(first, number) => after_number(nodes, opens, first, number, kind),
-        Stage::PlainDue(first, number) => begin_plain(nodes, opens, first, Some(number), kind),
-        Stage::Bracket(index, node) => after_bracket(nodes, opens, index, node, kind),
-        Stage::Head(index, node) => after_head(nodes, opens, index, node, kind),
-        Stage::FieldDue(index, node) => take_name(nodes, opens, index, node, kind),
-        Stage::NameRead(index, node) => take_equals(nodes, opens, index, node, kind),
-        Stage::Whole => close(nodes, opens, kind),
-    }
-}
-
-/// Returns true if a literal can end here. In that case the nodes are complete.
-pub fn end(nodes: &mut LiteralNodes, opens: &mut Opens, stage: Stage) -> Result<bool, Memory>
-    ensures { IfOk result
-        (λ ends. end_code nodes.old opens.old stage
-        ≡ (if ends then Some nodes.new else None)) }
-{
-    match opens.pop() {
-        Some(_) => Ok(false),
-        None => match stage {
-            Stage::Whole => Ok(true),
-            Stage::Head(_, _) => Ok(true),
-            Stage::Number(first, number) => {
-                add(nodes, again(first, number))?;
-                Ok(true)
+    /// Closes parentheses without parts.
+    fn close_unit(&mut self) -> NextStage
+        ensures { Steps result self.new.nodes self.new.opens
+            (close_unit_code self.old.nodes self.old.opens) }
+    {
+        match self.opens.pop() {
+            None => Ok(None),
+            Some(outer) => {
+                if is_unit(outer.bracket, outer.node.parts) {
+                    Ok(Some(Stage::Whole))
+                } else {
+                    Ok(None)
+                }
             }
-            _ => Ok(false),
-        },
+        }
+    }
+
+    /// Closes an array without parts.
+    fn close_empty(&mut self) -> NextStage
+        ensures { Steps result self.new.nodes self.new.opens
+            (close_empty_code self.old.nodes self.old.opens) }
+    {
+        match self.opens.pop() {
+            None => Ok(None),
+            Some(outer) => {
+                if is_empty_array(outer.bracket, outer.node.parts) {
+                    Ok(Some(Stage::Whole))
+                } else {
+                    Ok(None)
+                }
+            }
+        }
+    }
+
+    /// Parses lexeme `position` as the first lexeme of a literal.
+    #[inline(always)]
+    fn begin(&mut self, position: usize, kind: &LexemeKind) -> NextStage
+        ensures { Steps result self.new.nodes self.new.opens
+            (begin_code self.old.nodes self.old.opens position kind.now) }
+    {
+        match kind {
+            LexemeKind::Symbol(Symbol::Hash) => Ok(Some(Stage::Hash(position))),
+            LexemeKind::Symbol(Symbol::CloseParen) => self.close_unit(),
+            LexemeKind::Symbol(Symbol::CloseArray) => self.close_empty(),
+            _ => self.begin_plain(position, None, kind),
+        }
+    }
+
+    /// Returns the stage in which one more part must follow.
+    #[inline(always)]
+    fn next(&mut self, outer: PendingNode) -> NextStage
+        ensures { Steps result self.new.nodes self.new.opens
+            (next_code self.old.nodes self.old.opens outer) }
+    {
+        self.opens.push(PendingNode {
+            bracket: outer.bracket,
+            index: outer.index,
+            node: with_part(outer.node),
+        })?;
+        Ok(Some(Stage::Due))
+    }
+
+    /// Closes a bracket after its last part.
+    #[inline(always)]
+    fn shut(&mut self, outer: PendingNode) -> NextStage
+        ensures { Steps result self.new.nodes self.new.opens
+            (shut_code self.old.nodes self.old.opens outer) }
+    {
+        self.nodes.set(outer.index, with_part(outer.node))?;
+        Ok(Some(Stage::Whole))
+    }
+
+    /// Closes a tuple after its last part. Returns `None` if the tuple has only one part.
+    #[inline(always)]
+    fn shut_tuple(&mut self, outer: PendingNode) -> NextStage
+        ensures { Steps result self.new.nodes self.new.opens
+            (shut_tuple_code self.old.nodes self.old.opens outer) }
+    {
+        if outer.node.parts == 0 {
+            return Ok(None);
+        }
+        self.nodes.set(
+            outer.index,
+            with_form(NodeForm::Tuple, with_part(outer.node)),
+        )?;
+        Ok(Some(Stage::Whole))
+    }
+
+    #[inline(always)]
+    fn close_arguments(&mut self, outer: PendingNode, kind: &LexemeKind) -> NextStage
+        ensures { Steps result self.new.nodes self.new.opens
+            (close_arguments_code self.old.nodes self.old.opens outer kind.now) }
+    {
+        match kind {
+            LexemeKind::Symbol(Symbol::Comma) => self.next(outer),
+            LexemeKind::Symbol(Symbol::CloseParen) => self.shut(outer),
+            _ => Ok(None),
+        }
+    }
+
+    #[inline(always)]
+    fn close_parens(&mut self, outer: PendingNode, kind: &LexemeKind) -> NextStage
+        ensures { Steps result self.new.nodes self.new.opens
+            (close_parens_code self.old.nodes self.old.opens outer kind.now) }
+    {
+        match kind {
+            LexemeKind::Symbol(Symbol::Comma) => self.next(outer),
+            LexemeKind::Symbol(Symbol::CloseParen) => self.shut_tuple(outer),
+            _ => Ok(None),
+        }
+    }
+
+    #[inline(always)]
+    fn close_array(&mut self, outer: PendingNode, kind: &LexemeKind) -> NextStage
+        ensures { Steps result self.new.nodes self.new.opens
+            (close_array_code self.old.nodes self.old.opens outer kind.now) }
+    {
+        match kind {
+            LexemeKind::Symbol(Symbol::Semicolon) => self.next(outer),
+            LexemeKind::Symbol(Symbol::CloseArray) => self.shut(outer),
+            _ => Ok(None),
+        }
+    }
+
+    #[inline(always)]
+    fn close_fields(&mut self, outer: PendingNode, kind: &LexemeKind) -> NextStage
+        ensures { Steps result self.new.nodes self.new.opens
+            (close_fields_code self.old.nodes self.old.opens outer kind.now) }
+    {
+        match kind {
+            LexemeKind::Symbol(Symbol::Semicolon) => Ok(Some(Stage::FieldDue(
+                outer.index,
+                with_part(outer.node),
+            ))),
+            LexemeKind::Symbol(Symbol::CloseBrace) => self.shut(outer),
+            _ => Ok(None),
+        }
+    }
+
+    /// Parses the lexeme after a complete literal.
+    #[inline(always)]
+    fn close(&mut self, kind: &LexemeKind) -> NextStage
+        ensures { Steps result self.new.nodes self.new.opens
+            (close_code self.old.nodes self.old.opens kind.now) }
+    {
+        match self.opens.pop() {
+            None => Ok(None),
+            Some(outer) => match outer.bracket {
+                OpenKind::Arguments => self.close_arguments(outer, kind),
+                OpenKind::Parens => self.close_parens(outer, kind),
+                OpenKind::Array => self.close_array(outer, kind),
+                OpenKind::Fields => self.close_fields(outer, kind),
+            },
+        }
+    }
+
+    /// Parses the lexeme after `#` and a number.
+    fn after_number(&mut self, first: usize, number: u64, kind: &LexemeKind) -> NextStage
+        ensures { Steps result self.new.nodes self.new.opens
+            (after_number_code self.old.nodes self.old.opens first number kind.now) }
+    {
+        match kind {
+            LexemeKind::Symbol(Symbol::Equals) => Ok(Some(Stage::PlainDue(first, number))),
+            _ => {
+                add(&mut self.nodes, again(first, number))?;
+                self.close(kind)
+            }
+        }
+    }
+
+    /// Parses the lexeme after a name.
+    #[inline(always)]
+    fn after_head(&mut self, index: usize, node: LiteralNode, kind: &LexemeKind) -> NextStage
+        ensures { Steps result self.new.nodes self.new.opens
+            (after_head_code self.old.nodes self.old.opens index node kind.now) }
+    {
+        match kind {
+            LexemeKind::Symbol(Symbol::OpenParen) => {
+                self.opens.push(PendingNode {
+                    bracket: OpenKind::Arguments,
+                    index,
+                    node,
+                })?;
+                Ok(Some(Stage::Due))
+            }
+            LexemeKind::Symbol(Symbol::OpenBrace) => Ok(Some(Stage::FieldDue(
+                index,
+                with_form(NodeForm::Fields, node),
+            ))),
+            _ => self.close(kind),
+        }
+    }
+
+    /// Parses the lexeme after a field's name.
+    #[inline(always)]
+    fn take_equals(&mut self, index: usize, node: LiteralNode, kind: &LexemeKind) -> NextStage
+        ensures { Steps result self.new.nodes self.new.opens
+            (take_equals_code self.old.nodes self.old.opens index node kind.now) }
+    {
+        match kind {
+            LexemeKind::Symbol(Symbol::Equals) => {
+                self.opens.push(PendingNode {
+                    bracket: OpenKind::Fields,
+                    index,
+                    node,
+                })?;
+                Ok(Some(Stage::Due))
+            }
+            _ => Ok(None),
+        }
+    }
+
+    /// Parses the lexeme after `#`.
+    fn take_number(&mut self, first: usize, kind: &LexemeKind) -> NextStage
+        ensures { Steps result self.new.nodes self.new.opens
+            (take_number_code self.old.nodes self.old.opens first kind.now) }
+    {
+        match number_of(kind) {
+            None => Ok(None),
+            Some(number) => Ok(Some(Stage::Number(first, number))),
+        }
+    }
+
+    /// Parses the lexeme after `[`.
+    #[inline(always)]
+    fn after_bracket(&mut self, index: usize, node: LiteralNode, kind: &LexemeKind) -> NextStage
+        ensures { Steps result self.new.nodes self.new.opens
+            (after_bracket_code self.old.nodes self.old.opens index node kind.now) }
+    {
+        match kind {
+            LexemeKind::Symbol(Symbol::CloseBracket) => Ok(Some(Stage::Head(index, node))),
+            _ => Ok(None),
+        }
+    }
+
+    /// Parses the lexeme at the position of a field's name.
+    #[inline(always)]
+    fn take_name(&mut self, index: usize, node: LiteralNode, kind: &LexemeKind) -> NextStage
+        ensures { Steps result self.new.nodes self.new.opens
+            (take_name_code self.old.nodes self.old.opens index node kind.now) }
+    {
+        match kind {
+            LexemeKind::Lower(_) => Ok(Some(Stage::NameRead(index, node))),
+            _ => Ok(None),
+        }
+    }
+
+    /// Parses the lexeme with index `position`.
+    #[inline(always)]
+    pub fn step(&mut self, stage: Stage, position: usize, kind: &LexemeKind) -> NextStage
+        ensures { Steps result self.new.nodes self.new.opens
+            (step_code self.old.nodes self.old.opens stage position kind.now) }
+    {
+        match stage {
+            Stage::Due => self.begin(position, kind),
+            Stage::Hash(first) => self.take_number(first, kind),
+            Stage::Number(first, number) => self.after_number(first, number, kind),
+            Stage::PlainDue(first, number) => self.begin_plain(first, Some(number), kind),
+            Stage::Bracket(index, node) => self.after_bracket(index, node, kind),
+            Stage::Head(index, node) => self.after_head(index, node, kind),
+            Stage::FieldDue(index, node) => self.take_name(index, node, kind),
+            Stage::NameRead(index, node) => self.take_equals(index, node, kind),
+            Stage::Whole => self.close(kind),
+        }
+    }
+
+    /// Returns true if a literal can end at this stage. If the result is true, the nodes are
+    /// complete.
+    pub fn end(&mut self, stage: Stage) -> Result<bool, Memory>
+        ensures { IfOk result
+            (λ ends. end_code self.old.nodes self.old.opens stage
+            ≡ (if ends then Some self.new.nodes else None)) }
+    {
+        match self.opens.pop() {
+            Some(_) => Ok(false),
+            None => match stage {
+                Stage::Whole => Ok(true),
+                Stage::Head(_, _) => Ok(true),
+                Stage::Number(first, number) => {
+                    add(&mut self.nodes, again(first, number))?;
+                    Ok(true)
+                }
+                _ => Ok(false),
+            },
+        }
     }
 }

@@ -12,19 +12,21 @@ use std::marker::Model;
 /// A block whose parts are being read.
 #[derive(Clone, Copy)]
 pub struct Opened<'a> {
-    /// Index of the object.
+    /// The number of the block's object in the heap.
     pub block: u64,
-    /// Field and part index of the next part, and the number of parts still to be read.
+    /// The field index and the part index of the next part, and the number of parts still to be
+    /// read.
     pub field: u64,
     pub part: usize,
     pub left: usize,
-    /// Types of the parts. A part without a type of its own is read at the type of the block.
+    /// The types of the parts. If a part has no type of its own, the part is read at the type of
+    /// the block.
     pub types: PartTypes<'a>,
     pub at: usize,
 }
 
 impl<'a> Opened<'a> {
-    /// Returns the block after its next part has begun.
+    /// Returns the block after the block's next part has begun.
     #[inline(always)]
     pub fn advanced(self) -> Opened<'a>
         requires left { 0 < self.left }
@@ -57,7 +59,7 @@ impl<'a> Opened<'a> {
     }
 }
 
-/// The open blocks. In memory the innermost is last.
+/// The stack of open blocks. In memory, the innermost block is last.
 #[derive(Drop)]
 pub struct BlockStack<'a> {
     items: Vec<Opened<'a>>,
@@ -90,7 +92,8 @@ impl<'a> BlockStack<'a> {
         Ok(())
     }
 
-    /// Pushes the block back if parts of it are still to be read.
+    /// Pushes the block back if parts of the block are still to be read. Fails with `Memory` if
+    /// memory runs out.
     #[inline(always)]
     pub fn write_back(&mut self, block: Opened<'a>) -> Result<(), Memory>
         ensures { IfOk result (λ _. self.new ≡ if_open block.entry self.old) }

@@ -15,7 +15,7 @@ use std::alloc::Global;
 use types_lex::Lexemes;
 use types_lex::lexeme::LexemeKind;
 
-/// Returns the bits if the lexeme kind is a double.
+/// Returns the bits of a double if the lexeme kind is a double, and `None` for any other kind.
 fn double_of(kind: &Option<LexemeKind>) -> Option<u64>
     ensures { result ≡ double_in kind.now }
 {
@@ -25,7 +25,7 @@ fn double_of(kind: &Option<LexemeKind>) -> Option<u64>
     }
 }
 
-/// Returns the bits if the lexeme at index `position` is a double.
+/// Returns the bits of the double if the lexeme at index `position` is a double, and `None` if not.
 fn double_at(alloc: Global, lexemes: &Lexemes, position: usize) -> Result<Option<u64>, Memory>
     ensures { IfOk result (λ bits. bits ≡ double_in (slice_get (kinds_of lexemes.now) position)) }
 {
@@ -33,7 +33,7 @@ fn double_at(alloc: Global, lexemes: &Lexemes, position: usize) -> Result<Option
     Ok(double_of(&kind))
 }
 
-/// Returns the bits if the node is a double without a label.
+/// Returns the bits of the double if the node is a double without a label, and `None` if not.
 fn node_bits(alloc: Global, node: &LiteralNode, lexemes: &Lexemes) -> Result<Option<u64>, Memory>
     ensures { IfOk result (λ bits. bits ≡ bits_of_node (kinds_of lexemes.now) node.now) }
 {
@@ -43,8 +43,8 @@ fn node_bits(alloc: Global, node: &LiteralNode, lexemes: &Lexemes) -> Result<Opt
     }
 }
 
-/// Returns the bits of `many` nodes, beginning at node `from`, if each of them is a double without
-/// a label.
+/// Returns the bits of `many` nodes from node `from` on, if each of the nodes is a double without a
+/// label.
 fn all_bits(
     alloc: Global,
     nodes: &LiteralNodes,

@@ -5,7 +5,7 @@ ghost use Rattle.text_literal.specs.declared.parser.fault.LiteralFault.TheVarian
 
 use base_data::model::Memory;
 
-/// Error of reading lexemes as a value of a type. Each position is the byte offset of the first
+/// An error of reading lexemes as a value of a type. Each position is the byte offset of the first
 /// byte of a lexeme, or the end of the text.
 #[derive(Clone, Copy)]
 pub enum LiteralFault {

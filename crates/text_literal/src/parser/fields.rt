@@ -15,7 +15,8 @@ use base_data::model::Memory;
 use std::alloc::Global;
 use types_lex::Lexemes;
 
-/// Returns the name of the field whose value begins at lexeme `first`. The name precedes the `=`.
+/// Returns the name of the field whose value begins at lexeme `first`. The name is the lexeme
+/// before the `=`.
 fn name_before<'a>(lexemes: &'a Lexemes, first: usize) -> &'a [u8]
     ensures { result.now ≡ specs.name_before (kinds_of lexemes.now) first }
 {

@@ -1,4 +1,4 @@
-//! Reads a literal without parts at a shape.
+//! Reads a literal without parts at a shape. A literal without parts is called a leaf.
 
 ghost use Rattle.std.specs.Prelude.{ℕ, ◌≡◌, length, Bool};
 ghost use Rattle.types_lex.specs.declared.lexeme.LexemeKind.TheVariants as kinds;
@@ -21,8 +21,8 @@ use types_lex::lexeme::{Integer, LexemeKind, Suffix, Symbol};
 use types_spec::types::names::Names;
 use types_spec::types::shape::ShapeOf;
 
-/// The result for a literal without parts: a type mismatch, an integer out of range, an integer or
-/// an atom, or the contents of an object.
+/// The result for a literal without parts: a type mismatch, an integer out of range, an integer, an
+/// atom, or the contents of an object.
 #[derive(Clone, Copy)]
 pub enum Leaf<'a> {
     Mismatch,
@@ -74,8 +74,8 @@ fn integer_leaf(shape: &ShapeOf<usize>, i: Integer) -> Leaf<'static>
     }
 }
 
-/// Returns the integer `n` if the shape is that of the integers from 0 below `many`, and a mismatch
-/// otherwise.
+/// Returns the integer `n` if the shape is that of the integers from 0 to `many` - 1, and a
+/// mismatch for any other shape.
 fn below_leaf(shape: &ShapeOf<usize>, many: u64, n: u8) -> Leaf<'static>
     ensures sound { IsSound result }
     ensures leaf { leaf_in result ≡ below_of shape.now many n }

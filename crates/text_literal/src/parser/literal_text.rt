@@ -1,4 +1,4 @@
-//! A literal as its nodes and its lexemes.
+//! Represents a literal as its nodes and its lexemes.
 
 ghost use Rattle.std.specs.Prelude.{◌≡◌, ◌+◌, ◌<◌, ◌^◌, length};
 ghost use Rattle.text_literal.specs.parser.LiteralAnswers.{byte_of as first_byte};
@@ -16,11 +16,11 @@ pub struct LiteralText<'a> {
     pub nodes: &'a LiteralNodes,
     /// For each node, the index of the node after its last part.
     pub ends: &'a [u32],
-    /// Byte offset of the end of the lexemes.
+    /// The byte offset of the end of the text.
     pub end: usize,
 }
 
-/// Returns the byte offset at which a lexeme begins, or `end` if there is no such lexeme.
+/// Returns the byte offset at which lexeme `k` begins, or `end` if there is no lexeme `k`.
 pub fn byte_of(lexemes: &Lexemes, end: usize, k: usize) -> u64
     ensures { result ≡ first_byte lexemes.now end k }
 {
@@ -30,7 +30,7 @@ pub fn byte_of(lexemes: &Lexemes, end: usize, k: usize) -> u64
     }
 }
 
-/// Returns the index of the first lexeme of a literal after its label.
+/// Returns the index of the first lexeme of a literal that follows the literal's label.
 #[inline(always)]
 pub fn plain_first(node: &LiteralNode) -> usize
     requires { node.now.first < 2 ^ 63 }

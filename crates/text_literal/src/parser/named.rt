@@ -5,7 +5,6 @@ ghost use Rattle.std.specs.Prelude.{ℕ, ◌≡◌, ◌<◌, ◌^◌, Some, List
 ghost use Rattle.std.specs.Prelude.{find, IsTrue};
 ghost use Rattle.base_data.specs.model.Graph.{IsInteger};
 ghost use Rattle.std.specs.Str.{bytes_eq};
-ghost use Rattle.types_spec.specs.types.Fitting.{tag_with, is_number};
 ghost use Rattle.types_spec.specs.declared.types.names.TagName.{TagName};
 ghost use Rattle.text_literal.specs.grammar.Literal.{Head, constant};
 ghost use Rattle.text_literal.specs.parser.Starts.{start_at, is_in_bits, constructor_name};
@@ -21,8 +20,10 @@ use base_data::model::value::Val;
 use types_lex::lexeme::{LexemeKind, Symbol};
 use types_spec::types::names::{Names, TagName};
 use types_spec::types::shape::{PolyTag, ShapeOf};
+use types_table::fits::tag_of_hash;
 
-/// Returns the name of a constructor. The first lexeme of the literal determines it.
+/// Returns the name of the constructor that the first lexeme of a literal names, or `None` if the
+/// lexeme names no constructor.
 #[inline(always)]
 pub(crate) fn name_of_constructor(kind: &LexemeKind) -> Option<&[u8]>
     ensures { (h : Head) → kind.now ≡ lead_of h
@@ -36,7 +37,8 @@ pub(crate) fn name_of_constructor(kind: &LexemeKind) -> Option<&[u8]>
     }
 }
 
-/// Returns the name of a polymorphic variant tag. The first lexeme of the literal determines it.
+/// Returns the name of the polymorphic variant tag that the first lexeme of a literal names, or
+/// `None` if the lexeme names no tag.
 pub(crate) fn tag_name(kind: &LexemeKind) -> Option<&[u8]>
     ensures { (h : Head) → kind.now ≡ lead_of h
         → option_map (λ name. name.now) result ≡ name_of_tag h }
@@ -47,7 +49,8 @@ pub(crate) fn tag_name(kind: &LexemeKind) -> Option<&[u8]>
     }
 }
 
-/// Returns the index of a name in a list of names.
+/// Returns the index of the name `name` in a list of names, or `None` if the list does not contain
+/// the name.
 #[inline(always)]
 fn index_of(all: &[List<u8>], name: &[u8]) -> Option<usize>
     ensures bounded { (i : ℕ) → result ≡ Some i → i < 2 ^ 62 }
@@ -56,7 +59,7 @@ fn index_of(all: &[List<u8>], name: &[u8]) -> Option<usize>
     all.iter().position(|other| name == other.as_slice())
 }
 
-/// Returns the index of a constant constructor.
+/// Returns the index of the constant constructor that the lexeme names.
 #[inline(always)]
 fn position_of_constant(names: &Names, kind: &LexemeKind) -> Option<usize>
     ensures bounded { (i : ℕ) → result ≡ Some i → i < 2 ^ 62 }
@@ -81,21 +84,7 @@ fn constant_of(constants: u64, position: Option<usize>) -> Leaf<'static>
     }
 }
 
-/// Returns the tag with this hash.
-fn tag_of_hash(tags: &[PolyTag<usize>], hash: i64) -> Option<&PolyTag<usize>>
-    ensures { option_map (λ tag. tag.now) result ≡ tag_with tags.now hash }
-{
-    tags.iter().find(|tag| is_hash(tag.hash, hash))
-}
-
-/// Returns true if the hash of a tag equals this number.
-fn is_hash(own: i64, hash: i64) -> bool
-    ensures { result ≡ is_number own hash }
-{
-    own == hash
-}
-
-/// Returns the tag name entry, with its hash, for this name.
+/// Returns the entry of the tag with this name, with the hash of the tag.
 fn tag_of_name<'a>(tags: &'a [TagName], name: &[u8]) -> Option<&'a TagName>
     ensures { option_map (λ tag. tag.now) result
         ≡ find (λ (tag : TagName). bytes_eq tag.name name.now) tags.now }

@@ -1,4 +1,4 @@
-//! Reads the beginning of a literal with parts at a shape, before its parts are read. The result is
+//! Reads the beginning of a literal with parts at a shape, before the parts are read. The result is
 //! a block or a type mismatch.
 
 ghost use Rattle.std.specs.Prelude.{ℕ, ◌≡◌, ◌≢◌, suc, List, [], ◌∷◌, ◌++◌, map, Option, Some, None};
@@ -23,15 +23,15 @@ use types_lex::lexeme::LexemeKind;
 use types_spec::types::names::{ConstrNames, Names};
 use types_spec::types::shape::{Constr, PolyTag, ShapeOf};
 
-/// Types of the parts of a block: one type for each part, or one type for all.
+/// The types of a block's parts: one type for each part, or one type for all parts.
 #[derive(Clone, Copy)]
 pub enum PartTypes<'a> {
     Listed(&'a [usize]),
     Each(usize),
 }
 
-/// The result for a literal with parts: a type mismatch, or a block. A block has its tag byte, the
-/// hash before its parts if it is a polymorphic variant, and the types of its parts.
+/// The result for a literal with parts: a type mismatch, or a block. A block has its tag byte and
+/// the types of its parts. The block of a polymorphic variant also has the hash before the parts.
 #[derive(Clone, Copy)]
 pub enum Opening<'a> {
     Mismatch,
@@ -46,7 +46,7 @@ fn is_unnamed(fields: &[List<u8>]) -> bool
     fields.is_empty()
 }
 
-/// Returns true if a constructor has this name and no inline record.
+/// Returns true if the constructor has the name `name` and no inline record.
 #[inline(always)]
 fn is_plain(constr: &ConstrNames, name: &[u8]) -> bool
     ensures { result ≡ is_constr name.now [] constr.now }
@@ -54,7 +54,7 @@ fn is_plain(constr: &ConstrNames, name: &[u8]) -> bool
     constr.name.as_slice() == name && is_unnamed(constr.fields.as_slice())
 }
 
-/// Returns the index of the constructor with this name and no inline record.
+/// Returns the index of the constructor with the name `name` and no inline record.
 #[inline(always)]
 fn index_of(all: &[ConstrNames], name: &[u8]) -> Option<usize>
     ensures { result ≡ position (is_constr name.now []) all.now }
@@ -62,8 +62,8 @@ fn index_of(all: &[ConstrNames], name: &[u8]) -> Option<usize>
     all.iter().position(|constr| is_plain(constr, name))
 }
 
-/// Returns the tag of a constructor without an inline record. The first lexeme of the literal
-/// determines it.
+/// Returns the tag of the constructor that the first lexeme of a literal names, if the constructor
+/// has no inline record.
 #[inline(always)]
 fn plain_tag(names: &Names, kind: &LexemeKind) -> Option<usize>
     ensures { (h : Head) → kind.now ≡ lead_of h → result ≡ tag_of_name names.now [] h }
@@ -157,14 +157,16 @@ pub fn applied_opening<'a>(
     }
 }
 
-/// Returns true if a constructor has this name and an inline record with exactly these field names.
+/// Returns true if the constructor has the name `name` and an inline record with exactly the field
+/// names `wanted`.
 fn is_inline(constr: &ConstrNames, name: &[u8], wanted: &[&[u8]]) -> bool
     ensures { result ≡ is_constr name.now (map (λ name. name.now) wanted.now) constr.now }
 {
     constr.name.as_slice() == name && same_names(constr.fields.as_slice(), wanted)
 }
 
-/// Returns the index of the constructor with this name and an inline record with these field names.
+/// Returns the index of the constructor with the name `name` and an inline record with exactly the
+/// field names `wanted`.
 fn inline_position(all: &[ConstrNames], name: &[u8], wanted: &[&[u8]]) -> Option<usize>
     ensures { result ≡ position (is_constr name.now (map (λ name. name.now) wanted.now)) all.now }
 {
@@ -172,7 +174,8 @@ fn inline_position(all: &[ConstrNames], name: &[u8], wanted: &[&[u8]]) -> Option
         .position(|constr| is_inline(constr, name, wanted))
 }
 
-/// Returns the tag of a constructor with an inline record with these field names.
+/// Returns the tag of the constructor that the lexeme names, if the constructor has an inline
+/// record with the field names `wanted`.
 fn inline_tag(names: &Names, kind: &LexemeKind, wanted: &[&[u8]]) -> Option<usize>
     ensures { (h : Head) → kind.now ≡ lead_of h
         → result ≡ tag_of_name names.now (map (λ name. name.now) wanted.now) h }
@@ -183,7 +186,8 @@ fn inline_tag(names: &Names, kind: &LexemeKind, wanted: &[&[u8]]) -> Option<usiz
     }
 }
 
-/// Returns the block of a constructor name with `parts` fields that have these names.
+/// Returns the block of a constructor name with `parts` fields in braces, given the names of the
+/// fields.
 pub fn inline_opening<'a>(
     shape: &'a ShapeOf<usize>,
     names: &Names,
@@ -207,8 +211,8 @@ pub fn inline_opening<'a>(
     }
 }
 
-/// Returns the block of `parts` fields with these names and without a constructor, except for a
-/// flat float record.
+/// Returns the block of `parts` fields in braces without a constructor name, given the names of the
+/// fields. The function does not handle flat float records.
 pub fn record_opening<'a>(
     shape: &'a ShapeOf<usize>,
     names: &Names,

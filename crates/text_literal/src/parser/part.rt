@@ -1,5 +1,5 @@
-//! Begins to read a part of a literal: makes its value, and the block if the part has parts of its
-//! own.
+//! Begins to read a part of a literal: makes the part's value, and a block if the part has parts of
+//! its own.
 
 ghost use Rattle.std.specs.Prelude.{ℕ, ◌≡◌, ◌<◌, ◌≤◌, ◌^◌, ◌++◌, true, Option, List, length};
 ghost use Rattle.std.specs.Prelude.{option_and_then, slice_get, pos, replicate, IfOk, OnOk, OnErr};
@@ -35,15 +35,16 @@ use marshal_heap::heap::Heap;
 use std::alloc::Global;
 use types_lex::lexeme::LexemeKind;
 
-/// The value of a part, and the block whose own parts are still to be read.
+/// The value of a part that has begun, and the block whose own parts are still to be read, if the
+/// part is a block.
 #[derive(Clone, Copy)]
 pub struct PartStart<'a> {
     pub value: Val,
     pub inner: Option<Opened<'a>>,
 }
 
-/// The result of making a literal at its type: a mismatch, an integer out of range, an integer or
-/// an atom, a whole object, or a block whose parts are still to be read.
+/// The result of making a literal at its type: a mismatch, an integer out of range, an integer, an
+/// atom, a whole object, or an unfinished block.
 #[derive(Clone, Copy)]
 pub enum MadeLiteral<'a> {
     Mismatch,
@@ -64,7 +65,7 @@ fn has_next_number(labels: &[u64], label: Option<u64>) -> bool
     }
 }
 
-/// Returns the object of a label.
+/// Returns the object that the label refers to, or `None` if the label has no object.
 fn object_of(labels: &[u64], label: Option<u64>) -> Option<u64>
     ensures { result ≡ option_and_then (slice_get labels.now) label }
 {
@@ -74,7 +75,7 @@ fn object_of(labels: &[u64], label: Option<u64>) -> Option<u64>
     }
 }
 
-/// Reads the use of a label.
+/// Reads a reference to a label.
 fn again<'a>(
     text: &LiteralText,
     labels: &[u64],
@@ -93,7 +94,8 @@ fn again<'a>(
     }
 }
 
-/// Returns a reference to object `o`. If there is a label, records `o` as its object.
+/// Returns a reference to object `o`. If there is a label, records `o` as the label's object. Fails
+/// with `Memory` if memory runs out.
 #[inline(always)]
 fn reference(labels: &mut Vec<u64>, label: Option<u64>, o: u64) -> Result<Val, Memory>
     ensures value { IfOk result (λ value. value ≡ vals.Ref o) }
@@ -117,15 +119,15 @@ fn add_text(heap: &mut Heap, bytes: &[u8]) -> Result<u64, Memory>
     heap.add_bytes_of(bytes)
 }
 
-/// Returns true if an object can have this number of parts: at least one, and no more than memory
-/// can hold.
+/// Returns true if an object can have `parts` parts: at least one part, and no more parts than
+/// memory can hold.
 fn can_have(parts: usize) -> bool
     ensures { IsTrue result → (0 < parts) × (parts < 2 ^ 53) }
 {
     parts > 0 && parts < 1 << 53
 }
 
-/// Appends an object of doubles.
+/// Appends an object of doubles. Fails with `Memory` if memory runs out.
 fn add_doubles(heap: &mut Heap, all: Vec<u64>) -> Result<u64, Memory>
     ensures { Appends heap.old heap.new (objects.Doubles all.items) result }
 {
@@ -135,7 +137,8 @@ fn add_doubles(heap: &mut Heap, all: Vec<u64>) -> Result<u64, Memory>
     heap.add_doubles_of(all)
 }
 
-/// Appends a block with room for `parts` parts. If there is a hash, it is stored before the parts.
+/// Appends a block with room for `parts` parts. If there is a hash, the block stores the hash
+/// before the parts.
 #[inline(always)]
 fn add_parts(heap: &mut Heap, tag: u8, hash: Option<i64>, parts: usize) -> Result<u64, Memory>
     requires tag { tag ≤ 243 }
@@ -158,7 +161,8 @@ fn add_parts(heap: &mut Heap, tag: u8, hash: Option<i64>, parts: usize) -> Resul
     }
 }
 
-/// Returns the number of fields before the parts.
+/// Returns the number of fields before the parts of a block: 1 if there is a hash, and 0 if there
+/// is none.
 #[inline(always)]
 fn prefix_len(hash: Option<i64>) -> u64
     ensures len { result ≡ length (prefix_of hash) }
@@ -214,7 +218,7 @@ fn make_block<'a>(
     }))
 }
 
-/// Makes a literal of `parts` parts from its start at a type.
+/// Makes a literal of `parts` parts from the literal's start at a type.
 #[inline(always)]
 fn make<'a>(
     heap: &mut Heap,
@@ -233,8 +237,8 @@ fn make<'a>(
     }
 }
 
-/// Returns the part for what was made, and records its label. Returns the fault if nothing was
-/// made.
+/// Returns the part for the value that was made, and records the part's label. If no value was
+/// made, returns the fault.
 #[inline(always)]
 fn placed<'a>(
     text: &LiteralText,
@@ -282,8 +286,8 @@ fn placed<'a>(
     }
 }
 
-/// Makes the literal at node `j` at type `t`. The node is `node`, and `kind` is the first lexeme
-/// after the label.
+/// Makes the literal at node `j` at type `t`. The argument `node` is the node `j`, and `kind` is
+/// the kind of the first lexeme after the label.
 #[inline(always)]
 fn make_plain<'a>(
     alloc: Global,

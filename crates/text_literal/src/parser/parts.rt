@@ -51,7 +51,7 @@ fn read_part<'a>(
     }
 }
 
-/// Reads the parts of a block, beginning at node 1, with everything inside them.
+/// Reads the parts of a block, and the parts inside these parts, from node 1 on.
 pub fn read_parts<'a>(
     alloc: Global,
     text: &LiteralText<'a>,

@@ -10,7 +10,7 @@ ghost use Rattle.text_literal.specs.declared.parser.fault.LiteralFault.{LiteralF
 ghost use Rattle.text_literal.specs.parser.LiteralAnswers.{IsAnswer, IsAnswered, Gives};
 ghost use Rattle.text_literal.specs.parser.Underway.{IsText, ReadsTree, Reads};
 
-use crate::grammar::{LiteralNodes, PlacedNodes, TreeFault, read_literal_tree};
+use crate::grammar::{LiteralNodes, PlacedNodes, read_literal_tree};
 use crate::parser::fault::LiteralFault;
 use crate::parser::literal_text::{LiteralText, byte_of};
 use crate::parser::part::begin;
@@ -23,8 +23,8 @@ use types_lex::Lexemes;
 use types_lex::lexeme::Lexeme;
 use types_table::type_table::TypeTable;
 
-/// Estimate for reserving memory: few values have more 64-bit words than a third of the bytes of
-/// their texts. One reservation avoids copying on growth, and unused reserved memory costs nothing.
+/// An estimate for reserving memory: few values have more 64-bit words than a third of the bytes of
+/// their texts. One reservation avoids copying on growth. Unused reserved memory costs nothing.
 const BYTES_A_WORD: u64 = 3;
 
 /// Reads the literal of a text at a type. After a fault, new objects may remain in the heap.
@@ -92,8 +92,8 @@ fn read_in_room(
     read_nodes(alloc, heap, table, at, lexemes, tree, end)
 }
 
-/// Parses lexemes as a literal and reads it at a type. After a fault, new objects may remain in the
-/// heap.
+/// Parses lexemes as a literal and reads the literal at a type. After a fault, new objects may
+/// remain in the heap.
 fn read_lexemes(
     alloc: Global,
     heap: &mut Heap,
@@ -105,12 +105,9 @@ fn read_lexemes(
     ensures { Reads table.now at lexemes.now end heap.old heap.new result }
 {
     let row = Lexemes::of_row(lexemes);
-    let tree = match read_literal_tree(alloc, lexemes) {
+    let tree = match read_literal_tree(alloc, lexemes)? {
         Ok(tree) => tree,
-        Err(TreeFault::Syntax(k)) => {
-            return Err(LiteralFault::Syntax(byte_of(&row, end, k)));
-        }
-        Err(TreeFault::Memory) => return Err(LiteralFault::Memory),
+        Err(k) => return Err(LiteralFault::Syntax(byte_of(&row, end, k))),
     };
     read_nodes(alloc, heap, table, at, &row, &tree, end)
 }
@@ -126,15 +123,15 @@ pub fn read_literal(
     end: usize,
 ) -> Result<Val, LiteralFault>
 
-    // Returns the value, with its objects after the old ones, or the fault. After a fault, or if
+    // Returns the value, whose objects follow the old objects, or the fault. After a fault, or if
     // memory runs out, the heap is unchanged.
     ensures answer { IsAnswered table.now at lexemes.now end heap.old heap.new result }
 
-    // The result is the one answer, unless memory runs out.
+    // The result is the one answer for the lexemes, unless memory runs out.
     ensures only { (answer : Result (List Obj × Val) LiteralFault)
         → IsAnswer table.now at lexemes.now end heap.old answer → Gives answer heap.new result }
 
-    // If a value is returned, then it is a value of the heap.
+    // If a value is returned, then the value is a value of the heap.
     ensures valid { IfOk result (IsValue (length heap.new)) }
 {
     let count = heap.count();
@@ -157,18 +154,18 @@ pub fn read_placed(
 ) -> Result<Val, LiteralFault>
     requires placed { IsPlaced text.now placed.now.positions.items placed.now.tree }
 
-    // Returns the value, with its objects after the old ones, or the fault. After a fault, or if
+    // Returns the value, whose objects follow the old objects, or the fault. After a fault, or if
     // memory runs out, the heap is unchanged.
     ensures answer { IsAnswered table.now at (lexemes_at text.now placed.now.positions.items)
         (length text.now) heap.old heap.new result }
 
-    // The result is the one answer, unless memory runs out.
+    // The result is the one answer for the text's lexemes, unless memory runs out.
     ensures only { (answer : Result (List Obj × Val) LiteralFault)
         → IsAnswer table.now at (lexemes_at text.now placed.now.positions.items) (length text.now)
         heap.old answer
         → Gives answer heap.new result }
 
-    // If a value is returned, then it is a value of the heap.
+    // If a value is returned, then the value is a value of the heap.
     ensures valid { IfOk result (IsValue (length heap.new)) }
 {
     let count = heap.count();

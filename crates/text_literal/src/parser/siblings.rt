@@ -1,4 +1,4 @@
-//! Computes where each literal in a list of nodes ends.
+//! Computes for each literal in a list of nodes where the literal ends.
 
 ghost use Rattle.std.specs.Prelude.{◌≡◌, length, IfOk};
 ghost use Rattle.text_literal.specs.parser.Ends as specs;

@@ -1,4 +1,4 @@
-//! Reads the beginning of a literal at a type, before its parts are read.
+//! Reads the beginning of a literal at a type, before the literal's parts are read.
 
 ghost use Rattle.std.specs.Prelude.{ℕ, ◌≡◌, ◌<◌, ◌++◌, ◌∷◌, [], Some, None, Option, length, map};
 ghost use Rattle.std.specs.Prelude.{suc, option_map, slice_get, IfOk, ◌&&◌, ◌==◌, ◌+◌};
@@ -36,7 +36,7 @@ use types_spec::types::names::Names;
 use types_spec::types::shape::ShapeOf;
 use types_table::type_table::TypeTable;
 
-/// The result: a leaf, doubles in one object, or a block.
+/// The beginning of a literal at a type: a leaf, doubles in one object, or a block.
 #[derive(Drop)]
 pub enum Start<'a> {
     Leaf(Leaf<'a>),
@@ -91,7 +91,7 @@ fn is_flat(names: &Names, wanted: &[&[u8]], many: u64, parts: usize) -> bool
     same_names(names.fields.as_slice(), wanted) && many == parts as u64
 }
 
-/// Reads the fields of a flat float record, if they match the record.
+/// Reads the fields of a flat float record, if the fields match the record.
 fn flat_start<'a>(
     alloc: Global,
     text: &LiteralText<'a>,
@@ -113,7 +113,7 @@ fn flat_start<'a>(
     }
 }
 
-/// Reads the beginning of fields without a constructor.
+/// Reads the beginning of a literal with fields in braces and without a constructor name.
 fn record_start<'a>(
     alloc: Global,
     text: &LiteralText<'a>,
@@ -141,7 +141,8 @@ fn record_start<'a>(
     }
 }
 
-/// Reads the beginning of fields. The first lexeme says if there is a constructor.
+/// Reads the beginning of a literal with fields in braces. The first lexeme determines whether the
+/// literal has a constructor name.
 fn fields_start<'a>(
     alloc: Global,
     text: &LiteralText<'a>,
@@ -170,7 +171,7 @@ fn fields_start<'a>(
     }
 }
 
-/// Reads the beginning of a literal with parts, from its node and its first lexeme.
+/// Reads the beginning of a literal with parts, from the literal's node and first lexeme.
 #[inline(always)]
 fn opening_start<'a>(
     alloc: Global,
@@ -207,7 +208,8 @@ fn shape_of(table: &TypeTable, t: usize) -> Option<&ShapeOf<usize>>
     table.nodes().get(t)
 }
 
-/// Reads a literal without parts at a type. `kind` is its first lexeme after the label.
+/// Reads a literal without parts at a type. `kind` is the kind of the first lexeme after the
+/// literal's label.
 #[inline(always)]
 pub fn leaf_at<'k>(table: &TypeTable, kind: &'k LexemeKind, t: usize) -> Leaf<'k>
     ensures leaf { (k : ℕ) (p : Plain) → kind.now ≡ lead_of_plain p → length (parts_of k p) ≡ 0
@@ -220,8 +222,8 @@ pub fn leaf_at<'k>(table: &TypeTable, kind: &'k LexemeKind, t: usize) -> Leaf<'k
     }
 }
 
-/// Reads the beginning of the literal with parts at node `j` at a type. The node is `node`, and
-/// `kind` is the first lexeme after the label.
+/// Reads the beginning of the literal with parts at node `j` at a type. The argument `node` is the
+/// node `j`, and `kind` is the kind of the first lexeme after the label.
 #[inline(always)]
 pub fn start_of<'a>(
     alloc: Global,

@@ -33,7 +33,7 @@ module _ (f : ℕ → List ℕ) (xs old text : List ℕ) (start i : ℕ) (less :
       ∙ ap (λ t. t ++ f (get_or xs i 0)) (is_led ∙ write)
       ∙ next
 
--- Bytes that all need no escape.
+-- If no byte needs an escape, then the escaped text of the bytes is the bytes.
 pub all_plain : (f : ℕ → List ℕ) (xs : List ℕ) → ((j : ℕ) → j < length xs → f (get_or xs j 0) ≡ get_or xs j 0 ∷ []) → flat_map f xs ≡ xs
 all_plain f [] plain = refl
 all_plain f (x ∷ xs) plain =

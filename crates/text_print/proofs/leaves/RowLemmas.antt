@@ -1,10 +1,11 @@
--- A list with one more part.
+-- Lemmas about a list of parts with one more part.
 use Rattle.std.proofs.Common.{ℕ, suc, ◌+◌, ◌<◌, ◌≡◌, ◌∙◌, List, [], ◌∷◌, ◌++◌, length, take, get_or, sym, ap, append_assoc, arith}
 use Rattle.std.specs.Prelude.{map}
 use Rattle.std.proofs.lemmas.List.{append-nil, map_more, length-map, length-take}
 use Rattle.text_print.specs.leaves.Frames.{Frame, before_part, row_from}
 
--- The part with index `i + length parts`, after the parts.
+-- If a part is appended to a list of parts, then the text is extended by the text before the part
+-- and the part.
 row_snoc : (frame : Frame) (i : ℕ) (parts : List (List ℕ)) (part : List ℕ) (n : ℕ) → n ≡ i + length parts
     → row_from frame i (parts ++ part ∷ []) ≡ row_from frame i parts ++ (before_part frame n ++ part)
 row_snoc frame i [] part n is = let same : i ≡ n = omega (arith, is) in
@@ -19,7 +20,8 @@ row_more frame f xs i d less =
     ap (row_from frame 0) (map_more f xs i d less)
     ∙ row_snoc frame 0 (map f (take i xs)) (f (get_or xs i d)) i (simp (length-map, length-take) (omega arith))
 
--- A step of a loop over the parts.
+-- If a loop has appended the first `i` parts and appends one more part, then the first `i + 1`
+-- parts are appended.
 pub row_step : {X : Type 0} (frame : Frame) (f : X → List ℕ) (xs : List X) (i : ℕ) (x d : X) (old start led all : List ℕ) → i < length xs → x ≡ get_or xs i d
     → start ≡ old ++ row_from frame 0 (map f (take i xs)) → led ≡ start ++ before_part frame i → all ≡ led ++ f x
     → all ≡ old ++ row_from frame 0 (map f (take (i + 1) xs))

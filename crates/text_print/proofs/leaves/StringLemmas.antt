@@ -76,7 +76,7 @@ string_back bytes valid =
     ∙ take-append-le (length bytes) bytes ending (omega arith)
     ∙ take_all (length bytes) bytes (omega arith)
 
--- ---- as the code reads them
+-- ---- the words as the code reads them
 
 pub words_written : (f : ℕ → List ℕ) (words : List ℕ) (len j : ℕ) (old start last all : List ℕ) → len / 8 < length words → j ≡ len / 8
     → last ≡ take (len % 8) (bytes_in (get_or words (len / 8) 0)) → start ≡ old ++ flat_map f (flat_map bytes_in (take j words)) → all ≡ start ++ flat_map f last
@@ -89,7 +89,7 @@ words_written f words len j old start last all less whole is_last is_start is_al
     ∙ append_assoc old (flat_map f prefix) (flat_map f end)
     ∙ ap (λ t. old ++ t) (sym (flat_map-append f prefix end) ∙ ap (flat_map f) (sym (take_words words len less)))
 
--- The words of a string, and its length in bytes.
+-- The first `len` bytes of `words` are `bytes`, and `words` has a word at the index `len / 8`.
 pub record AreWords (bytes words : List ℕ) (len : ℕ) : Type 0 where
   pub reach : len / 8 < length words
   pub are : take len (flat_map bytes_in words) ≡ bytes

@@ -50,7 +50,8 @@ not_met last o (x ∷ seen) above few = ⊎_elim
 module _ (table : Tabled) (graph : List Obj) where
   -- ---- one value
 
-  -- A value whose chunks are a single text.
+  -- If the chunks of a value are a single text, then appending the text appends the value on the
+  -- fast path.
   text_flat : (v : Val) (t last : ℕ) (bytes old text : List ℕ) → last < length graph → ((n : ℕ) (seen : List ℕ) → meet table graph (suc n) seen v t ≡ met (Text bytes ∷ []) seen) → text ≡ old ++ bytes
       → IsWrittenFlat table graph v t last last old text
   text_flat v t last bytes old text inside meets write = record {
@@ -86,7 +87,7 @@ module _ (table : Tabled) (graph : List Obj) where
 
   -- ---- the parts of a block, one at a time
 
-  -- The parts before part `k` were appended.
+  -- The parts before part `k` of a block were appended on the fast path.
   pub record ArePartlyWritten (block : OpenBlock) (k last : ℕ) (old text : List ℕ) : Type 0 where
     pub chunks : List Chunk
     pub fresh : agains chunks ≡ []
@@ -154,7 +155,8 @@ module _ (table : Tabled) (graph : List Obj) where
   unfolding shown_text
   plain_shown v t chunks is fresh = ap text_of is ∙ ap (λ os. flat_map (chunk_text os) chunks) (no_labels chunks fresh)
 
-  -- An integer at a type that is not a wildcard.
+  -- If the type of an integer is not a wildcard, then the text of the value is the text of the
+  -- integer.
   pub int_shown : (z : ℤ) (t : ℕ) → IsTrue (is_asked (shape_in table t)) → shown_text (shape_in table) (names_in table) graph (vals.Int z) t ≡ int_text (shape_in table t) (names_in table t) z
   int_shown z t asked =
       let bytes = int_text (shape_in table t) (names_in table t) z in
@@ -163,7 +165,7 @@ module _ (table : Tabled) (graph : List Obj) where
       refl
       ∙ append-nil bytes
 
-  -- An object without parts.
+  -- If an object has no parts, then the text of the value is the text of the object.
   pub leaf_shown : (o t : ℕ) → o < length graph → IsTrue (is_asked (shape_in table t)) → ((tag : ℕ) (values : List Val) → object_at graph o ≡ objects.Block tag values → ⊥)
       → shown_text (shape_in table) (names_in table) graph (vals.Ref o) t ≡ object_text (shape_in table t) (names_in table t) (object_at graph o)
   leaf_shown o t inside asked no_block =
@@ -173,7 +175,8 @@ module _ (table : Tabled) (graph : List Obj) where
       refl
       ∙ append-nil bytes
 
-  -- A block whose parts were appended.
+  -- If the parts of a block were appended on the fast path, then the text of the block was
+  -- appended.
   block_shown : (o t tag : ℕ) (outside : ℕ) (block : OpenBlock) (old between text : List ℕ) → o < length graph → IsTrue (is_asked (shape_in table t)) → object_at graph o ≡ objects.Block tag (fields_of (object_at graph o))
       → IsBegun table graph o t tag outside block → between ≡ old ++ (frame_in block.frame).opening → AreWrittenFlat table graph block between text → text ≡ old ++ shown_text (shape_in table) (names_in table) graph (vals.Ref o) t
   block_shown o t tag outside block old between text inside asked is_block begun opened parts =
@@ -192,7 +195,8 @@ module _ (table : Tabled) (graph : List Obj) where
       then_text old between text opening (flat_map (chunk_text []) parts.chunks) opened parts.write
       ∙ ap (λ bs. old ++ bs) (sym (plain_shown (vals.Ref o) t (prefix parts.chunks) is parts.fresh))
 
-  -- A block whose parts were appended, or some bytes were.
+  -- If `known` is true, then the text of the block was appended. If `known` is false, then some
+  -- bytes were appended.
   pub block_known : (o t tag : ℕ) (outside : ℕ) (block : OpenBlock) (old between text : List ℕ) → o < length graph → IsTrue (is_asked (shape_in table t)) → object_at graph o ≡ objects.Block tag (fields_of (object_at graph o))
       → IsBegun table graph o t tag outside block → between ≡ old ++ (frame_in block.frame).opening → (known : Bool) → WritesParts table graph block between text known
       → WritesWhole (shown_text (shape_in table) (names_in table) graph (vals.Ref o) t) old text known

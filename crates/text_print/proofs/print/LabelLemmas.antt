@@ -21,7 +21,7 @@ use Rattle.text_print.proofs.print.MarkLemmas.{mark_set}
 
 -- ---- numbers
 
--- An object has a label if and only if its number is that of one.
+-- An object has a label if and only if its number is less than the number of labels.
 pub label_cases : (objects : List ℕ) (o : ℕ) → ((has objects o ≡ true) × (number_in objects o < length objects)) ⊎ ((has objects o ≡ false) × (length objects ≤ number_in objects o))
 label_cases [] o = inr (refl, omega arith)
 label_cases (x ∷ objects) o = ⊎_elim
@@ -34,7 +34,8 @@ label_cases (x ∷ objects) o = ⊎_elim
     (label_cases objects o))
     (eqb_tells x o)
 
--- The numbers of the objects from index `k` on, counted from `k`.
+-- `numbers` has the index of each object in `objects`, where the search for the object begins at
+-- index `k`.
 abbrev pub AreNumbersFrom : ℕ → List ℕ → ℕ → List ℕ → Type 0
 AreNumbersFrom k objects first numbers = (o : ℕ) → first ≤ o → get_or numbers (o - first) (length objects) ≡ k + number_in (drop k objects) o
 
@@ -50,7 +51,8 @@ numbers_all objects first end k numbers none between are = record {
       (λ other. ap suc (none_before xs first o less (All-tail (λ y. first ≤ y) x xs all)) ∙ sym (ap (λ b. cond b 0 (suc (number_in xs o))) other.0))
       (eqb_tells x o)
 
--- The range of the objects so far and one more.
+-- If a range contains the first objects and is extended to contain the next object, then the
+-- extended range contains all of these objects.
 pub span_more : (objects : List ℕ) (i first end least past : ℕ) → i < length objects → All (IsBetween first end) (take i objects)
     → least ≤ first → end ≤ past → IsBetween least past (get_or objects i 0) → All (IsBetween least past) (take (i + 1) objects)
 span_more objects i first end least past inside all lower higher here =
@@ -175,11 +177,11 @@ module _ (table : Tabled) (graph : List Obj) where
       ap (λ ls. left_of table graph ls walk.value walk.order) (no_levels walk blocks ends) ∙ ap (λ x. left_of table graph [] x walk.order) value
       ∙ ap (λ os. left_of table graph [] (Some (v, t)) os) order
 
-  -- If no value comes next, then the remaining chunks are those of the levels.
+  -- If no value comes next, then the remaining chunks are the chunks of the levels.
   pub none_next : (walk : PrintWalk) → walk.value ≡ None → left_of table graph (levels_of walk) None walk.order ≡ chunks_left table graph walk
   none_next walk none = ap (λ value. left_of table graph (levels_of walk) value walk.order) (sym none)
 
-  -- At the end, the marked objects are those with labels.
+  -- If no chunks remain, then the marked objects are the objects with labels.
   pub counted_all : (all : List Chunk) (walk : PrintWalk) (again : List Bool) (order : List ℕ) → AreCounted table graph all walk again → chunks_left table graph walk ≡ [] → order ≡ walk.order
       → filter (λ o. get_or again o false) order ≡ labelled all
   counted_all all walk again order are none is =

@@ -21,7 +21,7 @@ use Rattle.text_print.specs.print.Walking.{needs_left, meet, parts_left, parts_a
 module _ (table : Tabled) (graph : List Obj) where
   -- ---- the levels
 
-  -- The first chunks inside come first.
+  -- If chunks come first inside the levels, then the chunks come first among the remaining chunks.
   prefix : (n : ℕ) (levels : List Level) (p : List Chunk) (m : Met) → after_inner table graph n levels (led_by p m) ≡ led_by p (after_inner table graph n levels m)
   prefix n [] p m = refl
   prefix zero (level ∷ levels) p m = refl
@@ -30,7 +30,7 @@ module _ (table : Tabled) (graph : List Obj) where
       ap (λ (x : Met). led_by x.chunks (level_left table graph n level x.seen)) (prefix n levels p m)
       ∙ ap (λ ps. met ps (level_left table graph n level k.seen).seen) (append_assoc p k.chunks (level_left table graph n level k.seen).chunks)
 
-  -- The innermost level comes before the others.
+  -- The chunks of the innermost level come before the chunks of the outer levels.
   innermost : (n k : ℕ) (levels : List Level) (level : Level) (m : Met) → n ≡ length levels + suc k
       → after_inner table graph n (levels ++ level ∷ []) m ≡ after_inner table graph n levels (led_by m.chunks (level_left table graph k level m.seen))
   innermost zero k levels level m is = absurd (omega arith)
@@ -44,7 +44,7 @@ module _ (table : Tabled) (graph : List Obj) where
   room : (d : ℕ) → d ≤ length graph → length graph + 1 - d ≡ suc (length graph - d)
   room d few = omega arith
 
-  -- A value that opens no block.
+  -- If the next value opens no block, then its chunks come before the chunks of the levels.
   pub value_left : (levels : List Level) (v : Val) (t : ℕ) (order later : List ℕ) (p : List Chunk) → length levels ≤ length graph
       → meet table graph (suc (length graph - length levels)) (reverse order) v t ≡ led_by p (met [] (reverse later))
       → left_of table graph levels (Some (v, t)) order ≡ p ++ left_of table graph levels None later
@@ -54,7 +54,8 @@ module _ (table : Tabled) (graph : List Obj) where
       ∙ ap (λ m. (after_inner table graph (length graph + 1) levels m).chunks) is
       ∙ ap (λ (m : Met). m.chunks) (prefix (length graph + 1) levels p (met [] (reverse later)))
 
-  -- A value that opens a block.
+  -- If the next value opens a block, then the chunks that remain after the opening are those of the
+  -- levels with the block as the innermost level.
   pub block_left : (levels : List Level) (block : OpenBlock) (v : Val) (t : ℕ) (order later : List ℕ) (p : List Chunk) → length levels ≤ length graph
       → meet table graph (suc (length graph - length levels)) (reverse order) v t ≡ led_by p (parts_left table graph (length graph - length levels) block (reverse later))
       → left_of table graph levels (Some (v, t)) order ≡ p ++ left_of table graph (levels ++ Open block ∷ []) None later
@@ -69,7 +70,7 @@ module _ (table : Tabled) (graph : List Obj) where
 
   -- ---- parts
 
-  -- Only the end of a level may be left.
+  -- The remaining chunk of the level is the text of `end`.
   abbrev pub IsAt : Level → ℕ → Type 0
   IsAt level end = (n : ℕ) (seen : List ℕ) → level_left table graph n level seen ≡ met (Text (end_text end) ∷ []) seen
 
@@ -89,7 +90,7 @@ module _ (table : Tabled) (graph : List Obj) where
       ∙ ap (λ m. (after_inner table graph n levels m).chunks) (is_at k (reverse order))
       ∙ ap (λ (m : Met). m.chunks) (prefix n levels (Text (end_text end) ∷ []) (met [] (reverse order)))
 
-  -- The level is that of a block after its next part.
+  -- The remaining chunks of the level are those of the block's parts after the next part.
   abbrev pub IsAfter : OpenBlock → Level → Type 0
   IsAfter block level = (n : ℕ) (seen : List ℕ) → level_left table graph n level seen ≡ parts_after table graph n block seen
 
@@ -102,7 +103,8 @@ module _ (table : Tabled) (graph : List Obj) where
       ap (λ (t : List ℕ). met (Text t ∷ []) seen) is.1
       ∙ ap (λ needs. parts_from (shape_in table) (names_in table) graph (meet table graph n) (frame_in block.frame) (vals.Ref block.object) (suc block.next) needs seen) (sym none)
 
-  -- The remaining chunks after one more part is visited.
+  -- The remaining chunks of a block are the text before the next part, the chunks of the part, and
+  -- the chunks of the later parts.
   pub part_next : (n : ℕ) (block : OpenBlock) (next : Level) (seen : List ℕ) (i t : ℕ) (w : Val) → slice_get (needs_in block.needs) block.next ≡ Some (i, t) → typed_field graph block.object i ≡ Some w → IsAfter block next
       → parts_left table graph n block seen
       ≡ led_by (Text (before_part (frame_in block.frame) block.next) ∷ []) (led_by (meet table graph n seen w t).chunks (level_left table graph n next (meet table graph n seen w t).seen))

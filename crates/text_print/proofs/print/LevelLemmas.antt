@@ -36,7 +36,7 @@ nested_outer p (b ∷ blocks) block n nested =
 
 -- ---- one more level
 
--- An end inside of all blocks.
+-- If an end is appended to the ends, then the end becomes the innermost level.
 pub level_ended : (p : ℕ) (blocks : List OpenBlock) (ends : List ℕ) (end : ℕ) → AreNested p blocks (length ends) → levels_from p blocks (ends ++ end ∷ []) ≡ levels_from p blocks ends ++ Ended end ∷ []
 level_ended p [] ends end nested = ap (map Ended) (drop-append-le p ends (end ∷ []) nested) ∙ map_push Ended (drop p ends) end
 level_ended p (b ∷ blocks) ends end nested =
@@ -45,7 +45,7 @@ level_ended p (b ∷ blocks) ends end nested =
     ∙ ap (λ (ls : List Level). map Ended (drop p (take b.outside ends)) ++ Open b ∷ ls) (level_ended b.outside blocks ends end nested.1)
     ∙ sym (append_assoc (map Ended (drop p (take b.outside ends))) (Open b ∷ levels_from b.outside blocks ends) (Ended end ∷ []))
 
--- A block inside of all ends.
+-- If a block is opened inside of all ends, then the block becomes the innermost level.
 pub level_opened : (p : ℕ) (blocks : List OpenBlock) (block : OpenBlock) (ends : List ℕ) → block.outside ≡ length ends → levels_from p (blocks ++ block ∷ []) ends ≡ levels_from p blocks ends ++ Open block ∷ []
 level_opened p [] block ends all =
     ap (λ (es : List ℕ). map Ended (drop p es) ++ Open block ∷ map Ended (drop block.outside ends)) (take_all block.outside ends (omega (arith, all)))
@@ -69,7 +69,7 @@ no_levels walk blocks ends = ap (λ (bs : List OpenBlock). levels_from 0 bs walk
 pub no_nested : (walk : PrintWalk) → walk.stack.items ≡ [] → AreNested 0 walk.stack.items (length walk.ends.items)
 no_nested walk blocks = subst (λ (bs : List OpenBlock). AreNested 0 bs (length walk.ends.items)) (sym blocks) (omega arith)
 
--- The innermost level is an end.
+-- If the innermost level is an end, then removing the end removes the innermost level.
 pub end_level : (walk new : PrintWalk) (end : ℕ) → AreNested 0 walk.stack.items (length walk.ends.items) → last_outside 0 walk.stack.items < length walk.ends.items
     → new.stack.items ≡ walk.stack.items → walk.ends.items ≡ new.ends.items ++ end ∷ []
     → (levels_of walk ≡ levels_of new ++ Ended end ∷ []) × AreNested 0 new.stack.items (length new.ends.items)
@@ -101,14 +101,14 @@ innermost_is walk outer block nested none blocks =
       outer_nested = subst (AreNested 0 outer) all both.0;
     }
 
--- If no end is inside of the last block, then this block is the innermost level.
+-- If no end is inside of the last block, then the last block is the innermost level.
 pub innermost_at : (walk : PrintWalk) (last : ℕ) (block : OpenBlock) → AreNested 0 walk.stack.items (length walk.ends.items) → length walk.ends.items ≤ last_outside 0 walk.stack.items
     → length walk.stack.items ≡ suc last → block ≡ get_or walk.stack.items last block → IsInnermost walk (take last walk.stack.items) block
 innermost_at walk last block nested none many is =
     innermost_is walk (take last walk.stack.items) block nested none
     (last_split walk.stack.items last block many ∙ ap (λ (b : OpenBlock). take last walk.stack.items ++ b ∷ []) (sym is))
 
--- The levels after that block was closed.
+-- If the innermost block is closed, then the levels lose the innermost level.
 pub closed_levels : (walk new : PrintWalk) (outer : List OpenBlock) (block : OpenBlock) → IsInnermost walk outer block → new.stack.items ≡ outer → new.ends.items ≡ walk.ends.items
     → (levels_of walk ≡ levels_of new ++ Open block ∷ []) × AreNested 0 new.stack.items (length new.ends.items)
 closed_levels walk new outer block inner blocks ends = (
@@ -116,7 +116,7 @@ closed_levels walk new outer block inner blocks ends = (
   subst (λ (bs : List OpenBlock). AreNested 0 bs (length new.ends.items)) (sym blocks) (subst (λ (es : List ℕ). AreNested 0 outer (length es)) (sym ends) inner.outer_nested),
 )
 
--- The levels after its next part has begun.
+-- If the next part of the innermost block has begun, then only the innermost level changes.
 pub passed_levels : (walk new : PrintWalk) (outer : List OpenBlock) (block : OpenBlock) (next : ℕ) (end : Option ℕ) → IsInnermost walk outer block
     → new.stack.items ≡ blocks_after outer (with_next block next) end → new.ends.items ≡ walk.ends.items ++ option_to_list end
     → (levels_of new ≡ levels_from 0 outer walk.ends.items ++ level_after (with_next block next) end ∷ []) × AreNested 0 new.stack.items (length new.ends.items)

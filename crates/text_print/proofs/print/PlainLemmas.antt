@@ -24,11 +24,10 @@ use Rattle.text_print.proofs.print.LevelLemmas.{same_levels, same_nested}
 use Rattle.text_print.proofs.print.MarkLemmas.{no_marks}
 use Rattle.text_print.proofs.print.LabelLemmas.{step_agains, append_associative, some_chunk, first_left}
 
--- One chunk of text.
 pub one_text : (old text bytes : List ℕ) → text ≡ old ++ bytes → text ≡ old ++ (bytes ++ [])
 one_text old text bytes write = write ∙ ap (λ t. old ++ t) (sym (append-nil bytes))
 
--- Two consecutive texts.
+-- If two texts are appended one after the other, then their concatenation is appended.
 pub then_text : (old text all prefix back : List ℕ) → text ≡ old ++ prefix → all ≡ text ++ back → all ≡ old ++ (prefix ++ back)
 then_text old text all prefix back write more = more ∙ ap (λ t. t ++ back) write ∙ append_assoc old prefix back
 
@@ -64,7 +63,7 @@ module _ (table : Tabled) (graph : List Obj) where
     walk = then.walk;
   }
 
-  -- Nothing was appended.
+  -- If nothing was appended, then no chunk of the traversal was written.
   pub write_none : (walk : PrintWalk) (text : List ℕ) → IsWalk table graph walk → IsWrittenOn table graph (chunks_left table graph walk) walk.order text text walk
   write_none walk text is = record {
     now = [];
@@ -75,7 +74,7 @@ module _ (table : Tabled) (graph : List Obj) where
     walk = is;
   }
 
-  -- The same state except for the next value.
+  -- Two states of a traversal are equal except for the next value.
   pub record IsSame (walk new : PrintWalk) : Type 0 where
     pub blocks : new.stack.items ≡ walk.stack.items
     pub ends : new.ends.items ≡ walk.ends.items
@@ -95,7 +94,7 @@ module _ (table : Tabled) (graph : List Obj) where
     depth = rw (same_levels walk new same.blocks same.ends, same.order) is.depth;
   }
 
-  -- A step and further ones leave fewer chunks.
+  -- If a step and further steps are written, then fewer chunks remain.
   pub fewer_written : (left : List Chunk) (met_before order text all : List ℕ) (step : PrintStep) (between new : PrintWalk) → Goes table graph left met_before step between
       → IsWrittenOn table graph (chunks_left table graph between) order text all new → length (chunks_left table graph new) < length left
   fewer_written left met_before order text all step between new goes then =
@@ -108,7 +107,7 @@ module _ (table : Tabled) (graph : List Obj) where
         length-append then.now (chunks_left table graph new),
       )
 
-  -- The visited chunks and the remaining ones are all chunks, and no object occurred again.
+  -- The visited chunks and the remaining chunks are all chunks, and no object occurred again.
   pub counted_written : (walk new : PrintWalk) (v : Val) (t : ℕ) (again : List Bool) (old text : List ℕ) → walk.value ≡ Some (v, t) → walk.stack.items ≡ [] → walk.ends.items ≡ [] → walk.order ≡ [] → again ≡ replicate (length graph) false
       → IsWrittenOn table graph (chunks_left table graph walk) walk.order old text new → AreCounted table graph (left_of table graph [] (Some (v, t)) []) new again
   counted_written walk new v t again old text value blocks ends order marks write =
@@ -127,7 +126,7 @@ module _ (table : Tabled) (graph : List Obj) where
 
   -- ---- comparison
 
-  -- The text begins with the bytes printed so far.
+  -- The given text begins with the bytes printed up to now.
   pub record IsKnown (v : Val) (t : ℕ) (text rest : List ℕ) (walk : PrintWalk) : Type 0 where
     pub prefix : List ℕ
     pub split : text ≡ prefix ++ rest
@@ -170,7 +169,7 @@ module _ (table : Tabled) (graph : List Obj) where
       ∙ ap (λ (bs : List ℕ). known.prefix ++ bs) (sym nothing)
       ∙ sym known.split
 
-  -- If nothing is left, then the whole text was appended.
+  -- If no chunks remain, then the whole text was appended.
   pub whole_written : (walk new : PrintWalk) (old text : List ℕ) (all chunks : List Chunk) → all ≡ chunks → chunks_left table graph walk ≡ all → chunks_left table graph new ≡ []
       → IsWrittenOn table graph (chunks_left table graph walk) walk.order old text new → text ≡ old ++ text_of chunks
   whole_written walk new old text all chunks are start none write =

@@ -20,7 +20,8 @@ text_all objects left start chunks before text none begin is =
     sym (append-nil text) ∙ sym (ap (λ ps. text ++ flat_map (chunk_text objects) ps) none) ∙ is
     ∙ ap (λ ps. before ++ flat_map (chunk_text objects) ps) begin
 
--- With the labels of the chunks, the text is the whole text.
+-- If `objects` are the labelled objects of the chunks, then the appended text is the whole text of
+-- the chunks.
 pub text_whole : (objects : List ℕ) (chunks : List Chunk) (before text : List ℕ) → objects ≡ labelled chunks → text ≡ before ++ flat_map (chunk_text objects) chunks → text ≡ before ++ text_of chunks
 text_whole objects chunks before text labels is = is ∙ ap (λ os. before ++ flat_map (chunk_text os) chunks) labels
 

@@ -108,7 +108,7 @@ there graph o i v is = there_in graph o i v (slice_get graph o) refl is
 -- ---- the parts of a typed object
 
 module _ (table : Table) (graph : List Obj) (lawful : IsLawful table) where
-  -- The types of fields are numbers of the table.
+  -- The types of an object's fields are numbers of the table.
   pub named_below : (i u : ℕ) (node : ShapeOf ℕ) (v : Val) (found : Option (ShapeOf ℕ)) (t : ℕ) → slice_get table.nodes t ≡ found → Contains (or_none (fields_of graph v (node_or_none found))) (i, u) → t < length table.nodes → u < length table.nodes
   named_below i u node v None t at_t needed within = absurd (no_node t table.nodes within at_t) where
     no_node : {X : Type 0} (t : ℕ) (xs : List X) → t < length xs → slice_get xs t ≡ None → ⊥

@@ -39,11 +39,12 @@ pub field_word_at : (graph : List Obj) (words : List ℕ) (i : ℕ) → All (IsF
 field_word_at graph words i valid inside = All-contains (IsFieldWord graph) words (get_or words i 0) valid (slice_get-Contains words i (get_or words i 0) (slice_get-get_or words i 0 inside))
 
 module _ (table : Tabled) (graph : List Obj) where
-  -- The blocks of all levels were visited, so there are at most as many levels as objects.
+  -- If a traversal is valid, then there are at most as many levels as objects, because the blocks
+  -- of all levels were visited.
   pub few_levels : (walk : PrintWalk) → IsWalk table graph walk → length (levels_of walk) ≤ length graph
   few_levels walk is = omega (arith, is.depth, is.counted, is.many, how_many_within walk.marks.items)
 
-  -- The step of a value that opens no block.
+  -- If the next value opens no block, then the step of the value takes the value's chunks.
   pub value_goes : (walk new : PrintWalk) (v : Val) (t : ℕ) (step : PrintStep) → IsWalk table graph walk → levels_of new ≡ levels_of walk → new.value ≡ None
       → meet table graph (suc (length graph - length (levels_of walk))) (reverse walk.order) v t ≡ led_by (step_chunks table graph step) (met [] (reverse new.order))
       → new.order ≡ walk.order ++ firsts (step_chunks table graph step) → IsStep table graph step → IsWalk table graph new
@@ -218,7 +219,7 @@ module _ (table : Tabled) (graph : List Obj) where
 
   -- ---- steps without a next value
 
-  -- A level whose end alone was left is removed.
+  -- The innermost level, which has only its end left, is removed.
   pub record IsClosed (walk new : PrintWalk) (level : Level) (end : ℕ) : Type 0 where
     pub value : new.value ≡ None
     pub levels : levels_of walk ≡ levels_of new ++ level ∷ []
@@ -256,7 +257,7 @@ module _ (table : Tabled) (graph : List Obj) where
         };
       }
 
-  -- The end at the innermost level.
+  -- If the innermost level is an end, then the step of the end takes the end's chunk.
   pub end_goes : (walk new : PrintWalk) (end : ℕ) → IsWalk table graph walk → last_outside 0 walk.stack.items < length walk.ends.items → new.value ≡ None → new.stack.items ≡ walk.stack.items
       → walk.ends.items ≡ new.ends.items ++ end ∷ [] → new.marks.items ≡ walk.marks.items → new.order ≡ walk.order
       → Goes table graph (left_of table graph (levels_of walk) None walk.order) walk.order (steps.Closing end) new
@@ -275,7 +276,7 @@ module _ (table : Tabled) (graph : List Obj) where
   pub block_open : (walk : PrintWalk) (outer : List OpenBlock) (block : OpenBlock) → IsWalk table graph walk → walk.stack.items ≡ outer ++ block ∷ [] → All (IsOpen table graph) outer × IsOpen table graph block
   block_open walk outer block is blocks = All-pop (IsOpen table graph) walk.stack.items outer (Some block) blocks is.blocks
 
-  -- The end of the innermost block, which has no remaining part.
+  -- If the innermost block has no remaining part, then the step of its end takes the end's chunk.
   pub block_goes : (walk new : PrintWalk) (outer : List OpenBlock) (block : OpenBlock) (end : ℕ) → IsWalk table graph walk → IsInnermost walk outer block → length (needs_in block.needs) ≤ block.next
       → end_text end ≡ (frame_in block.frame).closing → new.value ≡ None → new.stack.items ≡ outer → new.ends.items ≡ walk.ends.items → new.marks.items ≡ walk.marks.items → new.order ≡ walk.order
       → Goes table graph (left_of table graph (levels_of walk) None walk.order) walk.order (steps.Closing end) new
@@ -309,7 +310,7 @@ module _ (table : Tabled) (graph : List Obj) where
   no_fields_none : (n tag : ℕ) (values : List Val) → IsObject n (objects.Block tag values) → 0 < length values
   no_fields_none n tag values valid = valid.1
 
-  -- A block has fields.
+  -- A block of a valid graph has at least one field.
   pub some_fields : (o tag : ℕ) → IsGraph graph → o < length graph → object_at graph o ≡ objects.Block tag (fields_of (object_at graph o)) → 0 < length (fields_of (object_at graph o))
   some_fields o tag valid inside is =
       no_fields_none (length graph) tag (fields_of (object_at graph o))
@@ -317,7 +318,8 @@ module _ (table : Tabled) (graph : List Obj) where
 
   -- ---- the parts of an object that is opened
 
-  -- A part exists and is typed, at a wildcard type or another one.
+  -- Each part of an object that is opened exists and is typed, at a wildcard type or at another
+  -- type.
   pub open_parts : (o t : ℕ) (needs : List (ℕ × ℕ)) → IsGraph graph → o < length graph → IsLawful (table_of table) → IsTypedAt (table_of table) graph (vals.Ref o) t → needs ≡ or_none (needed_of graph (vals.Ref o) (shape_in table t))
       → (k i u : ℕ) → slice_get needs k ≡ Some (i, u) → IsPart table graph o i u
   open_parts o t needs is_graph inside lawful typed is k i u at_k = by (is_asked (shape_in table u)) refl where
@@ -341,7 +343,7 @@ module _ (table : Tabled) (graph : List Obj) where
               (named_below (table_of table) graph lawful i u (shape_in table t) (vals.Ref o) (slice_get table.nodes t) t refl among typed.number) wildcard;
         }
 
-  -- The value of a field's word is the field.
+  -- If a value is decoded from the word of a field, then the value is the field.
   pub word_is_field : (block : OpenBlock) (i : ℕ) (v : Val) → IsGraph graph → IsOpen table graph block → i < length (fields_of (object_at graph block.object))
       → IsValue (length graph) v → get_or block.fields.now i 0 ≡ word_of graph v → v ≡ field_at graph block.object i
   word_is_field block i v valid is short is_value word =
@@ -351,7 +353,7 @@ module _ (table : Tabled) (graph : List Obj) where
   pub words_many : (block : OpenBlock) → IsOpen table graph block → length block.fields.now ≡ length (fields_of (object_at graph block.object))
   words_many block is = ap length is.words ∙ length-map (fields_of (object_at graph block.object)) (word_of graph)
 
-  -- The next part of the innermost block comes next.
+  -- The next part of the innermost block becomes the next value.
   pub record IsAdvanced (walk new : PrintWalk) (outer : List OpenBlock) (block : OpenBlock) (i t : ℕ) (v : Val) (end : Option ℕ) : Type 0 where
     pub value : new.value ≡ Some (v, t)
     pub blocks : new.stack.items ≡ blocks_after outer (with_next block (block.next + 1)) end

@@ -107,7 +107,8 @@ module _ {T : Type 0} where
   abbrev carried_entry : ℕ × T → ℕ × ℕ → List (ℕ × T)
   carried_entry entry pair = cond (pair.0 == entry.0) ((pair.1, entry.1) ∷ []) []
 
-  -- Each object at a type becomes the objects paired with it, at that type.
+  -- If an object has a type in `entries`, then each object paired with the object has the type in
+  -- `carried`.
   abbrev carried : List (ℕ × ℕ) → List (ℕ × T) → List (ℕ × T)
   carried pairs entries = flat_map (λ entry. flat_map (carried_entry entry) pairs) entries
 
@@ -159,7 +160,8 @@ module _ {T : Type 0} (shape : T → ShapeOf T) (Equal : T → T → Type 0) (g 
   fits_kept : (v w : Val) (t : T) → Agree pairs v w → IsSome (fields_of g v (shape t)) → IsSome (fields_of h w (shape t))
   fits_kept v w t agree fits = subst IsSome (agree_fields v w (shape t) agree) fits
 
-  -- If an object is mutable at a type, then so is the object from which it was transported.
+  -- If an object is mutable at a type, then the object from which it was transported is mutable at
+  -- the type.
   mutable_back :
       (k l : ℕ) (t : T) → Contains pairs (k, l) → (shaped shape Equal).mutable h l t → (shaped shape Equal).mutable g k t
   mutable_back k l t paired mutable =
@@ -185,7 +187,8 @@ module _ {T : Type 0} (shape : T → ShapeOf T) (Equal : T → T → Type 0) (g 
     held_kept : (v w : Val) (t : T) → Agree pairs v w → IsHeld (shaped shape Equal) g entries v t → IsHeld (shaped shape Equal) h (carried pairs entries) w t
     held_kept v w t agree held = record { fits = fits_kept v w t agree held.fits; listed = listed_kept v w t agree held.listed }
 
-    -- If two objects are paired, then a typing holds for their fields on both sides.
+    -- If two objects are paired and a typing holds for a field of one object, then the transported
+    -- typing holds for the field of the paired object.
     field_kept :
         (k l i : ℕ) (u : T) → Contains pairs (k, l) → IsSomeAnd (field_at g k i) (λ v. IsHeld (shaped shape Equal) g entries v u)
         → IsSomeAnd (field_at h l i) (λ w. IsHeld (shaped shape Equal) h (carried pairs entries) w u)
@@ -228,8 +231,8 @@ module _ {T : Type 0} (shape : T → ShapeOf T) (Equal : T → T → Type 0) (g 
   typed_kept (vals.Ref k) (vals.Int y) t agree typed = tt
   typed_kept (vals.Ref k) (vals.Atom y) t agree typed = tt
 
--- The law holds for all types whose representations depend only on tags, sizes, integers and
--- contents.
+-- If a value has a type, then each isomorphic value has the type. Representations of types depend
+-- only on tags, sizes, integers and contents.
 pub type_is_kept :
     {T : Type 0} (shape : T → ShapeOf T) (Equal : T → T → Type 0) (g h : List Obj) (v w : Val) (t : T) → Isomorphism g v h w
     → HasType (shaped shape Equal) g v t → HasType (shaped shape Equal) h w t
@@ -241,7 +244,8 @@ type_is_kept shape Equal g h v w t (pairs, pairing, agree) has =
 
 -- ---- faults
 
--- The end of a path in one graph, and its counterpart in the other graph.
+-- The end of a path in one graph, and the paired value at the end of the path in the isomorphic
+-- graph.
 pub record OtherPosition {T : Type 0} (shapes : Shapes T) (h : List Obj) (pairs : List (ℕ × ℕ)) (position : Option (Val × T)) (v : Val) (t : T) : Type 0 where
   pub value : Val
   pub is : position ≡ Some (value, t)

@@ -230,7 +230,7 @@ module _ (pairs : List (ℕ × ℕ)) (one_to_one : (k l m n : ℕ) → Contains 
         let m = meet_agree (length g + 1 + (length h + 1)) [] [] v w t tt agree in
         ap (λ (m : Met). text_of m.chunks) (sym left) ∙ text_agree _ _ m.chunks ∙ ap (λ n. text_of (met_within shape names h n [] w t).chunks) more ∙ ap (λ (m : Met). text_of m.chunks) right
 
--- The law holds for all types, representations and names.
+-- Isomorphic values have the same text, for all types, representations and names.
 pub text_is_kept :
     {T : Type 0} (shape : T → ShapeOf T) (names : T → Names) (g h : List Obj) (v w : Val) (t : T) → Isomorphism g v h w
     → shown_text shape names g v t ≡ shown_text shape names h w t

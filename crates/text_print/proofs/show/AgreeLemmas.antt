@@ -1,5 +1,5 @@
 -- If two types have equivalent representations and names, part by part, then a value has the same
--- text at both.
+-- text at each of the two types.
 use Rattle.std.proofs.Common.{ℕ, zero, suc, ◌+◌, ◌≡◌, ◌∙◌, ℤ, List, [], ◌∷◌, length, Option, Some, None, refl, ap}
 use Rattle.std.specs.Prelude.{if◌then◌else◌, slice_get, unwrap_or}
 use Rattle.base_data.specs.declared.model.value.Val.{Val}

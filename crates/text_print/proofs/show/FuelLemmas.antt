@@ -1,4 +1,5 @@
--- Values never nest deeper than the number of objects plus one, so a larger bound changes nothing.
+-- Values never nest deeper than the number of objects plus one. A larger bound therefore changes
+-- nothing.
 use Rattle.std.proofs.Common.{ℕ, zero, suc, ◌+◌, ◌<◌, ◌≤◌, ◌≡◌, ◌∙◌, List, [], ◌∷◌, length, Bool, true, false, ◌||◌, Option, Some, None, refl, ap, sym, subst, arith}
 use Rattle.std.specs.Prelude.{if◌then◌else◌, slice_get, unwrap_or, ◌==◌}
 use Rattle.std.proofs.lemmas.Bool.{false≢true}
@@ -18,7 +19,7 @@ use Rattle.text_print.specs.show.Shown.{Met, met, led_by, parts_from, object_met
 
 -- ---- objects not yet visited
 
--- The number of the first `k` objects that were not visited.
+-- The number of unvisited objects among the first `k` objects.
 abbrev pub unmet : ℕ → List ℕ → ℕ
 unmet zero seen = 0
 unmet (suc k) seen = if has seen k then unmet k seen else suc (unmet k seen)
@@ -31,7 +32,7 @@ one_more k seen o true false less = omega (arith, less)
 one_more k seen o false true less = less
 one_more k seen o false false less = omega (arith, less)
 
--- After one more object is visited, no more objects are unvisited.
+-- If one more object is visited, then the number of unvisited objects does not grow.
 pub unmet_after : (k : ℕ) (seen : List ℕ) (o : ℕ) → unmet k (o ∷ seen) ≤ unmet k seen
 unmet_after zero seen o = omega arith
 unmet_after (suc k) seen o = one_more k seen o (o == k) (has seen k) (unmet_after k seen o)
@@ -45,7 +46,7 @@ one_less k seen o true false new later less = omega (arith, less)
 one_less k seen o false true new later less = later refl
 one_less k seen o false false new later less = let fewer = later refl in omega (arith, fewer)
 
--- After a new object is visited, fewer objects are unvisited.
+-- If an unvisited object is visited, then the number of unvisited objects shrinks.
 pub unmet_less : (k : ℕ) (seen : List ℕ) (o : ℕ) → o < k → has seen o ≡ false → unmet k (o ∷ seen) < unmet k seen
 unmet_less zero seen o below new = absurd (omega (arith, below))
 unmet_less (suc k) seen o below new =
@@ -70,7 +71,7 @@ module _ {T : Type 0} (shape : T → ShapeOf T) (names : T → Names) (graph : L
 
   -- ---- visited objects stay visited
 
-  -- After a value is visited, no more objects are unvisited.
+  -- If a value is visited by `meet`, then the number of unvisited objects does not grow.
   abbrev Keeps : (List ℕ → Val → T → Met) → Type 0
   Keeps meet = (seen : List ℕ) (v : Val) (t : T) → left (meet seen v t).seen ≤ left seen
 
@@ -160,7 +161,7 @@ module _ {T : Type 0} (shape : T → ShapeOf T) (names : T → Names) (graph : L
       (λ new. object_same meet meet' keeps (left seen) same (o ∷ seen) o t (slice_get graph o)
       (λ found at. unmet_less (length graph) seen o (slice_get_within graph o found at) new))
 
-  -- Any two bounds above the number of unvisited objects.
+  -- If two bounds exceed the number of unvisited objects, then the bounds give the same chunks.
   pub within_same : (n m : ℕ) (seen : List ℕ) (v : Val) (t : T) → left seen < n → left seen < m
       → met_within shape names graph n seen v t ≡ met_within shape names graph m seen v t
   within_same zero m seen v t few few' = absurd (omega (arith, few))

@@ -33,9 +33,10 @@ use Rattle.types_spec.specs.declared.types.shape.ShapeOf.{ShapeOf}
 use Rattle.types_spec.specs.declared.types.shape.ShapeOf.TheVariants as shapes
 use Rattle.types_spec.specs.types.Ty.{Ty}
 use Rattle.types_spec.specs.types.Declarations.{declaration_of, instance_of}
+use Rattle.types_spec.specs.types.Predeclared.{SumBlock, Sum, sum_at, name_at, takes, constr_of, shape_if, sum_shape}
 use Rattle.types_spec.specs.types.Fitting.{is_number, tag_with, is_bare, fits_int, constr_fields, fields_if, tag_fields, argument_field, block_fields, has_doubles, none_if, object_fields, fields_of}
 use Rattle.types_spec.specs.types.Head.{head}
-use Rattle.types_spec.specs.types.Names.{no_names, field_names, constant_name, carrying_names, constr_names, tag_name, body_names, declared_body_names, predeclared_type_names, head_names, names_of}
+use Rattle.types_spec.specs.types.Names.{no_names, field_names, constant_name, carrying_names, constr_names, tag_name, body_names, declared_body_names, predeclared_type_names, head_names, names_of, plain_constr, sum_names}
 use Rattle.types_spec.specs.types.Shape.{is_flat, is_constant, constants_in, types_of_fields, block_of, blocks_in, array_of, predeclared_shape, record_shape, body_shape, datatype_shape, tag_shape, head_shape, shape}
 use Rattle.text_print.specs.leaves.Frames.{is_hash, tag_of_values}
 use Rattle.text_print.specs.show.Named.{HasTag, AreForFields, HasIntName, HasBlockNames, HasDoublesNames, HasObjectNames, HasItsNames}
@@ -43,13 +44,13 @@ use Rattle.text_print.specs.show.Named.{HasTag, AreForFields, HasIntName, HasBlo
 -- ---- the names of a representation
 
 module _ {T : Type 0} where
-  -- One constructor after another.
+  -- Each block has names for its fields, and the blocks and the names correspond in order.
   abbrev AreForBlocks : List (Constr T) → List ConstrNames → Type 0
   AreForBlocks [] [] = Unit {0}
   AreForBlocks (block ∷ blocks) (c ∷ all) = AreForFields c.fields (length block.fields) × AreForBlocks blocks all
   AreForBlocks blocks all = ⊥
 
-  -- One tag after another.
+  -- Each tag has a name with the tag's hash, and the tags and the names correspond in order.
   abbrev AreForTags : List (PolyTag T) → List TagName → Type 0
   AreForTags [] [] = Unit {0}
   AreForTags (tag ∷ tags) (name ∷ all) = (tag.hash ≡ name.hash) × AreForTags tags all
@@ -122,11 +123,23 @@ array_named (heads.Predeclared b ts) t = by_base b where
   by_base base = tt
 array_named h t = tt
 
+sum_blocks_named : (name : List ℕ) (ts : List Ty) (blocks : List SumBlock)
+    → AreForBlocks (map (constr_of name ts) blocks) (map (λ (block : SumBlock). plain_constr block.name) blocks)
+sum_blocks_named name ts [] = tt
+sum_blocks_named name ts (block ∷ blocks) = (inl refl, sum_blocks_named name ts blocks)
+
+shape_if_named : (test : Bool) (known : Sum) (name : List ℕ) (ts : List Ty)
+    → AreFor (shape_if test known name ts) (sum_names (Some known))
+shape_if_named false known name ts = tt
+shape_if_named true known name ts = (refl, sum_blocks_named name ts known.blocks)
+
+sum_named : (known : Option Sum) (name : List ℕ) (ts : List Ty) → AreFor (sum_shape known name ts) (sum_names known)
+sum_named None name ts = tt
+sum_named (Some known) name ts = shape_if_named (takes known.parameters ts) known name ts
+
 predeclared_named : (decls : List Decl) (base : Predeclared) (ts : List Ty)
     → AreFor (predeclared_shape decls base ts) (predeclared_type_names base)
-predeclared_named decls bases.List (t ∷ []) = (refl, (inl refl, tt))
-predeclared_named decls bases.Option (t ∷ []) = (refl, (inl refl, tt))
-predeclared_named decls bases.Ref (t ∷ []) = (refl, (inl refl, tt))
+predeclared_named decls (bases.Sum k) ts = sum_named (sum_at k) (name_at k) ts
 predeclared_named decls bases.Array (t ∷ []) = array_named (head decls t) t
 predeclared_named decls bases.Int [] = tt
 predeclared_named decls base [] = tt
@@ -155,7 +168,7 @@ both_true : (a b : Bool) → IsTrue (a && b) → IsTrue b
 both_true true b both = both
 both_true false b both = absurd (false≢true both)
 
--- A list of the required length has an element at this index.
+-- If a list has `n` elements and `k` is below `n`, then the list has an element at index `k`.
 there : {X : Type 0} (xs : List X) (n k : ℕ) → length xs ≡ n → IsTrue (nat_lt k n) → IsSome (slice_get xs k)
 there xs n k long below =
     let less : k < length xs = subst (λ m. k < m) (sym long) ((Decides-ltb k n).0 below) in
@@ -171,7 +184,7 @@ module _ {T : Type 0} where
   tag_more tag name found found' true false same later some = absurd (false≢true (sym same))
   tag_more tag name found found' false true same later some = refl
 
-  -- A tag that is found has a name.
+  -- If a tag with hash `z` is found, then a name with hash `z` is found.
   tag_there : (tags : List (PolyTag T)) (all : List TagName) (z : ℤ) → AreForTags tags all
       → IsSome (tag_with tags z) → IsSome (find (is_hash z) all)
   tag_there [] [] z named some = some

@@ -1,4 +1,4 @@
--- If a value has a sound type, then each part has the names that its text needs.
+-- If a value has a sound type, then the names that the text of each part needs exist.
 use Rattle.std.proofs.Common.{ℕ, ◌≡◌, List, Some}
 use Rattle.std.specs.Prelude.{Contains}
 use Rattle.base_data.specs.declared.model.value.Val.{Val}
@@ -17,8 +17,8 @@ use Rattle.text_print.proofs.show.NamedLemmas.{has_its_names}
 
 module _ {T : Type 0} (shapes : Shapes T) (InQuestion : T → Type 0) (lawful : AreLawful shapes InQuestion)
     (graph : List Obj) where
-  -- If a path leads from a value that has its type to another value, then that value matches its
-  -- type's representation.
+  -- If a path leads from a value that has its type to a part, then the part matches its type's
+  -- representation.
   part_fits : (v : Val) (t : T) → InQuestion t → HasType shapes graph v t → (path : List ℕ) (w : Val) (u : T)
       → value_at shapes graph v t path ≡ Some (w, u) → shapes.fits graph w u
   part_fits v t in_question has path w u leads =

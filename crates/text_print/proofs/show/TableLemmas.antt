@@ -1,4 +1,4 @@
--- The text of a value by a table of types equals the text by its types.
+-- The text of a value by a table of types equals the text by the types.
 use Rattle.std.proofs.Common.{ℕ, ◌≡◌, ◌∙◌, ⊎_elim, ℤ, List, [], ◌∷◌, Option, Some, None, refl, ap, sym}
 use Rattle.std.specs.Prelude.{map, slice_get, option_map, option_and_then, unwrap_or}
 use Rattle.base_data.proofs.model.Options.{Contains-none}
@@ -85,7 +85,8 @@ module _ (decls : List Decl) (t : Ty) (table : Tabled) (is : IsTypeTable decls t
   abbrev pub Is : ℕ → Ty → Type 0
   Is i u = slice_get (types_of table) i ≡ Some u
 
-  -- The representation at a number is that of the type, with numbers for the types of parts.
+  -- The representation at a number is the representation of the type, with numbers for the types of
+  -- parts.
   pub shape_is : (i : ℕ) (u : Ty) → Is i u
       → with_parts (slice_get (types_of table)) (shape_in table i) ≡ with_parts Some (shape decls u)
   shape_is i u at =
@@ -160,7 +161,8 @@ module _ (decls : List Decl) (t : Ty) (table : Tabled) (is : IsTypeTable decls t
     positions_same None (Some q) positions = absurd positions
     positions_same (Some p) None positions = absurd positions
 
-    -- The lemma holds for every choice of equal numbers and types.
+    -- A part of a value has the same text at a number as at the number's type, for every choice of
+    -- equal numbers and types.
     pub part_same : (Same : ℕ → ℕ → Type 0) (Same' : Ty → Ty → Type 0) (v : Val) (i : ℕ) (u : Ty)
         → Is i u → (path : List ℕ)
         → shown_at (shape_in table) (names_in table) graph Same v i path

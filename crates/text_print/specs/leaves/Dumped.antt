@@ -1,5 +1,5 @@
--- The lines of an untyped graph: one for the root, and one for each object in the order of their
--- numbers.
+-- The lines of an untyped graph: one line for the root, and one line for each object in the order
+-- of the objects' numbers.
 use Rattle.std.specs.Prelude.{ℕ, List, ◌++◌, codes, decimal}
 use Rattle.std.specs.List.{flat_map}
 use Rattle.std.specs.Fmt.{signed_decimal}
@@ -14,7 +14,7 @@ use Rattle.marshal_heap.specs.declared.heap.kind.Kind.TheVariants as kinds
 use Rattle.marshal_heap.specs.heap.Heap.{fields_of, bytes_of, doubles_of}
 use Rattle.text_print.specs.leaves.Leaves.{string_text, float_text}
 
--- A reference is printed as the object's number.
+-- The text of a value. A reference is printed as the number of its object.
 abbrev pub value_text : Val → List ℕ
 value_text (vals.Int z) = signed_decimal z
 value_text (vals.Atom tag) = codes "@" ++ decimal tag
@@ -42,7 +42,7 @@ root_line root = codes "root " ++ value_text root ++ codes "\n"
 abbrev pub object_line : ℕ → Obj → List ℕ
 object_line o object = codes "#" ++ decimal o ++ object_text object ++ codes "\n"
 
--- ---- the same, by the kind of an object
+-- ---- the texts of objects, by kind
 
 abbrev pub custom_text : Custom → List ℕ
 custom_text (customs.I32 z) = codes " int32 " ++ signed_decimal z

@@ -20,10 +20,10 @@ use Rattle.text_print.specs.leaves.Leaves.{native_text}
 
 -- ---- lists of parts
 
--- The text before the parts, before each of them, between two of them, and after them.
+-- The text before all parts, before each part, between two parts, and after all parts.
 pub record Frame : Type 0 where
   pub opening : List ℕ
-  -- The text before part `i`, if there is one.
+  -- The text before each part. The list is empty if the parts have no labels.
   pub labels : List (List ℕ)
   pub between : List ℕ
   pub closing : List ℕ
@@ -40,8 +40,8 @@ fields_frame name fields = record {
   closing = codes "}";
 }
 
--- Without names of fields, the parts are those of a tuple or of a constructor. With names of
--- fields, they are those of a record.
+-- If the fields have no names, then the parts are those of a tuple or of a constructor. If the
+-- fields have names, then the parts are those of a record.
 abbrev pub named_frame : List ℕ → List (List ℕ) → Frame
 named_frame name [] = listed name
 named_frame name (field ∷ fields) = fields_frame name (field ∷ fields)
@@ -59,7 +59,7 @@ constr_frame (Some names) = named_frame names.name names.fields
 abbrev pub is_hash : ℤ → TagName → Bool
 is_hash z tag = is_number tag.hash z
 
--- The tag with this hash, with its backquote.
+-- The name of the tag with hash `z`, with a backquote before the name.
 abbrev pub tag_text : Names → ℤ → List ℕ
 tag_text names z =
     codes "`"
@@ -69,7 +69,7 @@ abbrev pub natural : ℤ → ℕ
 natural (pos n) = n
 natural (negsuc n) = 0
 
--- The integer in field 0.
+-- The integer in the first value of a list, or 0 if the first value is not an integer.
 abbrev pub tag_of_values : List Val → ℤ
 tag_of_values (vals.Int z ∷ values) = z
 tag_of_values values = pos 0
@@ -88,7 +88,8 @@ module _ {T : Type 0} where
   int_text (shapes.Poly tags) names z = tag_text names z
   int_text shape names z = signed_decimal z
 
-  -- A double in an array. In an array of wildcard elements it is hidden.
+  -- The text of a double in an array. If the elements have a wildcard type, then the text hides the
+  -- double.
   abbrev pub double_text : ShapeOf T → ℕ → List ℕ
   double_text (shapes.ArrayOfAnything t) bits = wildcard_text
   double_text shape bits = float_text bits
@@ -111,7 +112,7 @@ module _ {T : Type 0} where
 abbrev pub label_at : Frame → ℕ → List ℕ
 label_at frame i = unwrap_or (slice_get frame.labels i) []
 
--- The text before part `i`.
+-- The text before part `i`: the separator, except before the first part, and the label of part `i`.
 abbrev pub before_part : Frame → ℕ → List ℕ
 before_part frame zero = label_at frame zero
 before_part frame (suc i) = frame.between ++ label_at frame (suc i)
@@ -120,7 +121,7 @@ abbrev pub row_from : Frame → ℕ → List (List ℕ) → List ℕ
 row_from frame i [] = []
 row_from frame i (part ∷ parts) = before_part frame i ++ part ++ row_from frame (suc i) parts
 
--- The text of a list of parts.
+-- The text of a list of parts in a frame.
 abbrev pub row_text : Frame → List (List ℕ) → List ℕ
 row_text frame parts = frame.opening ++ row_from frame 0 parts ++ frame.closing
 

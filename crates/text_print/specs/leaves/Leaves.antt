@@ -20,7 +20,8 @@ letter_of b =
 abbrev pub three_digits : ℕ → List ℕ
 three_digits b = (48 + b / 100) ∷ (48 + b / 10 % 10) ∷ (48 + b % 10) ∷ []
 
--- A byte without a letter: itself if it is printable, otherwise a backslash and three digits.
+-- The text of a byte without a letter: the byte if it is printable, and a backslash with three
+-- digits if the byte is not printable.
 abbrev pub plain_or_digits : ℕ → List ℕ
 plain_or_digits b = if nat_le 32 b && nat_le b 126 then b ∷ [] else 92 ∷ three_digits b
 
@@ -28,7 +29,7 @@ abbrev pub letter_or : ℕ → Option ℕ → List ℕ
 letter_or b None = plain_or_digits b
 letter_or b (Some letter) = 92 ∷ letter ∷ []
 
--- A byte between quotes of this kind.
+-- The text of a byte between quotes `quote`.
 abbrev pub escaped : ℕ → ℕ → List ℕ
 escaped quote b = if b == 92 || b == quote then 92 ∷ b ∷ [] else letter_or b (letter_of b)
 
@@ -49,11 +50,12 @@ int64_text z = signed_decimal z ++ codes "L"
 abbrev pub native_text : ℤ → List ℕ
 native_text z = signed_decimal z ++ codes "n"
 
--- Sixteen hexadecimal digits in lower case.
+-- The text of a double: a `$` and sixteen hexadecimal digits in lower case.
 abbrev pub float_text : ℕ → List ℕ
 float_text bits = codes "$" ++ encode_lower (to_be_bytes w64 bits)
 
--- A value of `unit`, `bool` or `char`, which have 1, 2 and 256 values.
+-- The text of a value of `unit`, `bool` or `char`. `unit` has 1 value, `bool` has 2, and `char` has
+-- 256.
 abbrev pub below_text : ℕ → ℕ → List ℕ
 below_text many n =
     if many == 1 then codes "()"

@@ -14,8 +14,8 @@ use Rattle.text_print.specs.declared.print.print_walk.PrintWalk.{PrintWalk}
 abbrev pub IsBetween : ℕ → ℕ → ℕ → Type 0
 IsBetween first end o = (first ≤ o) × (o < end)
 
--- `numbers` has the index of each object among these, for the objects from `first` on. An object
--- before the range or beyond it is none of these.
+-- From `first` on, `numbers` has the index of each object among `objects`. An object before or
+-- beyond the range of `numbers` is not among `objects`.
 pub record AreNumbers (objects : List ℕ) (first : ℕ) (numbers : List ℕ) : Type 0 where
   pub before : (o : ℕ) → o < first → length objects ≡ number_in objects o
   pub from_first : (o : ℕ) → first ≤ o
@@ -29,17 +29,18 @@ abbrev pub agains_of : PrintStep → List ℕ
 agains_of (steps.Again o) = o ∷ []
 agains_of step = []
 
--- The marks of the objects that occur again, after a step.
+-- The marks of the objects that occur again, updated for a step.
 abbrev pub marks_after : PrintStep → List Bool → List Bool
 marks_after (steps.Again o) marks = slice_set marks o true
 marks_after step marks = marks
 
--- There is a mark for the object.
+-- If a step visits an object again, then the object is one of the `n` objects that have marks.
 abbrev pub IsMarkable : ℕ → PrintStep → Type 0
 IsMarkable n (steps.Again o) = o < n
 IsMarkable n step = Unit {0}
 
--- The marks and visits so far, with those of the remaining chunks, are those of all chunks.
+-- The marks and visits up to now, together with the marks and visits of the remaining chunks, are
+-- those of all chunks.
 pub record AreCounted (table : Tabled) (graph : List Obj) (all : List Chunk) (walk : PrintWalk)
     (again : List Bool) : Type 0 where
   pub is_walk : IsWalk table graph walk

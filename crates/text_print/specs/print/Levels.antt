@@ -8,12 +8,12 @@ use Rattle.text_print.specs.declared.print.print_walk.PrintWalk.{PrintWalk}
 
 -- ---- ends
 
--- The text after the parts, encoded in one byte. The byte `]` stands for the closing bracket of an
--- array.
+-- The text after the parts of a block, encoded in one byte. The byte `]` stands for the closing
+-- bracket of an array.
 abbrev pub end_text : ℕ → List ℕ
 end_text end = if end == 93 then codes "|]" else end ∷ []
 
--- The end of a block, if its next part is its last one.
+-- If an end is given, then the block's next part is its last part, and the end is the block's end.
 abbrev pub IsLastEnd : OpenBlock → Option ℕ → Type 0
 IsLastEnd block end =
     IfSome end
@@ -27,8 +27,8 @@ pub data Level : Type 0 where
   Open : (block : OpenBlock) → Level
   Ended : (end : ℕ) → Level
 
--- The levels, the outermost first, without the first `passed` ends. Each block has the number of
--- ends outside of it.
+-- The levels from the outermost to the innermost, without the first `passed` ends. Each block has
+-- the number of ends outside of the block.
 abbrev pub levels_from : ℕ → List OpenBlock → List ℕ → List Level
 levels_from passed [] ends = map Ended (drop passed ends)
 levels_from passed (block ∷ blocks) ends =
@@ -43,8 +43,8 @@ abbrev pub last_outside : ℕ → List OpenBlock → ℕ
 last_outside passed [] = passed
 last_outside passed (block ∷ blocks) = last_outside block.outside blocks
 
--- The number of ends outside of a block is at least that of the block before it, and at most the
--- number of all ends.
+-- The numbers of ends outside of the blocks do not decrease from block to block, and are at most
+-- the number of all ends.
 abbrev pub AreNested : ℕ → List OpenBlock → ℕ → Type 0
 AreNested passed [] many = passed ≤ many
 AreNested passed (block ∷ blocks) many =
@@ -52,7 +52,7 @@ AreNested passed (block ∷ blocks) many =
 
 -- ---- after a part
 
--- The block with this next part.
+-- The block `block` with the next part `next`.
 abbrev pub with_next : OpenBlock → ℕ → OpenBlock
 with_next block next = record {
   object = block.object;
@@ -63,7 +63,7 @@ with_next block next = record {
   outside = block.outside;
 }
 
--- The blocks with remaining parts, after a part of the innermost block.
+-- The blocks with remaining parts, after one more part of the innermost block has begun.
 abbrev pub blocks_after : List OpenBlock → OpenBlock → Option ℕ → List OpenBlock
 blocks_after outer block None = outer ++ block ∷ []
 blocks_after outer block (Some end) = outer
@@ -72,8 +72,8 @@ abbrev pub level_after : OpenBlock → Option ℕ → Level
 level_after block None = Open block
 level_after block (Some end) = Ended end
 
--- The innermost block advances to its next part. If the part was its last one, only its end is
--- kept.
+-- The innermost block advances to its next part. If the part that has begun is the last part, only
+-- the end of the block is kept.
 pub record IsPassed (old new : PrintWalk) (next : ℕ) (end : Option ℕ) : Type 0 where
   pub value : new.value ≡ old.value
   pub marks : new.marks.items ≡ old.marks.items

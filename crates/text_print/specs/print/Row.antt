@@ -1,7 +1,7 @@
 -- Ranges of consecutive numbers.
 use Rattle.std.specs.Prelude.{ℕ, zero, suc, ◌+◌, List, [], ◌∷◌, ◌++◌}
 
--- That many numbers from `first` on.
+-- The `n` consecutive numbers that begin with `first`.
 abbrev pub row : ℕ → ℕ → List ℕ
 row first zero = []
 row first (suc n) = row first n ++ (first + n) ∷ []

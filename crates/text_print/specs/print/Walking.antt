@@ -46,13 +46,14 @@ module _ (table : Tabled) (graph : List Obj) where
   abbrev pub meet : ℕ → List ℕ → Val → ℕ → Met
   meet n seen v t = met_within (shape_in table) (names_in table) graph n seen v t
 
-  -- The remaining parts of a block, for values nested at most `n` deep.
+  -- The chunks of a block's remaining parts, for values nested at most `n` deep.
   abbrev pub parts_left : ℕ → OpenBlock → List ℕ → Met
   parts_left n block seen =
       parts_from (shape_in table) (names_in table) graph (meet n) (frame_in block.frame)
       (vals.Ref block.object) block.next (needs_left block) seen
 
-  -- The remaining parts without the next one.
+  -- The chunks of a block's remaining parts without the next part, for values nested at most `n`
+  -- deep.
   abbrev pub parts_after : ℕ → OpenBlock → List ℕ → Met
   parts_after n block seen =
       parts_from (shape_in table) (names_in table) graph (meet n) (frame_in block.frame)
@@ -62,19 +63,20 @@ module _ (table : Tabled) (graph : List Obj) where
   level_left n (Open block) seen = parts_left n block seen
   level_left n (Ended end) seen = met (Text (end_text end) ∷ []) seen
 
-  -- The chunks of the levels, the outermost first, after the chunks inside all of them.
+  -- The chunks of `inside`, followed by the remaining chunks of the levels from the innermost to
+  -- the outermost.
   abbrev pub after_inner : ℕ → List Level → Met → Met
   after_inner n [] inside = inside
   after_inner zero (level ∷ levels) inside = inside
   after_inner (suc n) (level ∷ levels) inside =
       let m = after_inner n levels inside in led_by m.chunks (level_left n level m.seen)
 
-  -- The chunks of the next value, if there is one.
+  -- The chunks of the next value, or no chunks if there is no next value.
   abbrev pub value_met : ℕ → Option (Val × ℕ) → List ℕ → Met
   value_met n None seen = met [] seen
   value_met n (Some next) seen = meet n seen next.0 next.1
 
-  -- The remaining chunks, after these objects were visited in this order.
+  -- The remaining chunks, after the objects `order` were visited in the order of the list.
   unfoldable pub left_of : List Level → Option (Val × ℕ) → List ℕ → List Chunk
   left_of levels value order =
       (after_inner (length graph + 1) levels
@@ -106,7 +108,7 @@ module _ (table : Tabled) (graph : List Obj) where
 
   -- ---- the invariant of a traversal
 
-  -- Field `i` of an object exists and is typed.
+  -- Field `i` of object `o` exists and has the type with number `t`.
   pub record IsPart (o i t : ℕ) : Type 0 where
     pub there : i < length (fields_of (object_at graph o))
     pub field : typed_field graph o i ≡ Some (field_at graph o i)
@@ -119,7 +121,8 @@ module _ (table : Tabled) (graph : List Obj) where
     pub parts : (k i t : ℕ) → slice_get (needs_in block.needs) k ≡ Some (i, t)
         → IsPart block.object i t
 
-  -- The block is that of an object, before its first part, inside of this number of ends.
+  -- The block is the open block of object `o` before the first part. `many` ends are outside of the
+  -- block.
   pub record IsBegun (o t tag many : ℕ) (block : OpenBlock) : Type 0 where
     pub object : block.object ≡ o
     pub frame : frame_in block.frame
@@ -141,7 +144,7 @@ module _ (table : Tabled) (graph : List Obj) where
     pub inside : All (λ o. o < length graph) walk.order
     pub depth : length (levels_of walk) ≤ length walk.order
 
-  -- A step takes its chunks from the remaining ones.
+  -- The chunks of a step are the first of the remaining chunks.
   pub record Goes (left : List Chunk) (met_before : List ℕ) (step : PrintStep) (new : PrintWalk)
       : Type 0 where
     pub chunks : left ≡ step_chunks step ++ chunks_left new

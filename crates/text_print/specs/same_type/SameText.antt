@@ -11,14 +11,14 @@ use Rattle.types_spec.specs.types.Shape.{shape}
 use Rattle.types_spec.specs.types.Ty.{Ty}
 use Rattle.text_print.specs.show.Shown.{shown_text}
 
--- At types over declarations.
+-- Isomorphic values have the same text at a type over declarations.
 abbrev pub DeclaredTextsAreKept : Type 0
 DeclaredTextsAreKept =
     (decls : List Decl) (g h : List Obj) (v w : Val) (t : Ty) → Isomorphism g v h w
     → shown_text (shape decls) (names_of decls) g v t
     ≡ shown_text (shape decls) (names_of decls) h w t
 
--- At type numbers, for arbitrary representations and names.
+-- Isomorphic values have the same text at a type number, for arbitrary representations and names.
 abbrev pub TableTextsAreKept : Type 0
 TableTextsAreKept =
     (shapes : ℕ → ShapeOf ℕ) (names : ℕ → Names) (g h : List Obj) (v w : Val) (i : ℕ)

@@ -12,19 +12,20 @@ use Rattle.types_spec.specs.declared.types.fault.Fault.{Fault}
 use Rattle.types_spec.specs.types.LeastFault.{IsLeastFault}
 use Rattle.types_spec.specs.types.VerdictText.{IsNoLine}
 
--- At types over declarations.
+-- If a value has a type over declarations, then each isomorphic value has the type.
 abbrev pub DeclaredTypesAreKept : Type 0
 DeclaredTypesAreKept =
     (decls : List Decl) (g h : List Obj) (v w : Val) (t : Ty) → Isomorphism g v h w
     → HasType (declared_shapes decls) g v t → HasType (declared_shapes decls) h w t
 
--- At the types of a table, by their numbers.
+-- If a value has a type of a table, given by its number, then each isomorphic value has the type.
 abbrev pub TableTypesAreKept : Type 0
 TableTypesAreKept =
     (table : Table) (g h : List Obj) (v w : Val) (i : ℕ) → Isomorphism g v h w
     → HasType (table_shapes table) g v i → HasType (table_shapes table) h w i
 
--- The first fault is the same.
+-- If a fault is the first fault of a value, then the fault is the first fault of each isomorphic
+-- value.
 abbrev pub DeclaredFaultsAreKept : Type 0
 DeclaredFaultsAreKept =
     (decls : List Decl) (g h : List Obj) (v w : Val) (t : Ty) (fault : Fault) → Isomorphism g v h w
@@ -36,7 +37,8 @@ TableFaultsAreKept =
     (table : Table) (g h : List Obj) (v w : Val) (i : ℕ) (fault : Fault) → Isomorphism g v h w
     → IsLeastFault (table_shapes table) g v i fault → IsLeastFault (table_shapes table) h w i fault
 
--- The line that reports the first fault is the same, whatever the texts of the types are.
+-- Isomorphic values have the same line that reports the first fault, whatever the texts of the
+-- types are.
 abbrev pub DeclaredLinesAreKept : Type 0
 DeclaredLinesAreKept =
     (decls : List Decl) (text_of : Ty → List ℕ) (g h : List Obj) (v w : Val) (t : Ty)

@@ -1,5 +1,6 @@
--- A text that shows each object at its first occurrence and later only its label. Objects that
--- occur more than once have labels, numbered in the order of their first occurrences.
+-- A text that shows each object at its first occurrence, and only the object's label at later
+-- occurrences. Objects that occur more than once have labels, numbered in the order of their first
+-- occurrences.
 use Rattle.std.specs.Prelude.{ℕ, suc, ◌==◌, if◌then◌else◌, Bool, List, [], ◌∷◌, ◌++◌, codes}
 use Rattle.std.specs.Prelude.{decimal, flat_map, filter}
 use Rattle.std.specs.List.{list_any}
@@ -21,7 +22,7 @@ firsts (Text bytes ∷ chunks) = firsts chunks
 firsts (First o ∷ chunks) = o ∷ firsts chunks
 firsts (Again o ∷ chunks) = firsts chunks
 
--- The objects that occur again.
+-- The objects that occur again in the chunks, once for each later occurrence.
 abbrev pub agains : List Chunk → List ℕ
 agains [] = []
 agains (Text bytes ∷ chunks) = agains chunks

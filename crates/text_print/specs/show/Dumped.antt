@@ -1,5 +1,5 @@
--- The text of an untyped graph: a line for the root, and one for each object in the order of their
--- numbers.
+-- The text of an untyped graph: a line for the root, and one line for each object in the order of
+-- the objects' numbers.
 use Rattle.std.specs.Prelude.{ℕ, suc, List, [], ◌∷◌, ◌++◌}
 use Rattle.base_data.specs.declared.model.value.Val.{Val}
 use Rattle.base_data.specs.declared.model.value.Obj.{Obj}

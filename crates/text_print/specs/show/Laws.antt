@@ -1,4 +1,4 @@
--- The text of a value by a table of types equals the text by its types, and texts are never
+-- The text of a value by a table of types equals the text by the types, and texts are never
 -- truncated.
 use Rattle.std.specs.Prelude.{ℕ, ◌+◌, ◌≡◌, List, [], length, Some, slice_get, IsSome}
 use Rattle.base_data.specs.declared.model.value.Val.{Val}
@@ -19,13 +19,13 @@ use Rattle.text_print.specs.show.Named.{HasItsNames}
 use Rattle.text_print.specs.show.Shown.{met_within, shown_text, shown_at}
 use Rattle.text_print.specs.show.Tables.{shape_in, names_in}
 
--- The numbers are in one class of equal types.
+-- The numbers `i` and `j` are in one class of equal types.
 abbrev pub SameClass : Tabled → ℕ → ℕ → Type 0
 SameClass table i j = slice_get table.classes i ≡ slice_get table.classes j
 
--- A value has the same text at a number and at its type, and so has the part at each path. The
--- choice of equal types does not matter: the statement holds for types in one class and for
--- identical types.
+-- A value, and the part of the value at each path, has the same text at a number as at the number's
+-- type. The choice of equal types does not matter: the statement holds for types in one class and
+-- for identical types.
 pub record ShowAgree (decls : List Decl) (table : Tabled) (i : ℕ) (t : Ty) : Type 0 where
   pub whole : (graph : List Obj) (v : Val)
       → shown_text (shape_in table) (names_in table) graph v i
@@ -37,27 +37,27 @@ pub record ShowAgree (decls : List Decl) (table : Tabled) (i : ℕ) (t : Ty) : T
       → shown_at (shape_in table) (names_in table) graph ◌≡◌ v i path
       ≡ shown_at (shape decls) (names_of decls) graph ◌≡◌ v t path
 
--- The law holds for every number of a table.
+-- A value has the same text at every number of a table as at the number's type (`ShowAgree`).
 abbrev pub TablesShowAgree : Type 0
 TablesShowAgree =
     (decls : List Decl) (t : Ty) (table : Tabled) → IsTypeTable decls t table
     → (i : ℕ) (u : Ty) → slice_get (types_of table) i ≡ Some u → ShowAgree decls table i u
 
--- The law holds for number 0, which is that of the type that was asked for.
+-- A value has the same text at number 0 of a table as at the type for which the table was made.
 abbrev pub RootsShowAgree : Type 0
 RootsShowAgree =
     (decls : List Decl) (t : Ty) (table : Tabled) → IsTypeTable decls t table
     → ShowAgree decls table 0 t
 
--- A bound of more than one plus the number of objects gives the same chunks, so nothing is
--- truncated.
+-- A larger bound on nested values than the number of objects plus one gives the same chunks. No
+-- text is truncated.
 abbrev pub MoreIsTheSame : Type 0
 MoreIsTheSame =
     (decls : List Decl) (graph : List Obj) (v : Val) (t : Ty) (more : ℕ)
     → met_within (shape decls) (names_of decls) graph (length graph + 1 + more) [] v t
     ≡ met_within (shape decls) (names_of decls) graph (length graph + 1) [] v t
 
--- The same at a number of a table.
+-- At a number of a table, a larger bound on nested values gives the same chunks.
 abbrev pub MoreIsTheSameByNumbers : Type 0
 MoreIsTheSameByNumbers =
     (table : Tabled) (graph : List Obj) (v : Val) (i : ℕ) (more : ℕ)
@@ -72,7 +72,7 @@ NoNameIsMissing =
     → IsSome (fields_of graph v (shape decls t))
     → HasItsNames (shape decls t) (names_of decls t) graph v
 
--- If a value has its type, then the names exist at each of its parts.
+-- If a value has its type, then the names that the texts of the value's parts need exist.
 abbrev pub NoNameIsMissingInParts : Type 0
 NoNameIsMissingInParts =
     (decls : List Decl) (t : Ty) (types : List Ty) → AreWellFormed decls → IsSoundType decls t

@@ -17,7 +17,7 @@ use Rattle.text_print.specs.show.Chunks.{Chunk, Text, First, Again, has, text_of
 
 -- ---- a value as chunks
 
--- The chunks of the visited values, and the objects visited so far.
+-- The chunks of the visited values, and the visited objects.
 pub record Met : Type 0 where
   pub chunks : List Chunk
   pub seen : List ℕ
@@ -29,7 +29,7 @@ abbrev pub led_by : List Chunk → Met → Met
 led_by prefix m = met (prefix ++ m.chunks) m.seen
 
 module _ {T : Type 0} (shape : T → ShapeOf T) (names : T → Names) (graph : List Obj) where
-  -- The parts from number `i` on, in order. `meet` visits one value.
+  -- The chunks of the parts from index `i` on, in order. `meet` visits one value.
   abbrev pub parts_from : (List ℕ → Val → T → Met) → Frame → Val → ℕ → List (ℕ × T) → List ℕ → Met
   parts_from meet frame v i [] seen = met (Text frame.closing ∷ []) seen
   parts_from meet frame v i ((field, t) ∷ needs) seen =
@@ -37,7 +37,7 @@ module _ {T : Type 0} (shape : T → ShapeOf T) (names : T → Names) (graph : L
       led_by (Text (before_part frame i) ∷ one.chunks)
       (parts_from meet frame v (suc i) needs one.seen)
 
-  -- An object that is visited for the first time.
+  -- The chunks of an object that is visited for the first time.
   abbrev pub object_met : (List ℕ → Val → T → Met) → List ℕ → ℕ → T → Option Obj → Met
   object_met meet seen o t None = met [] seen
   object_met meet seen o t (Some (objects.Block tag values)) =
@@ -47,7 +47,7 @@ module _ {T : Type 0} (shape : T → ShapeOf T) (names : T → Names) (graph : L
   object_met meet seen o t (Some object) =
       met (First o ∷ Text (object_text (shape t) (names t) object) ∷ []) seen
 
-  -- A value whose type is not a wildcard.
+  -- The chunks of a value whose type is not a wildcard.
   abbrev pub asked_met : (List ℕ → Val → T → Met) → List ℕ → Val → T → Met
   asked_met meet seen (vals.Int z) t = met (Text (int_text (shape t) (names t) z) ∷ []) seen
   asked_met meet seen (vals.Atom tag) t = met (Text (codes "[||]") ∷ []) seen
@@ -55,16 +55,16 @@ module _ {T : Type 0} (shape : T → ShapeOf T) (names : T → Names) (graph : L
       if has seen o then met (Again o ∷ []) seen
       else object_met meet (o ∷ seen) o t (slice_get graph o)
 
-  -- A value at a type, after these objects were visited, with at most `n` nested values. A value at
-  -- a wildcard type is not visited.
+  -- The chunks of a value at a type, after the objects `seen` were visited, with at most `n` nested
+  -- values. A value at a wildcard type is not visited.
   abbrev pub met_within : ℕ → List ℕ → Val → T → Met
   met_within zero seen v t = met [] seen
   met_within (suc n) seen v t =
       if is_asked (shape t) then asked_met (met_within n) seen v t
       else met (Text wildcard_text ∷ []) seen
 
-  -- An object that is being visited is not entered again. So values nest at most as deep as the
-  -- number of objects, plus one.
+  -- An object that is being visited is not entered again. Values therefore nest at most as deep as
+  -- the number of objects plus one.
   abbrev pub chunks_of : Val → T → List Chunk
   chunks_of v t = (met_within (length graph + 1) [] v t).chunks
 
@@ -72,7 +72,7 @@ module _ {T : Type 0} (shape : T → ShapeOf T) (names : T → Names) (graph : L
   unfoldable pub shown_text : Val → T → List ℕ
   shown_text v t = text_of (chunks_of v t)
 
-  -- The text of the part at a path, if the path leads anywhere.
+  -- The text of the part at a path, or `None` if the path leads to no part.
   abbrev pub shown_at : (T → T → Type 0) → Val → T → List ℕ → Option (List ℕ)
   shown_at Equal v t path =
       option_map (λ position. shown_text position.0 position.1)

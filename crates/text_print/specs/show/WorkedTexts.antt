@@ -96,7 +96,7 @@ pub record Rows : Type 0 where
   pub char : shows [] (Int (pos 97)) (named (codes "char")) ≡ codes "'a'"
   pub bytes : shows (Bytes (10 ∷ 34 ∷ 92 ∷ 255 ∷ []) ∷ []) (Ref 0) (named (codes "bytes"))
       ≡ codes "\"\\n\\\"\\\\\\255\""
-  -- A hidden part has no label. It is shown where it has a type that is not a wildcard.
+  -- A hidden part has no label. An object is shown where its type is not a wildcard.
   pub wildcard : shows (Block 0 (Ref 1 ∷ Ref 1 ∷ []) ∷ Block 0 (Int (pos 0) ∷ []) ∷ []) (Ref 0)
       (pair (named (codes "_")) (one (codes "ref") int))
       ≡ codes "(_, ref(0))"
@@ -126,7 +126,7 @@ pub record Rows : Type 0 where
   pub empty : shows [] (Atom 0) (one (codes "array") int) ≡ codes "[||]"
   pub option : shows (Block 0 (Int (pos 4) ∷ []) ∷ []) (Ref 0) (one (codes "option") int)
       ≡ codes "Some(4)"
-  -- Labels are numbered by first occurrences. An object that occurs once has none.
+  -- Labels are numbered by first occurrences. An object that occurs once has no label.
   pub labels : shows
       (Block 0 (Ref 1 ∷ Ref 2 ∷ Ref 3 ∷ Ref 3 ∷ Ref 1 ∷ []) ∷ Bytes [] ∷ Bytes (98 ∷ [])
       ∷ Bytes (99 ∷ []) ∷ [])

@@ -10,7 +10,7 @@ ghost use Rattle.text_print.specs.leaves.Frames.{tag_text};
 ghost use Rattle.text_print.specs.leaves.Frames.{row_from, row_text};
 ghost use Rattle.text_print.specs.leaves.FrameView.{frame_in};
 
-use crate::leaves::bytes::{write, write_name};
+use crate::leaves::bytes::write_name;
 use crate::leaves::frame::{Frame, doubles_frame_of, name_of_tag};
 use crate::leaves::leaves::{
     write_below, write_float, write_int, write_int32, write_int64, write_native,
@@ -19,6 +19,7 @@ use crate::leaves::strings::write_string_of;
 use base_data::model::Memory;
 use base_data::model::code::Custom;
 use base_data::model::list::List;
+use base_data::text::write;
 use marshal_heap::heap::{Heap, Kind};
 use types_spec::types::names::Names;
 use types_spec::types::shape::ShapeOf;
@@ -47,8 +48,8 @@ pub fn write_int_at(
     }
 }
 
-/// Appends the text of an integer below `many`. No type has more than 256 such values. A greater
-/// integer has no text and gives an error.
+/// Appends the text of an integer below `many`. No type has more than 256 such values, and an
+/// integer above 255 gives an error.
 fn write_int_below(text: &mut Vec<u8>, many: u64, z: i64) -> Result<(), Memory>
     requires { IsTrue (is_below many z) }
     ensures { OnOk result (text.new.items ≡ text.old.items ++ below_text many (natural z)) }
@@ -59,7 +60,7 @@ fn write_int_below(text: &mut Vec<u8>, many: u64, z: i64) -> Result<(), Memory>
     }
 }
 
-/// Appends the name of a constant constructor, if there is one.
+/// Appends the name of a constant constructor, if the constructor has a name.
 #[inline(always)]
 fn write_constant(
     text: &mut Vec<u8>,
@@ -77,7 +78,7 @@ fn write_constant(
     write_name(text, constants[z as usize].as_slice())
 }
 
-/// Appends the tag with this hash.
+/// Appends the tag with hash `hash`.
 fn write_tag(text: &mut Vec<u8>, hash: i64, names: &Names) -> Result<(), Memory>
     ensures { OnOk result (text.new.items ≡ text.old.items ++ tag_text names.now hash) }
 {
@@ -85,8 +86,8 @@ fn write_tag(text: &mut Vec<u8>, hash: i64, names: &Names) -> Result<(), Memory>
     write(text, name_of_tag(names.tags.as_slice(), hash))
 }
 
-/// Appends the text of the object that a reference's word denotes, if the object has no parts.
-/// Appends nothing for a block.
+/// Appends the text of an object without parts, to which a reference's word leads. If the object is
+/// a block, appends nothing.
 #[inline(always)]
 pub fn write_object_at(
     text: &mut Vec<u8>,
@@ -131,7 +132,7 @@ fn write_doubles_at(
     frame.write_closing(text)
 }
 
-/// Appends the doubles, each with the text before it.
+/// Appends each double of an array, preceded by the text before the double.
 fn write_double_parts(
     text: &mut Vec<u8>,
     doubles: &[u64],
@@ -160,7 +161,7 @@ fn write_double(text: &mut Vec<u8>, shape: &ShapeOf<usize>, bits: u64) -> Result
     }
 }
 
-/// Appends the text of a custom block, which is the same at each type.
+/// Appends the text of a custom block, which does not depend on the type.
 fn write_custom_at(
     text: &mut Vec<u8>,
     custom: Custom,

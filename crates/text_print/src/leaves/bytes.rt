@@ -4,15 +4,7 @@ ghost use Rattle.std.specs.Prelude.{◌≡◌, ◌+◌, ◌≤◌, ◌++◌, len
 
 use base_data::model::Memory;
 
-/// Appends bytes.
-#[inline(always)]
-pub fn write(text: &mut Vec<u8>, bytes: &[u8]) -> Result<(), Memory>
-    ensures { OnOk result (text.new.items ≡ text.old.items ++ bytes.now) }
-{
-    Ok(text.extend_from_slice(bytes)?)
-}
-
-/// Appends a few bytes one by one. The memory must be reserved.
+/// Appends a few bytes one by one. Memory for the bytes must be reserved.
 #[inline(always)]
 pub fn write_reserved(text: &mut Vec<u8>, bytes: &[u8])
     requires { vec_len text.old + length bytes.now ≤ vec_capacity text.old }
@@ -25,8 +17,8 @@ pub fn write_reserved(text: &mut Vec<u8>, bytes: &[u8])
     }
 }
 
-/// Appends a name. The memory must be reserved. A name of four to eight bytes is written as its
-/// first four and its last four bytes.
+/// Appends a name. The caller must have reserved memory for the name. A name of four to eight bytes
+/// is written as its first four and its last four bytes.
 #[inline(always)]
 pub fn write_name_reserved(text: &mut Vec<u8>, name: &[u8])
     requires { vec_len text.old + length name.now ≤ vec_capacity text.old }
@@ -48,7 +40,7 @@ pub fn write_name_reserved(text: &mut Vec<u8>, name: &[u8])
     );
 }
 
-/// Appends a name.
+/// Appends a name, and allocates memory if needed.
 #[inline(always)]
 pub fn write_name(text: &mut Vec<u8>, name: &[u8]) -> Result<(), Memory>
     ensures { OnOk result (text.new.items ≡ text.old.items ++ name.now) }
@@ -58,7 +50,7 @@ pub fn write_name(text: &mut Vec<u8>, name: &[u8]) -> Result<(), Memory>
     Ok(())
 }
 
-/// Appends a few bytes one by one.
+/// Appends a few bytes one by one, and allocates memory if needed.
 #[inline(always)]
 pub fn write_few(text: &mut Vec<u8>, bytes: &[u8]) -> Result<(), Memory>
     ensures { OnOk result (text.new.items ≡ text.old.items ++ bytes.now) }

@@ -1,19 +1,18 @@
 //! The lines of an untyped graph.
 
-ghost use Rattle.std.specs.Prelude.{◌≡◌, ◌++◌, length, OnOk, decimal};
+ghost use Rattle.std.specs.Prelude.{◌≡◌, ◌++◌, length, OnOk};
 ghost use Rattle.std.specs.List.{flat_map};
 ghost use Rattle.marshal_heap.specs.heap.Heap.{object_at, fields_of, doubles_of, IsOfKind};
 ghost use Rattle.text_print.specs.leaves.Dumped.{value_text, spaced_value, spaced_float};
 ghost use Rattle.text_print.specs.leaves.Dumped.{custom_text};
 ghost use Rattle.text_print.specs.leaves.Dumped.{text_of_kind, root_line, object_line};
 
-use crate::leaves::bytes::write;
 use crate::leaves::leaves::{write_float, write_int};
 use crate::leaves::strings::write_string_of;
 use base_data::model::Memory;
 use base_data::model::code::Custom;
 use base_data::model::value::Val;
-use itoa::Buffer;
+use base_data::text::{write, write_number};
 use marshal_heap::heap::{Kind, NumberedObject};
 
 /// Appends the line of the root.
@@ -39,7 +38,7 @@ pub fn write_object_line(text: &mut Vec<u8>, placed: &NumberedObject<'_>) -> Res
     write(text, b"\n")
 }
 
-/// Appends the description of an object of this kind.
+/// Appends the description of an object whose kind is `kind`.
 fn write_object(text: &mut Vec<u8>, placed: &NumberedObject<'_>, kind: Kind) -> Result<(), Memory>
     requires kind { IsOfKind kind (object_at placed.now.heap.now placed.now.object) }
     ensures { OnOk result
@@ -138,7 +137,8 @@ fn write_spaced_float(text: &mut Vec<u8>, bits: u64) -> Result<(), Memory>
     write_float(text, bits)
 }
 
-/// Appends a value. A reference is printed as the object's number.
+/// Appends a value. A reference is printed as the number of the object to which the reference
+/// leads.
 fn write_value(text: &mut Vec<u8>, v: Val) -> Result<(), Memory>
     ensures { OnOk result (text.new.items ≡ text.old.items ++ value_text v) }
 {
@@ -153,10 +153,4 @@ fn write_value(text: &mut Vec<u8>, v: Val) -> Result<(), Memory>
             write_number(text, o)
         }
     }
-}
-
-fn write_number(text: &mut Vec<u8>, n: u64) -> Result<(), Memory>
-    ensures { OnOk result (text.new.items ≡ text.old.items ++ decimal n) }
-{
-    write(text, Buffer::new().format(n).as_bytes())
 }

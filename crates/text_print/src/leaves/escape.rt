@@ -5,8 +5,9 @@ ghost use Rattle.std.specs.Bool.{OnTrue};
 ghost use Rattle.std.specs.List.{flat_map};
 ghost use Rattle.text_print.specs.leaves.Leaves.{letter_of, escaped, char_text, string_text};
 
-use crate::leaves::bytes::{write, write_reserved};
+use crate::leaves::bytes::write_reserved;
 use base_data::model::Memory;
+use base_data::text::write;
 
 /// Returns the letter that denotes a byte after a backslash (OCaml's lexer, `lexer.mll`).
 fn letter_of(byte: u8) -> Option<u8>
@@ -21,7 +22,7 @@ fn letter_of(byte: u8) -> Option<u8>
     }
 }
 
-/// Appends one byte as it is written between quotes of this kind.
+/// Appends one byte in the form that the byte has between quotes `quote`.
 #[inline(never)]
 fn write_byte(text: &mut Vec<u8>, quote: u8, byte: u8) -> Result<(), Memory>
     ensures { OnOk result (text.new.items ≡ text.old.items ++ escaped quote byte) }
@@ -46,7 +47,7 @@ fn write_byte(text: &mut Vec<u8>, quote: u8, byte: u8) -> Result<(), Memory>
     )
 }
 
-/// Returns true if a byte needs no escape between quotes of this kind.
+/// If `is_plain` returns true, the byte needs no escape between quotes `quote`.
 #[inline(always)]
 fn is_plain(quote: u8, byte: u8) -> bool
     ensures { OnTrue result (escaped quote byte ≡ byte ∷ []) }
@@ -54,8 +55,8 @@ fn is_plain(quote: u8, byte: u8) -> bool
     32 <= byte && byte <= 126 && byte != b'\\' && byte != quote
 }
 
-/// Appends bytes as they are written between quotes of this kind. Runs of bytes without escapes are
-/// copied at once.
+/// Appends bytes in the form that the bytes have between quotes `quote`. Runs of bytes without
+/// escapes are copied at once.
 #[inline(never)]
 pub fn write_escaped(text: &mut Vec<u8>, quote: u8, bytes: &[u8]) -> Result<(), Memory>
     ensures { OnOk result (text.new.items ≡ text.old.items ++ flat_map (escaped quote) bytes.now) }
@@ -72,7 +73,7 @@ pub fn write_escaped(text: &mut Vec<u8>, quote: u8, bytes: &[u8]) -> Result<(), 
     write(text, &bytes[start..])
 }
 
-// For each byte: 0 if it needs no escape in a string, otherwise 1.
+// For each byte, 0 if the byte needs no escape in a string, and 1 if the byte needs an escape.
 static OTHERS: [u8; 256] = [
     1, 1, 1, 1, 1, 1, 1, 1, 1, 1, 1, 1, 1, 1, 1, 1, 1, 1, 1, 1, 1, 1, 1, 1, 1, 1, 1, 1, 1, 1, 1, 1,
     0, 0, 1, 0, 0, 0, 0, 0, 0, 0, 0, 0, 0, 0, 0, 0, 0, 0, 0, 0, 0, 0, 0, 0, 0, 0, 0, 0, 0, 0, 0, 0,
@@ -84,7 +85,7 @@ static OTHERS: [u8; 256] = [
     1, 1, 1, 1, 1, 1, 1, 1, 1, 1, 1, 1, 1, 1, 1, 1, 1, 1, 1, 1, 1, 1, 1, 1, 1, 1, 1, 1, 1, 1, 1, 1,
 ];
 
-/// Returns 0 if a byte needs no escape in a string, otherwise 1.
+/// Returns 0 if a byte needs no escape in a string, and 1 if the byte needs an escape.
 #[inline(always)]
 fn other(byte: u8) -> u8
     ensures one { result ≤ 1 }
@@ -93,8 +94,8 @@ fn other(byte: u8) -> u8
     OTHERS[usize::from(byte)]
 }
 
-/// Returns true if none of the first `k` bytes of a word needs an escape in a string. Always
-/// inspects all bytes, so that no branch depends on `k`.
+/// Returns true if none of the first `k` bytes of a word needs an escape in a string. All eight
+/// bytes are inspected, and therefore no branch depends on `k`.
 #[inline(always)]
 fn are_plain(bytes: &[u8; 8], k: usize) -> bool
     requires { k ≤ 8 }
@@ -108,8 +109,8 @@ fn are_plain(bytes: &[u8; 8], k: usize) -> bool
     others == 0
 }
 
-/// Appends the first `k` bytes of a word as they are written in a string. If none needs an escape,
-/// copies them at once.
+/// Appends the first `k` bytes of a word in the form that the bytes have in a string. If none of
+/// the `k` bytes needs an escape, copies all `k` bytes at once.
 #[inline(always)]
 pub fn write_word(text: &mut Vec<u8>, bytes: &[u8; 8], k: usize) -> Result<(), Memory>
     requires { k ≤ 8 }

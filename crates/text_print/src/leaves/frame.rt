@@ -10,10 +10,11 @@ ghost use Rattle.text_print.specs.leaves.Frames.{constr_frame};
 ghost use Rattle.text_print.specs.leaves.Frames.{is_hash, before_part, tag_of_values};
 ghost use Rattle.text_print.specs.leaves.FrameView.{frame_in};
 
-use crate::leaves::bytes::{write, write_few, write_name_reserved, write_reserved};
+use crate::leaves::bytes::{write_few, write_name_reserved, write_reserved};
 use base_data::model::Memory;
 use base_data::model::list::List;
 use base_data::model::value::Val;
+use base_data::text::write;
 use marshal_heap::heap::{Kind, NumberedObject};
 use types_spec::types::names::{ConstrNames, Names, TagName};
 use types_spec::types::shape::ShapeOf;
@@ -21,9 +22,9 @@ use types_spec::types::shape::ShapeOf;
 /// The text before, between and after the parts of a value.
 #[derive(Clone, Copy)]
 pub enum Frame<'a> {
-    /// A constructor's name, and the names of its fields if they have names.
+    /// A constructor's name, and the names of the constructor's fields if the fields have names.
     Constructor(&'a ConstrNames),
-    /// The names of the fields, if they have names.
+    /// The names of the fields of a record, or an empty list for a tuple.
     Fields(&'a [List<u8>]),
     /// A tag's name without its backquote.
     Tagged(&'a [u8]),
@@ -31,7 +32,7 @@ pub enum Frame<'a> {
 }
 
 impl<'a> Frame<'a> {
-    /// Appends the text before the parts.
+    /// Appends the text before all parts of a value.
     #[inline(always)]
     pub fn write_opening(&self, text: &mut Vec<u8>) -> Result<(), Memory>
         ensures { OnOk result (text.new.items ≡ text.old.items ++ (frame_in self.now).opening) }
@@ -52,7 +53,7 @@ impl<'a> Frame<'a> {
         }
     }
 
-    /// Appends the text before part `i`: the separator, and a label.
+    /// Appends the text before part `i`: the separator and the label of part `i`.
     #[inline(always)]
     #[tactic(auto, using(crate::proofs::leaves::FrameLemmas::before_is))]
     pub fn write_before(&self, text: &mut Vec<u8>, i: u64) -> Result<(), Memory>
@@ -67,7 +68,7 @@ impl<'a> Frame<'a> {
         }
     }
 
-    /// Appends the text after the parts.
+    /// Appends the text after all parts of a value.
     #[inline(always)]
     pub fn write_closing(&self, text: &mut Vec<u8>) -> Result<(), Memory>
         ensures { OnOk result (text.new.items ≡ text.old.items ++ (frame_in self.now).closing) }
@@ -81,7 +82,7 @@ impl<'a> Frame<'a> {
     }
 }
 
-/// Returns the byte before fields with these names.
+/// Returns the byte before the first field, given the names of the fields.
 #[inline(always)]
 fn opening(fields: &[List<u8>]) -> u8
     ensures { (name : List ℕ) → (named_frame name fields.now).opening ≡ name ++ result ∷ [] }
@@ -89,7 +90,7 @@ fn opening(fields: &[List<u8>]) -> u8
     if fields.is_empty() { b'(' } else { b'{' }
 }
 
-/// Returns the byte after fields with these names.
+/// Returns the byte after the last field, given the names of the fields.
 #[inline(always)]
 fn closing(fields: &[List<u8>]) -> u8
     ensures { (name : List ℕ) → (named_frame name fields.now).closing ≡ result ∷ [] }
@@ -97,7 +98,7 @@ fn closing(fields: &[List<u8>]) -> u8
     if fields.is_empty() { b')' } else { b'}' }
 }
 
-/// Appends a name and one byte after it.
+/// Appends a name and the byte `end`.
 #[inline(always)]
 fn write_ended(text: &mut Vec<u8>, name: &[u8], end: u8) -> Result<(), Memory>
     ensures { OnOk result (text.new.items ≡ text.old.items ++ (name.now ++ end ∷ [])) }
@@ -108,7 +109,7 @@ fn write_ended(text: &mut Vec<u8>, name: &[u8], end: u8) -> Result<(), Memory>
     Ok(())
 }
 
-/// Appends the separator before part `i`. The first part has none.
+/// Appends the separator before part `i`. The first part has no separator.
 #[inline(always)]
 fn write_between(text: &mut Vec<u8>, between: &[u8], i: u64) -> Result<(), Memory>
     ensures { OnOk result
@@ -164,7 +165,7 @@ fn write_field_name(text: &mut Vec<u8>, name: &[u8], i: u64) -> Result<(), Memor
     Ok(())
 }
 
-/// Returns the frame of an object that is a block with this tag.
+/// Returns the frame of an object that is a block with tag `tag`.
 #[inline(always)]
 pub fn block_frame<'a>(
     placed: &NumberedObject<'_>,
@@ -197,7 +198,7 @@ fn constructor_frame(constructors: &[ConstrNames], tag: u8) -> Frame<'_>
     Frame::Constructor(&constructors[tag as usize])
 }
 
-/// Returns the name of the tag with this hash, or an empty name if there is none.
+/// Returns the name of the tag with hash `hash`, or an empty name if no tag has the hash.
 pub fn name_of_tag(tags: &[TagName], hash: i64) -> &[u8]
     ensures { result.now
         ≡ unwrap_or (option_map (λ (tag : TagName). tag.name) (find (is_hash hash) tags.now)) [] }
@@ -208,7 +209,7 @@ pub fn name_of_tag(tags: &[TagName], hash: i64) -> &[u8]
     }
 }
 
-/// Returns the integer in field 0 of a block, or 0 if there is none.
+/// Returns the integer in field 0 of a block, or 0 if field 0 contains no integer.
 fn first_int(placed: &NumberedObject<'_>) -> i64
     ensures { result
         ≡ tag_of_values (fields_of (object_at placed.now.heap.now placed.now.object)) }

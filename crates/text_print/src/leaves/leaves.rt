@@ -5,9 +5,10 @@ ghost use Rattle.std.specs.Fmt.{signed_decimal};
 ghost use Rattle.text_print.specs.leaves.Leaves.{below_text, int32_text, int64_text, native_text};
 ghost use Rattle.text_print.specs.leaves.Leaves.{float_text};
 
-use crate::leaves::bytes::{write, write_few};
+use crate::leaves::bytes::write_few;
 use crate::leaves::escape::write_char;
 use base_data::model::Memory;
+use base_data::text::write;
 use itoa::Buffer;
 
 /// Appends an integer in decimal.

@@ -8,8 +8,8 @@ ghost use Rattle.text_print.specs.leaves.Leaves.{escaped, string_text};
 use crate::leaves::escape::write_word;
 use base_data::model::Memory;
 
-/// Appends the first `len` bytes of these words as a string literal. The least significant byte of
-/// each word comes first.
+/// Appends the first `len` bytes of `words` as a string literal. The least significant byte of each
+/// word comes first.
 #[inline(always)]
 pub fn write_string_of(text: &mut Vec<u8>, words: &[u64], len: usize) -> Result<(), Memory>
     requires { len / 8 < length words.now }
@@ -22,7 +22,7 @@ pub fn write_string_of(text: &mut Vec<u8>, words: &[u64], len: usize) -> Result<
     Ok(text.push(b'"')?)
 }
 
-/// Appends the bytes as they are written in a string.
+/// Appends the first `len` bytes of `words` in the form that the bytes have in a string.
 #[inline(always)]
 fn write_words(text: &mut Vec<u8>, words: &[u64], len: usize) -> Result<(), Memory>
     requires { len / 8 < length words.now }

@@ -8,9 +8,9 @@ use crate::leaves::Frame;
 use crate::print::ends::end_of;
 use check_heap::fits::Needs;
 
-/// A block that is being visited. It has the words of its fields, the text around its parts, the
-/// fields that are its parts, and the index of the next part. `outside` is the number of ends
-/// outside of the block.
+/// A block that is being visited: the words of the fields, the text around the parts, the fields
+/// that are parts, and the index of the next part. `outside` is the number of ends outside of the
+/// block.
 #[derive(Clone, Copy)]
 pub struct OpenBlock<'a> {
     pub object: u64,
@@ -22,20 +22,20 @@ pub struct OpenBlock<'a> {
 }
 
 impl OpenBlock<'_> {
-    /// Returns the field that is the next part and its type number, if there is a next part.
+    /// Returns the field and the type number of the next part, or `None` if no part is left.
     #[inline(always)]
     pub fn next_need(&self) -> Option<(u64, usize)>
         ensures need { result ≡ slice_get (needs_in self.now.needs) self.now.next }
         ensures more { IfSome result (λ _. self.now.next + 1 < 2 ^ 64) }
     {
-        // This match tests for the most common case only once.
+        // The match on `needs` tests for the most common case only once.
         match self.needs {
             Needs::Listed(types) => need_at(Needs::Listed(types), self.next),
             needs => need_at(needs, self.next),
         }
     }
 
-    /// Returns the end of the block if its next part is its last one.
+    /// Returns the end of the block if the next part of the block is the last part.
     #[inline(always)]
     pub fn last_end(&self) -> Option<u8>
         requires { self.now.next < length (needs_in self.now.needs) }
@@ -48,7 +48,7 @@ impl OpenBlock<'_> {
     }
 }
 
-// Returns part `k`, if there is one.
+// Returns the field and the type number of part `k`, or `None` if there is no part `k`.
 #[inline(always)]
 fn need_at(needs: Needs<'_>, k: u64) -> Option<(u64, usize)>
     ensures need { result ≡ slice_get (needs_in needs.entry) k }

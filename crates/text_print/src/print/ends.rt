@@ -10,7 +10,7 @@ use crate::leaves::{Frame, write_few};
 use base_data::model::Memory;
 use base_data::model::list::List;
 
-/// Returns the end of the parts.
+/// Returns the end that encodes the text after the parts of a frame.
 #[inline(always)]
 pub fn end_of(frame: &Frame<'_>) -> u8
     ensures { end_text result ≡ (frame_in frame.now).closing }
@@ -23,7 +23,7 @@ pub fn end_of(frame: &Frame<'_>) -> u8
     }
 }
 
-// Returns the end of fields with these names.
+// Returns the end that encodes the text after the last field, given the names of the fields.
 #[inline(always)]
 fn end_of_fields(fields: &[List<u8>]) -> u8
     ensures { (name : Seq ℕ) → end_text result ≡ (named_frame name fields.now).closing }
@@ -31,7 +31,7 @@ fn end_of_fields(fields: &[List<u8>]) -> u8
     if fields.is_empty() { b')' } else { b'}' }
 }
 
-/// Appends the text after the parts.
+/// Appends the text that an end encodes.
 #[inline(always)]
 pub fn write_end(text: &mut Vec<u8>, end: u8) -> Result<(), Memory>
     ensures { OnOk result (text.new.items ≡ text.old.items ++ end_text end) }

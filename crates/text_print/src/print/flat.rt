@@ -1,4 +1,5 @@
-//! Fast path for values in which clearly no object occurs twice. It prints without a traversal.
+//! Fast path for values in which clearly no object occurs twice. The fast path prints without a
+//! traversal.
 
 ghost use Rattle.std.specs.Prelude.{◌≡◌, ◌<◌, length, IfOk, IsTrue};
 ghost use Rattle.base_data.specs.declared.model.value.Val.TheVariants as vals;
@@ -25,9 +26,10 @@ use types_table::type_table::TypeTable;
 // The maximal number of parts of an object on the fast path.
 const FEW: u64 = 8;
 
-/// Appends the text of an integer, or of an object without parts, or of an object with few parts
-/// that have no parts themselves. The objects among the parts must have ascending numbers. Returns
-/// true if it appended the whole text. Otherwise it may have appended some bytes.
+/// Appends the text of an integer, of an object without parts, or of an object with few parts that
+/// have no parts. The objects among the parts must have ascending numbers. If `write_flat` returns
+/// true, the whole text was appended, and if `write_flat` returns false, some bytes may have been
+/// appended.
 pub fn write_flat(
     text: &mut Vec<u8>,
     value: &Rooted<'_>,
@@ -60,8 +62,8 @@ pub fn write_flat(
     }
 }
 
-// Appends the text of an object, under the same conditions. Returns true if it appended the whole
-// text.
+// Appends the text of an object without parts, or of an object with few parts that have no parts.
+// If `write_flat_object` returns true, the whole text was appended.
 #[inline(always)]
 fn write_flat_object(
     text: &mut Vec<u8>,
@@ -92,8 +94,8 @@ fn write_flat_object(
     Ok(whole)
 }
 
-// Appends the parts of a block and the text after them. Stops at the first part that the fast path
-// cannot print. Returns true if it appended all parts.
+// Appends the parts of a block and the text after the parts. Stops at the first part that the fast
+// path cannot print. If `write_flat_parts` returns true, all parts were appended.
 #[inline(always)]
 fn write_flat_parts(
     text: &mut Vec<u8>,
@@ -125,7 +127,7 @@ fn write_flat_parts(
     Ok(true)
 }
 
-// Appends the value of this word if it has no parts and is not an object up to number `last`.
+// Appends the value of a word if the value has no parts and is not an object up to number `last`.
 // Returns the greatest number of an object that may have been visited, or `None` if the value is
 // not printed.
 #[inline(always)]

@@ -1,5 +1,5 @@
-//! Compares a text with the text of a value. The value's text is printed in small chunks, each of
-//! which is compared with the rest of the given text.
+//! Compares a given text with the text of a value. The value's text is printed in small chunks, and
+//! each chunk is compared with the bytes of the given text that are not yet compared.
 
 ghost use Rattle.std.specs.Prelude.{◌≡◌, ◌<◌, ◌++◌, length, IfOk, IfSome, IsTrue};
 ghost use Rattle.types_spec.specs.types.Table.{table_shapes};
@@ -15,10 +15,10 @@ use marshal_heap::heap::Rooted;
 use std::alloc::Global;
 use types_table::type_table::TypeTable;
 
-/// The size of a chunk in bytes. A chunk may be somewhat longer.
+/// The size of a chunk in bytes, which a chunk may exceed somewhat.
 const FEW: usize = 4096;
 
-// Returns the rest of the text after this prefix, if the text begins with it.
+// Returns the bytes of `text` after `prefix`, or `None` if `text` does not begin with `prefix`.
 fn after<'t>(text: &'t [u8], prefix: &[u8]) -> Option<&'t [u8]>
     ensures { IfSome result (λ rest. text.now ≡ prefix.now ++ rest.now) }
 {
@@ -29,8 +29,8 @@ fn after<'t>(text: &'t [u8], prefix: &[u8]) -> Option<&'t [u8]>
     }
 }
 
-/// Returns true if this is the text of the value at a type of the table. If an object has a label,
-/// returns false for every text.
+/// Returns true if the given text is the text of the value at a type of the table. If an object has
+/// a label, returns false for every text.
 pub fn is_shown(
     alloc: Global,
     value: &Rooted<'_>,

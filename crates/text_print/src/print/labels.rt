@@ -6,26 +6,25 @@ ghost use Rattle.text_print.specs.show.Chunks.{First, Again, chunk_text, number_
 ghost use Rattle.text_print.specs.print.Labels.{AreNumbers, AreLabels, IsBetween, IsMarkable};
 ghost use Rattle.text_print.specs.print.Labels.{marks_after};
 
-use crate::leaves::write;
 use crate::print::print_walk::PrintStep;
 use base_data::model::Memory;
-use itoa::Buffer;
+use base_data::text::{write, write_number};
 use std::alloc::Global;
 
 /// The objects that have labels, in the order of their labels.
 #[derive(Drop)]
 pub struct Labels {
     objects: Vec<u64>,
-    // The least labelled object, if there is one.
+    // The least labelled object, if an object has a label.
     first: u64,
-    // For each object from the first to the greatest labelled one, the number of its label. For an
-    // object without a label, the number of labels.
+    // For each object from the least to the greatest labelled object, the number of the object's
+    // label. For an object without a label, the number of all labels.
     numbers: Vec<u64>,
 }
 
 impl Labels {
-    /// Returns the labels of these objects, which are below `count`. The memory is proportional to
-    /// the range between the least and the greatest of them.
+    /// Returns the labels of `objects`, which are below `count`. The memory is proportional to the
+    /// range between the least and the greatest of the objects.
     pub fn new(alloc: Global, objects: Vec<u64>, count: u64) -> Result<Labels, Memory>
         requires { All (λ o. o < count) objects.items }
         ensures objects { IfOk result (λ labels. labels.objects.items ≡ objects.items) }
@@ -40,7 +39,8 @@ impl Labels {
         })
     }
 
-    /// Appends the text before an object at its first occurrence: its label, if it has one.
+    /// Appends the text before an object at its first occurrence. If the object has a label, the
+    /// text contains the label.
     pub fn write_first(&self, text: &mut Vec<u8>, o: u64) -> Result<(), Memory>
         requires { AreLabels self.now }
         ensures { OnOk result
@@ -63,7 +63,8 @@ impl Labels {
         write_label(text, self.number_of(o))
     }
 
-    // Returns the number of an object's label, or the number of labels if the object has none.
+    // Returns the number of an object's label, or the number of all labels if the object has no
+    // label.
     #[inline(always)]
     fn number_of(&self, o: u64) -> u64
         requires { AreLabels self.now }
@@ -81,7 +82,7 @@ impl Labels {
     }
 }
 
-/// Appends the label with this number.
+/// Appends the label with number `n`.
 pub fn write_label(text: &mut Vec<u8>, n: u64) -> Result<(), Memory>
     ensures { OnOk result (text.new.items ≡ text.old.items ++ (codes "#" ++ decimal n)) }
 {
@@ -89,13 +90,7 @@ pub fn write_label(text: &mut Vec<u8>, n: u64) -> Result<(), Memory>
     write_number(text, n)
 }
 
-fn write_number(text: &mut Vec<u8>, n: u64) -> Result<(), Memory>
-    ensures { OnOk result (text.new.items ≡ text.old.items ++ decimal n) }
-{
-    write(text, Buffer::new().format(n).as_bytes())
-}
-
-/// Marks an object that occurs again.
+/// If the step prints an object again, marks that object.
 #[inline(always)]
 pub fn mark_again(again: &mut Vec<bool>, step: PrintStep<'_>)
     requires { IsMarkable (vec_len again.old) step }
@@ -128,7 +123,7 @@ struct LabelSpan {
     end: u64,
 }
 
-// Returns the range of these objects, which are below `count`.
+// Returns the range of `objects`, which are below `count`.
 fn span_of(objects: &[u64], count: u64) -> LabelSpan
     requires { All (λ o. o < count) objects.now }
     ensures { All (IsBetween result.first result.end) objects.now }
@@ -142,8 +137,8 @@ fn span_of(objects: &[u64], count: u64) -> LabelSpan
     LabelSpan { first, end }
 }
 
-// Returns for each object of the range its index among these objects, or their number if it is none
-// of them.
+// Returns, for each number from `first` up to `end`, the index of the number among `objects`. For a
+// number that is not in `objects`, the length of `objects` is returned.
 fn number_objects(alloc: Global, objects: &[u64], first: u64, end: u64) -> Result<Vec<u64>, Memory>
     requires { All (IsBetween first end) objects.now }
     ensures { IfOk result (λ numbers. AreNumbers objects.now first numbers.items) }

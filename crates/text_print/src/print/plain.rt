@@ -26,7 +26,7 @@ use marshal_heap::heap::{Heap, Kind, NumberedObject, Rooted};
 use types_table::type_table::TypeTable;
 
 /// Appends the text of the remaining values up to the first object that occurs again. Returns true
-/// if there was no such object.
+/// if no object occurred again.
 pub fn write_until_again<'a>(
     text: &mut Vec<u8>,
     heap: &'a Heap,
@@ -48,8 +48,8 @@ pub fn write_until_again<'a>(
     Ok(fresh)
 }
 
-/// Appends text of the remaining values while it has fewer than a given number of bytes. Returns
-/// true if no object occurred again.
+/// Appends text of the remaining values until a given number of bytes was appended. Returns true if
+/// no object occurred again.
 pub fn write_some<'a>(
     text: &mut Vec<u8>,
     heap: &'a Heap,
@@ -71,8 +71,8 @@ pub fn write_some<'a>(
     Ok(fresh)
 }
 
-// Appends the beginning of the next value, if there is one and it is not an object that occurred
-// before.
+// Appends the beginning of the next value, if there is a next value and the value is not an object
+// that occurred before.
 fn write_next<'a>(
     text: &mut Vec<u8>,
     heap: &'a Heap,
@@ -125,8 +125,8 @@ fn write_part<'a>(
     write_in(text, heap, table, walk)
 }
 
-// Appends the text before the next part of the innermost block and the beginning of that part. If
-// there is no next part, appends the text after the last one.
+// Appends the text before the next part of the innermost block, and the beginning of the part. If
+// the block has no next part, appends the text after the last part.
 #[inline(always)]
 fn write_in<'a>(
     text: &mut Vec<u8>,
@@ -174,8 +174,8 @@ pub fn word_at(fields: &[u64], i: u64) -> u64
     fields[i as usize]
 }
 
-// Appends the beginning of the value of this word. If the value is an object that occurred before,
-// then it becomes the next value instead.
+// Appends the beginning of the value of a word. If the value is an object that occurred before,
+// makes the value the next value instead.
 #[inline(always)]
 fn write_value<'a>(
     text: &mut Vec<u8>,
@@ -260,7 +260,7 @@ fn write_object<'a>(
     Ok(())
 }
 
-/// Appends an object without parts at the type with this number.
+/// Appends an object without parts, given the number of the object's type.
 #[inline(always)]
 pub fn write_leaf(
     text: &mut Vec<u8>,

@@ -1,5 +1,5 @@
-//! A depth-first traversal of a value at a type, which visits parts from left to right and yields
-//! the chunks of its text.
+//! A depth-first traversal of a value at a type. The traversal visits parts from left to right and
+//! yields the chunks of the value's text.
 
 ghost use Rattle.std.specs.Prelude.{◌≡◌, ◌<◌, ◌≤◌, ◌+◌, option_map, length, Some, None, All, IfOk};
 ghost use Rattle.std.specs.Prelude.{OnOk, IsTrue, [], true, false, slice_index, slice_index_or};
@@ -29,11 +29,11 @@ use marshal_heap::heap::{Heap, Kind, NumberedObject, Rooted};
 use std::alloc::Global;
 use types_table::type_table::TypeTable;
 
-/// One step of the traversal. At the first visit of an object a step stands for two chunks, and
-/// otherwise for one.
+/// One step of the traversal. A step at the first visit of an object stands for two chunks, and any
+/// other step stands for one chunk.
 #[derive(Clone, Copy)]
 pub enum PrintStep<'a> {
-    /// An integer at the type with this number.
+    /// An integer, and the number of its type.
     Integer(i64, usize),
     /// The array without elements.
     Empty,
@@ -41,11 +41,11 @@ pub enum PrintStep<'a> {
     Wildcard,
     /// An object that was visited before.
     Again(u64),
-    /// An object without parts, at the type with this number.
+    /// An object without parts, and the number of its type.
     Leaf(u64, usize),
-    /// A block, and the text around its parts.
+    /// A block, and the text around the parts of the block.
     Opening(u64, Frame<'a>),
-    /// The text before this part.
+    /// The text before a part, which is given by its index.
     Before(Frame<'a>, u64),
     /// The text after the last part, given by the code of the block's end.
     Closing(u8),
@@ -57,17 +57,19 @@ pub enum PrintStep<'a> {
 pub struct PrintWalk<'a> {
     // The next value and its type number, if a value comes next.
     pub value: Option<(Val, usize)>,
-    // The blocks with remaining parts, the innermost last.
+    // The blocks with remaining parts. The innermost block is the last in the list.
     pub stack: Vec<OpenBlock<'a>>,
-    // The ends of the other open blocks, the innermost last.
+    // The ends of the open blocks without remaining parts. The innermost end is the last in the
+    // list.
     pub ends: Vec<u8>,
-    // For each object whether it was visited, and the order of the visits.
+    // For each object, whether the object was visited. `order` lists the objects in the order of
+    // the visits.
     pub marks: Vec<bool>,
     pub order: VisitOrder,
 }
 
 impl<'a> PrintWalk<'a> {
-    /// Returns the position before the first chunk.
+    /// Returns the state of the traversal before the first chunk.
     pub fn new(
         alloc: Global,
         value: &Rooted<'_>,
@@ -175,8 +177,8 @@ impl<'a> PrintWalk<'a> {
         Ok(PrintStep::Opening(o, block.frame))
     }
 
-    // Returns the next step if no value is pending. This is the end of the innermost level, or the
-    // step before the next part of the innermost block.
+    // Returns the next step if no value is pending. The step is the end of the innermost level, or
+    // comes before the next part of the innermost block.
     #[inline(always)]
     pub fn go_on(&mut self, heap: &Heap, table: &TypeTable) -> Result<Option<PrintStep<'a>>, Memory>
         requires walk { IsWalk table.now heap.now self.old }
@@ -198,7 +200,8 @@ impl<'a> PrintWalk<'a> {
         Ok(Some(self.go_in(heap, table)?))
     }
 
-    // Returns the step in the innermost block: before its next part, or after its last one.
+    // Returns the step before the next part of the innermost block. If the block has no next part,
+    // returns the step after the last part.
     #[inline(always)]
     fn go_in(&mut self, heap: &Heap, table: &TypeTable) -> Result<PrintStep<'a>, Memory>
         requires walk { IsWalk table.now heap.now self.old }
@@ -256,8 +259,8 @@ impl<'a> PrintWalk<'a> {
         self.stack.is_empty() && self.ends.is_empty()
     }
 
-    /// Moves to the part after the current part of the innermost block. If the current part is the
-    /// last one, then `end` is the end of the block, and the block is replaced by this end.
+    /// Moves to the next part of the innermost block. If the current part is the last part, then
+    /// `end` is the end of the block, and the block is replaced by `end`.
     #[inline(always)]
     pub fn pass_part(&mut self, last: usize, next: u64, end: Option<u8>) -> Result<(), Memory>
         requires { last + 1 ≡ vec_len self.old.stack }
@@ -276,7 +279,7 @@ impl<'a> PrintWalk<'a> {
     }
 }
 
-// Returns the object to which a value refers, or 0 if it is not a reference.
+// Returns the object to which a value refers, or 0 if the value is not a reference.
 fn first_object(v: Val) -> u64 {
     match v {
         Val::Ref(o) => o,
@@ -301,7 +304,7 @@ pub fn value_at(heap: &Heap, fields: &[u64], i: u64, near: u64) -> Val
 }
 
 // Returns the open block of an object, before its first part. `outside` is the number of pending
-// ends of the blocks around it.
+// ends of the blocks around the new block.
 #[inline(always)]
 pub fn open_block<'a>(
     placed: &NumberedObject<'a>,
@@ -342,8 +345,8 @@ pub fn open_block<'a>(
     }
 }
 
-// Returns the given parts, or an empty list if there are none. The match names each variant, so
-// that its components are copied one by one.
+// Returns the given parts, or an empty list if no parts are given. The match names each variant,
+// and therefore the components of a variant are copied one by one.
 #[inline(always)]
 fn needs_or_none(needs: Option<Needs<'_>>) -> Needs<'_>
     ensures { needs_in result ≡ or_none (option_map needs_in needs.entry) }

@@ -13,7 +13,7 @@ ghost use Rattle.text_print.specs.print.Labels.{AreLabels};
 ghost use Rattle.text_print.specs.print.Write.{IsWritten};
 ghost use Rattle.text_print.specs.print.Walking.{IsStep, step_chunks};
 
-use crate::leaves::{write, write_int_at};
+use crate::leaves::write_int_at;
 use crate::print::ends::write_end;
 use crate::print::flat::write_flat;
 use crate::print::labels::{Labels, mark_again, objects_again, write_label};
@@ -21,6 +21,7 @@ use crate::print::plain::{write_leaf, write_until_again};
 use crate::print::print_walk::{PrintStep, PrintWalk};
 use base_data::model::Memory;
 use base_data::model::value::Val;
+use base_data::text::write;
 use marshal_heap::heap::{Heap, Rooted};
 use std::alloc::Global;
 use types_table::type_table::TypeTable;
@@ -56,8 +57,8 @@ pub fn write_shown_at(
     Ok(())
 }
 
-// Appends the text if no object has a label. If an object occurs again, the function stops
-// appending and returns the objects that have labels.
+// Appends the text of a value if no object has a label. If an object occurs again, stops appending
+// and returns the objects that have labels.
 fn write_without_labels(
     text: &mut Vec<u8>,
     alloc: Global,
@@ -88,7 +89,7 @@ fn write_without_labels(
     Ok(Some(objects))
 }
 
-// Appends the text with these labels.
+// Appends the text of a value with given labels.
 #[inline(never)]
 fn write_with_labels(
     text: &mut Vec<u8>,

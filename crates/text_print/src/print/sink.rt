@@ -1,4 +1,5 @@
-//! Writes the texts to a sink. All memory is allocated before the first byte is written.
+//! Writes the text of a value, or the lines of a graph, to a sink. All memory is allocated before
+//! the first byte is written.
 
 ghost use Rattle.std.specs.Prelude.{◌≡◌, IsErrOf};
 ghost use Rattle.types_spec.specs.types.Table.{table_shapes};

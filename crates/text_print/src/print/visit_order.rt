@@ -6,8 +6,8 @@ use base_data::model::Memory;
 use std::alloc::Global;
 use std::marker::Model;
 
-/// A list of objects: a range of consecutive numbers, followed by others. A value that was read has
-/// its objects in such a range, which takes no memory. In contracts, its model is the list of the
+/// A list of objects: a range of consecutive numbers, followed by other objects. The range takes no
+/// memory, and contains all objects of a value that was read. Contracts see the list of the
 /// objects.
 #[derive(Drop)]
 pub struct VisitOrder {
@@ -29,7 +29,8 @@ impl Model for VisitOrder {
 }
 
 impl VisitOrder {
-    /// Returns the empty list. A range that begins with `first` takes no memory.
+    /// Returns the empty list of objects. If objects are appended in consecutive order from `first`
+    /// on, they take no memory.
     pub fn new(alloc: Global, first: u64) -> VisitOrder
         ensures { result ≡ [] }
     {
@@ -40,7 +41,7 @@ impl VisitOrder {
         }
     }
 
-    /// Returns the object that would extend the range.
+    /// Returns the object whose appending would extend the range.
     #[inline(always)]
     pub fn next(&self) -> u64 {
         self.next
@@ -58,7 +59,7 @@ impl VisitOrder {
         Ok(self.others.push(o)?)
     }
 
-    /// Returns the objects.
+    /// Returns the objects in the order of their visits.
     pub fn numbers(&self, alloc: Global) -> Result<Vec<u64>, Memory>
         ensures { IfOk result (λ numbers. numbers.items ≡ self.now) }
     {

@@ -1,11 +1,11 @@
-//! The laws. The functions do nothing and exist only for their contracts.
+//! The laws of isomorphic values. Each function does nothing and exists only for its contract.
 
 ghost use Rattle.text_print.specs.same_type.SameText.{DeclaredTextsAreKept, TableTextsAreKept};
 ghost use Rattle.text_print.specs.same_type.SameType.{DeclaredTypesAreKept, TableTypesAreKept};
 ghost use Rattle.text_print.specs.same_type.SameType.{DeclaredFaultsAreKept, TableFaultsAreKept};
 ghost use Rattle.text_print.specs.same_type.SameType.{DeclaredLinesAreKept};
 
-/// Proves that if a value has a type, then every isomorphic value has it too.
+/// Proves that if a value has a type, then every isomorphic value has the type.
 pub fn the_same_has_the_same_types()
     ensures declared { DeclaredTypesAreKept }
     ensures table { TableTypesAreKept }

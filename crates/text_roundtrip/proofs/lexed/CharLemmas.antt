@@ -1,5 +1,5 @@
--- The escaped form of a byte is one character of the lexer, with the byte as its value. So a string
--- is one lexeme.
+-- The escaped form of a byte is one character of the lexer, whose value is the byte. A string is
+-- therefore one lexeme.
 use Rattle.std.proofs.Common.{ℕ, ◌+◌, ◌≡◌, ◌≢◌, ◌∙◌, ◌<◌, ◌≤◌, ◌⊎◌, suc, inl, inr, ⊎_elim, true, List, [], ◌∷◌, ◌++◌, refl, sym, ap, subst, arith}
 use Rattle.std.proofs.lemmas.Bool.{cases_order, cases_lt}
 use Rattle.std.proofs.lemmas.Bool.Decides.{nat_tests}

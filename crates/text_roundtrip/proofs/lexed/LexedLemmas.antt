@@ -1,4 +1,4 @@
--- Lexemes one after another, and the bytes that may follow them.
+-- Lexemes one after another, and the bytes that may follow the lexemes.
 use Rattle.std.proofs.Common.{◌≡◌, ◌≢◌, ℕ, Bool, List, [], ◌∷◌, ◌++◌, Some, refl, sym, ap, subst, ◌∙◌, append_assoc}
 use Rattle.std.specs.Prelude.{map}
 use Rattle.std.specs.List.{flat_map, AllByRecursion}
@@ -55,14 +55,14 @@ lexed_at e f one = record {
 pub begins_with : (b : ℕ) (bs : List ℕ) → b ≢ 42 → Begins (b ∷ bs)
 begins_with b bs other = record { first = b; others = bs; is = refl; no_star = other }
 
--- The empty text, whatever follows.
+-- The empty text has no lexemes, whatever bytes follow.
 pub lexed_nothing : (May : List ℕ → Type 0) → IsLexed May [] []
 lexed_nothing May = record { parts = []; written = refl; stands = refl; are = λ after may. tt; one_line = tt }
 
 pub lexed_space : (May : List ℕ → Type 0) → IsLexed May (32 ∷ []) []
 lexed_space May = record { parts = Separator 32 ∷ []; written = refl; stands = refl; are = λ after may. (refl, tt); one_line = (refl, tt) }
 
--- One lexeme.
+-- If a lexeme is found before all allowed bytes, then the lexeme's text is lexed as the lexeme.
 pub lexed_form : (May : List ℕ → Type 0) (form : Form) → IsForm form → ((after : List ℕ) → May after → IsPart (Word form) after) → IsLexed May (form_bytes form) (form_kind form ∷ [])
 lexed_form May form own is = record { parts = Word form ∷ []; written = sym (append-nil (form_bytes form)); stands = refl; are = λ after may. (is after may, tt); one_line = (own, tt) }
 
@@ -136,7 +136,7 @@ module _ (May : List ℕ → Type 0) where
     one_line = (tt, (tt, tt));
   }
 
-  -- A comma or a semicolon, and a space.
+  -- A comma or a semicolon, followed by a space, is one lexeme.
   pub lexed_comma_space : IsLexed May (44 ∷ 32 ∷ []) (mark symbols.Comma)
   unfolding form_at symbol_form pair_at pair_symbol single_symbol
   lexed_comma_space = record {

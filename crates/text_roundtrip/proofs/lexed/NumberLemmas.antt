@@ -27,7 +27,7 @@ use Rattle.text_print.specs.leaves.Leaves.{float_text}
 
 -- ---- decimal digits
 
--- The digits denote this number.
+-- The digits `ds` denote the number `n`.
 record StandFor (n : ℕ) (ds : List ℕ) : Type 0 where
   some : 0 < length ds
   digits : list_all is_ascii_digit ds ≡ true
@@ -73,7 +73,7 @@ lexed_integer (negsuc n) suffix range =
     subst (λ v. IsLexed Ends (45 ∷ (decimal (suc n) ++ suffix_text suffix)) (kinds.Integer (record { minus = true; value = v; suffix = suffix }) ∷ [])) (ap (signed true) s.value ∙ minus_is n)
     (lexed_number true (decimal (suc n)) suffix (not_empty (decimal (suc n)) s.some, s.digits) small)
 
--- A number without sign and suffix.
+-- The decimal text of a natural number below 2 ^ 63 is an integer without sign and suffix.
 pub lexed_natural : (n : ℕ) → n < 2 ^ 63 → IsLexed Ends (decimal n) (kinds.Integer (record { minus = false; value = pos n; suffix = suffixes.Absent }) ∷ [])
 lexed_natural n h = subst (λ t. IsLexed Ends t (integer_kinds (pos n) suffixes.Absent)) (append-nil (decimal n)) (lexed_integer (pos n) suffixes.Absent h)
 
@@ -88,7 +88,7 @@ hexadecimal_value d h = eqb-true _ d (agree_below_at (λ d. eqb (value_of_digit 
 hexadecimal_test : (d : ℕ) → d < 16 → is_ascii_hexdigit (hexadecimal d) ≡ true
 hexadecimal_test d h = agree_below_at (λ d. is_ascii_hexdigit (hexadecimal d)) (λ d. true) 16 d refl h
 
--- Two digits for each byte.
+-- The two hexadecimal digits of the byte `b`, followed by `rest`.
 abbrev two : ℕ → List ℕ → List ℕ
 two b rest = hexadecimal (b / 16) ∷ hexadecimal (b % 16) ∷ rest
 
@@ -99,7 +99,8 @@ byte_low : (k n : ℕ) → byte_at k n < 256
 byte_low zero n = omega arith
 byte_low (suc k) n = omega arith
 
--- Two digits before 2 k further ones.
+-- If two digits of a byte come before 2 k digits, then the value of all digits is the value of the
+-- bytes.
 two_value : (b m p q v : ℕ) → b < 256 → p ≡ 16 * q → v ≡ m → value_of_digit (hexadecimal (b / 16)) * p + (value_of_digit (hexadecimal (b % 16)) * q + v) ≡ b * q + m
 two_value b m p q v h e f =
     rw (hexadecimal_value (b / 16) (omega arith), hexadecimal_value (b % 16) (omega arith), e, f)

@@ -1,4 +1,4 @@
--- If the bytes after a lexeme cannot continue it, then the lexer takes exactly this lexeme.
+-- If the bytes after a lexeme cannot continue the lexeme, then the lexer takes exactly the lexeme.
 use Rattle.std.proofs.Common.{◌≡◌, ◌≢◌, ℕ, Bool, true, false, ltb, List, [], ◌∷◌, ◌++◌, length, drop, Some, refl, sym, ap, subst, ◌∙◌, arith, inl, inr, length-append, append_assoc}
 use Rattle.std.specs.List.{list_all, prefix_len, take_while, flat_map}
 use Rattle.std.specs.Char.{is_ascii_digit}

@@ -37,7 +37,8 @@ texts_many [] (v ∷ vs) are = absurd are
 texts_many (t ∷ ts) [] are = absurd are
 texts_many (t ∷ ts) (v ∷ vs) are = omega (arith, texts_many ts vs are.1)
 
--- There is at least one text.
+-- If there is at least one literal, then a property may be proved for a first text followed by
+-- other texts.
 by_first : (P : List (List ℕ) → List Literal → Type 0) → ((text : List ℕ) (v : Literal) (texts : List (List ℕ)) (vs : List Literal) → IsText text v → AreTexts texts vs → P (text ∷ texts) (v ∷ vs))
     → (texts : List (List ℕ)) (vs : List Literal) → AreTexts texts vs → 0 < length vs → P texts vs
 by_first P some [] [] are many = absurd (omega arith)
@@ -46,7 +47,8 @@ by_first P some (t ∷ ts) [] are many = absurd are
 by_first P some (t ∷ ts) (v ∷ vs) are many = some t v ts vs are.0 are.1
 
 module _ {T : Type 0} (shape : T → ShapeOf T) (names : T → Names) (t : T) where
-  -- All values are printed as parts.
+  -- If all values of a block are printed as parts, then the values satisfy `IsBlockAt` with an
+  -- empty `skip`.
   whole_block : (s : ShapeOf T) (nm : Names) (tag : ℕ) (values : List Val) (ts : List T) → block_fields s tag values ≡ Some (numbered_from 0 ts) → length ts ≡ length values
       → ReadsRow shape names t s nm tag [] ts (frame_of s nm tag values) → IsBlockAt shape names t s nm tag values
   whole_block s nm tag values ts needs many row = record { skip = []; rest = values; values_are = refl; skips = inl refl; ts = ts; needs = needs; many = many; row = row }

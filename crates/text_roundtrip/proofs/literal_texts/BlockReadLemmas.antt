@@ -54,7 +54,7 @@ row_begins opening between closing text texts b = record {
 }
 
 module _ {T : Type 0} (shape : T → ShapeOf T) (names : T → Names) (labels : List ℕ) where
-  -- The parts of a list of literals are read.
+  -- If the parts of a list of literals are trees, then the parts are read as the trees.
   row_inside : (types : ℕ → T) (v : Literal) (vs : List Literal) (separator : Symbol) (fs : Forest) (c : ℕ) → AreTrees fs → ReadForest shape names labels types 0 fs c (v ∷ vs)
       → let l = listing no_parts v vs in (k j : ℕ)
       → and_next c types (parts_read shape names separator k l.0 c (before c labels) types) (literal_read shape names j l.1) ≡ Ok (reading (roots fs c) (all_objects fs c) (before (c + all_made fs) labels))
@@ -116,7 +116,7 @@ module _ {T : Type 0} (shape : T → ShapeOf T) (names : T → Names) (labels : 
         inside_is = λ fs c trees reads k. row_inside types v vs symbols.Semicolon fs c trees reads _ _;
       }
 
-  -- Two or more parts in parentheses.
+  -- If there are two or more parts in parentheses, then the text is a tuple of the parts.
   pub tuple_row : (s : ShapeOf T) (nm : Names) (t : T) (ts : List T) (text other : List ℕ) (texts : List (List ℕ)) (v w : Literal) (vs : List Literal) (types : ℕ → T)
       → IsText text v → AreTexts (other ∷ texts) (w ∷ vs) → TypesAre types 0 ts
       → ((ps : Parts) (u x : Literal) → count ps ≡ length vs → start_at t s nm (tuple ps u x) ≡ block 0 [] types)

@@ -1,4 +1,4 @@
--- The law for any types whose names can be read back.
+-- If the names of types can be read back, then the texts of values are literals.
 use Rattle.types_spec.specs.declared.types.names.Names.{Names}
 use Rattle.types_spec.specs.declared.types.shape.ShapeOf.{ShapeOf}
 use Rattle.text_roundtrip.specs.literal_texts.Laws.{ValuesAreLiterals}

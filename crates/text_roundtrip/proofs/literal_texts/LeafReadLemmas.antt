@@ -1,4 +1,4 @@
--- The text of a value without parts is a plain literal with this value.
+-- The text of a value without parts is a plain literal with the value.
 use Rattle.std.proofs.Common.{◌≡◌, ◌≢◌, ℕ, ℤ, pos, negsuc, zero, suc, ◌<◌, ◌≤◌, ◌^◌, ◌⊎◌, true, false, eqb, List, [], ◌∷◌, ◌++◌, Option, Some, None, refl, sym, ap, subst, ◌∙◌, arith, inl, inr}
 use Rattle.std.specs.Prelude.{slice_get, find, IsTrue, IsSome, unwrap_or, option_map, codes}
 use Rattle.std.specs.Fmt.{signed_decimal}

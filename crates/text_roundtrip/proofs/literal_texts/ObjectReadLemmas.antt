@@ -1,4 +1,4 @@
--- The text of an object without values in it is a plain literal with this object.
+-- The text of an object without values in it is a plain literal with the object.
 use Rattle.std.proofs.Common.{◌≡◌, ℕ, ℤ, suc, ◌+◌, ◌<◌, ◌≤◌, ◌^◌, Bool, true, false, List, [], ◌∷◌, ◌++◌, length, Some, None, refl, sym, ap, subst, ◌∙◌, arith, append_assoc}
 use Rattle.std.specs.Prelude.{All, IsTrue, IsSome, map, codes}
 use Rattle.std.specs.Fmt.{signed_decimal}

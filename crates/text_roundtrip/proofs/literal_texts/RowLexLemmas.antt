@@ -44,7 +44,7 @@ named_lexed : (field : List ℕ) → IsForm (Lower field) → IsLexed (λ after.
 named_lexed field is =
     lexed_then (lexed_lower field is) (lexed_then (lexed_space (λ after. Unit {0})) (lexed_then (lexed_equals (λ after. Unit {0})) (lexed_space (λ after. Unit {0})) (λ after may. tt)) (λ after may. tt)) (λ after may. refl)
 
--- The labels of the frame from index i on are the names of these fields.
+-- The labels of the frame from index `i` on are the names of the fields `fields`.
 abbrev LabelsFrom : Frame → ℕ → List (List ℕ) → Type 0
 LabelsFrom frame i fields = (j : ℕ) → slice_get frame.labels (i + j) ≡ slice_get (map (λ field. field ++ codes " = ") fields) j
 

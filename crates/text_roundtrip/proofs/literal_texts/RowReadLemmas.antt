@@ -16,7 +16,8 @@ use Rattle.text_roundtrip.specs.literal_texts.Numbered.{before}
 use Rattle.text_literal.specs.parser.Reading.{Reading, Refusal, reading, added, and_next, literal_read, parts_read, rows_read}
 
 module _ {T : Type 0} (shape : T → ShapeOf T) (names : T → Names) (labels : List ℕ) where
-  -- One more part after those already read.
+  -- If some parts are read and the next literal is read, then the parts and the next literal are
+  -- read.
   next_read : (s : Tree) (c d : ℕ) (types : ℕ → T) (v : Literal) (j : ℕ) (values : List Val) (objects : List Obj) → d ≡ c + length objects → Reads shape names labels v (root s d) (objects_of s d) d (d + made s) (types (length values))
       → (r : Result Reading (Refusal T)) → r ≡ Ok (reading values objects (before d labels))
       → and_next c types r (literal_read shape names j v) ≡ Ok (reading (values ++ root s d ∷ []) (objects ++ objects_of s d) (before (d + made s) labels))
@@ -26,7 +27,7 @@ module _ {T : Type 0} (shape : T → ShapeOf T) (names : T → Names) (labels : 
       ∙ ap (λ r. added (reading values objects (before d labels)) r) (reads j)
 
   module _ (separator : Symbol) (types : ℕ → T) (c : ℕ) where
-    -- The parts before the last one, and the last one.
+    -- The parts before the last part, and the last part `v`, are read as the values and objects.
     abbrev RowReads : Parts → Literal → List Val → List Obj → ℕ → Type 0
     RowReads ps v values objects d =
         (k j : ℕ) → and_next c types (parts_read shape names separator k ps c (before c labels) types) (literal_read shape names j v) ≡ Ok (reading values objects (before d labels))
@@ -50,7 +51,8 @@ module _ {T : Type 0} (shape : T → ShapeOf T) (names : T → Names) (labels : 
         ∙ ap (λ os. Ok (reading (values ++ (root s d ∷ roots fs (d + made s))) os (before (d + made s + all_made fs) labels))) (append_assoc objects (objects_of s d) (all_objects fs (d + made s)))
         ∙ ap (λ n. Ok (reading (values ++ (root s d ∷ roots fs (d + made s))) (objects ++ (objects_of s d ++ all_objects fs (d + made s))) (before n labels))) (omega arith)
 
-    -- All parts of a list.
+    -- If the literals of a list are read as the trees of a forest, then all parts of the list are
+    -- read.
     pub parts_are_read : (s : Tree) (fs : Forest) (v : Literal) (vs : List Literal) → AreTrees (more s fs) → ReadForest shape names labels types 0 (more s fs) c (v ∷ vs)
         → let l = listing no_parts v vs in (k j : ℕ)
         → and_next c types (parts_read shape names separator k l.0 c (before c labels) types) (literal_read shape names j l.1)

@@ -1,4 +1,4 @@
--- A value at a declared type can be printed, and so can its parts.
+-- A value at a declared type can be printed, and the parts of the value can be printed.
 use Rattle.std.proofs.Common.{ℕ, ◌≡◌, List, Some}
 use Rattle.std.specs.Prelude.{Contains}
 use Rattle.base_data.specs.declared.model.value.Val.{Val}
@@ -35,7 +35,7 @@ module _ (decls : List Decl) (t : Ty) (types : List Ty) (well : AreWellFormed de
   lawful = reached_lawful decls well.sound t types reached (known_by_hash decls well t sound types reached)
 
   module _ (pairs : List (ℕ × Ty)) (typing : IsTyping (declared_shapes decls) graph pairs) where
-    -- The value occurs at one of the types.
+    -- The value `v` occurs at the type `u`, which is one of `types`.
     abbrev Holds : Val → Ty → Type 0
     Holds v u = Contains types u × IsHeld (declared_shapes decls) graph pairs v u
 

@@ -52,7 +52,8 @@ prefix_of labels c up few = by_label (has labels c) refl
           labels_are = sym n.one_more;
         }
 
--- An object that is visited again.
+-- If an object is visited again, then the text of its label is read back as a reference to the
+-- object.
 pub again_back : {T : Type 0} (shape : T → ShapeOf T) (names : T → Names) (labels : List ℕ) (c o : ℕ) (t : T) → AreIncreasing 0 labels → length labels < 2 ^ 63 → has labels o ≡ true → o < c
     → IsBack shape names labels (flat_map (chunk_text labels) (Again o ∷ [])) (vals.Ref o) [] c c t
 again_back shape names labels c o t up few there lt = record {

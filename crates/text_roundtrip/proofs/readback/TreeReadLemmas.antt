@@ -1,4 +1,4 @@
--- The text of a tree is read back: its value, its objects by index, and its labels.
+-- The text of a tree is read back: the tree's value, its objects by index, and its labels.
 use Rattle.std.proofs.Common.{◌≡◌, ℕ, zero, suc, ◌+◌, ◌<◌, ◌≤◌, true, ◌||◌, cond, List, [], ◌∷◌, ◌++◌, length, Some, None, Ok, Err, refl, sym, ap, subst, ◌∙◌, arith, ⊎_elim, append_assoc, length-append}
 use Rattle.std.specs.Prelude.{slice_get}
 use Rattle.std.proofs.lemmas.Bool.{eq-eqb, ne_eqb, false≢true, or_cases, or_left, or_right}
@@ -102,7 +102,7 @@ module _ {T : Type 0} (shape : T → ShapeOf T) (names : T → Names) where
         });
       }
 
-  -- A labelled literal whose start is known.
+  -- If the start of a literal is known, then the literal with a label is read from the start.
   labelled_reads : (labels : List ℕ) (t : T) (c : ℕ) (prefix : IsPrefix labels c) (text : List ℕ) (start : Start T) (p : IsPlain t (shape t) (names t) text start) (k : ℕ)
       → literal_read shape names k (labelled prefix.label p.plain) c (before c labels) t
       ≡ begun k (k + length (label_kinds prefix.label)) c (before c labels) prefix.label t (inside shape names (k + length (label_kinds prefix.label)) p.plain (suc c)) start
@@ -133,7 +133,7 @@ module _ {T : Type 0} (shape : T → ShapeOf T) (names : T → Names) where
             });
       }
 
-  -- A block whose parts are visited after it.
+  -- If the parts of a block are visited after the block and read back, then the block is read back.
   pub block_back : (t : T) (c tag : ℕ) (skip : List Val) (ts : List T) (frame : Frame) (fs : Forest) (m : Met) → AreTrees fs → length ts ≡ trees_in fs
       → ReadsRow shape names t (shape t) (names t) tag skip ts frame → AreMetBack shape names fs (suc c) frame 0 ts m
       → IsMetBack shape names c (1 + all_made fs) (vals.Ref c) (objects.Block tag (skip ++ roots fs (suc c)) ∷ all_objects fs (suc c)) t (led_by (First c ∷ Text frame.opening ∷ []) m)

@@ -58,7 +58,7 @@ int_makes (node (shared offset) f) c z is e = absurd cc
 int_makes (node (block tag size) f) c z is e = absurd cc
 int_makes (node (leaf object) f) c z is e = absurd cc
 
--- The integer in field 0 is one of a tree.
+-- The integer in field 0 of a block is an integer of a tree.
 tag_integer : (f : Forest) (c : ℕ) → AreTrees f → IsInteger (tag_of_values (roots f c))
 tag_integer none c are = omega arith
 tag_integer (more (node (integer z) f) fs) c are = are.0.0
@@ -67,7 +67,7 @@ tag_integer (more (node (shared offset) f) fs) c are = omega arith
 tag_integer (more (node (block tag size) f) fs) c are = omega arith
 tag_integer (more (node (leaf object) f) fs) c are = omega arith
 
--- If the names of a type can be read back, then its values are checked.
+-- If the names of a type can be read back, then the type is not a wildcard.
 pub readable_asked : {T : Type 0} (s : ShapeOf T) (names : Names) → IsReadable s names → IsTrue (is_asked s)
 readable_asked shapes.Anything names readable = absurd readable
 readable_asked s names readable = refl
@@ -108,7 +108,7 @@ module _ {T : Type 0} (shape : T → ShapeOf T) (names : T → Names) (graph : L
       subst (IsMetBack shape names c 0 (vals.Atom tag) [] t) (sym (met_asked n (down c) (vals.Atom tag) t holds))
       (small_back shape names t c (vals.Atom tag) _ (atom_plain t (names t) (shape t) tag (showable.readable (vals.Atom tag) t holds) (none_if_true (fits_atom (shape t) tag) (showable.fits (vals.Atom tag) t holds))))
 
-  -- An object that was visited before.
+  -- If an object was visited before, then the claim holds for a reference to the object.
   shared_claim : (offset : ℕ) → TreeClaim (node (shared offset) none)
   shared_claim offset zero c t placed is back low fuel holds = absurd (omega arith)
   shared_claim offset (suc n) c t placed is back low fuel holds =
@@ -136,7 +136,7 @@ module _ {T : Type 0} (shape : T → ShapeOf T) (names : T → Names) (graph : L
       ∙ ap (λ b. cond b (met (Again c ∷ []) (down c)) (object_met shape names graph (meet n) (c ∷ down c) c t (slice_get graph c))) (has_down c c ∙ le-ltb c c (omega arith))
       ∙ ap (object_met shape names graph (meet n) (c ∷ down c) c t) at
 
-  -- A reference to an object.
+  -- If a reference to an object has a type, then the object fits the type.
   fits_at : (c : ℕ) (t : T) (object : Obj) → slice_get graph c ≡ Some object → Holds (vals.Ref c) t → IsSome (object_fields (shape t) object)
   fits_at c t object at holds = subst (λ o. IsSome (option_and_then (object_fields (shape t)) o)) at (showable.fits (vals.Ref c) t holds)
 
@@ -155,7 +155,8 @@ module _ {T : Type 0} (shape : T → ShapeOf T) (names : T → Names) (graph : L
 
   -- ---- a block
 
-  -- Parts that begin one object later.
+  -- If the parts of a block begin one object after the block and are read back, then the block is
+  -- read back.
   block_after : (t : T) (c d tag : ℕ) (skip : List Val) (ts : List T) (frame : Frame) (fs : Forest) (m : Met) → d ≡ suc c → AreTrees fs → length ts ≡ trees_in fs
       → ReadsRow shape names t (shape t) (names t) tag skip ts frame → AreMetBack shape names fs d frame 0 ts m
       → IsMetBack shape names c (1 + all_made fs) (vals.Ref c) (objects.Block tag (skip ++ roots fs d) ∷ all_objects fs d) t (led_by (First c ∷ Text frame.opening ∷ []) m)
@@ -192,14 +193,15 @@ module _ {T : Type 0} (shape : T → ShapeOf T) (names : T → Names) (graph : L
         first_met n c t (objects.Block tag (roots f (c + 1))) holds at
         ∙ ap (λ o. led_by (First c ∷ Text (frame_of (shape t) (names t) tag (roots f (c + 1))).opening ∷ []) (parts_from shape names graph (meet n) (frame_of (shape t) (names t) tag (roots f (c + 1))) (vals.Ref c) 0 (or_none o) (c ∷ down c))) needs_are
 
-    -- The property holds for the parts.
+    -- The relation `Holds` holds for the parts of the block.
     part_holds : (j : ℕ) (u : T) (w : Val) → slice_get found.ts j ≡ Some u → field_of graph (vals.Ref c) (length found.skip + j) ≡ Some w → Holds w u
     part_holds j u w type field = showable.parts (vals.Ref c) t (length found.skip + j) u w holds (subst (λ o. type_of_field (or_none o) (length found.skip + j) ≡ Some u) (sym needs_are) (named_numbered found.ts (length found.skip) j u type)) field
 
     field_is : (i : ℕ) → field_of graph (vals.Ref c) i ≡ slice_get (roots f (c + 1)) i
     field_is i = ap (option_and_then (λ object. slice_get (values_of object) i)) at
 
-    -- The parts of a forest at d, if they are the values of the block after the skipped ones.
+    -- If the roots of a forest are the values of the block after the skipped values, then the block
+    -- is read back.
     parts_claim : (fs : Forest) (d : ℕ) → d ≡ c + 1 → ForestClaim fs → roots f (c + 1) ≡ found.skip ++ roots fs d → all_objects f (c + 1) ≡ all_objects fs d → all_made f ≡ all_made fs → AreTrees fs → AllReferBack fs d
         → IsMetBack shape names c (1 + all_made f) (vals.Ref c) (objects.Block tag (roots f (c + 1)) ∷ all_objects f (c + 1)) t (meet (suc n) (down c) (vals.Ref c) t)
     parts_claim fs d e claim values_are objects_are made_are trees refers =

@@ -1,4 +1,5 @@
--- The names of types of accepted texts can be read back, and so can the texts of their values.
+-- The names of types of accepted texts can be read back, and the texts of the types' values can be
+-- read back.
 use Rattle.types_table.specs.type_table.Made.{types_of}
 use Rattle.text_roundtrip.proofs.readback.DeclaredLemmas.{texts_are_read_back}
 use Rattle.text_roundtrip.proofs.text.TableLemmas.{texts_are_read_again}

@@ -1,4 +1,4 @@
--- If a key occurs once, then the search finds it at its index.
+-- If a key occurs once, then the search finds the key at its index.
 use Rattle.std.proofs.Common.{◌≡◌, ◌≢◌, ℕ, zero, suc, ◌<◌, Bool, true, false, cond, List, [], ◌∷◌, length, Option, Some, None, refl, sym, ap, subst, ◌∙◌, arith}
 use Rattle.std.specs.Prelude.{slice_get, find}
 use Rattle.std.specs.List.{AllByRecursion, position, position_or_len, filter_map, cons_option}
@@ -6,13 +6,13 @@ use Rattle.std.proofs.lemmas.Bool.{lt-ltb}
 use Rattle.text_roundtrip.specs.rebuild.Spoken.{AreOnce}
 
 module _ {X : Type 0} where
-  -- If a property holds for all elements, then it holds for the element at an index.
+  -- If a property holds for all elements, then the property holds for the element at an index.
   pub all_at : (P : X → Type 0) (xs : List X) (i : ℕ) (x : X) → AllByRecursion P xs → slice_get xs i ≡ Some x → P x
   all_at P [] i x all e = absurd cc
   all_at P (y ∷ ys) zero x all e = let same : y ≡ x = cc in subst P same all.0
   all_at P (y ∷ ys) (suc i) x all e = all_at P ys i x all.1 e
 
-  -- If the search finds an element, then this element passes the test.
+  -- If the search finds an element, then the element passes the test.
   pub found_at : (p : X → Bool) (xs : List X) (x : X) → find p xs ≡ Some x → (i : ℕ) × (slice_get xs i ≡ Some x) × (p x ≡ true)
   found_at p [] x e = absurd cc
   found_at p (y ∷ ys) x e = by_test (found_at p ys x) (p y) refl e
@@ -21,7 +21,7 @@ module _ {X : Type 0} where
       by_test others true q e = let same : y ≡ x = cc in (0, e, ap p (sym same) ∙ q)
       by_test others false q e = let r = others e in (suc r.0, r.1, r.2)
 
-  -- If an element passes the test, then the search finds one.
+  -- If an element passes the test, then the search finds an element.
   pub some_found : (p : X → Bool) (xs : List X) (i : ℕ) (x : X) → slice_get xs i ≡ Some x → p x ≡ true → (y : X) × (find p xs ≡ Some y)
   some_found p [] i x e q = absurd cc
   some_found p (y ∷ ys) zero x e q = let same : y ≡ x = cc in let passes : p y ≡ true = ap p same ∙ q in (y, rw passes refl)

@@ -1,5 +1,5 @@
--- The text of a value is read as the value of its tree, which is the same value with the same type,
--- text and bytes.
+-- The text of a value is read as the value of the value's tree, which has the value's type, text
+-- and bytes.
 use Rattle.std.proofs.Common.{sym, subst}
 use Rattle.marshal_spec.specs.format.Tree.{root, objects_of}
 use Rattle.types_spec.specs.types.Equal.{Equal}

@@ -32,8 +32,9 @@ use Rattle.types_spec.specs.declared.types.names.TagName.{TagName}
 use Rattle.types_spec.specs.declared.types.names.Names.{Names}
 use Rattle.types_spec.specs.types.Ty.{Ty}
 use Rattle.types_spec.specs.types.Declarations.{declaration_of, instance_of}
+use Rattle.types_spec.specs.types.Predeclared.{Sum, PredeclaredRow, rows, sum_of, sum_in, sum_at, name_at, takes, shape_if, sum_shape}
 use Rattle.types_spec.specs.types.Fitting.{tag_with}
-use Rattle.types_spec.specs.types.Names.{no_names, field_names, constant_name, carrying_names, constr_names, tag_name, body_names, declared_body_names, predeclared_type_names, head_names}
+use Rattle.types_spec.specs.types.Names.{no_names, field_names, constant_name, carrying_names, constr_names, tag_name, body_names, declared_body_names, sum_names, predeclared_type_names, head_names}
 use Rattle.types_spec.specs.types.Shape.{is_constant, is_flat, array_of, predeclared_shape, record_shape, body_shape, datatype_shape, tag_shape, head_shape}
 use Rattle.text_print.specs.leaves.Frames.{is_hash}
 use Rattle.text_literal.specs.grammar.Literal.{upper_head, cons_head, empty_head, ref_head}
@@ -74,7 +75,7 @@ constructor_found names once tag c at head fields = record {
       (λ other e. (bytes_eq-Decides other.name c.name).0 (and_parts (bytes_eq other.name c.name) (same_names other.fields c.fields) e).0) names.constructors tag once at;
 }
 
--- The name in an option.
+-- If an option that is `name` or nothing contains `other`, then `name` is `other`.
 some_if : (b : Bool) (name other : List ℕ) → (cond b (Some name) None) ≡ Some other → name ≡ other
 some_if true name other e = cc
 some_if false name other e = absurd cc
@@ -129,7 +130,7 @@ ref_word = ((refl, refl), free)
     free keywords.Of e = true≢false (ap (λ n. bytes_eq n (codes "ref")) e)
     free keywords.Mutable e = true≢false (ap (λ n. bytes_eq n (codes "ref")) e)
 
--- Names with at most one constant and one constructor.
+-- If there are at most one constant and one constructor, then each name has one meaning.
 single_names : (names : Names) → AllByRecursion IsHead names.constants → AllByRecursion (λ (c : ConstrNames). IsHead c.name × AreFieldNames c.fields) names.constructors
     → AreOnce (λ (name : List ℕ). name) names.constants → AreOnce (λ (c : ConstrNames). c.name) names.constructors → AreSumNames names
 single_names names constants constructors once other_once = record {
@@ -137,18 +138,54 @@ single_names names constants constructors once other_once = record {
   constructor = λ tag c at. let one = all_at (λ (c : ConstrNames). IsHead c.name × AreFieldNames c.fields) names.constructors tag c constructors at in constructor_found names other_once tag c at one.0 one.1;
 }
 
-list_names : AreSumNames (predeclared_type_names bases.List)
-list_names = single_names (predeclared_type_names bases.List)
+-- The names of the predeclared variant in row `k`.
+abbrev names_in : ℕ → Names
+names_in k = sum_names (sum_in (slice_get rows k))
+
+list_names : AreSumNames (names_in 11)
+list_names = single_names (names_in 11)
     (record { head = empty_head; lexed = lexed_empty Ends; named = refl; begins = begins_with 91 _ (λ e. absurd (omega arith)) }, tt)
     ((record { head = cons_head; lexed = lexed_double_colon Ends; named = refl; begins = begins_with 58 _ (λ e. absurd (omega arith)) }, tt), tt)
     (tt, tt) (tt, tt)
 
-option_names : AreSumNames (predeclared_type_names bases.Option)
-option_names = single_names (predeclared_type_names bases.Option) (upper_is_head (codes "None") none_word, tt) ((upper_is_head (codes "Some") some_word, tt), tt) (tt, tt) (tt, tt)
+option_names : AreSumNames (names_in 12)
+option_names = single_names (names_in 12) (upper_is_head (codes "None") none_word, tt) ((upper_is_head (codes "Some") some_word, tt), tt) (tt, tt) (tt, tt)
 
-ref_names : AreSumNames (predeclared_type_names bases.Ref)
-ref_names = single_names (predeclared_type_names bases.Ref) tt
+ref_names : AreSumNames (names_in 14)
+ref_names = single_names (names_in 14) tt
     ((record { head = ref_head; lexed = lexed_lower (codes "ref") ref_word; named = refl; begins = begins_with 114 _ (λ e. absurd (omega arith)) }, tt), tt) tt (tt, tt)
+
+abbrev IsReadableSum : Option Sum → Type 0
+IsReadableSum None = Unit {0}
+IsReadableSum (Some known) = AreSumNames (sum_names (Some known))
+
+abbrev IsReadableRow : PredeclaredRow → Type 0
+IsReadableRow row = IsReadableSum (sum_of row.meaning)
+
+-- The names in each row can be read back. The proof has one entry for each row, so a new row needs
+-- a new entry.
+rows_readable : AllByRecursion IsReadableRow rows
+rows_readable =
+    (tt, (tt, (tt, (tt, (tt, (tt, (tt, (tt, (tt, (tt, (tt, (list_names, (option_names, (tt, (ref_names, (tt, tt))))))))))))))))
+
+sums_readable : (k : ℕ) → IsReadableSum (sum_at k)
+unfolding sum_at
+sums_readable k = go (slice_get rows k) refl
+  where
+    go : (found : Option PredeclaredRow) → slice_get rows k ≡ found → IsReadableSum (sum_in (slice_get rows k))
+    go None at = subst (λ (r : Option PredeclaredRow). IsReadableSum (sum_in r)) (sym at) tt
+    go (Some row) at =
+        subst (λ (r : Option PredeclaredRow). IsReadableSum (sum_in r)) (sym at) (all_at IsReadableRow rows k row rows_readable at)
+
+shape_if_readable : (test : Bool) (known : Sum) → AreSumNames (sum_names (Some known)) → (name : List ℕ) (ts : List Ty)
+    → IsReadable (shape_if test known name ts) (sum_names (Some known))
+shape_if_readable false known is name ts = tt
+shape_if_readable true known is name ts = is
+
+sum_readable : (known : Option Sum) → IsReadableSum known → (name : List ℕ) (ts : List Ty)
+    → IsReadable (sum_shape known name ts) (sum_names known)
+sum_readable None is name ts = tt
+sum_readable (Some known) is name ts = shape_if_readable (takes known.parameters ts) known is name ts
 
 array_readable : (h : HeadOf Ty) (t : Ty) → is_any_head h ≡ false → IsReadable (array_of h t) no_names
 array_readable (heads.Variable name) t other = tt
@@ -159,12 +196,11 @@ array_readable (heads.Predeclared b ts) t other = by_base b other where
   by_base base other = tt
 array_readable h t other = tt
 
--- The type is not `_`, and neither is any of its parts.
+-- If a predeclared type is not `_` and no part of the type is `_`, then the type's names can be
+-- read back.
 predeclared_readable : (decls : List Decl) (base : Predeclared) (ts : List Ty) → is_any_head (heads.Predeclared base ts) ≡ false
     → ((a : Ty) → Contains ts a → is_any_head (head decls a) ≡ false) → IsReadable (predeclared_shape decls base ts) (predeclared_type_names base)
-predeclared_readable decls bases.List (t ∷ []) other parts = list_names
-predeclared_readable decls bases.Option (t ∷ []) other parts = option_names
-predeclared_readable decls bases.Ref (t ∷ []) other parts = ref_names
+predeclared_readable decls (bases.Sum k) ts other parts = sum_readable (sum_at k) (sums_readable k) (name_at k) ts
 predeclared_readable decls bases.Array (t ∷ []) other parts = array_readable (head decls t) t (parts t (Contains-first t []))
 predeclared_readable decls bases.Int [] other parts = tt
 predeclared_readable decls bases.Char [] other parts = inr (inr refl)
@@ -202,7 +238,7 @@ tag_at [] i name e = absurd cc
 tag_at (t ∷ ts) zero name e = (t, refl, same_Some (tag_name t) name e)
 tag_at (t ∷ ts) (suc i) name e = tag_at ts i name e
 
--- A tag, and its argument.
+-- The tag is a lexeme, and the tag's argument has names that are lexemes.
 abbrev pub IsSpokenTag : TagOf Ty → Type 0
 IsSpokenTag tag = IsForm (Tag tag.name) × AllByRecursion (IsSpoken 0) (listed_if tag.argument)
 
@@ -227,7 +263,7 @@ tags_readable tags forms z name e =
 
 -- ---- heads of types
 
--- The condition for a head if k more parts follow.
+-- The names of a head are lexemes, if `k` more parts follow the head.
 abbrev pub IsSpokenHead : ℕ → HeadOf Ty → Type 0
 IsSpokenHead k (heads.Variable x) = Unit {0}
 IsSpokenHead k (heads.Predeclared base ts) = AllByRecursion (IsSpoken 0) ts
@@ -236,7 +272,7 @@ IsSpokenHead k (heads.Tuple ts) = (2 ≤ length ts + k) × AllByRecursion (IsSpo
 IsSpokenHead k (heads.Variants tags) = AllByRecursion IsSpokenTag tags
 IsSpokenHead k heads.Absent = Unit {0}
 
--- The head is not `_`, and neither is any of its parts.
+-- If a head is not `_` and no part of the head is `_`, then the head's names can be read back.
 pub head_readable : (decls : List Decl) → AreSpoken decls → (h : HeadOf Ty) → IsSpokenHead 0 h → is_any_head h ≡ false
     → ((a : Ty) → Contains (parts_of h) a → is_any_head (head decls a) ≡ false) → IsReadable (head_shape decls h) (head_names decls h)
 head_readable decls spoken (heads.Variable x) is other parts = tt

@@ -1,5 +1,5 @@
--- If the names of a type are lexemes, then so are the names of the types that it reaches.
-use Rattle.std.proofs.Common.{◌≡◌, ℕ, zero, suc, ◌<◌, ⊎_elim, Bool, true, false, cond, not, List, [], ◌∷◌, Option, Some, None, refl, sym, ap, subst, ◌∙◌, arith, length-append}
+-- If the names of a type are lexemes, then the names of the types that it reaches are lexemes.
+use Rattle.std.proofs.Common.{◌≡◌, ℕ, zero, suc, ◌<◌, ⊎_elim, Bool, true, false, cond, not, List, [], ◌∷◌, Option, Some, None, refl, sym, ap, subst, ◌∙◌, arith, length, length-append, get_or}
 use Rattle.std.specs.Prelude.{slice_get, filter, map, option_map, Contains}
 use Rattle.std.specs.List.{AllByRecursion, flat_map, cons_option}
 use Rattle.std.specs.Str.{bytes_eq}
@@ -23,6 +23,9 @@ use Rattle.types_spec.specs.declared.types.shape.PolyTag.{PolyTag}
 use Rattle.types_spec.specs.types.Ty.{Ty, variable, named, tuple, bracket, part, tag, tag_of, including, name_of, parts, instance, argument_for}
 use Rattle.types_spec.specs.types.Declarations.{predeclared, declaration_of, instance_of, abbreviated, abbreviated_at, abbreviated_by, unfolded}
 use Rattle.types_spec.specs.types.Head.{has_tag, with_tags, tags_in, bare_tag, carrying_tag, head_meant, with_part, plain_head, head_by, head_within, enough, head}
+use Rattle.types_spec.specs.declared.types.predeclared.SumField.{SumField}
+use Rattle.types_spec.specs.declared.types.predeclared.SumField.TheVariants as members
+use Rattle.types_spec.specs.types.Predeclared.{SumBlock, Sum, sum_at, name_at, takes, applied, member_type, constr_of, shape_if, sum_shape}
 use Rattle.types_spec.specs.types.Names.{names_of}
 use Rattle.types_spec.specs.types.Shape.{is_flat, array_of, predeclared_shape, record_shape, types_of_fields, block_of, blocks_in, body_shape, datatype_shape, tag_shape, head_shape, shape}
 use Rattle.types_spec.specs.types.Reached.{listed_if, named_in, parts_of, is_any_head, NoneIsWildcard, reached_from, IsReached}
@@ -115,6 +118,36 @@ plain_spoken f all (tag t x) k is = with_tags_spoken (plain_head f t) (bare_tag 
 plain_spoken f all (tag_of t x a) k is = with_tags_spoken (plain_head f t) (carrying_tag x a ∷ []) k (plain_spoken f all t 0 is.0) ((is.1, (is.2, tt)), tt)
 plain_spoken f all (including t a) k is = with_tags_spoken (plain_head f t) (tags_in (f a)) k (plain_spoken f all t 0 is.0) (tags_spoken (f a) (all a is.1))
 
+-- ---- predeclared variants
+
+applied_spoken : (whole : Ty) (ts : List Ty) → IsSpoken (length ts) whole → AllSpoken ts → IsSpoken 0 (applied whole ts)
+applied_spoken whole [] is all = is
+applied_spoken whole (t ∷ ts) is all = applied_spoken (part whole t) ts (is, all.0) all.1
+
+got_spoken : (d : Ty) → IsSpoken 0 d → (i : ℕ) (ts : List Ty) → AllSpoken ts → IsSpoken 0 (get_or ts i d)
+got_spoken d own i [] all = own
+got_spoken d own zero (t ∷ ts) all = all.0
+got_spoken d own (suc i) (t ∷ ts) all = got_spoken d own i ts all.1
+
+module _ (name : List ℕ) (ts : List Ty) (all : AllSpoken ts) where
+  member_spoken : (m : SumField) → IsSpoken 0 (member_type name ts m)
+  member_spoken (members.Argument i) = got_spoken (applied (named name) ts) (applied_spoken (named name) ts tt all) i ts all
+  member_spoken members.Itself = applied_spoken (named name) ts tt all
+
+  members_spoken : (ms : List SumField) → AllSpoken (map (member_type name ts) ms)
+  members_spoken [] = tt
+  members_spoken (m ∷ ms) = (member_spoken m, members_spoken ms)
+
+  constrs_spoken : (bs : List SumBlock) → AllSpoken (flat_map (λ (c : Constr Ty). c.fields) (map (constr_of name ts) bs))
+  constrs_spoken [] = tt
+  constrs_spoken (b ∷ bs) =
+      AllByRecursion-append (IsSpoken 0) (map (member_type name ts) b.fields)
+      (flat_map (λ (c : Constr Ty). c.fields) (map (constr_of name ts) bs)) (members_spoken b.fields) (constrs_spoken bs)
+
+  shape_if_reached : (test : Bool) (known : Sum) → AllSpoken (named_in (shape_if test known name ts))
+  shape_if_reached false known = tt
+  shape_if_reached true known = constrs_spoken known.blocks
+
 -- ---- types over declarations
 
 module _ (decls : List Decl) (spoken : AreSpoken decls) where
@@ -159,10 +192,12 @@ module _ (decls : List Decl) (spoken : AreSpoken decls) where
     by_base base = (is, tt)
   array_reached h t is = (is, tt)
 
+  sum_reached : (known : Option Sum) (name : List ℕ) (ts : List Ty) → AllSpoken ts → AllSpoken (named_in (sum_shape known name ts))
+  sum_reached None name ts all = tt
+  sum_reached (Some known) name ts all = shape_if_reached name ts all (takes known.parameters ts) known
+
   predeclared_reached : (base : Predeclared) (ts : List Ty) → AllSpoken ts → AllSpoken (named_in (predeclared_shape decls base ts))
-  predeclared_reached bases.List (t ∷ []) all = (all.0, ((tt, all.0), tt))
-  predeclared_reached bases.Option (t ∷ []) all = (all.0, tt)
-  predeclared_reached bases.Ref (t ∷ []) all = (all.0, tt)
+  predeclared_reached (bases.Sum k) ts all = sum_reached (sum_at k) (name_at k) ts all
   predeclared_reached bases.Array (t ∷ []) all = array_reached (head decls t) t all.0
   predeclared_reached bases.Int [] all = tt
   predeclared_reached base [] all = tt

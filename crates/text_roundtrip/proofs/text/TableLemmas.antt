@@ -1,5 +1,5 @@
--- If a literal is read at a type, then it is read at the index of the type in a table. Therefore
--- the text of a value is read back there.
+-- If a literal is read at a type, then the literal is read at the index of the type in a table.
+-- Therefore the text of a value is read back at the index.
 use Rattle.std.proofs.Common.{ℕ, ◌≡◌, ◌∙◌, List, [], Some, Result, Ok, Err, refl, ap}
 use Rattle.std.specs.Prelude.{slice_get}
 use Rattle.types_spec.specs.declared.types.decl.Decl.{Decl}
@@ -21,7 +21,7 @@ module _ (decls : List Decl) (t : Ty) (table : Tabled) (is : IsTypeTable decls t
   abbrev Is : ℕ → Ty → Type 0
   Is i u = slice_get (types_of table) i ≡ Some u
 
-  -- If a literal has a value at the type, then it has this value at the index.
+  -- If a literal has a value at the type, then the literal has the value at the index of the type.
   number_too : (a : Result Reading (Refusal ℕ)) (b : Result Reading (Refusal Ty)) (r : Reading) → ReadAgree Is a b → b ≡ Ok r → a ≡ Ok r
   number_too (Ok s) (Ok s') r same is = ap Ok (same ∙ same_reading s' r is) where
     same_reading : (s r : Reading) → ◌≡◌ {A = Result Reading (Refusal Ty)} (Ok s) (Ok r) → s ≡ r

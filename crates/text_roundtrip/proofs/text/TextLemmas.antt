@@ -1,4 +1,5 @@
--- A line has exactly one answer, and the answer for the text of the value of a tree is this value.
+-- A line has exactly one answer. If the line is the text of the value of a tree, then the answer is
+-- the value.
 use Rattle.std.proofs.Common.{◌≡◌, ◌≢◌, ℕ, List, [], ◌∷◌, length, Option, Some, None, Result, Ok, Err, refl, sym, ap, subst, ◌∙◌, arith}
 use Rattle.std.specs.Prelude.{map}
 use Rattle.base_data.specs.declared.model.value.Val.{Val}
@@ -64,7 +65,7 @@ same_answer table line (Err (faults.Literal f)) (Err (faults.Literal g)) one oth
 same_answer table line (Err (faults.Literal f)) (Err faults.Memory) one other = absurd other
 same_answer table line (Err faults.Memory) other one both = absurd one
 
--- There is an answer.
+-- If a line has lexemes, then the result for the lexemes gives an answer for the line.
 answer_of_literal : (table : Tabled) (line : List ℕ) (l : Lexeme) (ls : List Lexeme) → Lexes line (l ∷ ls)
     → (r : Result (List Obj × Val) LiteralFault) → IsAnswer table 0 (l ∷ ls) (length line) [] r → (answer : TextAnswer) × IsTextAnswer table line answer
 answer_of_literal table line l ls lexes (Ok built) is = (Ok (Some built), (l ∷ ls, lexes, (λ e. absurd cc), is))
@@ -109,7 +110,7 @@ encoded_some (again k) e = absurd cc
 encoded_some (labelled None p) e = plain_some p e
 encoded_some (labelled (Some k) p) e = absurd cc
 
--- If lexemes have a value as answer, then they are not empty.
+-- If the answer for lexemes is a value, then there is at least one lexeme.
 some_lexemes : (table : Tabled) (line : List ℕ) (lexemes : List Lexeme) (answer : List Obj × Val) → IsAnswer table 0 lexemes (length line) [] (Ok answer) → lexemes ≢ []
 some_lexemes table line lexemes answer is none = encoded_some is.literal (is.encoded ∙ ap (λ (ls : List Lexeme). map (λ (l : Lexeme). l.kind) ls) none)
 
@@ -132,13 +133,13 @@ module _ (table : Tabled) (line : List ℕ) (lexemes : List Lexeme) (nodes : Lis
 read_back_answer : (table : Tabled) (tree : Tree) (line : List ℕ) → ReadsAgain table tree line → IsTextAnswer table line (Ok (Some (objects_of tree 0, root tree 0)))
 read_back_answer table tree line r = (r.lexemes, r.lexes, some_lexemes table line r.lexemes (objects_of tree 0, root tree 0) (r.answer (length line)), r.answer (length line))
 
--- The value of the tree is the answer of the line.
+-- If the line is the text of the value of a tree, then the answer for the line is the value.
 is_back : (table : Tabled) (tree : Tree) (line : List ℕ) (a : TextAnswer) → ReadsAgain table tree line → IsTextAnswer table line a → a ≡ Ok (Some (objects_of tree 0, root tree 0))
 is_back table tree line a back is = same_answer table line a (Ok (Some (objects_of tree 0, root tree 0))) is (read_back_answer table tree line back)
 
 -- ---- results of a call
 
--- The result is the one answer.
+-- If memory does not run out, the result of a call is the only answer for the line.
 pub gives_answer : (table : Tabled) (line : List ℕ) (new : List Obj) (r : Result (Option Val) TextFault) → ReadsText table line new r
     → (answer : TextAnswer) → IsTextAnswer table line answer → Gives answer new r
 gives_answer table line new (Ok None) reads answer is = same_answer table line answer (Ok None) is reads.1
@@ -156,7 +157,7 @@ none_back graph v e = absurd cc
 fault_back : {A : Type 0} (fault : TextFault) (graph : List Obj) (v : Val) → ◌≡◌ {A = TextAnswer} (Err fault) (Ok (Some (graph, v))) → A
 fault_back fault graph v e = absurd cc
 
--- The result is the value of a tree.
+-- If the line is the text of the value of a tree, then the result of a call is the value.
 pub gives_back : (table : Tabled) (line : List ℕ) (new : List Obj) (r : Result (Option Val) TextFault) → ReadsText table line new r
     → (tree : Tree) → ReadsAgain table tree line → GivesTree tree new r
 gives_back table line new (Ok None) reads tree back = none_back (objects_of tree 0) (root tree 0) (is_back table tree line (Ok None) back reads.1)

@@ -21,7 +21,7 @@ abbrev pub DoublesAreLexemes : Type 0
 DoublesAreLexemes =
     (bits : ℕ) → bits < 2 ^ 64 → IsLexed Anything (float_text bits) (kinds.Double bits ∷ [])
 
--- If no byte of a name follows.
+-- If no byte of a name follows, the text of an integer is one lexeme.
 abbrev pub IntegersAreLexemes : Type 0
 IntegersAreLexemes =
     (z : ℤ) (suffix : Suffix) → InRange z

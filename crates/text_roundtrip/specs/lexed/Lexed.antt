@@ -1,4 +1,4 @@
--- Texts that consist of given lexemes, under a condition on the bytes that follow.
+-- Texts that consist of given lexemes, under a condition on the bytes that follow the text.
 use Rattle.std.specs.Prelude.{ℕ, ◌≡◌, ◌≢◌, false, List, [], ◌∷◌}
 use Rattle.std.specs.List.{flat_map, AllByRecursion}
 use Rattle.types_parse.specs.grammar.Grammar.{Kinds}
@@ -8,12 +8,12 @@ use Rattle.types_lex.specs.LexText.{Part, Separator, Comment, Word, part_bytes, 
 abbrev pub Anything : List ℕ → Type 0
 Anything bytes = Unit {0}
 
--- These bytes continue no name and no number.
+-- The bytes are empty, or begin with a byte that continues no name and no number.
 abbrev pub Ends : List ℕ → Type 0
 Ends [] = Unit {0}
 Ends (b ∷ bs) = is_name_byte b ≡ false
 
--- After an opening parenthesis, a star would begin a comment.
+-- The bytes do not begin with a star, which would begin a comment after an opening parenthesis.
 abbrev pub NoStar : List ℕ → Type 0
 NoStar [] = Unit {0}
 NoStar (b ∷ bs) = b ≢ 42
@@ -24,20 +24,20 @@ kinds_in (Separator b ∷ parts) = kinds_in parts
 kinds_in (Comment inside ∷ parts) = kinds_in parts
 kinds_in (Word form ∷ parts) = form_kind form ∷ kinds_in parts
 
--- The first byte is not a star.
+-- The text is not empty, and its first byte is not a star.
 pub record Begins (text : List ℕ) : Type 0 where
   pub first : ℕ
   pub others : List ℕ
   pub is : text ≡ first ∷ others
   pub no_star : first ≢ 42
 
--- A lexeme or a space.
+-- The part is a lexeme or a space.
 abbrev pub IsOnLine : Part → Type 0
 IsOnLine (Separator b) = b ≡ 32
 IsOnLine (Comment inside) = ⊥
 IsOnLine (Word form) = IsForm form
 
--- The text consists of parts with these lexemes, for all following bytes that satisfy `May`.
+-- The text consists of parts with the lexemes `kinds`, for all following bytes that satisfy `May`.
 pub record IsLexed (May : List ℕ → Type 0) (text : List ℕ) (kinds : Kinds) : Type 0 where
   pub parts : List Part
   pub written : text ≡ flat_map part_bytes parts

@@ -1,4 +1,4 @@
--- The text of a block: a plain literal whose parts are literals, each read as a tree.
+-- The text of a block: a plain literal whose parts are literals. Each part is read as a tree.
 use Rattle.std.specs.Prelude.{ℕ, ℤ, ◌+◌, ◌≡◌, ◌⊎◌, List, [], ◌∷◌, ◌++◌, length, Ok, Some}
 use Rattle.base_data.specs.declared.model.value.Val.{Val}
 use Rattle.base_data.specs.declared.model.value.Val.TheVariants as vals
@@ -16,8 +16,8 @@ use Rattle.text_roundtrip.specs.literal_texts.Listing.{AreTexts}
 use Rattle.text_roundtrip.specs.literal_texts.Numbered.{before}
 
 module _ {T : Type 0} (shape : T → ShapeOf T) (names : T → Names) (labels : List ℕ) where
-  -- The whole text is a plain literal that starts this block, and its parts are read as the trees
-  -- of a forest.
+  -- The whole text is a plain literal that starts the block, and the parts of the literal are read
+  -- as the trees of a forest.
   pub record IsRow (s : ShapeOf T) (nm : Names) (t : T) (tag : ℕ) (skip : List Val) (ts : List T)
       (text : List ℕ) (literals : List Literal) : Type 0 where
     pub plain : Plain
@@ -32,7 +32,8 @@ module _ {T : Type 0} (shape : T → ShapeOf T) (names : T → Names) (labels : 
         ≡ Ok (reading (roots fs c) (all_objects fs c) (before (c + all_made fs) labels))
 
 module _ {T : Type 0} (shape : T → ShapeOf T) (names : T → Names) (t : T) where
-  -- The frame with any texts of the parts is such a literal, if these texts are literals.
+  -- If the texts of the parts are literals, then the frame with these texts is a plain literal that
+  -- starts the block (`IsRow`).
   abbrev pub ReadsRow : ShapeOf T → Names → ℕ → List Val → List T → Frame → Type 0
   ReadsRow s nm tag skip ts frame =
       (labels : List ℕ) (texts : List (List ℕ)) (literals : List Literal)
@@ -40,8 +41,8 @@ module _ {T : Type 0} (shape : T → ShapeOf T) (names : T → Names) (t : T) wh
       → IsRow shape names labels s nm t tag skip ts
       (frame.opening ++ (row_from frame 0 texts ++ frame.closing)) literals
 
-  -- The values of a block at a type. `skip` has the values that the frame prints, if any. `rest`
-  -- has the values of the parts, which have types.
+  -- The values of a block at a type. `skip` has the values that the frame prints. `rest` has the
+  -- values of the parts, which have types.
   pub record IsBlockAt (s : ShapeOf T) (nm : Names) (tag : ℕ) (values : List Val) : Type 0 where
     pub skip : List Val
     pub rest : List Val

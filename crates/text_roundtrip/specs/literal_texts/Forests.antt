@@ -1,4 +1,4 @@
--- Literals that are the trees of a forest, with the objects in their order.
+-- Literals that are read as the trees of a forest, with the objects in the order of the trees.
 use Rattle.std.specs.Prelude.{ℕ, suc, ◌+◌, ◌≡◌, List, [], ◌∷◌, Ok}
 use Rattle.base_data.specs.declared.model.value.Val.{Val}
 use Rattle.base_data.specs.declared.model.value.Obj.{Obj}
@@ -9,13 +9,14 @@ use Rattle.text_literal.specs.grammar.Literal.{Literal}
 use Rattle.text_literal.specs.parser.Reading.{reading, literal_read}
 use Rattle.text_roundtrip.specs.literal_texts.Numbered.{before}
 
--- The types of the parts, beginning at part i.
+-- The types of the parts from index `i` on are `ts`.
 abbrev pub TypesAre : {T : Type 0} → (ℕ → T) → ℕ → List T → Type 0
 TypesAre types i [] = Unit {0}
 TypesAre types i (t ∷ ts) = (types i ≡ t) × TypesAre types (suc i) ts
 
 module _ {T : Type 0} (shape : T → ShapeOf T) (names : T → Names) where
-  -- The literal is read as this value at the type. Before it there are c objects, after it d.
+  -- The literal is read as the value `value` at the type `t`. Before the literal there are `c`
+  -- objects, and after the literal there are `d` objects.
   abbrev pub Reads : List ℕ → Literal → Val → List Obj → ℕ → ℕ → T → Type 0
   Reads labels v value objects c d t =
       (k : ℕ) → literal_read shape names k v c (before c labels) t

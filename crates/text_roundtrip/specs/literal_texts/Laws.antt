@@ -15,8 +15,9 @@ use Rattle.text_roundtrip.specs.literal_texts.Blocks.{IsBlockAt}
 use Rattle.text_roundtrip.specs.literal_texts.Plain.{IsPlain}
 use Rattle.text_roundtrip.specs.literal_texts.Readable.{IsReadable}
 
--- The law for any shapes and names. It requires that the value fits the type, that its name exists
--- there, and that the names can be read back.
+-- The text of a value is a literal that starts as the value, for any shapes and names. The law
+-- requires that the value fits the type, that the value's name exists, and that the names can be
+-- read back.
 pub record ValuesAreLiterals {T : Type 0} (shape : T → ShapeOf T) (names : T → Names) : Type 0 where
   pub integers : (t : T) (z : ℤ) → IsReadable (shape t) (names t) → IsInteger z
       → IsTrue (fits_int (shape t) z) → HasIntName (shape t) (names t) z

@@ -6,7 +6,7 @@ use Rattle.text_literal.specs.grammar.Literal.{Plain, plain_kinds}
 use Rattle.text_literal.specs.parser.Starts.{Start, start_at}
 use Rattle.text_roundtrip.specs.lexed.Lexed.{Ends, IsLexed, Begins}
 
--- The text is a plain literal with this start at the type.
+-- The text is a plain literal with the start `start` at the type `t`.
 pub record IsPlain {T : Type 0} (t : T) (s : ShapeOf T) (names : Names) (text : List ℕ)
     (start : Start T) : Type 0 where
   pub plain : Plain

@@ -65,7 +65,7 @@ module _ {T : Type 0} where
   IsReadable (shapes.ArrayOfAnything t) names = ⊥
   IsReadable shape names = Unit {0}
 
--- The names of each of these types can be read back.
+-- The names of each type in `types` can be read back.
 abbrev pub AreReadable : List Decl → List Ty → Type 0
 AreReadable decls types =
     (u : Ty) → Contains types u → IsReadable (shape decls u) (names_of decls u)

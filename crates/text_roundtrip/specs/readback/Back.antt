@@ -1,5 +1,5 @@
--- A text, as a list of chunks, that is read back as a literal with the same value, objects and
--- labels.
+-- A text, given as a list of chunks, that is read back as a literal with the printed value, objects
+-- and labels.
 use Rattle.std.specs.Prelude.{ℕ, ◌+◌, ◌^◌, ◌<◌, ◌≡◌, true, List, ◌++◌, length, IsSome, Some}
 use Rattle.std.specs.List.{flat_map}
 use Rattle.base_data.specs.declared.model.value.Val.{Val}
@@ -19,8 +19,8 @@ use Rattle.text_roundtrip.specs.literal_texts.Listing.{IsText, AreTexts}
 use Rattle.text_roundtrip.specs.literal_texts.Numbered.{count_from, down, AreIncreasing}
 use Rattle.text_roundtrip.specs.literal_texts.Readable.{IsReadable}
 
--- The values at their types, closed under parts. Each value fits its type, and the names of the
--- type can be read back.
+-- `Holds` is a relation of values and types that is closed under parts. Each value fits its type,
+-- and the names of the type can be read back.
 pub record AreShowable {T : Type 0} (shape : T → ShapeOf T) (names : T → Names) (graph : List Obj)
     (Holds : Val → T → Type 0) : Type 0 where
   pub fits : (v : Val) (t : T) → Holds v t → IsSome (fields_of graph v (shape t))
@@ -33,14 +33,14 @@ pub record AreShowable {T : Type 0} (shape : T → ShapeOf T) (names : T → Nam
 abbrev pub text_by : List ℕ → List Chunk → List ℕ
 text_by labels chunks = flat_map (chunk_text labels) chunks
 
--- Labels that increase with the objects. They are few enough to be integers, and contain all
+-- Labels that increase with the objects. The labels are few enough to be integers, and contain all
 -- objects that are visited again.
 pub record AreLabels (labels : List ℕ) (chunks : List Chunk) : Type 0 where
   pub up : AreIncreasing 0 labels
   pub few : length labels < 2 ^ 63
   pub all : (o : ℕ) → has (agains chunks) o ≡ true → has labels o ≡ true
 
--- These objects are in the graph, beginning at index c.
+-- The objects `objects` are in the graph from index `c` on.
 pub record IsPlaced (graph objects : List Obj) (c : ℕ) : Type 0 where
   pub prefix : List Obj
   pub rest : List Obj
@@ -48,15 +48,16 @@ pub record IsPlaced (graph objects : List Obj) (c : ℕ) : Type 0 where
   pub at : length prefix ≡ c
 
 module _ {T : Type 0} (shape : T → ShapeOf T) (names : T → Names) where
-  -- The text is a literal with this value. Before it there are c objects, after it d.
+  -- The text is a literal with the value `value`. Before the literal there are `c` objects, and
+  -- after the literal there are `d` objects.
   pub record IsBack (labels text : List ℕ) (value : Val) (objects : List Obj) (c d : ℕ) (t : T) :
       Type 0 where
     pub literal : Literal
     pub is_text : IsText text literal
     pub reads : Reads shape names labels literal value objects c d t
 
-  -- The text visits n new objects, from index c on, in the order of their indices. It is read back
-  -- with any labels.
+  -- The text visits `n` new objects from index `c` on, in the order of their indices. The text is
+  -- read back with any labels.
   pub record IsMetBack (c n : ℕ) (value : Val) (objects : List Obj) (t : T) (m : Met) :
       Type 0 where
     pub seen : m.seen ≡ down (c + n)
@@ -65,7 +66,7 @@ module _ {T : Type 0} (shape : T → ShapeOf T) (names : T → Names) where
     pub back : (labels : List ℕ) → AreLabels labels m.chunks
         → IsBack labels (text_by labels m.chunks) value objects c (c + n) t
 
-  -- A list of texts, each read back at its type.
+  -- A list of texts, where each text is read back at the type of its part.
   pub record AreBack (labels text : List ℕ) (frame : Frame) (i : ℕ) (fs : Forest) (c : ℕ)
       (ts : List T) : Type 0 where
     pub texts : List (List ℕ)

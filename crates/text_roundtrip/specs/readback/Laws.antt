@@ -1,5 +1,5 @@
--- The text of a value at a type is read back as the value itself, with the objects in the same
--- order.
+-- The text of a value at a type is read back as the value, with the objects in the order of the
+-- text.
 use Rattle.std.specs.Prelude.{◌^◌, ◌<◌, List}
 use Rattle.types_spec.specs.declared.types.decl.Decl.{Decl}
 use Rattle.types_spec.specs.types.Accepted.{AreWellFormed, IsSoundType}
@@ -14,8 +14,8 @@ use Rattle.text_print.specs.show.Shown.{shown_text}
 use Rattle.text_roundtrip.specs.literal_texts.Readable.{AreReadable}
 use Rattle.text_roundtrip.specs.readback.ReadBack.{IsReadBack}
 
--- If the value of a tree has a type, then its text is read back. The law requires that the number
--- of objects is below 2^63, so that labels are integers of the lexer.
+-- If the value of a tree has a type, then the value's text is read back. The number of objects must
+-- be below 2^63, because labels are integers of the lexer.
 abbrev pub TextsAreReadBack : Type 0
 TextsAreReadBack =
     (decls : List Decl) (t : Ty) (types : List Ty)

@@ -1,4 +1,4 @@
--- A text of a tree that is read back: its lexemes are a literal with the value of the tree.
+-- A text of a tree that is read back: the text's lexemes are a literal with the value of the tree.
 use Rattle.std.specs.Prelude.{ℕ, ◌<◌, ◌≡◌, ◌≢◌, length, List, [], ◌∷◌, Ok, map}
 use Rattle.std.specs.List.{AllByRecursion}
 use Rattle.types_lex.specs.declared.lexeme.Lexeme.{Lexeme}

@@ -17,15 +17,16 @@ use Rattle.text_roundtrip.specs.literal_texts.Readable.{AreReadable}
 use Rattle.text_roundtrip.specs.readback.ReadBack.{IsReadBack}
 use Rattle.text_roundtrip.specs.text.Laws.{ReadsAgain}
 
--- The names can be read back for each type that is reached from a type of an accepted text, over
--- declarations of an accepted text. No reached type is `_`.
+-- The names of each type that is reached from a type of an accepted text, over declarations of an
+-- accepted text, can be read back. No reached type is `_`.
 abbrev pub NamesAreReadBack : Type 0
 NamesAreReadBack =
     (file_text type_text : List ℕ) (decls : List Decl) (t : Ty) (types : List Ty)
     → IsDeclared file_text decls → IsTypeOf decls type_text t → IsReached decls t types
     → NoneIsWildcard decls types → AreReadable decls types
 
--- The text of a value of such a type is read as the value.
+-- If a type and its declarations come from accepted texts, then the text of a value of the type is
+-- read as the value.
 abbrev pub DeclaredTextsAreReadBack : Type 0
 DeclaredTextsAreReadBack =
     (file_text type_text : List ℕ) (decls : List Decl) (t : Ty) (types : List Ty)
@@ -37,7 +38,8 @@ DeclaredTextsAreReadBack =
     → IsReadBack (shape decls) (names_of decls) tree t
     (shown_text (shape decls) (names_of decls) (objects_of tree 0) (root tree 0) t)
 
--- The text is read as the value at type 0 of the table too.
+-- If a type and its declarations come from accepted texts, then the text of a value is read as the
+-- value at type 0 of the type's table.
 abbrev pub LiteralsAreReadBack : Type 0
 LiteralsAreReadBack =
     (file_text type_text : List ℕ) (decls : List Decl) (t : Ty) (table : Tabled)

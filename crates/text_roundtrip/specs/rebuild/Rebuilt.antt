@@ -1,4 +1,4 @@
--- The text of a value is read as the same value, with the same type, text and bytes.
+-- The text of a value is read as an isomorphic value, with equal type, text and bytes.
 use Rattle.std.specs.Prelude.{ℕ, ◌^◌, ◌<◌, ◌≡◌, List}
 use Rattle.base_data.specs.declared.model.value.Val.{Val}
 use Rattle.base_data.specs.declared.model.value.Obj.{Obj}
@@ -18,8 +18,9 @@ use Rattle.types_table.specs.type_table.Made.{types_of, IsTypeTable}
 use Rattle.types_wellformed.specs.declarations.Read.{IsDeclared, IsTypeOf}
 use Rattle.text_roundtrip.specs.text.Laws.{ReadsAgain}
 
--- The text is read as the value of the tree. This value is isomorphic to the given one, has the
--- type, and has the same text. Its tree, which determines its canonical bytes, is the same tree.
+-- The text is read as the value of `tree`. The value of `tree` is isomorphic to the given value,
+-- and has the type and the text of the given value. The given value's tree, which determines the
+-- canonical bytes, is `tree`.
 pub record IsRebuilt (decls : List Decl) (t : Ty) (table : Tabled) (g : List Obj) (v : Val)
     (tree : Tree) :
     Type 0 where
@@ -30,8 +31,8 @@ pub record IsRebuilt (decls : List Decl) (t : Ty) (table : Tabled) (g : List Obj
       ≡ shown_text (shape decls) (names_of decls) g v t
   pub bytes : IsTreeOf (objects_of tree 0) (root tree 0) tree
 
--- Each value of a type of an accepted text is rebuilt, over declarations of an accepted text. No
--- reached type is `_`.
+-- Each value of a type of an accepted text, over declarations of an accepted text, is rebuilt
+-- (`IsRebuilt`). No reached type is `_`.
 abbrev pub ValuesAreRebuilt : Type 0
 ValuesAreRebuilt =
     (file_text type_text : List ℕ) (decls : List Decl) (t : Ty) (table : Tabled)

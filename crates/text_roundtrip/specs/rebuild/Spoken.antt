@@ -12,7 +12,8 @@ use Rattle.types_spec.specs.declared.types.decl.Decl.{Decl}
 use Rattle.types_spec.specs.types.Ty.{Ty, variable, named, tuple, bracket, part, tag, tag_of}
 use Rattle.types_spec.specs.types.Ty.{including}
 
--- Each tag is a lexeme, and each tuple has at least two components. k more parts follow.
+-- Each tag of the type is a lexeme, and each tuple has at least two components, if `k` more parts
+-- follow the type.
 abbrev pub IsSpoken : ℕ → Ty → Type 0
 IsSpoken k (variable x) = k ≡ 0
 IsSpoken k (named n) = Unit {0}
@@ -35,7 +36,7 @@ abbrev pub IsSpokenConstructor : Constructor → Type 0
 IsSpokenConstructor constructor =
     IsForm (Upper constructor.name) × AreSpokenArguments constructor.arguments
 
--- All keys are distinct.
+-- The keys of all elements are distinct.
 module _ {X : Type 0} (key : X → List ℕ) where
   abbrev pub AreOnce : List X → Type 0
   AreOnce [] = Unit {0}

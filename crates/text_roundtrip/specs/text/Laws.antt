@@ -1,4 +1,4 @@
--- The text of a value at a type, read at the index of the type in a table.
+-- The text of a value at a type is read at the index of the type in a table.
 use Rattle.std.specs.Prelude.{ℕ, ◌^◌, ◌<◌, ◌≢◌, length, List, [], Ok}
 use Rattle.std.specs.List.{AllByRecursion}
 use Rattle.types_lex.specs.declared.lexeme.Lexeme.{Lexeme}
@@ -17,8 +17,8 @@ use Rattle.types_table.specs.type_table.Made.{types_of, IsTypeTable}
 use Rattle.text_literal.specs.parser.LiteralAnswers.{IsAnswer}
 use Rattle.text_roundtrip.specs.literal_texts.Readable.{AreReadable}
 
--- The text is one non-empty line. At type 0 of the table and with no old objects, the answer for
--- its lexemes is the value of the tree with its objects.
+-- The text is one non-empty line. At type 0 of the table and without old objects, the answer for
+-- the text's lexemes is the value of the tree with its objects.
 pub record ReadsAgain (table : Tabled) (tree : Tree) (text : List ℕ) : Type 0 where
   pub lexemes : List Lexeme
   pub lexes : Lexes text lexemes
@@ -26,8 +26,8 @@ pub record ReadsAgain (table : Tabled) (tree : Tree) (text : List ℕ) : Type 0 
   pub one_line : AllByRecursion (λ b. b ≢ 10) text
   pub answer : (end : ℕ) → IsAnswer table 0 lexemes end [] (Ok (objects_of tree 0, root tree 0))
 
--- This holds for each value of the type of a table, if the names of all types of the table can be
--- read back.
+-- If the names of all types of a table can be read back, then each text of a value of the table's
+-- type is read again (`ReadsAgain`).
 abbrev pub TextsAreReadAgain : Type 0
 TextsAreReadAgain =
     (decls : List Decl) (t : Ty) (table : Tabled)

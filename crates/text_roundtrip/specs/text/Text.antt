@@ -1,4 +1,4 @@
--- The answer for a line at type 0 of a table: nothing, a value, or a fault.
+-- The answer for a line at type 0 of a table: the line is blank, is a value, or has a fault.
 use Rattle.std.specs.Prelude.{ℕ, ◌≡◌, ◌≢◌, Option, Some, None, Result, Ok, Err, List, [], length, ⊤}
 use Rattle.base_data.specs.declared.model.value.Val.{Val}
 use Rattle.base_data.specs.declared.model.value.Obj.{Obj}
@@ -14,13 +14,12 @@ use Rattle.text_roundtrip.specs.text.Laws.{ReadsAgain}
 use Rattle.text_roundtrip.specs.declared.text.text.TextFault.{TextFault}
 use Rattle.text_roundtrip.specs.declared.text.text.TextFault.TheVariants as faults
 
--- Nothing, or objects with a value, or a fault.
+-- The answer for a line: nothing for a blank line, objects with a value, or a fault.
 abbrev pub TextAnswer : Type 0
 TextAnswer = Result (Option (List Obj × Val)) TextFault
 
--- A line without lexemes is blank. Otherwise the lexemes are a literal with a value and its
--- objects, or they have the fault of a literal. There are no old objects, and the end is the end of
--- the line.
+-- A line without lexemes is blank. If a line has lexemes, the lexemes are a literal with a value
+-- and its objects, or have a fault. A literal has no old objects, and ends at the end of the line.
 abbrev pub IsTextAnswer : Tabled → List ℕ → TextAnswer → Type 0
 IsTextAnswer table line (Ok None) = Lexes line []
 IsTextAnswer table line (Ok (Some built)) =
@@ -45,7 +44,8 @@ HasOneTextAnswer table line =
 
 -- ---- results of a call, with the heap afterwards
 
--- If the result is a value, its objects are those of the heap. Otherwise the heap is empty.
+-- If the result is a value, the objects of the heap are the value's objects. If the result is not a
+-- value, the heap is empty.
 abbrev pub ReadsText : Tabled → List ℕ → List Obj → Result (Option Val) TextFault → Type 0
 ReadsText table line new (Ok None) = (new ≡ []) × IsTextAnswer table line (Ok None)
 ReadsText table line new (Ok (Some value)) =
@@ -53,26 +53,26 @@ ReadsText table line new (Ok (Some value)) =
 ReadsText table line new (Err faults.Memory) = new ≡ []
 ReadsText table line new (Err fault) = (new ≡ []) × IsTextAnswer table line (Err fault)
 
--- The result is this answer, unless memory runs out.
+-- If memory does not run out, the result is the answer `answer`.
 abbrev pub Gives : TextAnswer → List Obj → Result (Option Val) TextFault → Type 0
 Gives answer new (Ok None) = answer ≡ Ok None
 Gives answer new (Ok (Some value)) = answer ≡ Ok (Some (new, value))
 Gives answer new (Err faults.Memory) = ⊤
 Gives answer new (Err fault) = answer ≡ Err fault
 
--- The result is the answer for the line, unless memory runs out.
+-- If memory does not run out, the result is the answer for the line.
 abbrev pub GivesAnswer : Tabled → List ℕ → List Obj → Result (Option Val) TextFault → Type 0
 GivesAnswer table line new result =
     (answer : TextAnswer) → IsTextAnswer table line answer → Gives answer new result
 
--- The result is the value of this tree, with its objects in order, unless memory runs out.
+-- If memory does not run out, the result is the value of the tree, with its objects in order.
 abbrev pub GivesTree : Tree → List Obj → Result (Option Val) TextFault → Type 0
 GivesTree tree new (Ok (Some value)) = (new ≡ objects_of tree 0) × (value ≡ root tree 0)
 GivesTree tree new (Ok None) = ⊥
 GivesTree tree new (Err faults.Memory) = ⊤
 GivesTree tree new (Err fault) = ⊥
 
--- If the line is the text of the value of a tree, then the result is this value.
+-- If the line is the text of the value of a tree, then the result is the value of the tree.
 abbrev pub GivesBack : Tabled → List ℕ → List Obj → Result (Option Val) TextFault → Type 0
 GivesBack table line new result =
     (tree : Tree) → ReadsAgain table tree line → GivesTree tree new result

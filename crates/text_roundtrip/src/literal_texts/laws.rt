@@ -1,4 +1,4 @@
-//! The law, stated as a contract.
+//! The law of the texts of values, stated as a contract.
 
 ghost use Rattle.std.specs.Prelude.{List};
 ghost use Rattle.types_spec.specs.declared.types.decl.Decl.{Decl};
@@ -8,9 +8,9 @@ ghost use Rattle.text_literal.specs.parser.LiteralAnswers.{shape_in, names_in};
 ghost use Rattle.types_table.specs.declared.type_table.tabled.Tabled.{Tabled};
 ghost use Rattle.text_roundtrip.specs.literal_texts.Laws.{ValuesAreLiterals};
 
-/// Let the names of a type be readable, so that texts with them can be read back. Then the text of
-/// each value of the type is a literal that starts as the value. This holds for declared types and
-/// for the type indices of a table.
+/// Suppose the names of a type can be read back. Then the text of each value of the type is a
+/// literal that starts as the value. The law holds for declared types and for the type indices of a
+/// table.
 pub fn values_are_literals()
     ensures types { (decls : List Decl) → ValuesAreLiterals (shape decls) (names_of decls) }
     ensures numbers { (table : Tabled) → ValuesAreLiterals (shape_in table) (names_in table) }

@@ -25,8 +25,8 @@ pub enum TextFault {
 }
 
 /// Reads a line as a value of type 0 of the table. Returns `None` for a blank line. First drops the
-/// objects of the heap and reuses their memory; afterwards the heap contains the objects of the
-/// value.
+/// objects of the heap and reuses their memory. After the call, the heap contains the objects of
+/// the value.
 pub fn read_text(
     alloc: Global,
     heap: &mut Heap,
@@ -34,13 +34,15 @@ pub fn read_text(
     line: &[u8],
 ) -> Result<Option<Val>, TextFault>
 
-    // Returns the answer for the line. After a fault, or if memory runs out, the heap is empty.
+    // The result is the answer for the line. If the line has a fault or memory runs out, the heap
+    // is empty.
     ensures reads { ReadsText table.now line.now heap.new result }
 
-    // The result is the one answer, unless memory runs out.
+    // If memory does not run out, the result is the only answer for the line.
     ensures only { GivesAnswer table.now line.now heap.new result }
 
-    // The text of the value of a tree is read as this value, with its objects in order.
+    // If the line is the text of the value of a tree, the result is the value, with its objects in
+    // order.
     ensures back { GivesBack table.now line.now heap.new result }
 {
     read(alloc, heap, table, line)
@@ -56,7 +58,7 @@ fn text_fault(fault: LiteralFault) -> TextFault
     }
 }
 
-/// Reads a line with these nodes as a value of type 0.
+/// Reads a line as a value of type 0, given the nodes of the line's literal.
 fn read_nodes(
     alloc: Global,
     heap: &mut Heap,

@@ -1,4 +1,4 @@
--- If a type is equal to the type of a tree, then it is one too.
+-- If a type is equal to the type of a tree, then the type is the type of a tree.
 use Rattle.std.proofs.Common.{ℕ, ◌≡◌, ◌∙◌, ◌⊎◌, inl, inr, Bool, false, List, [], ◌∷◌, Option, Some, None, refl, sym, ap, subst}
 use Rattle.std.specs.Prelude.{Contains, codes}
 use Rattle.base_data.proofs.model.Options.{Contains-first, Contains-later}
@@ -68,7 +68,7 @@ module _ {T : Type 0} (Likes : T → T → Type 0) where
   bytes_too same_anything b is = is
   bytes_too (same_array_of_anything t u matching) b is = cc
 
-  -- A sum with blocks that agree.
+  -- The shape `s` is a sum whose blocks agree with the blocks `cs`.
   record IsSum (s : ShapeOf T) (k : ℕ) (cs : List (Constr T)) : Type 0 where
     blocks : List (Constr T)
     is : s ≡ shapes.Sum k blocks
@@ -96,7 +96,7 @@ module _ {T : Type 0} (Likes : T → T → Type 0) where
   sum_too same_anything k cs is = absurd (cc)
   sum_too (same_array_of_anything t u matching) k cs is = absurd (cc)
 
-  -- The fields of a node, with equal types of parts.
+  -- The fields are the fields of a node, and the types of the fields are equal to the given types.
   record AreFields (fields : List T) (l e : T) (d : Option T) (r h : T) : Type 0 where
     left : T
     element : T
@@ -171,7 +171,7 @@ module _ {T : Type 0} (Likes : T → T → Type 0) where
   }
   one_block s wanted (b ∷ c ∷ bs) is agree = absurd agree.2
 
--- The types of the parts of a node.
+-- Each type of a node's parts is named in the shape of the tree.
 module _ {T : Type 0} (l e : T) where
   names_left : (d : Option T) (r h : T) → Contains (named_in (tree_shape l e d r h)) l
   names_left None r h = Contains-first l (e ∷ r ∷ h ∷ [])

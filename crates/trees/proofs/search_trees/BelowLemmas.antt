@@ -1,4 +1,4 @@
--- The nodes below a value: the first step, and the rest of the path.
+-- The nodes below a value, by the first step of a path and the later steps.
 use Rattle.std.proofs.Common.{ℕ, ◌≡◌, List, [], ◌∷◌, refl}
 use Rattle.std.specs.Prelude.{ℤ}
 use Rattle.base_data.specs.declared.model.value.Val.TheVariants as vals
@@ -28,7 +28,8 @@ module _ (graph : List Obj) where
   none_below_atom tag p ([], is) = cc
   none_below_atom tag p (side ∷ sides, is) = nowhere sides p is
 
-  -- At or below a node there are the node itself, its left subtree and its right subtree.
+  -- A node at or below a node `o` is `o`, a node in the left subtree, or a node in the right
+  -- subtree.
   pub data AtNode (o p : ℕ) : Type 0 where
     itself : o ≡ p → AtNode o p
     on_left : IsAtOrBelow graph (node_at graph o).left p → AtNode o p

@@ -8,7 +8,7 @@ abbrev pub one_if : Bool → ℕ
 one_if true = 1
 one_if false = 0
 
--- The number of lesser heights.
+-- The number of heights in the list that are less than `z`.
 abbrev pub lower : List ℤ → ℤ → ℕ
 lower [] z = 0
 lower (y ∷ heights) z = one_if (int_lt y z) + lower heights z
@@ -40,7 +40,8 @@ is_under y z less = grind (arith, ints)
 under_at_most : (y z : ℤ) → y <ℤ z → y ≤ℤ z
 under_at_most y z less = omega (arith, ints)
 
--- If x is one of the heights and less than z, then fewer heights are less than x than z.
+-- If `x` is one of the heights and less than `z`, then fewer heights are less than `x` than are
+-- less than `z`.
 pub lower_less : (heights : List ℤ) (i : ℕ) (x z : ℤ) → slice_get heights i ≡ Some x → x <ℤ z → lower heights x < lower heights z
 lower_less [] i x z at less = absurd (none-some x at)
 lower_less (y ∷ heights) zero x z at less =

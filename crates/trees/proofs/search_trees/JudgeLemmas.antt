@@ -11,7 +11,7 @@ use Rattle.trees.specs.search_trees.Span.{IsSettled, IsMarked}
 use Rattle.trees.specs.search_trees.Judgement.{HasAt, IsFirst}
 
 module _ (Has : ℕ → Type 0) (nodes : List ℕ) where
-  -- None of the first nodes, up to an index, has the property.
+  -- No node before index `i` has the property.
   abbrev pub NoneBefore : ℕ → Type 0
   NoneBefore i = (j : ℕ) → j < i → ¬ HasAt Has nodes j
 
@@ -53,7 +53,7 @@ module _ (graph : List Obj) (nodes : List ℕ) where
       IsSomeAnd-at (slice_get nodes i) some.0 (IsMarked all) some.1
       ((marked_is all some.0 (known some.0 (slice_get-Contains nodes i some.0 some.1))).1 some.2)
 
-  -- The first marked node is the first node out of order.
+  -- If all nodes are settled, then the first marked node is the first node out of order.
   pub first_disordered :
       (all : List SettledNode) (found : Option ℕ) → ((o : ℕ) → Contains nodes o → IsSettled graph all o) → IsFirst (IsMarked all) nodes found
       → IsFirst (IsDisordered graph) nodes found

@@ -13,7 +13,7 @@ use Rattle.trees.specs.search_trees.SearchTree.{AreIncreasing}
 
 -- ---- texts
 
--- The first bytes are equal and the rest comes before, or the first byte is less.
+-- The byte `a` is less than `b`, or the bytes are equal and the text `bytes` comes before `others`.
 abbrev FirstBefore : ℕ → ℕ → List ℕ → List ℕ → Type 0
 FirstBefore a b bytes others = (a < b) ⊎ ((a ≡ b) × IsTrue (are_before bytes others))
 
@@ -77,7 +77,7 @@ at_end [] (y ∷ ys) i end =
 at_end (x ∷ xs) (y ∷ ys) zero end = absurd (omega (arith, end))
 at_end (x ∷ xs) (y ∷ ys) (suc i) end = at_end xs ys i (omega (arith, end)) ∙ sym (lengths xs ys x y)
 
--- After a common prefix, the rest of the two texts decides.
+-- The order of two texts is the order of the two texts without their first `i` bytes.
 abbrev pub DecidesFrom : List ℕ → List ℕ → ℕ → Type 0
 DecidesFrom xs ys i = are_before xs ys ≡ are_before (drop i xs) (drop i ys)
 
@@ -167,7 +167,7 @@ module _ (graph : List Obj) where
 
 -- ---- lists
 
--- Each element of the list is less than the value, or the other way round.
+-- Each element of the list is less than the value `v`.
 abbrev pub AllLess : List Obj → List Val → Val → Type 0
 AllLess graph xs v = (x : Val) → Contains xs x → IsTrue (is_less graph x v)
 
@@ -192,7 +192,8 @@ increasing_joined graph (x ∷ xs) v ys one less two more =
           (Contains-cases v ys w right))
           (Contains-append_cases xs (v ∷ ys) w among)
 
--- In an increasing list, the elements before a value are less and those after it are greater.
+-- In an increasing list, the elements before a value are less than the value, and the elements
+-- after the value are greater.
 pub increasing_less :
     (graph : List Obj) (xs : List Val) (v : Val) (ys : List Val) → AreIncreasing graph (xs ++ v ∷ ys) → AllLess graph xs v
 increasing_less graph [] v ys all x among = absurd (Contains-none x among)

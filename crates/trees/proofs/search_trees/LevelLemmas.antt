@@ -1,4 +1,5 @@
--- If nodes are closed and no height is wrong, then no height is negative and parts are lower.
+-- If nodes are closed and no height is wrong, then no height is negative, and the parts of a node
+-- are lower than the node.
 use Rattle.std.proofs.Common.{ℕ, zero, suc, ◌≡◌, ◌<◌, List, length, max, map, refl, arith}
 use Rattle.std.specs.Prelude.{Contains, slice_get, ℤ, pos, ◌+ℤ◌, ◌<ℤ◌}
 use Rattle.std.specs.Int.{int_max}
@@ -37,7 +38,7 @@ module _ (graph : List Obj) (nodes : List ℕ) (closed : AreClosed graph nodes)
       let position = Contains-position heights (node_at graph o).height (Contains-map (λ p. (node_at graph p).height) nodes o among) in
       lower_less heights position.0 (node_at graph o).height z position.1 less
 
-  -- If each lower node has a level, then a part has a level.
+  -- If each node below a height has a level, then a part below the height has a level.
   part_level :
       (z : ℤ) → ((p : ℕ) → Contains nodes p → (node_at graph p).height <ℤ z → HasLevel graph p)
       → (v : Val) → IsAmong nodes v → height_of graph v <ℤ z → (h : ℕ) × (height_of graph v ≡ pos h)

@@ -5,11 +5,12 @@ use Rattle.std.specs.Str.{bytes_eq}
 use Rattle.std.proofs.lemmas.List.{length-map, drop_all, get_or_default}
 use Rattle.std.proofs.lemmas.Slice.Eq.{bytes_eq-Decides}
 
--- The lists are equal if they agree from this index on.
+-- If the two lists agree from index `i` on, then the two lists are equal.
 abbrev pub SameFrom : List (List ℕ) → List (List ℕ) → ℕ → Type 0
 SameFrom xs ys i = drop i xs ≡ drop i ys → xs ≡ ys
 
--- A list as its element at an index and the rest.
+-- If two lists agree at index `i` and from index `i` + 1 on, then the lists agree from index `i`
+-- on.
 one_before :
     (xs ys : List (List ℕ)) (i : ℕ) → i < length xs → i < length ys → get_or xs i [] ≡ get_or ys i [] → drop (suc i) xs ≡ drop (suc i) ys → drop i xs ≡ drop i ys
 one_before [] ys i below under same rest = absurd (omega (arith, below))

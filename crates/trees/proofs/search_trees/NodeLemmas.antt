@@ -24,12 +24,12 @@ abbrev pub node_values : {T : Type 0} → Option T → Val → Val → Val → V
 node_values None l e d r h = l ∷ e ∷ r ∷ h ∷ []
 node_values (Some t) l e d r h = l ∷ e ∷ d ∷ r ∷ h ∷ []
 
--- The field of the right subtree.
+-- The index of the field with the right subtree.
 abbrev pub position_of_right : {T : Type 0} → Option T → ℕ
 position_of_right None = 2
 position_of_right (Some t) = 3
 
--- The object of a node.
+-- The object is a block that stores a node of a set or of a map.
 pub record IsBlock {T : Type 0} (kept : Option T) (object : Obj) : Type 0 where
   pub l : Val
   pub e : Val
@@ -81,7 +81,7 @@ module _ {T : Type 0} (left element : T) where
   fitting_block kept right height (objects.I64 z) fits = absurd (false≢true fits)
   fitting_block kept right height (objects.Native z) fits = absurd (false≢true fits)
 
--- The object of a value at the type of a tree.
+-- The object `o` of the graph is a block that stores a node.
 pub record IsNodeObject {T : Type 0} (kept : Option T) (graph : List Obj) (o : ℕ) : Type 0 where
   pub object : Obj
   pub at : slice_get graph o ≡ Some object
@@ -93,7 +93,7 @@ step_by shape s found i =
     option_and_then (λ w. option_map (λ u. (w, u)) (type_of_field (asked_of shape (or_none (option_and_then (object_fields s) found))) i))
     (option_and_then (λ object. slice_get (values_of object) i) found)
 
--- The first required field, and the remaining ones.
+-- The type of a field, if the field is the first required field or a later field.
 module _ {T : Type 0} (shape : T → ShapeOf T) (k : ℕ) (u : T) (fields : List (ℕ × T)) where
   first_type : IsTrue (is_asked (shape u)) → type_of_field (asked_of shape ((k, u) ∷ fields)) k ≡ Some u
   first_type asked =

@@ -1,4 +1,4 @@
--- Search trees have no faults: the stored heights, and the nodes below.
+-- Search trees have no faults: lemmas on the stored heights and on the nodes below a value.
 use Rattle.std.proofs.Common.{ℕ, suc, ◌≡◌, ◌<◌, ◌≤◌, ◌+◌, ◌∙◌, ⊎_elim, inl, inr, List, ◌∷◌, ◌++◌, max, sym, ap, subst, arith}
 use Rattle.std.specs.Prelude.{Contains, ℤ, pos, ◌+ℤ◌, ◌<ℤ◌}
 use Rattle.std.specs.Int.{int_max}
@@ -40,7 +40,8 @@ module _ (graph : List Obj) where
   height_is v empty is stated = ap (height_of graph) is
   height_is v (node left o right) is stated = ap (height_of graph) is.0 ∙ stated.0
 
-  -- The elements of a tree are those of the objects at and below it.
+  -- If an object is at or below the value of a tree, then the object's element is an element of the
+  -- tree.
   pub below_listed : (v : Val) (tree : Tree) → IsTree graph v tree → (p : ℕ) → IsAtOrBelow graph v p → Contains (elements graph tree) (node_at graph p).element
   below_listed v empty is p below = absurd (none_below_int graph (pos 0) p (subst (λ w. IsAtOrBelow graph w p) is below))
   below_listed v (node left o right) is p below =

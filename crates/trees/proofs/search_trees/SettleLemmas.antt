@@ -17,7 +17,7 @@ use Rattle.trees.specs.search_trees.Parts.{node_at}
 use Rattle.trees.specs.search_trees.Span.{IsSettledAs, IsSettled, IsPartSettled, IsReady}
 use Rattle.trees.specs.search_trees.Levels.{Has, IsEarlier, AreRising}
 
--- The first nodes are settled, and so are those that were settled before.
+-- The nodes `nodes` are settled, and each node that was settled before is still settled.
 pub record AreSettledSoFar (graph : List Obj) (nodes : List ℕ) (old new : List SettledNode) : Type 0 where
   pub many : length new ≡ length old
   pub settled : (o : ℕ) → Contains nodes o → IsSettled graph new o
@@ -27,7 +27,8 @@ module _ (graph : List Obj) where
   pub none_yet : (old : List SettledNode) → AreSettledSoFar graph [] old old
   none_yet old = record { many = refl; settled = λ o among. absurd (Contains-none o among); kept = λ o known. known }
 
-  -- One more node is settled.
+  -- If a settled node is written to the list, then the node and all nodes settled before are
+  -- settled.
   with_one : (all : List SettledNode) (o : ℕ) (s : SettledNode) → o < length all → IsSettledAs graph o s → (p : ℕ) → (o ≡ p) ⊎ IsSettled graph all p → IsSettled graph (set all o s) p
   with_one all o s below known p (inl same) = subst (λ q. IsSettled graph (set all o s) q) same (s, slice_get-set_here all o s below, known)
   with_one all o s below known p (inr before) = ⊎_elim

@@ -1,4 +1,4 @@
--- No tree in a value has a fault if and only if each is a search tree.
+-- No tree in a value has a fault if and only if each tree in the value is a search tree.
 use Rattle.std.proofs.Common.{ℕ, zero, suc, ◌≡◌, ◌<◌, ◌∙◌, ⊎_elim, inl, inr, List, [], ◌∷◌, ◌++◌, map, Option, Some, refl, sym, ap, subst, arith}
 use Rattle.std.specs.Prelude.{Contains, IsTrue, option_map, slice_get, ℤ, pos, ◌+ℤ◌, ◌<ℤ◌, ◌≤ℤ◌}
 use Rattle.std.specs.Int.{int_max}
@@ -65,7 +65,8 @@ stated_at graph kept o its =
 
 -- ---- the tree of a value
 
--- The value is a search tree, and each of its elements is that of an object at or below the value.
+-- The value is a search tree, and each element of the tree is the element of an object at or below
+-- the value.
 record IsUnfolded (graph : List Obj) (v : Val) : Type 0 where
   tree : Tree
   is : IsTree graph v tree
@@ -96,7 +97,8 @@ module _ {T : Type 0} (shape : T → ShapeOf T) (names : T → Names) (Equal : T
     by_kind kinds.Order fault = (sound_node graph fault.0.0 (each path (vals.Ref fault.0.0) fault.0.1 fault.0.2.leads fault.0.2.tree)).2 fault.0.3
 
   module _ (has : HasType (shaped shape Equal) graph root t) where
-    -- The target of a path is at a type in question, and fits it.
+    -- If a path leads to a value, then the value's type is in question, and the value matches the
+    -- type's representation.
     pub placed : (path : List ℕ) (v : Val) (u : T) → Leads path v u → InQuestion u × (shaped shape Equal).fits graph v u
     placed path v u leads =
         let held =
@@ -198,7 +200,8 @@ module _ {T : Type 0} (shape : T → ShapeOf T) (names : T → Names) (Equal : T
             (Contains-cases (node_at graph o).element (elements graph right.tree) x rest))
             (Contains-append_cases (elements graph left.tree) ((node_at graph o).element ∷ elements graph right.tree) x among)
 
-      -- If each node below a height is a search tree, then so is a value below it.
+      -- If each node below a height is a search tree, then each value of a tree type below the
+      -- height is a search tree.
       part :
           (z : ℤ) → ((path : List ℕ) (o : ℕ) (u : T) → Leads path (vals.Ref o) u → IsTreeHere u → height_of graph (vals.Ref o) <ℤ z → IsUnfolded graph (vals.Ref o))
           → (path : List ℕ) (v : Val) (u : T) → Leads path v u → IsTreeHere u → height_of graph v <ℤ z → IsUnfolded graph v

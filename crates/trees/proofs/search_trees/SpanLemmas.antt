@@ -1,4 +1,5 @@
--- The least and the greatest elements of nodes, and their consequences for the order.
+-- The least and the greatest elements of nodes, and what these elements imply for the order of the
+-- nodes.
 use Rattle.std.proofs.Common.{ℕ, ◌≡◌, ◌<◌, ◌⊎◌, ⊎_elim, inl, inr, List, length, get_or, refl, sym, subst}
 use Rattle.std.proofs.lemmas.Option.{get_or_from_slice_get}
 use Rattle.std.specs.Prelude.{◌↔◌}
@@ -99,7 +100,8 @@ module _ (graph : List Obj) where
         has;
   }
 
-  -- All of the first span is less than all of the second.
+  -- Suppose the greatest element of the first span is less than the least of the second. Then each
+  -- element of the first span is less than each of the second.
   all_apart : (Has Others : ℕ → Type 0) (first second : ElementSpan) → IsSpan graph Has first → IsSpan graph Others second
       → IsElementLess graph first.greatest second.least → (p q : ℕ) → Has p → Others q → IsElementLess graph p q
   all_apart Has Others first second one two apart p q has other =
@@ -210,8 +212,8 @@ module _ (graph : List Obj) where
         (λ p has. joined_whole p (inl has))
         (λ p has. ⊎_elim (λ left. left) (λ right. absurd (none p right)) (whole_joined p (at_node graph o p has)))
 
-    -- A node is out of order if some element in its left subtree is not less, or some element in
-    -- its right subtree is not greater.
+    -- If an element at or on the left of a node is not less than an element on the right, then the
+    -- node is out of order.
     from_right : (p q : ℕ) → IsOnLeftOrAt graph o p → Right q → (¬ IsElementLess graph p q) → IsDisordered graph o
     from_right p q (inl left) right wrong = ⊎_elim
         (λ less. inr (q, right, λ more. wrong (transitive p o q less more)))

@@ -1,5 +1,5 @@
 -- A sweep over nodes, and the 64-bit words of their fields.
-use Rattle.std.proofs.Common.{ℕ, zero, suc, ◌≡◌, ◌<◌, ◌≤◌, ◌+◌, ◌∙◌, ◌⊎◌, ⊎_elim, inl, inr, Bool, true, false, ◌-◌, ◌^◌, List, [], ◌∷◌, get_or, length, set, replicate, Option, Some, None, refl, sym, ap, subst, arith}
+use Rattle.std.proofs.Common.{ℕ, zero, suc, ◌≡◌, ◌<◌, ◌≤◌, ◌+◌, ◌∙◌, ◌⊎◌, ⊎_elim, inl, inr, Bool, true, false, ◌-◌, ◌^◌, List, length, set, replicate, Option, Some, None, refl, sym, ap, subst, arith}
 use Rattle.std.specs.Prelude.{slice_get, slice_index, map, pos, nat_lt, if◌then◌else◌}
 use Rattle.std.proofs.lemmas.Bool.{cases_lt, ltb-true, ltb-false}
 use Rattle.std.proofs.lemmas.List.Elements.{All-contains}
@@ -20,7 +20,6 @@ use Rattle.trees.specs.declared.search_trees.tree_node.TreeKind.{TreeKind}
 use Rattle.trees.specs.declared.search_trees.tree_node.TreeKind.TheVariants as kinds
 use Rattle.trees.specs.declared.search_trees.element_span.SettledNode.{SettledNode}
 use Rattle.trees.specs.search_trees.Judgement.{rank_of, IsFaultAt, IsKnownBefore, IsJudgement}
-use Rattle.trees.specs.search_trees.Parts.{node_of, number_in}
 use Rattle.trees.specs.search_trees.Span.{IsSettledAs}
 use Rattle.trees.specs.search_trees.Sweep.{AreKnown, HasKind, IsMostSevere, replaced, more_severe, IsMostSevereFrom}
 use Rattle.trees.specs.search_trees.TreeFault.{IsMiscounted, IsUnbalanced, IsDisordered}
@@ -40,7 +39,7 @@ module _ (graph : List Obj) (o i : ℕ) (inside : o < length graph)
       (subst (IsObject (length graph)) (sym is) valid)
       (slice_get-get_or (fields_of (object_at graph o)) i (vals.Int (pos 0)) short)
 
-  -- The value of the word of a field is the field.
+  -- If a value is decoded from the word of a field, then the value is the field.
   pub value_is_field :
       (words : List ℕ) (word : ℕ) (v : Val) → IsGraph graph
       → words ≡ map (word_of graph) (fields_of (object_at graph o)) → word ≡ slice_index words i
@@ -49,27 +48,6 @@ module _ (graph : List Obj) (o i : ℕ) (inside : o < length graph)
       word_of-inj graph v (field_at graph o i) is_graph valid (field_valid is_graph)
       (sym named ∙ is ∙ ap (λ ws. slice_index ws i) are
       ∙ field_word-at graph (fields_of (object_at graph o)) i (vals.Int (pos 0)) short)
-
--- The height of a node is in the field after its right subtree.
-pub height_read : (values : List Val) (right : ℕ) → (right ≡ 2) ⊎ (right ≡ 3)
-    → right + 2 ≡ length values
-    → (node_of values).height ≡ number_in (get_or values (right + 1) (vals.Int (pos 0)))
-height_read [] right position size = absurd (omega (arith, size))
-height_read (a ∷ []) right position size = absurd (omega (arith, size))
-height_read (a ∷ b ∷ []) right position size =
-    absurd (⊎_elim (λ two. omega (arith, size, two)) (λ three. omega (arith, size, three)) position)
-height_read (a ∷ b ∷ c ∷ []) right position size =
-    absurd (⊎_elim (λ two. omega (arith, size, two)) (λ three. omega (arith, size, three)) position)
-height_read (a ∷ b ∷ c ∷ d ∷ []) right position size =
-    let e : 2 ≡ right = omega (arith, size) in
-    subst (λ n. number_in d
-    ≡ number_in (get_or (a ∷ b ∷ c ∷ d ∷ []) (n + 1) (vals.Int (pos 0)))) e refl
-height_read (a ∷ b ∷ c ∷ d ∷ x ∷ []) right position size =
-    let e : 3 ≡ right = omega (arith, size) in
-    subst (λ n. number_in x
-    ≡ number_in (get_or (a ∷ b ∷ c ∷ d ∷ x ∷ []) (n + 1) (vals.Int (pos 0)))) e refl
-height_read (a ∷ b ∷ c ∷ d ∷ x ∷ y ∷ more) right position size =
-    absurd (⊎_elim (λ two. omega (arith, size, two)) (λ three. omega (arith, size, three)) position)
 
 -- ---- settled nodes
 
@@ -99,7 +77,8 @@ one_more_known graph all o new below known is p settled at clear = ⊎_elim
 -- ---- the first fault so far
 
 module _ (graph : List Obj) (nodes : List ℕ) (i o : ℕ) (at : slice_get nodes i ≡ Some o) where
-  -- A node from i on is node i or a later one.
+  -- If a property holds for node `i` and for all later nodes, then the property holds for all nodes
+  -- from `i` on.
   here_or_later : (P : ℕ → ℕ → Type 0) → P i o
       → ((j p : ℕ) → i + 1 ≤ j → slice_get nodes j ≡ Some p → P j p)
       → (j p : ℕ) → i ≤ j → slice_get nodes j ≡ Some p → P j p
@@ -112,7 +91,7 @@ module _ (graph : List Obj) (nodes : List ℕ) (i o : ℕ) (at : slice_get nodes
       (λ not_less. later j p (omega (arith, not_less)) at_j)
       (cases_lt j (i + 1))
 
-  -- The fault of node i is the first, if no later fault has a lower rank.
+  -- If no later fault has a lower rank, then the fault of node `i` is the first fault from `i` on.
   write_here : (kind : TreeKind) → IsMostSevere graph o (Some kind)
       → ((other : TreeKind) (j p : ℕ) → i + 1 ≤ j → slice_get nodes j ≡ Some p
       → HasKind graph other p → ¬ (rank_of other < rank_of kind))
@@ -131,7 +110,8 @@ module _ (graph : List Obj) (nodes : List ℕ) (i o : ℕ) (at : slice_get nodes
     by_order other k (inl less) never not_less = never less
     by_order other k (inr same) never not_less = not_less same.1
 
-  -- The fault so far stays first, if node i has no fault of the same or a lower rank.
+  -- If node `i` has no fault of an equal or a lower rank, then the first fault after `i` is the
+  -- first fault from `i` on.
   keep : (kind : TreeKind) (n : ℕ) → IsMostSevereFrom graph nodes (i + 1) (Faulty kind n)
       → ((other : TreeKind) → HasKind graph other o → rank_of kind < rank_of other)
       → IsMostSevereFrom graph nodes i (Faulty kind n)

@@ -32,7 +32,7 @@ kinds_compare kinds.Order kinds.Height = inr (inr (omega arith))
 kinds_compare kinds.Order kinds.Balance = inr (inr (omega arith))
 kinds_compare kinds.Order kinds.Order = inr (inl refl)
 
--- If neither of two faults is less than the other, then they are equal.
+-- If neither of two faults is less than the other fault, then the two faults are equal.
 same_fault :
     (kind other : TreeKind) (path second : List ℕ) → (¬ IsLessFault kind path other second) → (¬ IsLessFault other second kind path)
     → (kind ≡ other) × (path ≡ second)
@@ -56,7 +56,7 @@ module _ {T : Type 0} (Equal : T → T → Type 0) (symmetric : (t u : T) → Eq
   AreApart nodes =
       (j k o : ℕ) (u w : T) → slice_get nodes j ≡ Some (o, u) → slice_get nodes k ≡ Some (o, w) → Equal u w → j ≡ k
 
-  -- Each object is among the others at an equal type.
+  -- Each object of `xs` is among `ys` at an equal type.
   abbrev AreAmong : List (ℕ × T) → List (ℕ × T) → Type 0
   AreAmong xs ys = (j o : ℕ) (u : T) → slice_get xs j ≡ Some (o, u) → (w : T) × Contains ys (o, w) × Equal w u
 

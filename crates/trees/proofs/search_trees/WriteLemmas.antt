@@ -12,7 +12,7 @@ use Rattle.trees.specs.search_trees.Levels.{Has, HasRooms, IsWritten, AreLevels}
 
 -- ---- empty levels
 
--- An element of a list with one more element at its end.
+-- An element of `xs ++ y ∷ []` is an element of `xs`, or the element `y`.
 pushed_cases : {X : Type 0} (xs : List X) (y : X) (i : ℕ) (x : X) → slice_get (xs ++ y ∷ []) i ≡ Some x
     → (slice_get xs i ≡ Some x) ⊎ (y ≡ x)
 pushed_cases [] y zero x is = inr (same_Some y x is)
@@ -80,7 +80,8 @@ rooms_written old rooms new many at o made write = record {
   back = λ h p has. ⊎_elim (λ before. inl (made.back h p before)) (λ last. inr last) (write.back h p has);
 }
 
--- The levels of the first nodes, and one more node.
+-- If a node is written to the level of its height, then the levels are those of the nodes and the
+-- new node.
 pub levels_more :
     (graph : List Obj) (nodes : List ℕ) (o : ℕ) (old new : List (Vec ℕ)) (h : ℕ) → AreLevels graph nodes old
     → (node_at graph o).height ≡ pos h → IsWritten old h o new → AreLevels graph (nodes ++ o ∷ []) new

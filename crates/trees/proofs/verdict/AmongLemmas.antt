@@ -41,7 +41,7 @@ pub all_are : {X : Type 0} (P : X → Type 0) (xs : List X)
     → ((i : ℕ) (x : X) → slice_get xs i ≡ Some x → P x) → All P xs
 all_are P xs each k d below = each k (get_or xs k d) (slice_get-get_or xs k d below)
 
--- The object of an entry, with its type.
+-- The object and the type of an entry, or two zeros if there is no entry.
 abbrev pair_of : Option (Entry ℕ) → ℕ × ℕ
 pair_of None = (0, 0)
 pair_of (Some e) = (e.object, e.type)
@@ -106,7 +106,7 @@ module _ (table : Tabled) (graph : List Obj) (root : Val)
     tree = n.tree;
   }
 
-  -- The visited node for a path to a node.
+  -- The visited node that a path to a node leads to.
   record IsMetAt (path : List ℕ) (o u : ℕ) : Type 0 where
     position : ℕ
     node : IsNodeAt position o
@@ -199,7 +199,7 @@ module _ (table : Tabled) (graph : List Obj) (root : Val)
 
   -- ---- faults
 
-  -- A node with the property is visited if and only if there is one at some path.
+  -- If some path leads to a node with a property, then a visited node has the property.
   has_at : (Has : List Obj → ℕ → Type 0) (path : List ℕ) → HasNodeWith Has path → (i : ℕ) × HasAt
       (Has graph) objects i
   has_at Has path (o, u, node, wrong) =
@@ -221,7 +221,7 @@ module _ (table : Tabled) (graph : List Obj) (root : Val)
       (path : List ℕ) → ¬ HasNodeWith Has path
   no_node Has none path node = let at = has_at Has path node in none at.0 at.1
 
-  -- A fault at a path is a fault of the visited node for this path.
+  -- The fault at a path is the fault of a visited node.
   record IsFaultMet (kind : TreeKind) (path : List ℕ) : Type 0 where
     position : ℕ
     object : ℕ
@@ -264,7 +264,7 @@ module _ (table : Tabled) (graph : List Obj) (root : Val)
         not_later = at.not_later;
       }
 
-  -- A fault of a node is a fault at its path.
+  -- The fault of node `i` is the fault at the path of node `i`.
   record IsFaultKnown (kind : TreeKind) (i : ℕ) : Type 0 where
     object : ℕ
     node : IsNodeAt i object
@@ -403,7 +403,7 @@ module _ (table : Tabled) (graph : List Obj) (root : Val)
     path_is = is_path met.known known.node.entry met.are_known
         (subst (λ m. slice_get met.known m ≡ Some known.node.entry) number_is known.node.known)
 
-    -- If a node is not earlier, then its path is not less.
+    -- If node `i` is not later than node `j`, then the path of `j` is not before the path of `i`.
     not_before : (second : List ℕ) (j o : ℕ) (n : IsNodeAt j o) → i ≤ j → IsBefore second path →
         (¬ IsBefore second n.entry.path) → ⊥
     not_before second j o n later before not_later =

@@ -1,5 +1,5 @@
 -- The pairs of a check at types of sets and maps are the nodes. If the verdict needs no path except
--- that of the root, then it follows from their objects.
+-- the root's path, then the verdict follows from the objects of the pairs.
 use Rattle.std.proofs.Common.{ℕ, zero, suc, ◌<◌, ◌≡◌, ◌∙◌, ◌⊎◌, inl, ⊎_elim, ◌++◌, Bool, true, false, ◌+◌, List, [], ◌∷◌, cond, get_or, length, map, take, Option, Some, refl, sym, ap, subst}
 use Rattle.std.specs.Prelude.{slice_get, slice_index_or, Contains, filter, option_map}
 use Rattle.std.proofs.lemmas.List.Elements.{filter_more}
@@ -204,7 +204,7 @@ module _ (table : Tabled) (graph : List Obj) (root : Val)
         → (path : List ℕ) → ¬ HasNodeWith Has path
     no_node Has none path node = let at = has_at Has path node in none at.0 at.1
 
-    -- A fault at a path is a fault of some object.
+    -- If there is a fault at a path, then some object of the list has the fault.
     fault_at : (kind : TreeKind) (path : List ℕ) → IsFaultHere kind path
         → (i : ℕ) × IsFaultAt graph objects kind i
     fault_at kinds.Height path fault = has_at IsMiscounted path fault
@@ -213,7 +213,7 @@ module _ (table : Tabled) (graph : List Obj) (root : Val)
         let at = has_at IsDisordered path fault.0 in
         (at.0, (at.1, none_at IsMiscounted fault.1))
 
-    -- An object with a fault has this fault at each type at which it is a node.
+    -- If an object of the list has a property, then the property holds for the object's number.
     own : (Has : ℕ → Type 0) (i o : ℕ) → slice_get objects i ≡ Some o → HasAt Has objects i → Has o
     own Has i o at wrong =
         let some = IsSomeAnd-some (slice_get objects i) Has wrong in
@@ -263,7 +263,8 @@ get_or-at [] i d x is = absurd (none-some x is)
 get_or-at (y ∷ xs) zero d x is = same_Some y x is
 get_or-at (y ∷ xs) (suc i) d x is = get_or-at xs i d x is
 
--- One more pair.
+-- If one more pair is read, then the marked objects gain the pair's object if the pair's type is
+-- marked.
 pub marked_more : (found : List Bool) (pairs : List (ℕ × ℕ)) (k o t : ℕ)
     → slice_get pairs k ≡ Some (o, t)
     → marked_objects found (take (k + 1) pairs)

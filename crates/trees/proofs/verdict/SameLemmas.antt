@@ -29,7 +29,8 @@ module _ {T U : Type 0} (shape : T → ShapeOf T) (names : T → Names) (Equal :
   abbrev Same : Option (Val × T) → Option (Val × U) → Type 0
   Same p q = SamePosition (shaped shape Equal) (shaped shape' Equal') Of graph p q
 
-  -- If a path leads to a value with the first types, then it does so with the others.
+  -- If a path leads to a value at a type of `T`, then the path leads to the value at a
+  -- corresponding type of `U`.
   there : (p : Option (Val × T)) (q : Option (Val × U)) → Same p q → (w : Val) (i : T)
       → p ≡ Some (w, i) → (t : U) × (q ≡ Some (w, t)) × Of i t
   there None q positions w i at = absurd (none-some (w, i) at)
@@ -41,7 +42,7 @@ module _ {T U : Type 0} (shape : T → ShapeOf T) (names : T → Names) (Equal :
         subst (λ j. Of j q.1) (ap (λ (x : Val × T). x.1) pair) positions.1,
       )
 
-  -- A node with the first types is a node with the others.
+  -- Each node at a type of `T` is a node at the corresponding type of `U`.
   abbrev pub NodesGo : Val → T → U → Type 0
   NodesGo root r s =
       (path : List ℕ) (o : ℕ) (i : T) → IsNode shape names Equal graph root r path o i
@@ -61,7 +62,7 @@ module _ {T U : Type 0} (shape : T → ShapeOf T) (names : T → Names) (Equal :
 
 -- ---- lists of nodes
 
--- The same objects at corresponding types.
+-- The lists `xs` and `ys` have the same objects at corresponding types.
 record ArePaired {T U : Type 0} (Goes : ℕ → T → U → Type 0) (xs : List (ℕ × T))
     (ys : List (ℕ × U)) : Type 0 where
   many : length xs ≡ length ys
@@ -166,7 +167,7 @@ module _ {T U : Type 0} (shape : T → ShapeOf T) (names : T → Names) (Equal :
     λ other wrong. fault.1 other (node_with IsMiscounted other wrong),
   )
 
-  -- Some path leads to the object at both types.
+  -- The types `i` and `t` correspond, and some path leads to the object at the type `t`.
   abbrev Goes : ℕ → T → U → Type 0
   Goes o i t = Of i t × (path : List ℕ) × IsOtherNode path o t
 

@@ -39,7 +39,7 @@ module _ {T U V : Type 0} (f : T → V) (g : U → V) where
   bytes_of (shapes.Bytes c) b is = let same : b ≡ c = cc in ap shapes.Bytes (sym same)
   bytes_of s b is = absurd (cc)
 
-  -- The fields of a node with other parts.
+  -- The fields are the fields of a node, except for the types of the parts.
   record AreFields (fields : List U) (l e : T) (d : Option T) (r h : T) : Type 0 where
     left : U
     element : U
@@ -235,7 +235,7 @@ module _ (decls : List Decl) (t : Ty) (table : Tabled) (is : IsTypeTable decls t
       is.made.nodes
       ∙ length-map (types_of table) (λ u. with_parts Some (shape decls u))
 
-  -- If an index is the type of a tree, then it is the index of some type.
+  -- If an index is the index of a tree type, then the index is the index of some type.
   number_known : (i : ℕ) → IsTreeNumber table i → (u : Ty) × Is i u
   number_known i tree = by_node (none_or_some (slice_get table.nodes i)) where
     by_node : (slice_get table.nodes i ≡ None) ⊎
@@ -249,7 +249,7 @@ module _ (decls : List Decl) (t : Ty) (table : Tabled) (is : IsTypeTable decls t
         let many = as_many in
         slice_get_there (types_of table) i (omega (arith, within, many))
 
-  -- If an index is in the class of the index of a type, then it is the index of some type.
+  -- If an index is in the class of the index of a type, then some type has the index.
   class_known : (i j : ℕ) (u : Ty) → SameClass table i j → Is j u → (w : Ty) × Is i w
   class_known i j u same at =
       let within = slice_get_within (types_of table) j u at in

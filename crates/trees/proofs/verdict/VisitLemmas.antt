@@ -25,7 +25,7 @@ module _ (IsTree : ℕ → Type 0) (all : List Visit) where
     nowhere : (i k : ℕ) → slice_get nodes.visits.items i ≡ Some k → ⊥
     nowhere i k at_i = none-some k (subst (λ xs. slice_get xs i ≡ Some k) no_visits at_i)
 
-  -- A visit at another type.
+  -- If the next visit is at a type that is not marked, then the nodes stay the same.
   pub not_taken :
       (nodes : TreeNodes) (n : ℕ) (v : Visit) → slice_get all n ≡ Some v → (¬ IsTree v.ty)
       → AreNodeVisits IsTree all n nodes → AreNodeVisits IsTree all (n + 1) nodes
@@ -43,7 +43,7 @@ module _ (IsTree : ℕ → Type 0) (all : List Visit) where
     rising = so_far.rising;
   }
 
-  -- A visit at a marked type.
+  -- If the next visit is at a marked type, then the nodes gain the visit.
   pub taken :
       (old new : TreeNodes) (n : ℕ) (v : Visit) → slice_get all n ≡ Some v → IsTree v.ty
       → new.objects.items ≡ old.objects.items ++ v.object ∷ []
@@ -161,7 +161,7 @@ same_visits P Q all n nodes same are = record {
   rising = are.rising;
 }
 
--- The visit that was read.
+-- If the code reads visit `k`, then the object and the type are those of the visit.
 pub visit_read :
     (all : List Visit) (k o t : ℕ) → k < length all
     → IfSome (slice_get all k) (λ (v : Visit). (o ≡ v.object) × (t ≡ v.ty))

@@ -24,8 +24,8 @@ HasSearchTrees decls graph root t =
     → value_at (declared_shapes decls) graph root t path ≡ Some (v, u)
     → IsTreeType (shape decls) (names_of decls) (Equal decls) u → IsSearchTree graph v
 
--- If a value has its type, then no node in it has a fault if and only if the trees in it are search
--- trees.
+-- If a value has its type, then no node in the value has a fault if and only if all trees in the
+-- value are search trees.
 abbrev pub SoundTreesAreSearchTrees : Type 0
 SoundTreesAreSearchTrees =
     (decls : List Decl) (t : Ty) (types : List Ty)
@@ -34,7 +34,7 @@ SoundTreesAreSearchTrees =
     → HasNoTreeFault (shape decls) (names_of decls) (Equal decls) graph root t
     ↔ HasSearchTrees decls graph root t
 
--- The verdict is that of the value over these declarations.
+-- The verdict is the verdict on the value over the declarations `decls`.
 abbrev pub IsVerdictOf : List Decl → List Obj → Val → Ty → TreeVerdict → Type 0
 IsVerdictOf decls graph root t verdict =
     IsTreeVerdict (shape decls) (names_of decls) (Equal decls) graph root t verdict

@@ -6,23 +6,23 @@ use Rattle.base_data.specs.declared.model.value.Val.TheVariants as vals
 use Rattle.base_data.specs.declared.model.value.Obj.{Obj}
 use Rattle.trees.specs.search_trees.Parts.{node_at}
 
--- The level has the node.
+-- Level `h` contains the node `o`.
 abbrev pub Has : List (Vec ℕ) → ℕ → ℕ → Type 0
 Has levels h o = (level : Vec ℕ) × (slice_get levels h ≡ Some level) × Contains level.items o
 
--- There are at least this many levels, and each level has the same nodes as before.
+-- There are at least `many` levels, and each level has the nodes that the level had before.
 pub record HasRooms (old : List (Vec ℕ)) (many : ℕ) (new : List (Vec ℕ)) : Type 0 where
   pub enough : many ≤ length new
   pub kept : (h o : ℕ) → Has old h o → Has new h o
   pub back : (h o : ℕ) → Has new h o → Has old h o
 
--- One level has one more node.
+-- The node `o` was added to the level `at`.
 pub record IsWritten (old : List (Vec ℕ)) (at o : ℕ) (new : List (Vec ℕ)) : Type 0 where
   pub there : Has new at o
   pub kept : (h p : ℕ) → Has old h p → Has new h p
   pub back : (h p : ℕ) → Has new h p → Has old h p ⊎ ((h ≡ at) × (p ≡ o))
 
--- Each node is at the level of its height, and no level has other nodes.
+-- Each node is at the level of its height, and a level contains only nodes of the list.
 pub record AreLevels (graph : List Obj) (nodes : List ℕ) (levels : List (Vec ℕ)) : Type 0 where
   pub has : (h o : ℕ) → Contains nodes o → (node_at graph o).height ≡ pos h → Has levels h o
   pub only : (h o : ℕ) → Has levels h o → Contains nodes o × ((node_at graph o).height ≡ pos h)

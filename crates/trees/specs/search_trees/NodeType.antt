@@ -8,7 +8,7 @@ use Rattle.trees.specs.search_trees.TreeType.{layout_of, field_names, names_with
 use Rattle.trees.specs.search_trees.TreeType.{shape_in}
 use Rattle.trees.specs.search_trees.TreeType.{names_in, SameClass}
 
--- The types of the parts of a node: two of the tree itself, an element, and an integer.
+-- The types of the parts of a node: two trees of the type `t`, an element, and an integer.
 pub record AreParts (table : Tabled) (t left element right height : ℕ) : Type 0 where
   pub left_same : SameClass table left t
   pub right_same : SameClass table right t
@@ -16,11 +16,11 @@ pub record AreParts (table : Tabled) (t left element right height : ℕ) : Type 
       (shape_in table element ≡ shapes.AnyInt) ⊎ (shape_in table element ≡ shapes.Bytes false)
   pub counted : shape_in table height ≡ shapes.AnyInt
 
--- The type has the names of such a tree.
+-- The type has the names of a set or of a map, as `layout` states.
 abbrev pub IsNamed : Tabled → ℕ → NodeRepresentation → Type 0
 IsNamed table t layout = names_in table t ≡ names_with (field_names layout)
 
--- This is the constructor of the nodes of a set or of a map.
+-- `constr` is the constructor of the nodes of a set or of a map.
 pub record IsNodeType (table : Tabled) (t : ℕ) (constr : Constr ℕ) : Type 0 where
   pub left : ℕ
   pub element : ℕ

@@ -13,31 +13,32 @@ pub data Tree : Type 0 where
   empty : Tree
   node : (left : Tree) → (object : ℕ) → (right : Tree) → Tree
 
--- The value represents this tree.
+-- The value represents the tree: `Empty` represents the empty tree, and a node represents an object
+-- between two trees.
 abbrev pub IsTree : List Obj → Val → Tree → Type 0
 IsTree graph v empty = v ≡ empty_value
 IsTree graph v (node left o right) =
     (v ≡ vals.Ref o) × IsTree graph (node_at graph o).left left
     × IsTree graph (node_at graph o).right right
 
--- The elements from left to right.
+-- The elements of a tree from left to right.
 abbrev pub elements : List Obj → Tree → List Val
 elements graph empty = []
 elements graph (node left o right) =
     elements graph left ++ (node_at graph o).element ∷ elements graph right
 
--- Each element is less than all later ones.
+-- Each element of the list is less than all later elements.
 abbrev pub AreIncreasing : List Obj → List Val → Type 0
 AreIncreasing graph [] = Unit {0}
 AreIncreasing graph (v ∷ more) =
     ((w : Val) → Contains more w → IsTrue (is_less graph v w)) × AreIncreasing graph more
 
--- The number of nodes on the longest path down.
+-- The number of nodes on the longest path from the root of a tree downwards.
 abbrev pub height : Tree → ℕ
 height empty = 0
 height (node left o right) = suc (max (height left) (height right))
 
--- Each node stores its height.
+-- Each node of the tree stores its height.
 abbrev pub StateHeights : List Obj → Tree → Type 0
 StateHeights graph empty = Unit {0}
 StateHeights graph (node left o right) =
@@ -51,7 +52,8 @@ IsBalanced (node left o right) =
     (height left ≤ height right + 2) × (height right ≤ height left + 2)
     × IsBalanced left × IsBalanced right
 
--- The value represents a finite tree with all these properties.
+-- The value represents a finite balanced tree with increasing elements, whose nodes store their
+-- heights.
 pub record IsSearchTree (graph : List Obj) (v : Val) : Type 0 where
   pub tree : Tree
   pub is : IsTree graph v tree

@@ -20,7 +20,8 @@ pub record IsGreater (graph : List Obj) (o p greater : ℕ) : Type 0 where
   pub first : ¬ IsElementLess graph greater o
   pub second : ¬ IsElementLess graph greater p
 
--- Two objects of the graph. The element of the second is not less than that of the first.
+-- The span consists of two objects of the graph. The greatest element is not less than the least
+-- element.
 pub record IsSpread (graph : List Obj) (span : ElementSpan) : Type 0 where
   pub least_inside : span.least < length graph
   pub greatest_inside : span.greatest < length graph
@@ -37,17 +38,17 @@ pub record IsSpan (graph : List Obj) (Has : ℕ → Type 0) (span : ElementSpan)
   pub least : (p : ℕ) → Has p → ¬ IsElementLess graph p span.least
   pub greatest : (p : ℕ) → Has p → ¬ IsElementLess graph span.greatest p
 
--- The node itself, or a node in its left subtree.
+-- The node `p` is the node `o`, or a node in the left subtree of `o`.
 abbrev pub IsOnLeftOrAt : List Obj → ℕ → ℕ → Type 0
 IsOnLeftOrAt graph o p = IsAtOrBelow graph (node_at graph o).left p ⊎ (o ≡ p)
 
--- Some element in the left subtree is not less than that of the node.
+-- Some element in the left subtree of node `o` is not less than the element of `o`.
 abbrev pub IsLeftOver : List Obj → ℕ → Type 0
 IsLeftOver graph o =
     (p : ℕ) × IsAtOrBelow graph (node_at graph o).left p × (¬ IsElementLess graph p o)
 
--- Some element in the right subtree is not greater than that of the node or of a node in its left
--- subtree.
+-- Some element in the right subtree of node `o` is not greater than the element of `o` or of a node
+-- in the left subtree of `o`.
 abbrev pub IsRightUnder : List Obj → ℕ → Type 0
 IsRightUnder graph o =
     (p : ℕ) × (q : ℕ) × IsOnLeftOrAt graph o p
@@ -55,7 +56,8 @@ IsRightUnder graph o =
 
 -- ---- settled nodes
 
--- The span of all nodes at and below the node, and whether the node is out of order.
+-- The settled node has the span of all nodes at and below the node, and is marked if the node is
+-- out of order.
 pub record IsSettledAs (graph : List Obj) (o : ℕ) (settled : SettledNode) : Type 0 where
   pub span : IsSpan graph (IsAtOrBelow graph (vals.Ref o)) settled.span
   pub disordered : IsTrue settled.disordered ↔ IsDisordered graph o
@@ -70,7 +72,7 @@ IsPartSettled graph all (vals.Int z) = Unit {0}
 IsPartSettled graph all (vals.Atom tag) = Unit {0}
 IsPartSettled graph all (vals.Ref o) = IsSettled graph all o
 
--- Both parts of the node are settled.
+-- The node is an object of the graph, and the left and the right part of the node are settled.
 pub record IsReady (graph : List Obj) (all : List SettledNode) (o : ℕ) : Type 0 where
   pub inside : o < length graph
   pub left : IsPartSettled graph all (node_at graph o).left

@@ -1,4 +1,5 @@
--- A sweep over nodes from the last to the first: the settled nodes, and the first fault so far.
+-- A sweep over nodes from the last to the first. The state of the sweep is the settled nodes, and
+-- the first fault found up to now.
 use Rattle.std.specs.Prelude.{ℕ, ◌≡◌, ◌≢◌, ◌<◌, ◌≤◌, ◌-◌, ◌^◌, nat_lt, if◌then◌else◌, List, Option}
 use Rattle.std.specs.Prelude.{Some, None, slice_get}
 use Rattle.base_data.specs.declared.model.value.Obj.{Obj}
@@ -13,8 +14,8 @@ use Rattle.trees.specs.search_trees.TreeFault.{IsMiscounted, IsUnbalanced, IsDis
 
 -- ---- settled nodes
 
--- A node counts as settled if the least object of its span is not 2^64 - 1. Each such entry is
--- correct.
+-- If the least object of a node's span is not 2^64 - 1, then the node counts as settled, and its
+-- entry is correct.
 abbrev pub AreKnown : List Obj → List SettledNode → Type 0
 AreKnown graph all =
     (o : ℕ) (settled : SettledNode) → slice_get all o ≡ Some settled
@@ -27,7 +28,7 @@ HasKind graph kinds.Height o = IsMiscounted graph o
 HasKind graph kinds.Balance o = IsUnbalanced graph o
 HasKind graph kinds.Order o = IsDisordered graph o
 
--- The fault of the node with the lowest rank. `None` means that the node has no fault.
+-- The fault of lowest rank of one node. `None` means that the node has no fault.
 abbrev pub IsMostSevere : List Obj → ℕ → Option TreeKind → Type 0
 IsMostSevere graph o None = (kind : TreeKind) → ¬ HasKind graph kind o
 IsMostSevere graph o (Some kind) =
@@ -41,12 +42,13 @@ replaced Sound kind i = Faulty kind i
 replaced (Faulty other j) kind i =
     if nat_lt (rank_of other) (rank_of kind) then Faulty other j else Faulty kind i
 
--- The first fault after node i is added before the nodes so far.
+-- The first fault of the nodes from index `i` on, given the first fault of the nodes after `i`.
 abbrev pub more_severe : NodesVerdict → Option TreeKind → ℕ → NodesVerdict
 more_severe most_severe None i = most_severe
 more_severe most_severe (Some kind) i = replaced most_severe kind i
 
--- No node from this index on has a fault, or this is the first fault of the lowest rank.
+-- The verdict states the first fault of the lowest rank among the nodes from index `from` on.
+-- `Sound` means that none of these nodes has a fault.
 abbrev pub IsMostSevereFrom : List Obj → List ℕ → ℕ → NodesVerdict → Type 0
 IsMostSevereFrom graph nodes from Sound =
     (j o : ℕ) → from ≤ j → slice_get nodes j ≡ Some o → (kind : TreeKind) → ¬ HasKind graph kind o

@@ -1,4 +1,4 @@
--- The types of sets and maps. They are variants as in `set.ml` and `map.ml` of OCaml's standard
+-- The types of sets and maps, which are variants as in `set.ml` and `map.ml` of OCaml's standard
 -- library:
 --
 --     type t = Empty | Node of {l: t; v: elt; r: t; h: int}
@@ -15,14 +15,14 @@ use Rattle.types_table.specs.declared.type_table.tabled.Tabled.{Tabled}
 use Rattle.trees.specs.declared.search_trees.types.NodeRepresentation.{NodeRepresentation}
 use Rattle.trees.specs.declared.search_trees.types.NodeRepresentation.TheVariants as layouts
 
--- A node of a map has a datum for its element.
+-- The representation of a node. If a node has a datum, then the node belongs to a map.
 abbrev pub layout_of : {T : Type 0} → Option T → NodeRepresentation
 layout_of None = layouts.Set
 layout_of (Some carried) = layouts.Map
 
 -- ---- names
 
--- The fields of a node.
+-- The names of the fields of a node.
 abbrev pub field_names : NodeRepresentation → List (List ℕ)
 field_names layouts.Set = codes "l" ∷ codes "v" ∷ codes "r" ∷ codes "h" ∷ []
 field_names layouts.Map = codes "l" ∷ codes "v" ∷ codes "d" ∷ codes "r" ∷ codes "h" ∷ []
@@ -30,7 +30,7 @@ field_names layouts.Map = codes "l" ∷ codes "v" ∷ codes "d" ∷ codes "r" �
 abbrev pub node_with : List (List ℕ) → ConstrNames
 node_with fields = record { name = codes "Node"; fields = fields }
 
--- The constructor `Empty`, and `Node` with these fields.
+-- The names of the type of a tree: `Empty`, and `Node` with the fields `fields`.
 abbrev pub names_with : List (List ℕ) → Names
 names_with fields = record no_names {
   constants = codes "Empty" ∷ [];
@@ -49,7 +49,7 @@ tree_shape left element kept right height = shapes.Sum 1
     (record { mutable = false; fields = fields_in left element kept right height } ∷ [])
 
 module _ {T : Type 0} (shape : T → ShapeOf T) (names : T → Names) (Equal : T → T → Type 0) where
-  -- The type has `Empty`, and `Node` with two parts of the type itself, an element, and an integer.
+  -- The type has `Empty`, and `Node` with two parts of the type `t`, an element, and an integer.
   -- Only `int` has the shape of all integers, and only `string` has the shape of immutable bytes.
   pub record IsTreeType (t : T) : Type 0 where
     pub left : T

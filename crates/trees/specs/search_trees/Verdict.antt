@@ -11,15 +11,15 @@ use Rattle.trees.specs.declared.search_trees.verdict.TreeVerdict.TheVariants.{So
 use Rattle.trees.specs.search_trees.Judgement.{rank_of}
 use Rattle.trees.specs.search_trees.TreeFault.{IsNode, IsTreeFault, HasNoTreeFault}
 
--- Heights come first, then balance, then order. Among faults of one kind, the lesser path comes
--- first.
+-- Faults of height come first, faults of balance come second, and faults of order come last. Among
+-- faults of one kind, the fault with the lesser path comes first.
 abbrev pub IsLessFault : TreeKind → List ℕ → TreeKind → List ℕ → Type 0
 IsLessFault kind path other second =
     (rank_of kind < rank_of other) ⊎ ((kind ≡ other) × IsBefore path second)
 
 module _ {T : Type 0} (shape : T → ShapeOf T) (names : T → Names) (Equal : T → T → Type 0)
     (graph : List Obj) (root : Val) (t : T) where
-  -- The nodes, each object once for each class of equal types.
+  -- The nodes in a value. Each object occurs once for each class of equal types.
   pub record AreNodes (nodes : List (ℕ × T)) : Type 0 where
     pub led :
         (o : ℕ) (u : T) → Contains nodes (o, u)
@@ -31,7 +31,7 @@ module _ {T : Type 0} (shape : T → ShapeOf T) (names : T → Names) (Equal : T
         (j k o : ℕ) (u w : T) → slice_get nodes j ≡ Some (o, u) → slice_get nodes k ≡ Some (o, w)
         → Equal u w → j ≡ k
 
-  -- No fault and the number of nodes, or the first fault.
+  -- The verdict on a value: no fault and the number of nodes, or the first fault.
   abbrev pub IsTreeVerdict : TreeVerdict → Type 0
   IsTreeVerdict (Sound n) =
       HasNoTreeFault shape names Equal graph root t

@@ -28,8 +28,9 @@ TablesHaveTheVerdict =
     → (graph : List Obj) (root : Val) (verdict : TreeVerdict)
     → IsTableVerdict table graph root verdict ↔ IsVerdictOf decls graph root t verdict
 
--- If a value has its type, then the verdict is `sound` if and only if each set and each map in it
--- is a search tree: finite and balanced, with increasing elements and correct heights in its nodes.
+-- If a value has its type, then the verdict is `sound` if and only if each set and each map in the
+-- value is a search tree. A search tree is finite and balanced, with increasing elements and
+-- correct heights.
 abbrev pub SoundVerdictsReportSearchTrees : Type 0
 SoundVerdictsReportSearchTrees =
     (decls : List Decl) (t : Ty) (types : List Ty) → AreWellFormed decls → IsSoundType decls t
@@ -38,7 +39,8 @@ SoundVerdictsReportSearchTrees =
     → (verdict : TreeVerdict) → IsVerdictOf decls graph root t verdict
     → IsTrue (is_sound verdict) ↔ HasSearchTrees decls graph root t
 
--- The same law for the verdict with the table of the type.
+-- Suppose a value has its type. Then the verdict with the type's table is `sound` if and only if
+-- each set and each map in the value is a search tree.
 abbrev pub SoundTableVerdictsReportSearchTrees : Type 0
 SoundTableVerdictsReportSearchTrees =
     (decls : List Decl) (t : Ty) (table : Tabled) → AreWellFormed decls → IsSoundType decls t

@@ -17,8 +17,8 @@ objects_of pairs = map (λ (pair : ℕ × ℕ). pair.0) pairs
 abbrev pub marked_objects : List Bool → List (ℕ × ℕ) → List ℕ
 marked_objects found pairs = objects_of (filter (is_node_pair found) pairs)
 
--- These are the objects of the nodes. Each occurs once for each class of types at which it is a
--- node.
+-- `objects` are the objects of the nodes in a value. An object occurs once for each class of types
+-- at which the object is a node.
 pub record AreNodeObjects (table : Tabled) (graph : List Obj) (root : Val) (objects : List ℕ)
     : Type 0 where
   pub pairs : List (ℕ × ℕ)

@@ -1,4 +1,4 @@
--- The nodes among the visits of a value, and the verdict on them.
+-- The nodes among the visits of a value, and the verdict on the nodes.
 use Rattle.std.specs.Prelude.{ℕ, ◌≡◌, ◌<◌, Bool, false, List, length, IsTrue, Some, slice_get}
 use Rattle.std.specs.Prelude.{slice_index_or}
 use Rattle.base_data.specs.declared.model.value.Obj.{Obj}
@@ -20,14 +20,15 @@ NoneMarked found = (t : ℕ) → ¬ IsMarked found t
 
 -- ---- nodes
 
--- Visit k is of the object o, at the type of a tree.
+-- Visit `k` is a visit of the object `o` at the type of a tree.
 pub record IsVisitAt (IsTree : ℕ → Type 0) (all : List Visit) (k o : ℕ) : Type 0 where
   pub visit : Visit
   pub at : slice_get all k ≡ Some visit
   pub object : visit.object ≡ o
   pub tree : IsTree visit.ty
 
--- The nodes are all visits at the types of trees among the first n visits, in order.
+-- The nodes are all visits at the types of trees among the first `n` visits, in the order of the
+-- visits.
 pub record AreNodeVisits (IsTree : ℕ → Type 0) (all : List Visit) (n : ℕ) (nodes : TreeNodes)
     : Type 0 where
   pub many : length nodes.visits.items ≡ length nodes.objects.items
@@ -41,7 +42,8 @@ pub record AreNodeVisits (IsTree : ℕ → Type 0) (all : List Visit) (n : ℕ) 
 
 -- ---- the verdict
 
--- No fault and the number of nodes, or the first fault and the path to its visit.
+-- The verdict on the nodes among the visits: no fault and the number of nodes, or the first fault
+-- and the path to its visit.
 abbrev pub IsVerdictAmong : List Obj → List Visit → TreeNodes → TreeVerdict → Type 0
 IsVerdictAmong graph all nodes (Sound n) =
     IsJudgement graph nodes.objects.items judgements.Sound × (n ≡ length nodes.objects.items)

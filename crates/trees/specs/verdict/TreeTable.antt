@@ -7,7 +7,7 @@ use Rattle.trees.specs.declared.search_trees.verdict.TreeVerdict.{TreeVerdict}
 use Rattle.trees.specs.search_trees.TreeType.{shape_in, names_in, SameClass, IsTreeNumber}
 use Rattle.trees.specs.search_trees.Verdict.{IsTreeVerdict}
 
--- If a type is equal to the type of a set or a map, then it is one too.
+-- If a type is equal to the type of a set or a map, then the type is the type of a set or a map.
 abbrev pub IsTreeTable : Tabled → Type 0
 IsTreeTable table =
     (i j : ℕ) → SameClass table i j → IsTreeNumber table j → IsTreeNumber table i

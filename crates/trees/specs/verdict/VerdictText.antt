@@ -11,13 +11,14 @@ kind_word kinds.Height = codes "height"
 kind_word kinds.Balance = codes "balance"
 kind_word kinds.Order = codes "order"
 
--- The number of nodes, or the kind of the fault and its path.
+-- The text of a verdict: `sound` and the number of nodes, or the kind of the fault and the fault's
+-- path.
 abbrev pub verdict_text : TreeVerdict → List ℕ
 verdict_text (Sound n) = codes "sound " ++ decimal n
 verdict_text (Faulty kind path) =
     codes "fault " ++ kind_word kind ++ codes " at " ++ path_text path
 
--- No node has a fault.
+-- The verdict states that no node has a fault.
 abbrev pub is_sound : TreeVerdict → Bool
 is_sound (Sound n) = true
 is_sound (Faulty kind path) = false

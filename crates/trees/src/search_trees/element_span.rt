@@ -16,23 +16,23 @@ use crate::search_trees::tree_node::{TreeNode, node_at};
 use base_data::model::value::Val;
 use marshal_heap::heap::{Heap, NumberedObject};
 
-/// Among some nodes, the one with the least element and the one with the greatest.
+/// The node with the least element and the node with the greatest element, among some nodes.
 #[derive(Clone, Copy)]
 pub struct ElementSpan {
     pub least: usize,
     pub greatest: usize,
 }
 
-/// The span of all nodes at and below a node, and whether the node is out of order. A node is
-/// settled if both are known.
+/// The span of all nodes at and below a node, and whether the node is out of order. If a node's
+/// span and order are known, the node is settled.
 #[derive(Clone, Copy)]
 pub struct SettledNode {
     pub span: ElementSpan,
     pub disordered: bool,
 }
 
-/// Returns the span of two spans, and true if they overlap: not all of the first is less than all
-/// of the second.
+/// Returns the span of the nodes of two spans, and true if the two spans overlap. Two spans overlap
+/// if some element of the first span is not less than some element of the second span.
 fn joined(heap: &Heap, first: ElementSpan, second: ElementSpan) -> (ElementSpan, bool)
     requires first { IsSpread heap.now first }
     requires second { IsSpread heap.now second }
@@ -52,7 +52,7 @@ fn joined(heap: &Heap, first: ElementSpan, second: ElementSpan) -> (ElementSpan,
     }
 }
 
-/// Returns the span from the first to the second, which must not overlap.
+/// Returns the span of the nodes of two spans, which must not overlap.
 fn apart(first: ElementSpan, second: ElementSpan) -> ElementSpan
     ensures least { result.least ≡ first.least }
     ensures greatest { result.greatest ≡ second.greatest }
@@ -63,7 +63,7 @@ fn apart(first: ElementSpan, second: ElementSpan) -> ElementSpan
     }
 }
 
-/// Returns the span of two spans that may overlap.
+/// Returns the span of the nodes of two spans, which may overlap.
 fn across(heap: &Heap, first: ElementSpan, second: ElementSpan) -> ElementSpan
     requires first { IsSpread heap.now first }
     requires second { IsSpread heap.now second }
@@ -86,7 +86,7 @@ fn across(heap: &Heap, first: ElementSpan, second: ElementSpan) -> ElementSpan
     }
 }
 
-/// Returns one of two nodes whose element is not greater than the other's.
+/// Returns one of two nodes, whose element is not greater than the element of the other node.
 fn lesser(nodes: &Objects<'_>) -> usize
     ensures { IsLesser nodes.now.heap.now nodes.now.first nodes.now.second result }
 {
@@ -102,7 +102,7 @@ fn lesser(nodes: &Objects<'_>) -> usize
     }
 }
 
-/// Returns one of two nodes whose element is not less than the other's.
+/// Returns one of two nodes, whose element is not less than the element of the other node.
 fn greater(nodes: &Objects<'_>) -> usize
     ensures { IsGreater nodes.now.heap.now nodes.now.first nodes.now.second result }
 {
@@ -113,8 +113,8 @@ fn greater(nodes: &Objects<'_>) -> usize
     }
 }
 
-/// Returns the span of a node and its left subtree, and true if an element there is not less than
-/// that of the node.
+/// Returns the span of a node and its left subtree. Also returns true if an element of the left
+/// subtree is not less than the element of the node.
 fn with_left(
     placed: &NumberedObject<'_>,
     all: &[SettledNode],
@@ -138,8 +138,8 @@ fn with_left(
     }
 }
 
-/// Returns the span of a node and all nodes below it, and true if an element in the right subtree
-/// is not greater than those of `span`.
+/// Returns the span of a node and all nodes below the node. Also returns true if an element in the
+/// right subtree is not greater than the elements of `span`.
 fn with_right(
     placed: &NumberedObject<'_>,
     all: &[SettledNode],

@@ -13,17 +13,17 @@ use base_data::model::Memory;
 use marshal_heap::heap::{Heap, NumberedObject};
 use std::alloc::Global;
 
-/// The result for a list of nodes: no node has a fault, or the first fault with the position of its
-/// node in the list.
+/// The result for a list of nodes: `Sound` if no node has a fault, or the first fault with the
+/// position of its node in the list.
 #[derive(Clone, Copy)]
 pub enum NodesVerdict {
     Sound,
     Faulty(TreeKind, usize),
 }
 
-/// Returns the first fault among the nodes, which must contain the parts of each node. Wrong
-/// heights come first. If there are none, nodes whose parts differ too much in height come next. If
-/// there are none of these either, nodes out of order come last.
+/// Returns the first fault among the nodes, which must contain the parts of each node. A wrong
+/// height comes before every other fault. A node whose parts differ too much in height comes before
+/// every node that is out of order.
 pub fn judge(alloc: Global, heap: &Heap, nodes: &[usize]) -> Result<NodesVerdict, Memory>
     requires { AreClosed heap.now nodes.now }
     ensures { IfOk result (IsJudgement heap.now nodes.now) }
@@ -34,7 +34,7 @@ pub fn judge(alloc: Global, heap: &Heap, nodes: &[usize]) -> Result<NodesVerdict
     }
 }
 
-/// Returns the same result as `judge`, for nodes in any order.
+/// Returns the result that `judge` returns, for nodes in any order.
 fn judge_by_height(alloc: Global, heap: &Heap, nodes: &[usize]) -> Result<NodesVerdict, Memory>
     requires { AreClosed heap.now nodes.now }
     ensures { IfOk result (IsJudgement heap.now nodes.now) }

@@ -33,7 +33,7 @@ struct ValuePair<'a> {
     ghost second_in: { IsValue (length heap.now) second } by { IsValue-prop (length heap.now) second },
 }
 
-/// Returns true if the element of the first node is less than that of the second.
+/// Returns true if the element of the first node is less than the element of the second node.
 pub fn is_element_less(nodes: &Objects<'_>) -> bool
     ensures { IsTrue result
         ↔ IsElementLess nodes.now.heap.now nodes.now.first nodes.now.second }
@@ -54,7 +54,7 @@ pub fn is_element_less(nodes: &Objects<'_>) -> bool
     })
 }
 
-/// Returns true if the first value is less than the second.
+/// Returns true if the first value is less than the second value.
 fn is_less(values: &ValuePair<'_>) -> bool
     ensures { result ≡ parts.is_less values.now.heap.now values.now.first values.now.second }
 {
@@ -81,7 +81,7 @@ fn is_number_less(z: i64, w: Val) -> bool
     }
 }
 
-/// Returns true if the bytes of the first string precede those of the second.
+/// Returns true if the bytes of the first string precede the bytes of the second string.
 fn is_before(strings: &Objects<'_>) -> bool
     ensures { result ≡ are_before (bytes_of (object_at strings.now.heap.now strings.now.first))
         (bytes_of (object_at strings.now.heap.now strings.now.second)) }

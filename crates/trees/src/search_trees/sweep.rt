@@ -17,11 +17,11 @@ ghost use Rattle.trees.specs.search_trees.Valid.{IsValid};
 use crate::search_trees::element_span::{ElementSpan, SettledNode, settle_node};
 use crate::search_trees::judging::NodesVerdict;
 use crate::search_trees::tree_node::{
-    TreeKind, TreeNode, height_of, is_count_wrong, is_lopsided, node_at,
+    TreeKind, TreeNode, is_count_wrong, is_lopsided, node_at, subtree_heights,
 };
 use base_data::model::Memory;
 use base_data::model::value::Val;
-use marshal_heap::heap::{Heap, NumberedObject, Rooted};
+use marshal_heap::heap::{Heap, NumberedObject};
 use std::alloc::Global;
 
 /// Finds the first fault among nodes, which must contain the parts of each node, in one sweep from
@@ -97,14 +97,7 @@ fn fault_of(heap: &Heap, o: usize, node: TreeNode, disordered: bool) -> Option<T
     requires disordered { IsTrue disordered ↔ IsDisordered heap.now o }
     ensures { IsMostSevere heap.now o result }
 {
-    let left = height_of(&Rooted {
-        heap,
-        root: node.left,
-    });
-    let right = height_of(&Rooted {
-        heap,
-        root: node.right,
-    });
+    let (left, right) = subtree_heights(heap, node);
     if is_count_wrong(heap, o, node, left, right) {
         return Some(TreeKind::Height);
     }
@@ -117,7 +110,8 @@ fn fault_of(heap: &Heap, o: usize, node: TreeNode, disordered: bool) -> Option<T
     None
 }
 
-/// Returns the first fault after node `i` is added before the nodes so far.
+/// Returns the first fault of the nodes from index `i` on, given the first fault of the nodes after
+/// `i`.
 #[inline(always)]
 fn more_severe(most_severe: NodesVerdict, fault: Option<TreeKind>, i: usize) -> NodesVerdict
     ensures { result ≡ sweeps.more_severe most_severe fault i }
@@ -128,7 +122,8 @@ fn more_severe(most_severe: NodesVerdict, fault: Option<TreeKind>, i: usize) -> 
     }
 }
 
-/// Returns the fault `kind` of node `i`, or the given one if its rank is lower.
+/// Returns the fault `kind` of node `i`. If the fault `most_severe` has a lower rank than `kind`,
+/// returns `most_severe`.
 fn replaced(most_severe: NodesVerdict, kind: TreeKind, i: usize) -> NodesVerdict
     ensures { result ≡ sweeps.replaced most_severe kind i }
 {

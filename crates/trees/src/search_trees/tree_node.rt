@@ -29,8 +29,8 @@ pub enum TreeKind {
     Height,
     /// The heights of the subtrees differ by more than two.
     Balance,
-    /// An element in the left subtree is not less than that of the node, or one in the right
-    /// subtree is not greater.
+    /// An element in the left subtree is not less than the node's element, or an element in the
+    /// right subtree is not greater.
     Order,
 }
 
@@ -77,58 +77,10 @@ pub fn element_at(placed: &NumberedObject<'_>) -> Val
     ensures element { result ≡ (parts.node_at placed.now.heap.now placed.now.object).element }
     ensures valid { IsValue (length placed.now.heap.now) result }
 {
-    match placed.heap.kind(placed.object) {
-        Kind::Block(_, 4) => element_in(placed, 2),
-        Kind::Block(_, 5) => element_in(placed, 3),
-        _ => Val::Int(0),
-    }
+    node_at(placed).element
 }
 
-/// Returns the element of a block. Field `_right` has the right subtree, and the next field has the
-/// height.
-#[inline(always)]
-fn element_in(block: &NumberedObject<'_>, _right: u64) -> Val
-    requires position { (_right ≡ 2) ⊎ (_right ≡ 3) }
-    requires last { _right + 2
-        ≡ length (fields_of (object_at block.now.heap.now block.now.object)) }
-    ensures element { result
-        ≡ (node_of (fields_of (object_at block.now.heap.now block.now.object))).element }
-    ensures valid { IsValue (length block.now.heap.now) result }
-{
-    let words = block.heap.fields(block.object);
-    value_at(block, words, 1)
-}
-
-/// Returns the value in the height field of the node that is stored in an object.
-#[inline(always)]
-fn height_at(placed: &NumberedObject<'_>) -> Val
-    ensures height { parts.number_in result
-        ≡ (parts.node_at placed.now.heap.now placed.now.object).height }
-    ensures valid { IsValue (length placed.now.heap.now) result }
-{
-    match placed.heap.kind(placed.object) {
-        Kind::Block(_, 4) => height_in(placed, 2),
-        Kind::Block(_, 5) => height_in(placed, 3),
-        _ => Val::Int(0),
-    }
-}
-
-/// Returns the value in the height field of a block. Field `right` has the right subtree, and the
-/// next field has the height.
-#[inline(always)]
-fn height_in(block: &NumberedObject<'_>, right: u64) -> Val
-    requires position { (right ≡ 2) ⊎ (right ≡ 3) }
-    requires last { right + 2
-        ≡ length (fields_of (object_at block.now.heap.now block.now.object)) }
-    ensures height { parts.number_in result
-        ≡ (node_of (fields_of (object_at block.now.heap.now block.now.object))).height }
-    ensures valid { IsValue (length block.now.heap.now) result }
-{
-    let words = block.heap.fields(block.object);
-    value_at(block, words, right as usize + 1)
-}
-
-/// Returns field `i` of a block whose fields are these 64-bit words.
+/// Returns field `i` of a block, given the 64-bit words of all fields.
 #[inline(always)]
 fn value_at(block: &NumberedObject<'_>, words: &[u64], i: usize) -> Val
     requires field { i < length (fields_of (object_at block.now.heap.now block.now.object)) }
@@ -154,49 +106,53 @@ pub fn number_in(v: Val) -> i64
 
 /// Returns the height of a value.
 #[inline(always)]
-pub fn height_of(value: &Rooted<'_>) -> i64
+fn height_of(value: &Rooted<'_>) -> i64
     ensures height { result ≡ parts.height_of value.now.heap.now value.now.root }
     ensures small { IsInteger result }
 {
     let heap = value.heap;
     match value.root {
-        Val::Ref(object) => number_in(height_at(&NumberedObject { heap, object })),
+        Val::Ref(object) => node_at(&NumberedObject { heap, object }).height,
         _ => 0,
     }
+}
+
+/// Returns the heights of the left and of the right subtree of a node.
+#[inline(always)]
+pub fn subtree_heights(heap: &Heap, node: TreeNode) -> (i64, i64)
+    requires { IsValid (length heap.now) node }
+    ensures left { result.0 ≡ parts.height_of heap.now node.left }
+    ensures right { result.1 ≡ parts.height_of heap.now node.right }
+    ensures left_small { IsInteger result.0 }
+    ensures right_small { IsInteger result.1 }
+{
+    let left = Rooted {
+        heap,
+        root: node.left,
+    };
+    let right = Rooted {
+        heap,
+        root: node.right,
+    };
+    (height_of(&left), height_of(&right))
 }
 
 /// Returns true if the height of a node is not one more than the height of its higher subtree.
 pub fn is_miscounted(placed: &NumberedObject<'_>) -> bool
     ensures { IsTrue result ↔ IsMiscounted placed.now.heap.now placed.now.object }
 {
-    let heap = placed.heap;
     let node = node_at(placed);
-    let left = height_of(&Rooted {
-        heap,
-        root: node.left,
-    });
-    let right = height_of(&Rooted {
-        heap,
-        root: node.right,
-    });
-    is_count_wrong(heap, placed.object as usize, node, left, right)
+    let (left, right) = subtree_heights(placed.heap, node);
+    is_count_wrong(placed.heap, placed.object as usize, node, left, right)
 }
 
 /// Returns true if the heights of the subtrees of a node differ by more than two.
 pub fn is_unbalanced(placed: &NumberedObject<'_>) -> bool
     ensures { IsTrue result ↔ IsUnbalanced placed.now.heap.now placed.now.object }
 {
-    let heap = placed.heap;
     let node = node_at(placed);
-    let left = height_of(&Rooted {
-        heap,
-        root: node.left,
-    });
-    let right = height_of(&Rooted {
-        heap,
-        root: node.right,
-    });
-    is_lopsided(heap, placed.object as usize, node, left, right)
+    let (left, right) = subtree_heights(placed.heap, node);
+    is_lopsided(placed.heap, placed.object as usize, node, left, right)
 }
 
 /// Returns true if the height of a node is not one more than the greater of `left` and `right`, the

@@ -16,7 +16,8 @@ use types_spec::types::names::{ConstrNames, Names};
 use types_spec::types::shape::{Constr, ShapeOf};
 use types_table::type_table::TypeTable;
 
-/// The representation of a node. A node of a map also has a datum for its element.
+/// The representation of a node. A node of a map has one field more than a node of a set: the datum
+/// of its element.
 #[derive(Clone, Copy)]
 pub enum NodeRepresentation {
     Set,
@@ -35,7 +36,7 @@ pub fn tree_types(alloc: Global, table: &TypeTable) -> Result<Vec<bool>, Memory>
     Ok(found)
 }
 
-/// Returns true if a type is that of a set or of a map.
+/// Returns true if a type is the type of a set or of a map.
 fn is_tree_type(table: &TypeTable, number: usize) -> bool
     requires inside { number < length table.now.nodes }
     ensures { IsTrue result ↔ IsTreeNumber table.now number }
@@ -48,7 +49,7 @@ fn is_tree_type(table: &TypeTable, number: usize) -> bool
     }
 }
 
-/// Returns true if a type with these constructors is that of a set or of a map.
+/// Returns true if a type with the given constructors is the type of a set or of a map.
 fn is_tree_sum(table: &TypeTable, number: usize, constants: u64, blocks: &[Constr<usize>]) -> bool
     requires shape { slice_get table.now.nodes number ≡ Some (shapes.Sum constants blocks.now) }
     ensures { IsTrue result ↔ IsTreeNumber table.now number }
@@ -60,7 +61,7 @@ fn is_tree_sum(table: &TypeTable, number: usize, constants: u64, blocks: &[Const
     is_node_type(table, number, &blocks[0])
 }
 
-/// Returns true if the one constructor with fields is that of the nodes of a set or of a map.
+/// Returns true if `constr` is the constructor of the nodes of a set or of a map.
 fn is_node_type(table: &TypeTable, number: usize, constr: &Constr<usize>) -> bool
     requires inside { number < length table.now.nodes }
     requires closed { All (λ i. i < length table.now.nodes) constr.now.fields }
@@ -77,7 +78,7 @@ fn is_node_type(table: &TypeTable, number: usize, constr: &Constr<usize>) -> boo
     }
 }
 
-/// Returns true if the names and fields are those of the nodes of a set.
+/// Returns true if the type has the names of a set, and its fields are the fields of a set's nodes.
 fn is_set_type(table: &TypeTable, number: usize, fields: &[usize]) -> bool
     requires inside { number < length table.now.nodes }
     requires closed { All (λ i. i < length table.now.nodes) fields.now }
@@ -92,7 +93,7 @@ fn is_set_type(table: &TypeTable, number: usize, fields: &[usize]) -> bool
     named && parts
 }
 
-/// Returns true if the names and fields are those of the nodes of a map.
+/// Returns true if the type has the names of a map, and its fields are the fields of a map's nodes.
 fn is_map_type(table: &TypeTable, number: usize, fields: &[usize]) -> bool
     requires inside { number < length table.now.nodes }
     requires closed { All (λ i. i < length table.now.nodes) fields.now }
@@ -107,8 +108,8 @@ fn is_map_type(table: &TypeTable, number: usize, fields: &[usize]) -> bool
     named && parts
 }
 
-/// Returns true if the types are those of the parts of a node: two of the tree itself, an element,
-/// and an integer.
+/// Returns true if the given types are the types of a node's parts: two trees, an element, and an
+/// integer.
 fn are_parts(
     table: &TypeTable,
     number: usize,
@@ -141,7 +142,7 @@ fn is_same(table: &TypeTable, first: usize, second: usize) -> bool
     table.class(first) == table.class(second)
 }
 
-/// Returns true if elements may have this shape, which is that of integers or of strings.
+/// Returns true if a shape is the shape of integers or of strings, which elements may have.
 fn is_element(shape: &ShapeOf<usize>) -> bool
     ensures { IsTrue result ↔ ((shape.now ≡ shapes.AnyInt) ⊎ (shape.now ≡ shapes.Bytes false)) }
 {
@@ -152,14 +153,14 @@ fn is_element(shape: &ShapeOf<usize>) -> bool
     }
 }
 
-/// Returns true if this is the shape of integers.
+/// Returns true if a shape is the shape of integers.
 fn is_number(shape: &ShapeOf<usize>) -> bool
     ensures { IsTrue result ↔ (shape.now ≡ shapes.AnyInt) }
 {
     matches!(shape, ShapeOf::AnyInt)
 }
 
-/// Returns true if the names are those of a set.
+/// Returns true if the names are the names of a set.
 fn is_set_named(names: &Names) -> bool
     ensures { IsTrue result ↔ (names.now ≡ names_with (field_names layouts.Set)) }
 {
@@ -172,7 +173,7 @@ fn is_set_named(names: &Names) -> bool
     is_tree_named(names, &fields)
 }
 
-/// Returns true if the names are those of a map.
+/// Returns true if the names are the names of a map.
 fn is_map_named(names: &Names) -> bool
     ensures { IsTrue result ↔ (names.now ≡ names_with (field_names layouts.Map)) }
 {
@@ -186,7 +187,7 @@ fn is_map_named(names: &Names) -> bool
     is_tree_named(names, &fields)
 }
 
-/// Returns true if the names are `Empty`, and `Node` with these fields.
+/// Returns true if the names are `Empty`, and `Node` with the fields `fields`.
 fn is_tree_named(names: &Names, fields: &[&[u8]]) -> bool
     ensures { IsTrue result ↔ (names.now ≡ names_with (map (λ name. name.now) fields.now)) }
 {
@@ -195,7 +196,7 @@ fn is_tree_named(names: &Names, fields: &[&[u8]]) -> bool
     empty && node && names.fields.len() == 0 && names.tags.len() == 0
 }
 
-/// Returns true if the one constructor is `Node` with these fields.
+/// Returns true if the only constructor is `Node` with the fields `fields`.
 fn is_node_named(constructors: &[ConstrNames], fields: &[&[u8]]) -> bool
     ensures { IsTrue result
         ↔ (constructors.now ≡ node_with (map (λ name. name.now) fields.now) ∷ []) }
@@ -208,14 +209,14 @@ fn is_node_named(constructors: &[ConstrNames], fields: &[&[u8]]) -> bool
     named && same
 }
 
-/// Returns true if a name equals this one.
+/// Returns true if the name `own` equals the name `wanted`.
 fn is_name(own: &List<u8>, wanted: &[u8]) -> bool
     ensures { IsTrue result ↔ (own.now ≡ wanted.now) }
 {
     own.as_slice() == wanted
 }
 
-/// Returns true if the names equal these.
+/// Returns true if the names `own` equal the names `wanted`.
 fn same_names(own: &[List<u8>], wanted: &[&[u8]]) -> bool
     ensures { IsTrue result ↔ (own.now ≡ map (λ name. name.now) wanted.now) }
 {

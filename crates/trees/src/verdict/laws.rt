@@ -1,4 +1,4 @@
-//! The laws, stated as contracts.
+//! The laws of verdicts, stated as contracts.
 
 ghost use Rattle.trees.specs.verdict.Laws.{TablesJudgeTrees, TablesHaveTheVerdict};
 ghost use Rattle.trees.specs.verdict.Laws.{SoundVerdictsReportSearchTrees};
@@ -6,20 +6,21 @@ ghost use Rattle.trees.specs.verdict.Laws.{SoundTableVerdictsReportSearchTrees};
 
 use crate::search_trees::sound_trees_are_search_trees;
 
-/// Sets and maps can be checked with the table of a sound type over well-formed declarations.
+/// States that sets and maps can be checked with the table of a sound type over well-formed
+/// declarations.
 pub fn tables_judge_trees()
     ensures { TablesJudgeTrees }
 {}
 
-/// A verdict with a table is the verdict with the types of which the table was made.
+/// States that a verdict with a table is the verdict with the types of which the table was made.
 pub fn tables_have_the_verdict()
     ensures { TablesHaveTheVerdict }
 {}
 
-/// If a value has its type, then its verdict is `sound` if and only if each set and each map in it
-/// is a search tree. A search tree is finite and balanced, its elements are strictly increasing,
-/// and each node stores its correct height. This holds for the verdict with the type, and for the
-/// verdict with its table, which `trees` returns.
+/// Suppose a value has its type. Then the value's verdict is `sound` if and only if each set and
+/// each map in the value is a search tree. A search tree is finite and balanced, its elements are
+/// strictly increasing, and each node stores its correct height. The law holds for the verdict with
+/// the type, and for the verdict with the type's table, which `trees` returns.
 pub fn sound_verdicts_report_search_trees()
     ensures types { SoundVerdictsReportSearchTrees }
     ensures table { SoundTableVerdictsReportSearchTrees }

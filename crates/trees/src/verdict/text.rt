@@ -6,24 +6,23 @@ ghost use Rattle.trees.specs.verdict.VerdictText.{verdict_text};
 
 use crate::search_trees::{TreeKind, TreeVerdict};
 use base_data::model::Memory;
-use itoa::Buffer;
-use std::alloc::Global;
+use base_data::text::{write, write_number, write_path};
 
-/// Appends a verdict to a text: `sound` and the number of nodes, or `fault`, its kind and its path.
-pub fn write_verdict(text: &mut Vec<u8>, alloc: Global, verdict: &TreeVerdict) -> Result<(), Memory>
+/// Appends a verdict to a text: `sound` and the number of nodes, or `fault`, the kind of the fault
+/// and the path of the fault.
+pub fn write_verdict(text: &mut Vec<u8>, verdict: &TreeVerdict) -> Result<(), Memory>
     ensures { OnOk result (text.new.items ≡ text.old.items ++ verdict_text verdict.now) }
 {
     match verdict {
         TreeVerdict::Sound(nodes) => {
             write(text, b"sound ")?;
-            write(text, Buffer::new().format(*nodes).as_bytes())
+            write_number(text, *nodes)
         }
         TreeVerdict::Faulty(kind, path) => {
             write(text, b"fault ")?;
             write(text, kind_word(*kind))?;
             write(text, b" at ")?;
-            let steps = path.text(alloc)?;
-            write(text, steps.as_slice())
+            write_path(text, path)
         }
     }
 }
@@ -37,11 +36,4 @@ fn kind_word(kind: TreeKind) -> &'static [u8]
         TreeKind::Balance => b"balance",
         TreeKind::Order => b"order",
     }
-}
-
-/// Appends bytes.
-fn write(text: &mut Vec<u8>, bytes: &[u8]) -> Result<(), Memory>
-    ensures { OnOk result (text.new.items ≡ text.old.items ++ bytes.now) }
-{
-    Ok(text.extend_from_slice(bytes)?)
 }

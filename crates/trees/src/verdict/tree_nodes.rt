@@ -29,7 +29,7 @@ pub fn nodes_among(alloc: Global, all: &AllMet, found: &[bool]) -> Result<TreeNo
     Ok(nodes)
 }
 
-/// Appends visit `k` if it is at a marked type.
+/// If visit `k` is at a marked type, appends the visit to the nodes.
 fn take_visit(nodes: &mut TreeNodes, all: &AllMet, found: &[bool], k: usize) -> Result<(), Memory>
     requires in_range { k < length all.now }
     requires so_far { AreNodeVisits (IsMarked found.now) all.now k nodes.old }

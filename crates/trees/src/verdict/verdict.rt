@@ -23,7 +23,7 @@ use types_table::type_table::TypeTable;
 
 /// Returns the verdict on the sets and maps in a value of type 0: the first fault, or the number of
 /// nodes. Each object counts once for each class of equal types. If the table has no type of a set
-/// or a map, the value is not inspected.
+/// or a map, does not inspect the value.
 pub fn trees(alloc: Global, value: &Rooted<'_>, table: &TypeTable) -> Result<TreeVerdict, Memory>
     requires table { IsTreeTable table.now }
     requires has { HasType (table_shapes (table_of table.now)) value.now.heap.now value.now.root 0 }
@@ -51,8 +51,8 @@ fn has_none(found: &[bool]) -> bool
     true
 }
 
-/// Returns the verdict if no path is needed, or if the fault is at the root. Otherwise returns
-/// `None`.
+/// Returns the verdict if no path is needed, or if the fault is at the root. If the path of a fault
+/// is needed, returns `None`.
 fn verdict_found(
     alloc: Global,
     value: &Rooted<'_>,

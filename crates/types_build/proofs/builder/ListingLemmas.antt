@@ -1,4 +1,4 @@
--- Types are discovered one after the other.
+-- Lemmas about listings, to which discovered types are added one after the other.
 use Rattle.std.proofs.Common.{ℕ, zero, suc, true, ◌+◌, ◌<◌, ◌≤◌, ◌≡◌, ◌∙◌, ◌⊎◌, ⊎_elim, inl, inr, List, [], ◌∷◌, ◌++◌, length, map, take, Option, Some, refl, sym, ap, subst, nat_eq, length-append, arith}
 use Rattle.std.specs.Prelude.{slice_get}
 use Rattle.std.specs.List.{flat_map}
@@ -58,7 +58,8 @@ module _ (old new : List Ty) (grown : Grows old new) where
 
 -- ---- one type
 
--- The type of each index among later types equals the type of the number there in the store.
+-- If the discovered types are the first of `all`, then `all` has at each index of `met` the type
+-- with the store number at the index.
 says_types :
     (types : List Ty) (met : List ℕ) (all : List Ty) → AreWithin types met → Grows (types_at types met) all
     → SayTheSame met (slice_get all) (slice_get types)
@@ -69,7 +70,7 @@ says_types types met all within grown = record {
       ∙ sym (slice_get-get_or types number tuple below);
 }
 
--- The entry of a type, derived from its representation.
+-- The properties of the entry of a type that follow from the type's representation.
 pub record IsMet (decls : List Decl) (t : Ty) (old new : List Ty) (before after : List ℕ) (entry : TypeEntry) : Type 0 where
   pub within : AreWithin new after
   pub is : IsEntry decls t (types_at old before) (types_at new after) entry
@@ -162,7 +163,8 @@ module _ (decls : List Decl) (t : Ty) (k : ℕ) (met : List Ty) (nodes : List (S
       ∙ ap (λ (ts : List Ty). take k ts ++ u ∷ []) is.kept
       ∙ ap (λ (ts : List Ty). ts ++ u ∷ []) (take-append-le k met is.added (omega (arith, within_met)))
 
-  -- Mapping over a prefix with one more element.
+  -- If `f` maps a prefix with one more element, the image of the element follows the images of the
+  -- prefix.
   mapped : {X : Type 0} (f : Ty → X) → map f (take (k + 1) more) ≡ map f (take k met) ++ f u ∷ []
   mapped f = ap (map f) prefix ∙ map-append f (take k met) (u ∷ [])
 
@@ -210,7 +212,8 @@ module _ (decls : List Decl) (t : Ty) (k : ℕ) (met : List Ty) (nodes : List (S
         ∙ sym (mapped (names_of decls));
   }
 
--- The invariant after one more element was appended to each list.
+-- If one more entry is appended to the shapes, heads and names, then the invariant of the listing
+-- holds.
 pub next_listed :
     (decls : List Decl) (t : Ty) (met : List Ty) (nodes : List (ShapeOf ℕ)) (tops : List (HeadOf ℕ)) (names : List Names)
     → IsListing decls t (length nodes) met nodes tops names
@@ -229,7 +232,8 @@ next_listed decls t met nodes tops names was u next more entry is shapes' tops' 
 
 -- ---- heads of the first types
 
--- If an element is in a prefix of a list, then it is in the list at the same index.
+-- If a prefix of a list has an element at an index, then the list has the same element at the same
+-- index.
 in_prefix : {X : Type 0} (xs : List X) (k i : ℕ) (x : X) → slice_get (take k xs) i ≡ Some x → slice_get xs i ≡ Some x
 in_prefix xs zero i x is = absurd (none-some x is)
 in_prefix [] (suc k) i x is = absurd (none-some x is)
@@ -289,7 +293,8 @@ too_many decls t k met nodes tops names is many = record {
   by zero u here = inl (same_Some u t (sym here ∙ first))
   by (suc j) u there = inr (is.from_earlier (suc j) u (omega arith) there)
 
--- A single number denotes a single type.
+-- If `t` is the only discovered type and no entry exists, then the listing is a valid listing of
+-- `t`.
 pub first_types :
     (decls : List Decl) (t : Ty) (types : List Ty) (number : ℕ) (met : List ℕ) (nodes : List (ShapeOf ℕ)) (tops : List (HeadOf ℕ)) (names : List Names)
     → slice_get types number ≡ Some t → met ≡ number ∷ [] → nodes ≡ [] → tops ≡ [] → names ≡ []

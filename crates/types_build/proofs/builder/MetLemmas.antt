@@ -1,4 +1,4 @@
--- Numbers in a store, and their types.
+-- Lemmas about store numbers and the types that the numbers denote.
 use Rattle.std.proofs.Common.{ℕ, ◌<◌, ◌≡◌, ◌∙◌, inl, inr, Bool, true, false, cond, List, [], ◌∷◌, ◌++◌, length, Some, refl, sym, ap, subst}
 use Rattle.std.proofs.Common.{true≢false, ⊎_elim, ◌||◌}
 use Rattle.std.specs.Prelude.{Contains, nat_eq}
@@ -17,7 +17,7 @@ use Rattle.types_spec.specs.types.Reached.{IsWithoutRepeats}
 use Rattle.types_table.specs.store.Held.{AreDistinct}
 use Rattle.types_build.specs.builder.Listed.{types_at, AreWithin}
 
--- If a number is in the list, then the search finds it.
+-- If a number is in the list, then the search finds the number.
 any_there : (n : ℕ) (met : List ℕ) → Contains met n → list_any (nat_eq n) met ≡ true
 any_there n [] among = absurd (Contains-none n among)
 any_there n (m ∷ met) among = ⊎_elim
@@ -25,7 +25,8 @@ any_there n (m ∷ met) among = ⊎_elim
     (λ later. ap (λ (b : Bool). nat_eq n m || b) (any_there n met later) ∙ or-true (nat_eq n m))
     (Contains-cases m met n among)
 
--- The numbers that are added by inserting these numbers.
+-- The insertion of `numbers` into `met` adds the numbers `added`, whose types are distinct from
+-- earlier types.
 pub record MetAfter (types : List Ty) (met numbers : List ℕ) : Type 0 where
   pub added : List ℕ
   pub kept : insert_all nat_eq met numbers ≡ met ++ added
@@ -40,7 +41,7 @@ module _ (types : List Ty) (distinct : AreDistinct types) where
       (slice_get-get_or types n tuple below ∙ ap (λ (t : Ty). Some t) same)
       (slice_get-get_or types m tuple below')
 
-  -- If a type was discovered, then its number was.
+  -- If the type with a store number was discovered, then the store number is in the list.
   met_by_number :
       (met : List ℕ) (n : ℕ) → AreWithin types met → n < length types
       → Contains (types_at types met) (type_at types n) → Contains met n

@@ -1,4 +1,4 @@
--- The numbers in shapes and heads, and their types.
+-- Lemmas about the store numbers in shapes and heads, and the types that the numbers denote.
 use Rattle.std.proofs.Common.{ℕ, ◌<◌, ◌≡◌, ◌∙◌, List, [], ◌∷◌, length, map, Option, Some, refl, sym, ap}
 use Rattle.std.specs.Prelude.{slice_get}
 use Rattle.std.proofs.lemmas.List.Elements.{All-nil, All-cons}
@@ -14,7 +14,7 @@ use Rattle.types_build.specs.builder.Listed.{types_at, AreWithin}
 
 -- ---- numbers of types
 
--- These are the numbers of these types.
+-- `numbers` are the store numbers of the types `all`.
 pub record AreNumbers (types : List Ty) (numbers : List ℕ) (all : List Ty) : Type 0 where
   pub within : AreWithin types numbers
   pub are : types_at types numbers ≡ all
@@ -40,7 +40,7 @@ are_numbers types (n ∷ numbers) (t ∷ all) same =
           → x ∷ xs ≡ y ∷ ys → (x ≡ y) × (xs ≡ ys)
       parts x xs y ys e = (cc, cc)
 
--- The numbers in the shape of a type are the numbers of the types that the shape names.
+-- The numbers in the shape of a type are the numbers of the types in the shape.
 pub shape_numbers :
     (types : List Ty) (numbered : ShapeOf ℕ) (s : ShapeOf Ty)
     → with_parts (slice_get types) numbered ≡ with_parts (λ (t : Ty). Some t) s

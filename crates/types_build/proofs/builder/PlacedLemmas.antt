@@ -1,4 +1,5 @@
--- Discovered numbers, and the results that refer to them by index.
+-- Lemmas about discovered store numbers, and about the results that refer to discovered types by
+-- index.
 use Rattle.std.proofs.Common.{ℕ, ◌+◌, ◌<◌, ◌≤◌, ◌≡◌, ◌∙◌, Bool, true, false, cond, List, [], ◌∷◌, ◌++◌, Option, refl, sym, ap, subst, length, take, get_or}
 use Rattle.std.specs.Prelude.{map, nat_eq}
 use Rattle.std.specs.List.{flat_map, list_any}
@@ -28,7 +29,8 @@ insert_all-grows met (n ∷ numbers) =
     Grows-then met (insert_key nat_eq met n) (insert_all nat_eq (insert_key nat_eq met n) numbers)
     (insert_key-grows met n) (insert_all-grows (insert_key nat_eq met n) numbers)
 
--- If two functions agree on all indices, then they agree on the first ones.
+-- If two functions agree on all indices of a list, then the two functions agree on the indices of a
+-- prefix.
 pub SayTheSame-before :
     (before after : List ℕ) (f g : ℕ → Option Ty) → Grows before after → SayTheSame after f g
     → SayTheSame before f g
@@ -89,12 +91,14 @@ module _ {A B : Type 0} (numbers : A → List ℕ) (saying : (ℕ → Option Ty)
     placed_all first after given made k past placed =
         subst (λ (xs : List A). Placed first after xs made) (take_all k given past) placed
 
--- A prefix of a list with one more element.
+-- The prefix with `k + 1` elements is the prefix with `k` elements, followed by the element at
+-- index `k`.
 pub one_longer : {A : Type 0} (xs : List A) (k : ℕ) (x : A) → k < length xs → x ≡ get_or xs k x → take (k + 1) xs ≡ take k xs ++ x ∷ []
 one_longer xs k x below is =
     take_more xs k x below ∙ ap (λ y. take k xs ++ y ∷ []) (sym is)
 
--- The numbers of a list with one more element.
+-- If a list is extended by one element, then the numbers of the element follow the numbers of the
+-- list.
 pub one_more :
     {A B : Type 0} (numbers : A → List B) (given : List A) (a : A)
     → flat_map numbers (given ++ a ∷ []) ≡ flat_map numbers given ++ numbers a

@@ -1,4 +1,4 @@
--- Lists without repeats.
+-- Lemmas about lists without repeated elements.
 use Rattle.std.proofs.Common.{ℕ, zero, suc, ◌≡◌, ◌⊎◌, inl, inr, List, [], ◌∷◌, ◌++◌, Some, refl, sym, ap, subst, arith, ◌≤◌, ⊎_elim, length}
 use Rattle.std.specs.Prelude.{Contains, slice_get}
 use Rattle.std.proofs.lemmas.List.{append_assoc, append-nil}
@@ -8,7 +8,8 @@ use Rattle.base_data.proofs.model.Options.{Contains-first, Contains-later, Conta
 use Rattle.types_spec.specs.types.Ty.{Ty}
 use Rattle.types_spec.specs.types.Reached.{IsWithoutRepeats, AreDistinct}
 
--- Removing repeats from two lists in sequence removes them from the concatenation.
+-- If repetitions are removed from two lists in sequence, the results together are the concatenation
+-- without repetitions.
 pub repeats_then :
     (seen ts others us more : List Ty) → IsWithoutRepeats seen ts others
     → IsWithoutRepeats (seen ++ others) us more → IsWithoutRepeats seen (ts ++ us) (others ++ more)
@@ -31,7 +32,7 @@ repeats_then seen (t ∷ ts) others us more (inr new) second =
       repeats_then (seen ++ t ∷ []) ts rest us more new.3 moved,
     )
 
--- No element of the result was seen before.
+-- If repetitions are removed from a list, no element of the result is in `seen`.
 none_seen :
     (ts seen others : List Ty) → IsWithoutRepeats seen ts others → (i : ℕ) (u : Ty)
     → slice_get others i ≡ Some u → Contains seen u → ⊥
@@ -70,7 +71,7 @@ repeats_distinct (t ∷ ts) seen others (inr new) i j u at_i at_j =
       by later (suc k) zero here there = absurd (first_again k there here)
       by later (suc k) (suc l) here there = ap (λ (n : ℕ). suc n) (later k l u here there)
 
--- Each element of the result is in the original list.
+-- If repetitions are removed from a list, each element of the result is in the list.
 pub repeats_among :
     (ts seen others : List Ty) → IsWithoutRepeats seen ts others → (u : Ty) → Contains others u → Contains ts u
 repeats_among [] seen others without u among = subst (λ (os : List Ty). Contains os u) without among
@@ -81,7 +82,8 @@ repeats_among (t ∷ ts) seen others (inr new) u among = ⊎_elim
     (λ later. Contains-later t ts u (repeats_among ts (seen ++ t ∷ []) new.1 new.3 u later))
     (Contains-cases t new.1 u (subst (λ (os : List Ty). Contains os u) new.2 among))
 
--- If a list grew, then each element is an old one or an added one.
+-- If two lists are concatenated, then each element of the result is in the first list or in the
+-- second list.
 pub old_or_added :
     {X : Type 0} (xs ys : List X) (j : ℕ) (x : X) → slice_get (xs ++ ys) j ≡ Some x
     → (slice_get xs j ≡ Some x) ⊎ ((length xs ≤ j) × Contains ys x)

@@ -1,4 +1,4 @@
--- The table of a complete listing.
+-- Lemmas about the table that is built from a complete listing.
 use Rattle.std.proofs.Common.{ℕ, ◌<◌, ◌≡◌, ◌∙◌, List, [], ◌∷◌, length, map, take, Some, sym, ap, subst, arith}
 use Rattle.std.specs.Prelude.{slice_get}
 use Rattle.std.specs.List.{flat_map}
@@ -41,7 +41,7 @@ module _ (decls : List Decl) (t : Ty) (listing : Listing) (whole : IsWhole decls
       ∙ ap length are_heads
       ∙ length-map all (λ u. head_with_parts (λ (v : Ty). Some v) (head decls u))
 
-  -- The parts of the heads are indices.
+  -- The parts of all heads in a complete listing are indices of the listing.
   pub parts_are_positions : PartsBelow (length listing.heads.items) (head_at listing.heads.items)
   parts_are_positions =
       subst (λ n. PartsBelow n (head_at listing.heads.items)) (sym as_many)

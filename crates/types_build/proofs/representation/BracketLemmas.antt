@@ -1,4 +1,4 @@
--- The head of a bracket, item by item.
+-- Lemmas about the head of a bracket, gathered item by item.
 use Rattle.std.proofs.Common.{ℕ, ◌≡◌, ◌∙◌, Bool, true, false, cond, List, [], ◌∷◌, ◌++◌, Option, Some, None, refl, sym, ap, true≢false}
 use Rattle.std.specs.Prelude.{not, ◌||◌, filter}
 use Rattle.std.specs.Str.{bytes_eq}
@@ -28,7 +28,8 @@ use Rattle.types_build.specs.representation.Tags.{has_bracket, items, tags_of_it
 abbrev pub is_new : List (TagOf Ty) → TagOf Ty → Bool
 is_new tags item = not (has_tag tags item.name)
 
--- Filtering by two tests, one after the other.
+-- If a list is filtered by two tests in sequence, the result is the list filtered by the
+-- conjunction of the two tests.
 module _ {X : Type 0} (p q r : X → Bool) (same : (x : X) → r x ≡ cond (p x) (q x) false) where
   tested : (z : X) (kept both : List X) (a c : Bool) → c ≡ cond a (q z) false → filter q kept ≡ both
       → filter q (cond a (z ∷ kept) kept) ≡ cond c (z ∷ both) both
@@ -40,7 +41,8 @@ module _ {X : Type 0} (p q r : X → Bool) (same : (x : X) → r x ≡ cond (p x
   filter-filter [] = refl
   filter-filter (z ∷ zs) = tested z (filter p zs) (filter r zs) (p z) (r z) (same z) (filter-filter zs)
 
--- If a name is not among the tags, then it is among the new tags if and only if it is among all.
+-- Let a name not be the name of a gathered tag. The name is the name of a new tag if and only if
+-- the name is the name of any tag.
 module _ (tags : List (TagOf Ty)) (name : List ℕ) (absent : has_tag tags name ≡ false) where
   among_new : (item : TagOf Ty) (kept all : List (TagOf Ty)) (there same : Bool)
       → (same ≡ true → there ≡ false) → bytes_eq item.name name ≡ same → has_tag kept name ≡ has_tag all name
@@ -108,7 +110,7 @@ none_new_after prefix (item ∷ more) =
     ∙ ap (λ ts. filter (is_new ts) more) (sym (append_assoc prefix (item ∷ []) more))
     ∙ none_new_after (prefix ++ item ∷ []) more
 
--- Tags that were joined are there.
+-- If tags are joined to others, then joining the same tags again adds nothing.
 pub joined_there : (tags more : List (TagOf Ty)) → filter (is_new (joined tags more)) more ≡ []
 joined_there tags more =
     sym (filter-filter (is_new more) (is_new tags) (is_new (joined tags more)) (is_new-joined tags more) more)
@@ -171,7 +173,7 @@ module _ (head : Ty → HeadOf Ty) where
   takes_no_tags (including t a) more is =
       ap (λ h. with_tags h more) (takes_no_tags t (tags_in (head a)) is)
 
-  -- Items that are not added to a bracket.
+  -- If items extend a type that is not a bracket, then the plain head is `Absent`.
   pub plain_head-no_bracket : (t : Ty) → IsBracketed t → has_bracket t ≡ false → plain_head head t ≡ heads.Absent
   plain_head-no_bracket bracket bracketed is = absurd (true≢false is)
   plain_head-no_bracket (tag t x) bracketed is = takes_no_tags t (bare_tag x ∷ []) is
@@ -187,7 +189,8 @@ module _ (head : Ty → HeadOf Ty) where
   none_in (heads.Variants tags) is = cc
   none_in heads.Absent is = refl
 
-  -- The tags of a type can be joined to others item by item.
+  -- Joining the tags of a bracket to other tags gives the same result as adding the bracket's items
+  -- one by one.
   pub joined-plain : (out : List (TagOf Ty)) (t : Ty) → has_bracket t ≡ true
       → joined out (tags_in (plain_head head t)) ≡ with_items head out (items t)
   joined-plain out t is =

@@ -1,4 +1,4 @@
--- The fields and blocks of declared types with arguments, over type indices.
+-- Lemmas about the fields and blocks of declared types with arguments, over type indices.
 use Rattle.std.proofs.Common.{ℕ, ◌+◌, ◌<◌, ◌≡◌, ◌∙◌, Bool, false, List, [], ◌∷◌, ◌++◌, length, map, take, Option, Some, None, refl, sym, ap, subst, All}
 use Rattle.std.specs.Prelude.{slice_get}
 use Rattle.std.specs.List.{filter_map}
@@ -49,7 +49,7 @@ module _ (old now : List Ty) (grown : Grows old now) (decl : Decl) (arguments : 
       };
     }
 
--- A record that is not flat.
+-- If a record is not flat, then its shape is a product of the instances of its field types.
 pub boxed_record :
     (decls : List Decl) (types : List Ty) (inst : Ty → Ty) (fields : List Field) (numbers : List ℕ) → is_flat decls fields ≡ false
     → HasNumbers types (map inst (types_of_fields fields)) numbers
@@ -102,7 +102,8 @@ module _ (types new : List Ty) (grown : Grows types new) where
             ∙ sym (more b refl);
       }
 
-  -- One more constructor.
+  -- If one more constructor is processed, then the blocks of the processed constructors stay
+  -- correct.
   module _ {X : Type 0} (f : X → Option (Constr Ty)) (xs : List X) (k : ℕ) (x : X) (at : slice_get xs k ≡ Some x)
       (found : List (Constr ℕ)) (has : HasBlocks types (filter_map f (take k xs)) found) where
     pub block_more : (block : Constr ℕ) → HasBlock new (f x) (Some block) → HasBlocks new (filter_map f (take (k + 1) xs)) (found ++ block ∷ [])

@@ -1,4 +1,5 @@
--- Tags as the entries of a map: a name that is present, and one that is added.
+-- Lemmas about tags as the entries of a map, for a name that the map has and for a name that is
+-- added.
 use Rattle.std.proofs.Common.{ℕ, ◌≡◌, ◌∙◌, Bool, true, false, cond, List, [], ◌∷◌, ◌++◌, Option, Some, None, refl, sym, ap, is_some, nat_eq}
 use Rattle.std.specs.Prelude.{◌||◌}
 use Rattle.std.specs.Map.{lookup}
@@ -21,7 +22,7 @@ bytes_eq-turned a b = matching (bytes_eq a b) (bytes_eq b a)
     (λ is. (bytes_decides b a).1 (sym ((bytes_decides a b).0 is)))
     (λ is. (bytes_decides a b).1 (sym ((bytes_decides b a).0 is)))
 
--- The key has this text.
+-- Tests whether the bytes of the key are `name`.
 abbrev has_text : List ℕ → Vec ℕ → Bool
 has_text name key = pointwise nat_eq name key.items
 
@@ -39,7 +40,7 @@ lookup-has_name name (entry ∷ entries) =
     found_or (has_text name entry.0) (bytes_eq entry.0.items name) entry.1 (lookup (has_text name) entries)
     (has_name (tags_of_entries entries) name) (bytes_eq-turned name entry.0.items) (lookup-has_name name entries)
 
--- A tag whose name is present.
+-- If a tag with the same name exists, then adding a tag changes nothing.
 pub with_tag-there : (tags : List (TagOf ℕ)) (name : List ℕ) (argument : Option ℕ) → has_name tags name ≡ true
     → tags ≡ with_tag tags name argument
 with_tag-there tags name argument is =
@@ -54,7 +55,7 @@ nothing : {X : Type 0} (o : Option X) → is_some o ≡ false → o ≡ None
 nothing None is = refl
 nothing (Some x) is = cc
 
--- A tag whose name is not present.
+-- If no entry has the name, then the insertion into the map adds the tag at the end.
 pub entry_added :
     {S : Type 0} (m : IndexMap (Vec ℕ) (Option ℕ) S) (name : List ℕ) (text : Vec ℕ) (argument : Option ℕ)
     (new : List (Vec ℕ × Option ℕ)) → text.items ≡ name → is_some (lookup (has_text name) m.entries) ≡ false

@@ -1,4 +1,4 @@
--- Tags that were found before, added in order.
+-- Lemmas about tags that were found before, and that are added in order.
 use Rattle.std.proofs.Common.{ℕ, zero, suc, ◌+◌, ◌<◌, ◌≡◌, ◌∙◌, Bool, true, false, cond, List, [], ◌∷◌, ◌++◌, length, map, take, get_or, Option, Some, None, refl, sym, ap, subst, All, arith, length-append}
 use Rattle.std.specs.Prelude.{not, ◌||◌, fold, filter, option_map, slice_get, IfSome}
 use Rattle.std.specs.Str.{bytes_eq}
@@ -34,7 +34,8 @@ use Rattle.types_build.proofs.representation.NearerLemmas.{type_kept}
 
 -- ---- adding in order joins the tags
 
--- The next tag of a list.
+-- If the first `k` tags of a list were added, then adding the tag at index `k` gives the first `k +
+-- 1` tags.
 pub one_tag_more : (f : ℕ → ℕ) (first more : List (TagOf ℕ)) (k : ℕ) (item : TagOf ℕ) → k < length more → item ≡ get_or more k item
     → with_tag (with_tags first (map (tag_with_part f) (take k more))) item.name (option_map f item.argument)
     ≡ with_tags first (map (tag_with_part f) (take (k + 1) more))
@@ -51,7 +52,7 @@ one_joined all item = joined all (item ∷ [])
 abbrev each_joined : List (TagOf Ty) → List (TagOf Ty) → List (TagOf Ty)
 each_joined tags more = fold one_joined tags more
 
--- The tags can be joined to others one at a time.
+-- Adding the tags `more` one at a time gives the same result as joining `more` to the tags.
 abbrev JoinSingly : List (TagOf Ty) → Type 0
 JoinSingly more = (tags : List (TagOf Ty)) → each_joined tags more ≡ joined tags more
 
@@ -61,7 +62,7 @@ none_singly tags = sym (append-nil tags)
 one_singly : (item : TagOf Ty) → JoinSingly (item ∷ [])
 one_singly item tags = refl
 
--- A name that is present stays present.
+-- If tags have a name, then the tags joined with more tags have the name.
 has_tag-more : (tags more : List (TagOf Ty)) (name : List ℕ) → has_tag tags name ≡ true → has_tag (joined tags more) name ≡ true
 has_tag-more tags more name is =
     list_any-append (λ (other : TagOf Ty). bytes_eq other.name name) tags (filter (is_new tags) more)
@@ -72,7 +73,7 @@ not_new true b c is there = refl
 not_new false true c is there = cc
 not_new false false c is there = cc
 
--- A name that is joined is present.
+-- If joined tags have a name, then the result of joining has the name.
 has_tag-joined : (tags more : List (TagOf Ty)) (item : TagOf Ty) → has_tag more item.name ≡ true → has_tag (joined tags more) item.name ≡ true
 has_tag-joined tags more item is =
     not_new (has_tag (joined tags more) item.name) (has_tag more item.name) (is_new tags item) (is_new-joined tags more item) is
@@ -154,7 +155,7 @@ head_singly : (decls : List Decl) (t : Ty) → JoinSingly (tags_in (head decls t
 unfolding head
 head_singly decls t = within_singly decls (enough decls t) t
 
--- Over type indices.
+-- Joining tags over type indices gives the same result as joining the tags over types.
 module _ (types : List Ty) where
   joined_tags : (more tags : List (TagOf ℕ)) → each_joined (tags_at types tags) (tags_at types more) ≡ tags_at types (with_tags tags more)
   joined_tags [] tags = refl
@@ -184,7 +185,8 @@ written_there f (heads.Tuple parts) = refl
 written_there f (heads.Variants tags) = refl
 written_there f heads.Absent = refl
 
--- Tags over type indices, as a head.
+-- If tags over type indices are the tags of a type, then the head with the tags is the head of the
+-- type.
 as_head : (decls : List Decl) (types : List Ty) (t : Ty) (tags : List (TagOf ℕ)) → AreTagsOf decls types t tags
     → head_with_parts (slice_get types) (heads.Variants tags)
     ≡ head_with_parts (λ (u : Ty). Some u) (heads.Variants (tags_in (head decls t)))
@@ -215,7 +217,7 @@ found_kept decls types by_position numbers found new grown was = record {
 }
 
 module _ (types : List Ty) (numbers : List ℕ) (within : All (λ i. i < length types) numbers) where
-  -- If a part is among the types, then it has a type index.
+  -- If a part is an index into the list of part types, then the part has a type index.
   location_in : (by_position : Bool) (q : ℕ) → q < length (part_types by_position types numbers) → IsLocation by_position numbers q
   location_in true q below = omega (arith, below, length-map numbers (type_at types))
   location_in false q below = tt
@@ -320,7 +322,7 @@ module _ (decls : List Decl) (types : List Ty) (by_position : Bool) (numbers : L
         left = subst (λ (ts : List (TagOf Ty)). AreLeft decls types ts rest all) same was.left.1;
       }
 
--- The tags of a head.
+-- If a head with tags is the head of a type, then the tags of the head are the tags of the type.
 pub tags_of_head : (decls : List Decl) (types : List Ty) (t : Ty) (tags : List (TagOf ℕ))
     → IsHeadOf decls types t (heads.Variants tags) → AreTagsOf decls types t tags
 tags_of_head decls types t tags is = ap tags_there is ∙ written_there (λ (u : Ty). Some u) (head decls t)

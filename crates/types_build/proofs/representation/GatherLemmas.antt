@@ -90,7 +90,7 @@ tags_within_more : (types added : List Ty) (tags : List (TagOf ℕ)) → All (Is
 tags_within_more types added tags within k d below =
     tag_within_more types added _ (within k d below)
 
--- One more tag, or none.
+-- If a step adds one tag or none, then the gathered tags are within the store.
 pub tag_pushed :
     (types : List Ty) (found : List (TagOf ℕ)) → All (IsTagWithin types) found → (there : Bool) (name : List ℕ) (argument : Option ℕ)
     → IfSome argument (λ i. i < length types)
@@ -171,7 +171,7 @@ module _ (decls : List Decl) (old new : List Ty) (grown : Grows old new) (found 
 -- ---- one step
 
 module _ (decls : List Decl) (types : List Ty) (found : List (TagOf ℕ)) (settled : List ℕ) (rest : List BracketStep) (all : List (TagOf Ty)) where
-  -- The same tags remain to be gathered.
+  -- If a step leaves the same tags to be gathered, then the state of the gathering stays valid.
   pub left_by : (waiting : List BracketStep) → AreGathered decls types found settled waiting all
       → (AreLeft decls types (tags_at types found) waiting all → AreLeft decls types (tags_at types found) rest all)
       → AreGathered decls types found settled rest all
@@ -271,7 +271,7 @@ module _ (decls : List Decl) (sound : AreSound decls) (types : List Ty) (n : ℕ
       subst (λ (ts : List (TagOf Ty)). AreLeft decls types ts rest all)
       (joined_none tags (tags_in (head decls (type_at types n))) none) left.1
 
-  -- Another type with the same head.
+  -- An included type can be replaced by another type with the same head.
   pub include_next : (next : ℕ) → next < length types → head decls (type_at types next) ≡ head decls (type_at types n)
       → AreLeft decls types tags (steps.Included next ∷ rest) all
   include_next next within same = (
@@ -340,7 +340,7 @@ push_left decls types tags all at w rest within before left = (
       ∙ fold-append (with_item (head decls)) tags (items w) (type_at types at ∷ [])) left,
 )
 
--- If a type is not an item, then it has no tags.
+-- If the node of a type adds no item, then the type has no tags of a last item.
 pub tags_of_item-none :
     (head : Ty → HeadOf Ty) (types : List Ty) (node : TypeNode) → ((x : ℕ) (y : Bor (List ℕ)) → node ≡ borrowed.Tag x y → ⊥)
     → ((x : ℕ) (y : Bor (List ℕ)) (z : ℕ) → node ≡ borrowed.TagOf x y z → ⊥) → ((x y : ℕ) → node ≡ borrowed.Including x y → ⊥)
@@ -375,7 +375,7 @@ nothing_left decls types found settled waiting all none gathered = record {
   are = subst (λ (ss : List BracketStep). AreLeft decls types (tags_at types found) ss all) none gathered.left;
 }
 
--- The first pending step.
+-- The number in the first pending step is the index of an existing type or declaration.
 pub step_within :
     (decls : List Decl) (types : List Ty) (tags all : List (TagOf Ty)) (step : BracketStep) (rest : List BracketStep)
     → AreLeft decls types tags (step ∷ rest) all → IsStepWithin decls types step

@@ -1,4 +1,4 @@
--- The head of a bracket whose only item includes a type.
+-- Lemmas about the head of a bracket whose only item includes a type.
 use Rattle.std.proofs.Common.{ℕ, ◌≡◌, ◌∙◌, List, [], ◌∷◌, map, Some, refl, ap}
 use Rattle.std.specs.Prelude.{not, filter}
 use Rattle.types_spec.specs.declared.types.decl.Decl.{Decl}

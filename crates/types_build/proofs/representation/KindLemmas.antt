@@ -1,4 +1,4 @@
--- The kind of a type, from its spine.
+-- Lemmas about the kind of a type, given the name and the parts at its head.
 use Rattle.std.proofs.Common.{ℕ, ◌≡◌, ◌∙◌, Bool, true, false, List, [], Option, Some, None, refl, sym, ap, subst}
 use Rattle.std.specs.Prelude.{IsTrue, ◌↔◌}
 use Rattle.std.proofs.lemmas.Bool.{false≢true}
@@ -50,11 +50,9 @@ module _ (head : Ty → HeadOf Ty) where
     by bases.Int64 = refl
     by bases.Nativeint = refl
     by bases.Floatarray = refl
-    by bases.List = refl
-    by bases.Option = refl
     by bases.Array = refl
-    by bases.Ref = refl
     by bases.Any = refl
+    by (bases.Sum k) = refl
   no_float_part (heads.Datatype n ts) a = refl
   no_float_part (heads.Tuple ts) a = refl
   no_float_part (heads.Variants tags) a = refl
@@ -77,11 +75,9 @@ module _ (head : Ty → HeadOf Ty) where
   float_meant (Some bases.Int64) name = refl
   float_meant (Some bases.Nativeint) name = refl
   float_meant (Some bases.Floatarray) name = refl
-  float_meant (Some bases.List) name = refl
-  float_meant (Some bases.Option) name = refl
   float_meant (Some bases.Array) name = refl
-  float_meant (Some bases.Ref) name = refl
   float_meant (Some bases.Any) name = refl
+  float_meant (Some (bases.Sum k)) name = refl
 
   abbrev float_by : Option (List ℕ) → Bool
   float_by (Some name) = is_float_name name

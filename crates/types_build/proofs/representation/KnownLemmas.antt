@@ -1,4 +1,4 @@
--- What is known of abbreviations, with one more entry.
+-- Lemmas about the map of known abbreviations, with one more entry.
 use Rattle.std.proofs.Common.{ℕ, suc, ◌<◌, ◌≤◌, ◌≡◌, ◌∙◌, Bool, true, false, cond, List, [], ◌∷◌, length, Option, Some, None, refl, sym, ap, subst, All, nat_eq}
 use Rattle.std.specs.Prelude.{slice_get, option_map, IfSome, is_some}
 use Rattle.std.specs.Map.{keys_of}
@@ -85,7 +85,7 @@ module _ (decls : List Decl) (group : Option ℕ) where
       (subst (λ (x : Decl). IsArgument x group end i) other argument))
 
 module _ (decls : List Decl) (group : Option ℕ) {S : Type 0} where
-  -- There are at most as many entries as declarations.
+  -- The map of known abbreviations has at most as many entries as there are declarations.
   pub known_few : (m : IndexMap ℕ (Option ℕ) S) → AreKnown decls group m → index_map_len m ≤ length decls
   known_few m known =
       subst (λ n. n ≤ length decls) (keys_many m.entries)

@@ -1,4 +1,4 @@
--- The results of a loop for the elements that it has processed.
+-- Lemmas about the results of a loop for the elements that the loop has processed.
 use Rattle.std.proofs.Common.{ℕ, suc, ◌+◌, ◌≡◌, ◌∙◌, Bool, true, false, List, [], ◌∷◌, ◌++◌, take, drop, Option, Some, None, refl, sym, ap, arith}
 use Rattle.std.specs.Prelude.{slice_get, ◌&&◌}
 use Rattle.std.specs.List.{list_all, filter_map}

@@ -1,4 +1,4 @@
--- The next type in a sequence of expansions.
+-- Lemmas about the next type in a sequence of expansions.
 use Rattle.std.proofs.Common.{ℕ, suc, ◌<◌, ◌≡◌, ◌∙◌, List, length, Option, Some, None, sym, ap, subst, arith}
 use Rattle.std.specs.Prelude.{MatchOption}
 use Rattle.std.proofs.lemmas.Option.{get_or_from_slice_get, slice_get_within}
@@ -39,7 +39,8 @@ module _ (decls : List Decl) where
       within = slice_get_within new n replaced.next replaced.holds.there;
     }
 
-    -- Known expansions.
+    -- If an abbreviation is known to expand to an argument, then expansions outside the group lead
+    -- to the argument.
     pub passed_is :
         (types : List Ty) (number n : ℕ) → number < length types → n < number
         → EachPasses decls group (type_at types number) (type_at types n) → IsNearer decls group types (type_at types number) n

@@ -1,4 +1,4 @@
--- A head as it is written, from the root and the parts.
+-- Lemmas about the written head of a type, given the root and the parts of the type.
 use Rattle.std.proofs.Common.{ℕ, ◌<◌, ◌≡◌, ◌∙◌, List, [], ◌∷◌, ◌++◌, length, map, Option, Some, None, refl, sym, ap, subst, All, length-append, Result, Ok, Err, IfOk, arith}
 use Rattle.std.specs.Prelude.{slice_get, fold, MatchOption}
 use Rattle.std.proofs.lemmas.List.{append_assoc, append-nil}
@@ -17,7 +17,7 @@ use Rattle.types_spec.specs.types.Head.{plain_head, with_part, with_tags, head_m
 use Rattle.types_spec.specs.types.Table.{head_with_parts}
 use Rattle.types_build.specs.representation.Plain.{root_of, IsBracketed, IsPlainHead, meant_with, head_of_root}
 
--- A head with these additional parts.
+-- The head `h` with the additional parts `ts`.
 abbrev with_all : HeadOf Ty → List Ty → HeadOf Ty
 with_all h ts = fold with_part h ts
 
@@ -78,7 +78,7 @@ no_parts (tag t x) none = refl
 no_parts (tag_of t x u) none = refl
 no_parts (including t u) none = refl
 
--- A root has no parts.
+-- The root of a type has no arguments or components.
 never_part : (u v t : Ty) → part u v ≡ root_of t → ⊥
 never_part u v (variable x) is = cc
 never_part u v (named x) is = cc
@@ -111,7 +111,8 @@ module _ (types : List Ty) (t : Ty) (numbers : List ℕ) (are : map (type_at typ
       (λ head. ap (λ o. with_all (head_meant o name) (parts t)) meant ∙ name_parts name [] (parts t))
       (heads.Datatype name numbers) (ap (heads.Datatype name) these)
 
-  -- Parts of a root that takes none.
+  -- If the root of a type takes no parts and the type has parts, then the head of the type is
+  -- `Absent`.
   absent_parts : (root u : Ty) (us : List Ty) → root_of t ≡ root → parts t ≡ u ∷ us → ((head : Ty → HeadOf Ty) → with_part (plain_head head root) u ≡ heads.Absent) → IsPlainHead types t heads.Absent
   absent_parts root u us is some none =
       from_root root is heads.Absent
@@ -121,7 +122,7 @@ module _ (types : List Ty) (t : Ty) (numbers : List ℕ) (are : map (type_at typ
   bracket_alone : (root : Ty) → root_of t ≡ root → parts t ≡ [] → IsBracketed root → IsBracketed t
   bracket_alone root is none bracketed = subst IsBracketed (sym is ∙ no_parts t none) bracketed
 
-  -- The head from the root and the indices of the parts.
+  -- The root and the indices of the parts determine the written head of a type.
   pub plain_by_root :
       (root : TypeTreeNode) → type_of_node types root ≡ root_of t
       → MatchOption (head_of_root root numbers) (IsBracketed t) (IsPlainHead types t)

@@ -6,7 +6,7 @@ use Rattle.types_spec.specs.declared.types.decl.Decl.{Decl}
 use Rattle.types_spec.specs.types.Ty.{Ty}
 use Rattle.types_spec.specs.types.Declarations.{unfolded, unfolded_times}
 
--- The type u is t after some expansions at its head.
+-- The type `u` results from `t` by some expansions at the head.
 pub record ComesTo (decls : List Decl) (t u : Ty) : Type 0 where
   pub times : ℕ
   pub replaced : unfolded_times decls times t ≡ Some u

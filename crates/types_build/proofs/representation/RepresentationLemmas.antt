@@ -1,4 +1,4 @@
--- Heads and shapes over type indices.
+-- Lemmas about heads and shapes over type indices.
 use Rattle.std.proofs.Common.{ℕ, ◌<◌, ◌≡◌, ◌∙◌, Bool, List, [], ◌∷◌, ◌++◌, length, map, Option, Some, None, refl, sym, ap, All, unwrap_or}
 use Rattle.std.specs.Prelude.{slice_get, option_map}
 use Rattle.std.proofs.lemmas.List.{map-id}
@@ -102,7 +102,7 @@ head_itself heads.Absent = refl
 
 -- ---- heads over type indices
 
--- Indices that have types.
+-- If each index has a type in the store, then each index is below the length of the store.
 pub below_found : (types : List Ty) (ns : List ℕ) (ts : List Ty) → map (slice_get types) ns ≡ map (λ (t : Ty). Some t) ts
     → All (λ i. i < length types) ns
 below_found types [] ts same = All-nil (λ i. i < length types)
@@ -126,7 +126,7 @@ or_tuple o = unwrap_or o tuple
 
 module _ (types : List Ty) (h : HeadOf ℕ) (all : HeadOf Ty)
     (is : head_with_parts (slice_get types) h ≡ head_with_parts (λ (t : Ty). Some t) all) where
-  -- The types of the parts.
+  -- If types replace the type indices in the head `h`, then the result is the head `all`.
   pub head_found : head_of_types types h ≡ all
   head_found =
       let same : (λ (i : ℕ). type_at types i) ≡ (λ (i : ℕ). or_tuple (slice_get types i)) =
@@ -137,13 +137,13 @@ module _ (types : List Ty) (h : HeadOf ℕ) (all : HeadOf Ty)
       ∙ head_twice some or_tuple all
       ∙ head_itself all
 
-  -- The parts are type indices.
+  -- The parts of the head `h` are type indices.
   pub head_within : All (λ i. i < length types) (parts_of h)
   head_within =
       below_found types (parts_of h) (parts_of all)
       (sym (parts_of-map (slice_get types) h) ∙ ap (λ (g : HeadOf (Option Ty)). parts_of g) is ∙ parts_of-map some all)
 
-  -- If types are appended, then the parts stay the same.
+  -- If types are appended to the store, then the parts of the head `h` denote the same types.
   pub head_kept : (new : List Ty) → Grows types new → head_with_parts (slice_get new) h ≡ head_with_parts (λ (t : Ty). Some t) all
   head_kept new grown =
       heads_agree (slice_get new) (slice_get types) h
@@ -169,7 +169,7 @@ pub product_at :
     → IsShapeAt types (shapes.Product mutable all) (shapes.Product mutable numbers)
 product_at types all numbers mutable has = ap (λ ts. shapes.Product mutable ts) (numbers_found types all numbers has)
 
--- Tags with their hashes.
+-- The tag of a representation with the hash of the name and the argument.
 abbrev with_argument : List ℕ → Option (Option Ty) → PolyTag (Option Ty)
 with_argument name o = record { hash = tag_hash name; arg = o }
 

@@ -1,4 +1,4 @@
--- Abbreviations whose tags are all gathered, for any arguments.
+-- Lemmas about abbreviations whose tags are all gathered, for any arguments.
 use Rattle.std.proofs.Common.{ℕ, suc, ◌+◌, ◌<◌, ◌≤◌, ◌≡◌, ◌∙◌, nat_eq, Bool, true, false, cond, List, [], ◌∷◌, ◌++◌, length, Option, Some, None, refl, sym, ap, subst, arith}
 use Rattle.std.specs.Prelude.{slice_get, not, filter, IfSome, IsSome}
 use Rattle.std.specs.List.{list_any}
@@ -49,7 +49,7 @@ has_same (including t a) w is = ap has_bracket (same_Some t w is)
 has_same t w is = absurd (none-some w is)
 
 module _ (decls : List Decl) (tags : List (TagOf Ty)) where
-  -- All tags of the bracket as it is written are gathered, whatever replaces its variables.
+  -- All tags of the written bracket `t` are gathered, whatever types replace the variables of `t`.
   abbrev pub EachWrittenThere : Ty → Type 0
   EachWrittenThere t =
       (value : List ℕ → Ty) → AreThere tags (tags_in (plain_head (head decls) (instance value t)))
@@ -135,7 +135,7 @@ module _ (decls : List Decl) (tags : List (TagOf Ty)) where
         (way_head decls None sound way.0 (instance value t) (instance value u) way.1)
         ∙ each value
 
-    -- If all tags of the type of an abbreviation are gathered, then the abbreviation is settled.
+    -- If all tags of an abbreviated type are gathered, then the abbreviation is settled.
     pub settles : (k : ℕ) (d : Decl) (body : Ty) → slice_get decls k ≡ Some d
         → d.body ≡ bodies.Abbreviation body → EachBringsNone decls tags body → IsSettled decls tags k
     settles k d body there is each t at =
@@ -154,7 +154,8 @@ module _ (decls : List Decl) (sound : AreSound decls) where
   body_at (Some body) is = (body, refl)
   body_at None is = absurd (false≢true is)
 
-  -- All types with this abbreviation at the head have the same head.
+  -- If an abbreviation has no parameters, then all types with the abbreviation at the head have the
+  -- same head.
   one_head : (d : ℕ) → IsBare decls d → (t u : Ty) → IsAbbreviation decls t d → IsAbbreviation decls u d
       → head decls t ≡ head decls u
   one_head d bare t u at other =
@@ -164,7 +165,8 @@ module _ (decls : List Decl) (sound : AreSound decls) where
       ∙ sym (head_again decls sound.rank (are_ranked decls sound) u body.0
       (bare_next decls None d u body.0 at.decl bare other at.there body.1))
 
-  -- If the tags of a type with the head of t were joined, then the abbreviation of t is settled.
+  -- If the tags of a type with the head of `t` were joined, and the abbreviation of `t` has no
+  -- parameters, then the abbreviation is settled.
   pub sure_joined : (t u : Ty) (decl : Option ℕ) (tags : List (TagOf Ty)) → IfSome decl (IsAbbreviation decls t)
       → head decls u ≡ head decls t → IfSome decl (IsSure decls (joined tags (tags_in (head decls u))))
   sure_joined t u None tags is same = tt

@@ -1,4 +1,4 @@
--- The name and the parts of a type, from its node.
+-- Lemmas about the name and the parts of a type, given the type's node.
 use Rattle.std.proofs.Common.{ℕ, ◌-◌, ◌<◌, ◌≡◌, ◌∙◌, List, [], ◌∷◌, ◌++◌, length, map, reverse, Some, refl, sym, ap, subst, All, arith}
 use Rattle.std.specs.Prelude.{slice_get}
 use Rattle.std.proofs.lemmas.List.{append_assoc, reverse-append, length-reverse, get_or-reverse}
@@ -25,7 +25,7 @@ parts-step types at whole added found all is so_far =
     ∙ ap (λ t. parts t ++ map (type_at types) (reverse found)) (sym is)
     ∙ so_far
 
--- A node that adds no part.
+-- If the node of a type adds no part, then the type has no parts.
 pub parts-end :
     (types : List Ty) (node : TypeNode) → ((whole added : ℕ) → node ≡ borrowed.Part whole added → ⊥)
     → parts (type_of_node types (written_of node)) ≡ []

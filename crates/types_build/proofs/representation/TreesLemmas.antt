@@ -1,4 +1,4 @@
--- Shapes over indices, as shapes over types.
+-- Lemmas about shapes over type indices, as shapes over types.
 use Rattle.std.proofs.Common.{ℕ, ◌<◌, ◌≡◌, ◌∙◌, List, [], ◌∷◌, ◌++◌, length, map, Option, Some, None, refl, sym, ap, All, unwrap_or}
 use Rattle.std.specs.Prelude.{slice_get, option_map, IfSome}
 use Rattle.std.specs.List.{flat_map}

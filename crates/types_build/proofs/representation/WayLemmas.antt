@@ -1,4 +1,4 @@
--- Sequences of expansions at the head, of types and of their instances.
+-- Lemmas about sequences of expansions at the head, for types and for their instances.
 use Rattle.std.proofs.Common.{ℕ, zero, suc, ◌<◌, ◌≤◌, ◌≡◌, ◌∙◌, true, false, cond, List, [], ◌∷◌, ◌++◌, length, map, Option, Some, refl, sym, ap, subst, arith}
 use Rattle.std.proofs.lemmas.List.Quantifiers.{position-Some}
 use Rattle.std.specs.Prelude.{option_and_then, get_or, option_map, position, slice_get}
@@ -56,7 +56,7 @@ argument_first (p ∷ ps) (t ∷ ts) x (suc i) a below is before there =
     ap (λ b. cond b t (argument_for ps ts x)) (before 0 (omega arith))
     ∙ argument_first ps ts x i a (omega arith) is (λ k less. before (suc k) (omega arith)) there
 
--- The argument for a parameter.
+-- If a parameter is at index `i`, then the argument for the parameter is the argument at index `i`.
 pub argument_placed :
     (parameters : List (List ℕ)) (ts : List Ty) (x : List ℕ) (i : ℕ) (a : Ty)
     → position (λ (p : List ℕ). bytes_eq p x) parameters ≡ Some i → slice_get ts i ≡ Some a
@@ -98,7 +98,7 @@ module _ (decls : List Decl) (group : Option ℕ) where
       ∙ ap (λ o. abbreviated_at o (parts t)) found
       ∙ ap (option_map (instance (argument_for decl.parameters (parts t)))) is
 
-  -- An abbreviation without parameters expands to its type unchanged.
+  -- An abbreviation without parameters expands to the abbreviated type unchanged.
   module _ (d : ℕ) where
     pub is_bare : (decl : Decl) → slice_get decls d ≡ Some decl → decl.parameters ≡ [] → IsBare decls d
     is_bare decl there none other at =
@@ -118,7 +118,8 @@ module _ (decls : List Decl) (group : Option ℕ) where
   not_at t decl name named' found apart at =
       apart (subst (IsOfAt group) found (subst (λ o. IsOfAt group (option_and_then (declaration_of decls) o)) named' at)).1
 
-  -- An abbreviation whose type expands to a parameter.
+  -- If an abbreviated type expands to a parameter, then the abbreviation expands to the argument
+  -- for the parameter.
   pub comes_to_argument :
       (decl : Decl) (body end : Ty) (i : ℕ) → abbreviated decl.body ≡ Some body → EachLeads decls group body end
       → IsArgument decl group end i → ComesToArgument decls group decl i

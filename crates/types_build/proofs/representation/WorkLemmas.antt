@@ -1,4 +1,4 @@
--- A termination measure for heads. Each expansion and each item decreases it.
+-- Lemmas about the termination measure for heads.
 use Rattle.std.proofs.Common.{ℕ, zero, suc, ◌+◌, ◌<◌, ◌≤◌, ◌≡◌, ◌∙◌, List, Option, Some, None}
 use Rattle.std.proofs.Common.{refl, ap, arith}
 use Rattle.types_spec.specs.declared.types.decl.Decl.{Decl}
@@ -69,7 +69,7 @@ module _ (decls : List Decl) (sound : AreSound decls) where
   pub work_plain : (t : Ty) → unfolded decls t ≡ None → work decls t ≡ written_work (work decls) t
   work_plain t is = plain decls sound.rank (are_ranked decls sound) t is
 
-  -- The measure of the written items is at most the whole measure.
+  -- The measure of the written items is at most the measure of the type.
   pub written_least : (t : Ty) → written_work (work decls) t ≤ work decls t
   written_least (variable x) = omega arith
   written_least (named n) = omega arith

@@ -1,4 +1,4 @@
--- The meaning of `TypeFault`.
+-- What each `TypeFault` states about a type.
 use Rattle.std.specs.Prelude.{List}
 use Rattle.types_spec.specs.declared.types.decl.Decl.{Decl}
 use Rattle.types_spec.specs.types.Ty.{Ty}

@@ -1,4 +1,4 @@
--- Types in the order of discovery, and the entries of the first of them.
+-- Types in the order of discovery, and the entries of the first discovered types.
 use Rattle.std.specs.Prelude.{ℕ, ◌<◌, ◌≤◌, ◌≡◌, List, [], ◌∷◌, ◌++◌, length, map, take, Some, All}
 use Rattle.std.specs.Prelude.{slice_get}
 use Rattle.std.specs.List.{flat_map}
@@ -22,7 +22,7 @@ use Rattle.types_build.specs.declared.builder.type_entry.TypeEntry.{TypeEntry}
 use Rattle.types_build.specs.declared.builder.listing.Listing.{Listing}
 use Rattle.types_build.specs.builder.Placed.{IsShapePlaced, IsHeadPlaced}
 
--- The types with these numbers.
+-- The types of the store with the indices `numbers`.
 abbrev pub types_at : List Ty → List ℕ → List Ty
 types_at types numbers = map (type_at types) numbers
 
@@ -32,7 +32,8 @@ AreWithin types numbers = All (λ i. i < length types) numbers
 
 -- ---- one type
 
--- The entry is the representation with indices, together with the names of its head.
+-- The entry contains the representation with indices of discovered types as parts, and the names of
+-- the representation's head.
 pub record IsPlacedEntry (decls : List Decl) (before after : List ℕ)
     (representation : Representation)
     (entry : TypeEntry) : Type 0 where
@@ -41,8 +42,8 @@ pub record IsPlacedEntry (decls : List Decl) (before after : List ℕ)
   pub head : IsHeadPlaced middle after representation.head entry.head
   pub names : AreNamesAt decls representation.head entry.names
 
--- The entry of a type. The types that it names are discovered after the earlier types. The head and
--- the shape with indices are correct, even if more types are discovered later.
+-- The entry of the type `t`. The types that `t` reaches directly are discovered after the earlier
+-- types. The head and the shape of the entry stay correct if more types are discovered.
 pub record IsEntry (decls : List Decl) (t : Ty) (before after : List Ty) (entry : TypeEntry)
     : Type 0 where
   pub added : List Ty
@@ -58,8 +59,8 @@ pub record IsEntry (decls : List Decl) (t : Ty) (before after : List Ty) (entry 
 
 -- ---- all discovered types
 
--- The discovered types are `t` and the types that the first `k` of them reach. The first `k` have
--- entries.
+-- The discovered types are `t` and the types that the first `k` discovered types reach directly.
+-- The first `k` discovered types have entries.
 pub record IsListing (decls : List Decl) (t : Ty) (k : ℕ) (met : List Ty)
     (shapes : List (ShapeOf ℕ)) (tops : List (HeadOf ℕ)) (words : List Names) : Type 0 where
   pub in_order : IsWithoutRepeats [] (t ∷ flat_map (reached_from decls) (take k met)) met
@@ -83,7 +84,7 @@ IsListingOf decls t listing =
     IsListing decls t (length listing.nodes.items) (met_types listing) listing.nodes.items
     listing.heads.items listing.names.items
 
--- All reached types have entries, and there are at most 65,536 of them.
+-- All discovered types have entries, and there are at most 65,536 discovered types.
 pub record IsWhole (decls : List Decl) (t : Ty) (listing : Listing) : Type 0 where
   pub within : AreWithin listing.types listing.met.keys
   pub listed : IsListingOf decls t listing
@@ -92,7 +93,7 @@ pub record IsWhole (decls : List Decl) (t : Ty) (listing : Listing) : Type 0 whe
 
 -- ---- the table
 
--- The table consists of the listing and the classes of the heads.
+-- The table consists of the listing and the classes of the listing's heads.
 pub record IsTableOfListing (listing : Listing) (table : Tabled) : Type 0 where
   pub store : table.store ≡ listing.types
   pub stored : table.stored ≡ listing.met.keys

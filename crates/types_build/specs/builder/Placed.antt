@@ -1,4 +1,4 @@
--- Discovered types, by their numbers in a store. Each has its own index.
+-- Discovered types, by their numbers in a store. Each discovered type has an index.
 use Rattle.std.specs.Prelude.{ℕ, ◌≡◌, List, map, option_map, Option, Some, nat_eq, slice_get}
 use Rattle.std.specs.List.{flat_map}
 use Rattle.indexmap.specs.IndexSet.{insert_all}
@@ -12,14 +12,15 @@ use Rattle.types_spec.specs.types.Reached.{listed_if, named_in, parts_of}
 use Rattle.types_spec.specs.types.Table.{with_parts, head_with_parts, constr_with, tag_with_parts}
 use Rattle.types_spec.specs.types.Table.{tag_with_part}
 
--- The type of each index equals the type of the number at that index.
+-- For each index in `met`, `of_position` of the index equals `of_number` of the store number at the
+-- index.
 pub record SayTheSame (met : List ℕ) (of_position of_number : ℕ → Option Ty) : Type 0 where
   pub at : (position number : ℕ) → slice_get met position ≡ Some number
       → of_position position ≡ of_number number
 
--- `made` is `given` with indices instead of numbers. The numbers in `given` are inserted after the
--- earlier ones, each if it is new. The types in `made`, by index, are the types in `given`, by
--- number.
+-- `made` is `given` with indices in `after` instead of store numbers. The list `after` is `before`,
+-- followed by the new numbers in `given`. The types in `made`, by index, are the types in `given`,
+-- by number.
 pub record IsPlaced {A B : Type 0} (numbers : A → List ℕ) (saying : (ℕ → Option Ty) → A → B)
     (before after : List ℕ) (given made : A) : Type 0 where
   pub met : after ≡ insert_all nat_eq before (numbers given)

@@ -7,12 +7,12 @@ use Rattle.types_spec.specs.types.Ty.{Ty}
 use Rattle.types_build.specs.declared.representation.heads.Heads.{Heads}
 use Rattle.types_build.specs.representation.Found.{AreFound, AreTagsOf}
 
--- There is one correct head for each index.
+-- Each remembered type index has one head, and the head is correct.
 pub record AreHeads (decls : List Decl) (types : List Ty) (heads : Heads) : Type 0 where
   pub found : AreFound decls types false heads.met.keys heads.heads.items
   pub each : length heads.met.keys ≡ length heads.heads.items
 
--- If the head has tags, then they are the tags of the type.
+-- If the head has tags, then the tags are the tags of the type `t`.
 abbrev pub IsTagsHead : List Decl → List Ty → Ty → HeadOf ℕ → Type 0
 IsTagsHead decls types t (heads.Variants tags) = AreTagsOf decls types t tags
 IsTagsHead decls types t other = Unit {0}

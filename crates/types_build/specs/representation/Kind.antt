@@ -4,6 +4,11 @@ use Rattle.types_spec.specs.declared.types.decl.Predeclared.{Predeclared}
 use Rattle.types_spec.specs.declared.types.decl.Predeclared.TheVariants as bases
 use Rattle.types_spec.specs.types.Declarations.{predeclared}
 
+-- The predeclared type has a representation of its own.
+abbrev pub IsBase : Predeclared → Type 0
+IsBase (bases.Sum k) = ⊥
+IsBase base = Unit {0}
+
 abbrev pub is_float_base : Option Predeclared → Bool
 is_float_base (Some bases.Float) = true
 is_float_base other = false

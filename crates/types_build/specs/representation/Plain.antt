@@ -1,4 +1,4 @@
--- Heads that follow from a type as it is written.
+-- Heads that follow from a type as written, without the heads of other types.
 use Rattle.std.specs.Prelude.{ℕ, ◌≡◌, List, [], ◌∷◌, Option, Some, None, slice_get}
 use Rattle.types_spec.specs.declared.types.decl.Predeclared.{Predeclared}
 use Rattle.types_spec.specs.declared.types.head.HeadOf.{HeadOf}
@@ -23,8 +23,8 @@ IsBracketed (tag_of whole name argument) = Unit {0}
 IsBracketed (including whole included) = Unit {0}
 IsBracketed t = ⊥
 
--- The head over indices is the head of the type as it is written. It does not depend on the heads
--- of included types.
+-- The head `h` over type indices is the head of the type `t` as written. The head does not depend
+-- on the heads of included types.
 abbrev pub IsPlainHead : List Ty → Ty → HeadOf ℕ → Type 0
 IsPlainHead types t h =
     (head : Ty → HeadOf Ty)
@@ -36,7 +36,8 @@ abbrev pub meant_with : Option Predeclared → List ℕ → List ℕ → HeadOf 
 meant_with (Some base) name numbers = heads.Predeclared base numbers
 meant_with None name numbers = heads.Datatype name numbers
 
--- The result is `None` for a bracket. Only names and tuples have parts.
+-- The head of a type, given the root node of the type and the indices of the type's parts. The
+-- result is `None` for a bracket. Only names and tuples have parts.
 abbrev pub head_of_root : TypeTreeNode → List ℕ → Option (HeadOf ℕ)
 head_of_root (nodes.Named name) numbers = Some (meant_with (predeclared name) name numbers)
 head_of_root nodes.Tuple numbers = Some (heads.Tuple numbers)

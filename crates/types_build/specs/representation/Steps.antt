@@ -12,7 +12,7 @@ use Rattle.types_build.specs.representation.Tags.{tags_of_item, with_item, tags_
 use Rattle.types_build.specs.representation.Way.{IsAbbreviation, IsBare}
 use Rattle.types_build.specs.representation.Work.{work}
 
--- The number of the step is the index of a type or of a declaration.
+-- The number in a step is the index of an existing type or declaration.
 abbrev pub IsStepWithin : List Decl → List Ty → BracketStep → Type 0
 IsStepWithin decls types (steps.Item i) = i < length types
 IsStepWithin decls types (steps.Included n) = n < length types
@@ -20,38 +20,41 @@ IsStepWithin decls types (steps.Settle d) = d < length decls
 
 -- ---- tags that are already gathered
 
--- The tags `more` add nothing to `tags`.
+-- Each tag of `more` has the name of a tag in `tags`, and so adds nothing to `tags`.
 abbrev pub AreThere : List (TagOf Ty) → List (TagOf Ty) → Type 0
 AreThere tags more = filter (λ (tag : TagOf Ty). not (has_tag tags tag.name)) more ≡ []
 
--- All tags of the type t are already gathered.
+-- All tags of the type `t` are already gathered.
 abbrev pub BringsNone : List Decl → List (TagOf Ty) → Ty → Type 0
 BringsNone decls tags t = AreThere tags (tags_in (head decls t))
 
--- All tags of t are already gathered, whatever replaces its variables.
+-- All tags of the type `t` are already gathered, whatever types replace its variables.
 abbrev pub EachBringsNone : List Decl → List (TagOf Ty) → Ty → Type 0
 EachBringsNone decls tags t = (value : List ℕ → Ty) → BringsNone decls tags (instance value t)
 
--- The tags of the last item of t are already gathered, whatever replaces its variables.
+-- The tags of the last item of `t` are already gathered, whatever types replace the variables of
+-- `t`.
 abbrev pub EachItemBringsNone : List Decl → List (TagOf Ty) → Ty → Type 0
 EachItemBringsNone decls tags t =
     (value : List ℕ → Ty) → AreThere tags (tags_of_item (head decls) (instance value t))
 
--- The tags of the types with these indices are already gathered, whatever replaces their variables.
+-- The tags of the types with the indices `numbers` are already gathered, whatever types replace
+-- their variables.
 abbrev pub AreEachThere : List Decl → List Ty → List (TagOf Ty) → List ℕ → Type 0
 AreEachThere decls types tags numbers =
     All (λ n. EachBringsNone decls tags (type_at types n)) numbers
 
--- The tags of each type with this abbreviation at its head are already gathered.
+-- An abbreviation is settled: the tags of each type with the abbreviation `d` at its head are
+-- already gathered.
 abbrev pub IsSettled : List Decl → List (TagOf Ty) → ℕ → Type 0
 IsSettled decls tags d = (t : Ty) → IsAbbreviation decls t d → BringsNone decls tags t
 
--- There is an abbreviation, and it is settled.
+-- The optional abbreviation exists and is settled.
 abbrev pub IsSettledAt : List Decl → List (TagOf Ty) → Option ℕ → Type 0
 IsSettledAt decls tags None = ⊥
 IsSettledAt decls tags (Some d) = IsSettled decls tags d
 
--- If the abbreviation has no parameters, then it is settled.
+-- If the abbreviation `d` has no parameters, then `d` is settled.
 abbrev pub IsSure : List Decl → List (TagOf Ty) → ℕ → Type 0
 IsSure decls tags d = IsBare decls d → IsSettled decls tags d
 
@@ -60,7 +63,7 @@ AreSettled decls tags settled = All (IsSettled decls tags) settled
 
 -- ---- pending steps
 
--- These tags, and then those of the pending steps, are all tags.
+-- The tags `tags`, followed by the tags of the pending steps, are the tags `all`.
 abbrev pub AreLeft : List Decl → List Ty → List (TagOf Ty) → List BracketStep → List (TagOf Ty)
     → Type 0
 AreLeft decls types tags [] all = tags ≡ all
@@ -73,8 +76,8 @@ AreLeft decls types tags (steps.Included n ∷ rest) all =
 AreLeft decls types tags (steps.Settle d ∷ rest) all =
     (d < length decls) × IsSure decls tags d × AreLeft decls types tags rest all
 
--- The tags found and those of the pending steps are all tags. The tags of settled abbreviations
--- were found.
+-- The tags `found`, followed by the tags of the pending steps, are the tags `all`. The tags of
+-- settled abbreviations are in `found`.
 pub record AreGathered (decls : List Decl) (types : List Ty) (found : List (TagOf ℕ))
     (settled : List ℕ) (waiting : List BracketStep)
     (all : List (TagOf Ty)) : Type 0 where
@@ -82,7 +85,7 @@ pub record AreGathered (decls : List Decl) (types : List Ty) (found : List (TagO
   pub brought : AreSettled decls (tags_at types found) settled
   pub left : AreLeft decls types (tags_at types found) waiting all
 
--- The tags found, over type indices, are all tags.
+-- The tags `found`, over type indices, are the tags `all`.
 pub record AreAll (types : List Ty) (found : List (TagOf ℕ)) (all : List (TagOf Ty)) : Type 0 where
   pub found_within : All (IsTagWithin types) found
   pub are : tags_at types found ≡ all

@@ -1,19 +1,20 @@
--- A termination measure for heads. Each expansion and each item decreases it.
+-- A termination measure for heads. Each expansion and each gathered item decreases the measure.
 use Rattle.std.specs.Prelude.{ℕ, zero, suc, ◌+◌, List, Option, Some, None}
 use Rattle.types_spec.specs.declared.types.decl.Decl.{Decl}
 use Rattle.types_spec.specs.types.Ty.{Ty, tag, tag_of, including}
 use Rattle.types_spec.specs.types.Declarations.{unfolded}
 use Rattle.types_spec.specs.types.Head.{enough}
 
--- Each item counts one. An item that includes a type counts one more, plus the measure of this
--- type.
+-- The measure of a written bracket: one for each item, and for an included type one more, plus the
+-- measure of the included type.
 abbrev pub written_work : (Ty → ℕ) → Ty → ℕ
 written_work w (tag whole x) = suc (written_work w whole)
 written_work w (tag_of whole x argument) = suc (written_work w whole)
 written_work w (including whole included) = suc (suc (written_work w whole + w included))
 written_work w t = 0
 
--- Each expansion counts two.
+-- The measure of a type: an expansion at the head counts two, plus the measure of the expanded
+-- type.
 abbrev pub work_by : (Ty → ℕ) → Ty → Option Ty → ℕ
 work_by w t (Some u) = suc (suc (w u))
 work_by w t None = written_work w t

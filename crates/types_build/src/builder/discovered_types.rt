@@ -1,4 +1,4 @@
-//! Discovered types, each with its own index.
+//! The list of discovered types, in which each type has an index.
 
 ghost use Rattle.std.specs.Prelude.{◌≡◌, Some, nat_eq, slice_get, IfOk, OnOk};
 ghost use Rattle.indexmap.specs.IndexSet.{insert_key};
@@ -9,10 +9,11 @@ use base_data::model::list::List;
 use indexmap::IndexSet;
 use std::alloc::Global;
 
-/// The numbers of the discovered types in a store, each once, in the order of discovery.
+/// The store numbers of the discovered types, each number once, in the order of discovery.
 pub(crate) type DiscoveredTypes = IndexSet<usize>;
 
-/// Returns the index of a number. Appends the number if it is new.
+/// Returns the index of a store number in `met`. If `met` does not contain the number, appends the
+/// number to `met`.
 pub(crate) fn position(met: &mut DiscoveredTypes, number: usize) -> Result<usize, Memory>
     ensures met { OnOk result (met.new.keys ≡ insert_key nat_eq met.old.keys number) }
     ensures there { IfOk result (λ position. slice_get met.new.keys position ≡ Some number) }
@@ -21,7 +22,7 @@ pub(crate) fn position(met: &mut DiscoveredTypes, number: usize) -> Result<usize
     Ok(position)
 }
 
-/// Returns the indices of numbers. Appends the new ones.
+/// Returns the indices of store numbers in `met`. Appends the numbers that `met` does not contain.
 pub(crate) fn positions(
     alloc: Global,
     met: &mut DiscoveredTypes,
@@ -37,7 +38,7 @@ pub(crate) fn positions(
     Ok(List::of(found))
 }
 
-/// Returns the index of a number, if there is a number.
+/// Returns the index of a store number in `met`, or `None` if there is no number.
 pub(crate) fn position_if(
     met: &mut DiscoveredTypes,
     number: Option<usize>,

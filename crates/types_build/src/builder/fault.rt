@@ -1,4 +1,4 @@
-//! Errors of building a table of types.
+//! The errors of building a table of types.
 
 use base_data::model::Memory;
 

@@ -1,15 +1,18 @@
-//! Heads with indices as parts.
+//! Converts heads whose parts are store numbers to heads whose parts are indices into the
+//! discovered types.
 
-ghost use Rattle.std.specs.Prelude.{◌≡◌, IfOk};
+ghost use Rattle.std.specs.Prelude.{IfOk};
 ghost use Rattle.types_build.specs.builder.Placed.{AreHeadTagsPlaced, IsHeadPlaced};
 
 use crate::builder::discovered_types::{DiscoveredTypes, position_if, positions};
 use base_data::model::Memory;
 use base_data::model::list::List;
+use base_data::text::copied;
 use std::alloc::Global;
 use types_spec::types::head::{HeadOf, TagOf};
 
-/// Replaces the parts of a head by their indices. Adds new parts to `met` in order.
+/// Replaces the parts of a head by their indices in `met`. Adds new parts to `met`, in the order of
+/// the parts.
 pub(crate) fn placed_head(
     alloc: Global,
     met: &mut DiscoveredTypes,
@@ -34,7 +37,7 @@ pub(crate) fn placed_head(
     }
 }
 
-/// Replaces the arguments of tags by their indices. The tags keep their names.
+/// Replaces the arguments of tags by their indices in `met`. The tags keep their names.
 fn placed_tags(
     alloc: Global,
     met: &mut DiscoveredTypes,
@@ -49,11 +52,4 @@ fn placed_tags(
         found.push(TagOf { name, argument })?;
     }
     Ok(List::of(found))
-}
-
-/// Returns a copy of the bytes.
-fn copied(alloc: Global, name: &[u8]) -> Result<List<u8>, Memory>
-    ensures { IfOk result (λ l. l ≡ name.now) }
-{
-    Ok(List::of(Vec::from_slice(alloc, name)?))
 }

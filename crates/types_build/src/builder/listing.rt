@@ -17,8 +17,8 @@ use types_spec::types::shape::ShapeOf;
 use types_spec::types::ty::Ty;
 use types_table::store::TypeStore;
 
-/// A store of types, the numbers of the discovered types in that store, and the shapes, heads and
-/// names of the first of them.
+/// A store of types, the store numbers of the discovered types, and entries for the first
+/// discovered types. An entry is a shape, a head and names.
 #[derive(Drop)]
 pub(crate) struct Listing {
     pub(crate) types: TypeStore,
@@ -28,7 +28,7 @@ pub(crate) struct Listing {
     pub(crate) names: Vec<Names>,
 }
 
-/// Starts a listing: one type is discovered.
+/// Returns a listing in which the type `ty` is the only discovered type.
 pub(crate) fn started(alloc: Global, ty: &Ty) -> Result<Listing, Memory>
     ensures within { IfOk result (λ l. AreWithin l.types l.met.keys) }
     ensures one { IfOk result (λ l. length l.met.keys ≡ 1) }
@@ -47,8 +47,8 @@ pub(crate) fn started(alloc: Global, ty: &Ty) -> Result<Listing, Memory>
     })
 }
 
-/// Adds the entry of the first type without an entry, and discovers the types that this type
-/// reaches.
+/// Adds the entry of the first discovered type without an entry. Discovers the types that the first
+/// type without an entry reaches directly.
 pub(crate) fn go_on(
     alloc: Global,
     listing: &mut Listing,
@@ -76,7 +76,7 @@ pub(crate) fn go_on(
     Ok(())
 }
 
-/// Appends an entry.
+/// Appends an entry to the shapes, heads and names of the listing.
 fn write(listing: &mut Listing, entry: TypeEntry) -> Result<(), Memory>
     ensures types { listing.new.types ≡ listing.old.types }
     ensures met { listing.new.met ≡ listing.old.met }

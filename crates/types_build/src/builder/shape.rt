@@ -1,4 +1,5 @@
-//! Shapes with indices as parts.
+//! Converts shapes whose parts are store numbers to shapes whose parts are indices into the
+//! discovered types.
 
 ghost use Rattle.std.specs.Prelude.{IfOk};
 ghost use Rattle.types_build.specs.builder.Placed.{AreBlocksPlaced, IsTagPlaced, AreTagsPlaced};
@@ -10,8 +11,8 @@ use base_data::model::list::List;
 use std::alloc::Global;
 use types_spec::types::shape::{Constr, PolyTag, ShapeOf};
 
-/// Replaces the type numbers in a shape by their indices. Adds new numbers constructor by
-/// constructor and field by field, and for tags in their order.
+/// Replaces the store numbers in a shape by their indices in `met`. Adds new numbers to `met`,
+/// field by field for each constructor in turn, or tag by tag.
 pub(crate) fn placed_shape(
     alloc: Global,
     met: &mut DiscoveredTypes,
@@ -46,8 +47,8 @@ pub(crate) fn placed_shape(
     }
 }
 
-/// Replaces the field types of constructors with arguments, which are numbers of types, by the
-/// positions of these types in `met`.
+/// Replaces the field types of constructors with arguments, which are store numbers, by their
+/// indices in `met`.
 fn placed_blocks(
     alloc: Global,
     met: &mut DiscoveredTypes,
@@ -64,8 +65,8 @@ fn placed_blocks(
     Ok(List::of(found))
 }
 
-/// Replaces the arguments of tags, which are numbers of types, by the positions of these types in
-/// `met`. The tags keep their hashes.
+/// Replaces the arguments of tags, which are store numbers, by their indices in `met`. The tags
+/// keep their hashes.
 fn placed_tags(
     alloc: Global,
     met: &mut DiscoveredTypes,
@@ -80,8 +81,8 @@ fn placed_tags(
     Ok(List::of(found))
 }
 
-/// Replaces the argument of a tag, which is the number of a type, by the position of this type in
-/// `met`. The tag keeps its hash.
+/// Replaces the argument of a tag, which is a store number, by its index in `met`. The tag keeps
+/// its hash.
 fn placed_tag(met: &mut DiscoveredTypes, tag: &PolyTag<usize>) -> Result<PolyTag<usize>, Memory>
     ensures { IfOk result (IsTagPlaced met.old.keys met.new.keys tag.now) }
 {

@@ -22,9 +22,10 @@ use types_table::type_table::{Tabled, TypeTable};
 /// The maximum number of types in a table.
 const MOST: usize = 65536;
 
-/// Builds the table of the types that a type reaches, in the order of discovery: the type itself,
-/// and then for each type in turn the types that its shape names and the parts of its head. Returns
-/// `TooManyTypes` if there are more than 65,536 of them, and `Memory` if memory runs out.
+/// Builds the table of the types that a type reaches, in the order of discovery. The type itself
+/// comes first. For each discovered type in turn, the types of its shape and the parts of its head
+/// follow. Returns `TooManyTypes` if the type reaches more than 65,536 types, and `Memory` if
+/// memory runs out.
 pub fn build(alloc: Global, decls: &[Decl], ty: &Ty) -> Result<TypeTable, TypeFault>
     requires well { AreWellFormed decls.now }
     requires sound { IsSoundType decls.now ty.now }
@@ -46,7 +47,7 @@ fn listed(alloc: Global, decls: &[Decl], ty: &Ty) -> Result<Listing, TypeFault>
     listed_by(alloc, &environment, ty)
 }
 
-/// Returns the same listing, for declarations whose names are indexed.
+/// Returns the listing of all types that a type reaches, for declarations whose names are indexed.
 fn listed_by(alloc: Global, decls: &SoundEnvironment<'_>, ty: &Ty) -> Result<Listing, TypeFault>
     ensures ok { IfOk result (IsWhole decls.now ty.now) }
     ensures err { IfErr result (IsTypeFault decls.now ty.now) }

@@ -20,8 +20,8 @@ use types_spec::types::names::Names;
 use types_spec::types::shape::ShapeOf;
 use types_table::store::TypeStore;
 
-/// The head and the shape of a type, with types as indices into the list of discovered types, and
-/// the names of its head.
+/// The head and the shape of a type, with indices of discovered types as parts, and the names of
+/// the head.
 #[derive(Drop)]
 pub(crate) struct TypeEntry {
     pub(crate) head: HeadOf<usize>,
@@ -29,8 +29,8 @@ pub(crate) struct TypeEntry {
     pub(crate) names: Names,
 }
 
-/// Returns the entry of a type. `heads` holds the heads of the first discovered types. Adds the
-/// types that this type names to `met`: first those of its shape, then the parts of its head.
+/// Returns the entry of a type. `heads` holds the heads of the first discovered types. Adds to
+/// `met` first the types of the entry's shape, and then the parts of the entry's head.
 pub(crate) fn entry_of(
     alloc: Global,
     types: &mut TypeStore,
@@ -57,7 +57,7 @@ pub(crate) fn entry_of(
     placed_entry(alloc, met, decls, &representation)
 }
 
-/// Returns the entry for the representation of a type.
+/// Returns the entry for the representation of a type, with indices of discovered types as parts.
 fn placed_entry(
     alloc: Global,
     met: &mut DiscoveredTypes,
@@ -70,7 +70,7 @@ fn placed_entry(
     placed(alloc, met, representation, names)
 }
 
-/// Returns the entry for the representation of a type, with these names.
+/// Returns the entry for the representation of a type and the given names.
 fn placed(
     alloc: Global,
     met: &mut DiscoveredTypes,

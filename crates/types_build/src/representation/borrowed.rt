@@ -1,10 +1,10 @@
-//! A type of a borrowed type store.
+//! A type in a borrowed store of types.
 
 ghost use Rattle.std.specs.Prelude.{◌<◌, length};
 
 use types_table::store::TypeStore;
 
-/// A type of a store, given by its index.
+/// A type of a borrowed store, given by the type's index in the store.
 #[derive(Clone, Copy)]
 pub struct Stored<'a> {
     pub types: &'a TypeStore,

@@ -1,5 +1,5 @@
-//! Computes the head of a bracket (a polymorphic variant type): its tags, including those of the
-//! types that it includes.
+//! Computes the head of a bracket (a polymorphic variant type): the tags of the bracket, and the
+//! tags of the types that the bracket includes.
 
 ghost use Rattle.std.specs.Prelude.{ℕ, ◌≡◌, ◌<◌, ◌≤◌, ◌+◌, suc, ◌∷◌, [], None, List, length};
 ghost use Rattle.std.specs.Prelude.{reverse, IfOk, IfSome, OnOk, option_map};
@@ -36,13 +36,13 @@ use types_resolve::scope::SoundEnvironment;
 use types_spec::types::head::{HeadOf, TagOf};
 use types_table::store::{TypeNode, TypeStore};
 
-/// Tags by name, in insertion order. Each has the index of its argument type, if it has an
-/// argument.
+/// Tags by name, in insertion order. If a tag has an argument, its entry is the index of the
+/// argument type.
 pub(crate) type Tags = IndexMap<Vec<u8>, Option<usize>>;
 
-/// A pending step. `Item` is an item of a bracket, given by the type that ends with this item.
-/// `Included` is an included type. `Settle` is the declaration index of an abbreviation whose tags
-/// have been gathered.
+/// A pending step. `Item` is an item of a bracket, given by the index of the type that ends with
+/// the item. `Included` is an included type. `Settle` is the declaration index of an abbreviation
+/// whose tags have been gathered.
 #[derive(Clone, Copy)]
 pub(crate) enum BracketStep {
     Item(usize),
@@ -52,8 +52,8 @@ pub(crate) enum BracketStep {
 
 /// Returns the head of a bracket with or without items. Takes one step for each item, and one for
 /// each item of an included type. An included abbreviation is visited once, whatever its arguments.
-/// If the tags of an included type were found before, it takes one step for each of these tags. May
-/// append types to `types`, even if it returns `Memory`.
+/// If the head of an included type was found before, takes one step for each tag of the head. May
+/// append types to `types`, even if the result is `Memory`.
 pub fn bracket_head(
     alloc: Global,
     types: &mut TypeStore,
@@ -79,7 +79,7 @@ pub fn bracket_head(
     Ok(HeadOf::Variants(List::of(listed(alloc, tags)?)))
 }
 
-/// Takes all pending steps.
+/// Takes all pending steps, until no step is left.
 fn gather_all(
     alloc: Global,
     types: &mut TypeStore,
@@ -118,7 +118,7 @@ fn gather_all(
     Ok(())
 }
 
-/// Takes one step.
+/// Takes the given step of gathering the tags of a bracket.
 fn gather(
     alloc: Global,
     types: &mut TypeStore,
@@ -190,8 +190,9 @@ fn gather_item(
     }
 }
 
-/// Pushes the items of an included type. If an abbreviation is at its head, pushes the type after
-/// expansions at the head instead. If this abbreviation is settled, pushes nothing.
+/// Pushes the items of an included type. If an abbreviation is at the head of the included type,
+/// pushes the type after expansions at the head instead. If the abbreviation is settled, pushes
+/// nothing.
 fn include(
     alloc: Global,
     types: &mut TypeStore,
@@ -236,7 +237,7 @@ fn include(
     }
 }
 
-/// Pushes the type after an expansion, and below it the step that settles the expanded
+/// Pushes the type after an expansion. Below the type, pushes the step that settles the expanded
 /// abbreviation.
 fn push_next(decl: Option<usize>, next: usize, waiting: &mut Vec<BracketStep>) -> Result<(), Memory>
     ensures left { OnOk result
@@ -294,7 +295,7 @@ fn write_items(
     push_items(&t, waiting)
 }
 
-/// Adds a tag, unless a tag with this name exists.
+/// Adds a tag, unless a tag with the same name exists.
 pub(crate) fn add_tag(
     alloc: Global,
     tags: &mut Tags,
@@ -313,7 +314,7 @@ pub(crate) fn add_tag(
     Ok(())
 }
 
-/// Returns the tags as a list.
+/// Returns the tags of the map as a list, in insertion order.
 fn listed(alloc: Global, tags: Tags) -> Result<Vec<TagOf<usize>>, Memory>
     ensures { IfOk result (λ v. v.items ≡ tags_of_entries tags.entries) }
 {
@@ -327,7 +328,7 @@ fn listed(alloc: Global, tags: Tags) -> Result<Vec<TagOf<usize>>, Memory>
     Ok(found)
 }
 
-/// Returns true if the items of the type are added to a bracket.
+/// Returns true if the type is a bracket, extended by any number of items.
 pub(crate) fn has_bracket(t: &Stored<'_>) -> bool
     ensures { result ≡ has_bracket (type_at t.now.types.now t.now.number) }
 {
@@ -342,7 +343,7 @@ pub(crate) fn has_bracket(t: &Stored<'_>) -> bool
     }
 }
 
-/// Pushes the items of a bracket. The first item is on top.
+/// Pushes the items of a bracket, so that the first item is on top of the stack.
 fn push_items(t: &Stored<'_>, waiting: &mut Vec<BracketStep>) -> Result<(), Memory>
     ensures left { OnOk result
         ((decls : List Declaration) (tags all : List (Tag Ty))
@@ -365,7 +366,7 @@ fn push_items(t: &Stored<'_>, waiting: &mut Vec<BracketStep>) -> Result<(), Memo
     Ok(())
 }
 
-/// Returns the bracket without its last item.
+/// Returns the index of the bracket without its last item, or `None` if the type has no last item.
 pub(crate) fn before_item(t: &Stored<'_>) -> Option<usize>
     ensures is { option_map (type_at t.now.types.now) result
         ≡ before_item (type_at t.now.types.now t.now.number) }

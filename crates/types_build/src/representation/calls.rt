@@ -1,4 +1,4 @@
-//! Shapes, expansions and flat float records for types given as trees.
+//! Computes shapes and expansions, and tests for flat float records, for types given as trees.
 
 ghost use Rattle.std.specs.Prelude.{◌≡◌, IfOk};
 ghost use Rattle.types_spec.specs.types.Declarations.{IsExpanded};
@@ -26,7 +26,7 @@ pub fn shape(alloc: Global, decls: &SoundEnvironment<'_>, t: &Ty) -> Result<Shap
     trees_of_shape(alloc, &types, &representation.shape)
 }
 
-/// Returns the type with the abbreviations at its head expanded until none is left.
+/// Returns the type after expansions at its head, until no abbreviation is left at the head.
 pub fn expand(alloc: Global, decls: &SoundEnvironment<'_>, t: &Ty) -> Result<Ty, Memory>
     ensures { IfOk result (IsExpanded decls.now t.now) }
 {

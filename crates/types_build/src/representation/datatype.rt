@@ -19,8 +19,8 @@ use types_spec::types::shape::{Constr, ShapeOf};
 use types_spec::types::ty::Ty;
 use types_table::store::TypeStore;
 
-/// Returns the shape of a declared type with these arguments. May append types to `types`, even if
-/// it returns `Memory`.
+/// Returns the shape of a declared type applied to `arguments`. May append types to `types`, even
+/// if the result is `Memory`.
 pub(crate) fn datatype_shape(
     alloc: Global,
     types: &mut TypeStore,
@@ -53,7 +53,7 @@ pub(crate) fn datatype_shape(
     }
 }
 
-/// Returns true if the declared types of all fields are `float`.
+/// Returns true if the declared types of all fields expand to `float`.
 pub(crate) fn is_flat(
     alloc: Global,
     types: &mut TypeStore,
@@ -94,7 +94,7 @@ fn blocks(
     Ok(found)
 }
 
-/// Returns the block of a constructor, or `None` if it has no arguments.
+/// Returns the block of a constructor, or `None` if the constructor has no arguments.
 fn block_of(
     alloc: Global,
     types: &mut TypeStore,
@@ -127,7 +127,8 @@ fn block_of(
     }
 }
 
-/// Returns the indices of the types of fields, with these arguments for the parameters.
+/// Returns the indices of the types of fields, in which `arguments` replace the declaration's
+/// parameters.
 fn instances_of_fields(
     alloc: Global,
     types: &mut TypeStore,
@@ -150,7 +151,7 @@ fn instances_of_fields(
     Ok(numbers)
 }
 
-/// Returns the indices of types, with these arguments for the parameters.
+/// Returns the indices of types, in which `arguments` replace the declaration's parameters.
 fn instances(
     alloc: Global,
     types: &mut TypeStore,

@@ -1,4 +1,4 @@
-//! Heads that were found before.
+//! Uses the heads of types that were found before.
 
 ghost use Rattle.std.specs.Prelude.{ℕ, ◌≡◌, Some, map, slice_get, All};
 ghost use Rattle.std.specs.Prelude.{IfSome, OnOk, option_map};
@@ -14,8 +14,9 @@ use indexmap::IndexSet;
 use std::alloc::Global;
 use types_spec::types::head::{HeadOf, TagOf};
 
-/// The heads of the first of the types with the indices `met`. If `by_position` is true, a part of
-/// a head is a position in `met`. Otherwise it is a type index.
+/// The heads of the first types of `met`, which contains type indices. If `by_position` is true, a
+/// part of a head is a position in `met`. If `by_position` is false, a part of a head is a type
+/// index.
 #[derive(Clone, Copy)]
 pub struct FoundHeads<'a> {
     pub by_position: bool,
@@ -23,9 +24,9 @@ pub struct FoundHeads<'a> {
     pub heads: &'a [HeadOf<usize>],
 }
 
-/// Returns the tags of a type if its head was found and has at least twice as many tags as
-/// `so_far`. Because of this condition, all tags added in this way are at most twice the final
-/// number of tags.
+/// Returns the tags of a type if the type's head was found and has at least twice as many tags as
+/// `so_far`. Because of the factor of two, all tags that are added from found heads are at most
+/// twice the final number of tags.
 pub(crate) fn found_tags<'a>(
     found: &FoundHeads<'a>,
     number: usize,
@@ -67,7 +68,7 @@ pub(crate) fn add_found(
     Ok(())
 }
 
-/// Returns the type index of a part, if there is a part.
+/// Returns the type index of a part, or `None` if there is no part.
 fn number_at(found: &FoundHeads<'_>, part: Option<usize>) -> Option<usize>
     requires { IfSome part (IsLocation found.now.by_position found.now.met.now.keys) }
     ensures { result ≡ option_map (part_number found.now.by_position found.now.met.now.keys) part }

@@ -18,8 +18,8 @@ use types_resolve::scope::SoundEnvironment;
 use types_spec::types::head::HeadOf;
 use types_table::store::TypeStore;
 
-/// Returns the head of a type. Abbreviations at the head are expanded, and included types are
-/// replaced by their tags. May append types to `types`, even if it returns `Memory`.
+/// Returns the head of a type. Abbreviations at the head are expanded, and tags replace included
+/// types. May append types to `types`, even if the result is `Memory`.
 pub fn head_of(
     alloc: Global,
     types: &mut TypeStore,

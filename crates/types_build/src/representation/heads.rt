@@ -1,4 +1,4 @@
-//! Remembers the heads of included types, as found for brackets with one item.
+//! Remembers the heads of included types, which are found as heads of brackets with one item.
 
 ghost use Rattle.std.specs.Prelude.{◌≡◌, ◌<◌, length, IfOk, OnOk, List};
 ghost use Rattle.types_spec.specs.declared.types.decl.Decl.{Decl as Declaration};
@@ -18,7 +18,7 @@ use types_resolve::scope::SoundEnvironment;
 use types_spec::types::head::{HeadOf, TagOf};
 use types_table::store::{TypeNode, TypeStore};
 
-/// Heads of included types, with the indices of these types.
+/// Heads of included types, with the type index of each included type.
 #[derive(Drop)]
 pub struct Heads {
     met: IndexSet<usize>,
@@ -36,7 +36,7 @@ pub fn no_heads(alloc: Global) -> Heads
 }
 
 /// Returns the head of a type like `head_of`. If the type is a bracket whose only item includes
-/// another type, remembers the head as that of the other type.
+/// another type, remembers the head as the head of the included type.
 pub fn item_head(
     alloc: Global,
     types: &mut TypeStore,
@@ -60,7 +60,7 @@ pub fn item_head(
     Ok(head)
 }
 
-/// Remembers the head of an item as the head of the type that it includes, if it includes one.
+/// If an item includes a type, remembers the head of the item as the head of the included type.
 fn keep(
     alloc: Global,
     types: &TypeStore,
@@ -84,7 +84,7 @@ fn keep(
     remember(alloc, types, decls, heads, included, head)
 }
 
-/// Remembers the tags of a type.
+/// Remembers the tags of a type as the type's head.
 fn remember(
     alloc: Global,
     types: &TypeStore,

@@ -15,13 +15,13 @@ use crate::representation::spine::name;
 use base_data::model::Memory;
 use std::alloc::Global;
 use types_resolve::scope::SoundEnvironment;
-use types_resolve::scope::predeclared::predeclared;
 use types_spec::types::decl::Predeclared;
+use types_spec::types::predeclared::predeclared;
 use types_spec::types::ty::Ty;
 use types_table::store::TypeStore;
 
-/// Returns true if a type is a polymorphic variant. May append types to `types`, even if it returns
-/// `Memory`.
+/// Returns true if a type expands to a polymorphic variant. May append types to `types`, even if
+/// the result is `Memory`.
 pub fn is_polymorphic_variant(
     alloc: Global,
     types: &mut TypeStore,
@@ -38,7 +38,8 @@ pub fn is_polymorphic_variant(
     Ok(has_bracket(&Stored { types, number: at }))
 }
 
-/// Returns true if a type is `float`. May append types to `types`, even if it returns `Memory`.
+/// Returns true if a type expands to `float`. May append types to `types`, even if the result is
+/// `Memory`.
 pub fn is_float(
     alloc: Global,
     types: &mut TypeStore,
@@ -57,7 +58,7 @@ pub fn is_float(
     }
 }
 
-/// Returns true if the name is that of `float`.
+/// Returns true if the name is predeclared as the name of `float`.
 fn is_float_name(name: &[u8]) -> bool
     ensures { result ≡ is_float_name name.now }
 {

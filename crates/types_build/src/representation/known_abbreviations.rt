@@ -1,4 +1,5 @@
-//! Finds the abbreviations that expand to one of their arguments. Each is found once.
+//! Finds the abbreviations that expand to one of their arguments. Each abbreviation is searched
+//! once.
 
 ghost use Rattle.std.specs.Prelude.{ℕ, ◌≡◌, ◌<◌, List, Option, Some, None, length, nat_eq};
 ghost use Rattle.std.specs.Prelude.{position, option_map, slice_get, IfOk, IfSome, OnOk, IsTrue};
@@ -22,18 +23,19 @@ use types_resolve::scope::SoundEnvironment;
 use types_spec::types::decl::{Body, Decl};
 use types_table::store::{TypeNode, TypeStore};
 
-/// What is known of abbreviations, by declaration index: the position of the argument to which the
-/// abbreviation expands, or `None` if none is known.
+/// For each inspected abbreviation, by declaration index: the position of the argument to which the
+/// abbreviation expands. If no argument is known, the entry is `None`.
 pub type KnownAbbreviations = IndexMap<usize, Option<usize>>;
 
-/// Makes an empty map: nothing is known.
+/// Makes an empty map, in which no abbreviation is inspected.
 pub fn none_known(alloc: Global) -> KnownAbbreviations
     ensures { (decls : List Declaration) (group : Option ℕ) → AreKnown decls group result }
 {
     IndexMap::new(alloc)
 }
 
-/// Returns the declaration index of the abbreviation at the head of a type.
+/// Returns the declaration index of the abbreviation at the head of a type, or `None` if no
+/// abbreviation is at the head.
 pub(crate) fn abbreviation(t: &Stored<'_>, decls: &SoundEnvironment<'_>) -> Option<usize>
     ensures { IfSome result (IsAbbreviation decls.now (type_at t.now.types.now t.now.number)) }
 {
@@ -45,7 +47,7 @@ pub(crate) fn abbreviation(t: &Stored<'_>, decls: &SoundEnvironment<'_>) -> Opti
     }
 }
 
-/// Returns the argument to which an abbreviation is known to expand.
+/// Returns the position of the argument to which an abbreviation is known to expand.
 fn known_argument(known: &KnownAbbreviations, decl: usize) -> Option<usize>
     ensures { IfSome result (λ i. get nat_eq known.now decl ≡ Some (Some i)) }
 {
@@ -96,8 +98,8 @@ pub(crate) fn known_part(
     }
 }
 
-/// Returns the type that a type reaches if each abbreviation at its head is replaced by its known
-/// argument.
+/// Returns the type that remains after each abbreviation at the head is replaced by the argument to
+/// which the abbreviation is known to expand.
 pub(crate) fn known_end(
     alloc: Global,
     t: &Stored<'_>,
@@ -118,7 +120,7 @@ pub(crate) fn known_end(
     Ok(at)
 }
 
-/// Returns true if there is a group and the declaration belongs to it.
+/// Returns true if `group` exists and the declaration belongs to `group`.
 fn is_of(group: Option<usize>, decl: &Decl) -> bool
     ensures { IsTrue result ↔ IsOf group decl.now }
 {
@@ -128,8 +130,8 @@ fn is_of(group: Option<usize>, decl: &Decl) -> bool
     }
 }
 
-/// Returns the index of the parameter if the type is a parameter of the declaration. Returns `None`
-/// if the declaration belongs to the group.
+/// Returns the index of the parameter if the type is a parameter of the declaration. If the
+/// declaration belongs to the group, returns `None`.
 fn argument(t: &Stored<'_>, decl: &Decl, group: Option<usize>) -> Option<usize>
     ensures { IfSome result (IsArgument decl.now group (type_at t.now.types.now t.now.number)) }
 {
@@ -142,7 +144,7 @@ fn argument(t: &Stored<'_>, decl: &Decl, group: Option<usize>) -> Option<usize>
     }
 }
 
-/// Returns the index of a parameter.
+/// Returns the index of the parameter with the name `name`.
 fn location(decl: &Decl, name: &[u8]) -> Option<usize>
     ensures { result ≡ position (λ (p : List ℕ). bytes_eq p name.now) decl.now.parameters }
 {
@@ -153,7 +155,7 @@ fn location(decl: &Decl, name: &[u8]) -> Option<usize>
 }
 
 /// Finds the argument to which an abbreviation expands. If another abbreviation must be inspected
-/// first, returns that one.
+/// first, returns the other abbreviation's declaration index.
 fn inspect(
     alloc: Global,
     types: &mut TypeStore,
@@ -191,7 +193,8 @@ fn inspect(
     Ok(None)
 }
 
-/// Marks the abbreviation as inspected. Returns it if it was not inspected before.
+/// Marks the abbreviation as inspected. If the abbreviation was not inspected before, returns its
+/// declaration index.
 fn first_inspect(known: &mut KnownAbbreviations, decl: usize) -> Result<Option<usize>, Memory>
     ensures known { OnOk result
         ((decls : List Declaration) (group : Option ℕ) → decl < length decls
@@ -206,9 +209,9 @@ fn first_inspect(known: &mut KnownAbbreviations, decl: usize) -> Result<Option<u
     Ok(Some(decl))
 }
 
-/// Finds the argument to which an abbreviation expands. First does so for the abbreviations at the
-/// head of its type. Each abbreviation is inspected once, and again after each one that it depends
-/// on.
+/// Finds the argument to which an abbreviation expands. Abbreviations at the head of the
+/// abbreviated type are inspected first. Each abbreviation is inspected once, and again after each
+/// abbreviation on which the result depends.
 pub(crate) fn inspect_at(
     alloc: Global,
     types: &mut TypeStore,

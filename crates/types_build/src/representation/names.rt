@@ -1,25 +1,30 @@
 //! Collects the names of the constructors, fields or tags of a type.
 
-ghost use Rattle.std.specs.Prelude.{◌≡◌, ◌++◌, ◌∷◌, [], List, map, IfOk, OnOk};
+ghost use Rattle.std.specs.Prelude.{◌≡◌, Some, List, map, IfOk};
 ghost use Rattle.std.specs.List.{filter_map};
 ghost use Rattle.types_spec.specs.types.Ty.{Ty};
 ghost use Rattle.types_spec.specs.types.Names.{no_names, body_names, head_names};
 ghost use Rattle.types_spec.specs.types.Names.{predeclared_type_names};
 ghost use Rattle.types_spec.specs.types.Names.{field_names, constant_name, constr_names};
-ghost use Rattle.types_spec.specs.types.Names.{plain_constr};
+ghost use Rattle.types_spec.specs.types.Names.{plain_constr, sum_names};
+ghost use Rattle.types_spec.specs.types.Predeclared.{sum_at};
+ghost use Rattle.types_spec.specs.types.PredeclaredCode.{texts_of, sum_row_of};
 ghost use Rattle.types_build.specs.representation.Representation.{head_of_types, named, AreNamesAt};
+ghost use Rattle.types_build.specs.representation.Representation.{constr_row};
 
 use crate::representation::datatype::is_constant;
 use base_data::model::Memory;
 use base_data::model::list::List;
+use base_data::text::copied;
 use std::alloc::Global;
 use types_resolve::scope::SoundEnvironment;
 use types_spec::tag_hash::hash;
 use types_spec::types::decl::{Arguments, Body, Constructor, Field, Predeclared};
 use types_spec::types::head::{HeadOf, TagOf};
 use types_spec::types::names::{ConstrNames, Names, TagName};
+use types_spec::types::predeclared::{BlockRow, SumRow, sum};
 
-/// Returns the names of a type with this head.
+/// Returns the names of a type whose head is `head`.
 pub fn names_at(
     alloc: Global,
     decls: &SoundEnvironment<'_>,
@@ -30,7 +35,8 @@ pub fn names_at(
     names_by_head(alloc, decls, at)
 }
 
-/// Returns the names of a head, which do not depend on its parts.
+/// Returns the names of constructors, fields and tags that a head declares. The names do not depend
+/// on the parts of the head.
 fn names_by_head(
     alloc: Global,
     decls: &SoundEnvironment<'_>,
@@ -70,52 +76,52 @@ fn no_names(alloc: Global) -> Names
 fn names_of_predeclared(alloc: Global, base: Predeclared) -> Result<Names, Memory>
     ensures { IfOk result (λ names. names ≡ predeclared_type_names base) }
 {
-    let mut names = no_names(alloc);
-    write_predeclared(alloc, &mut names, base)?;
-    Ok(names)
-}
-
-/// Adds the names of a predeclared type.
-fn write_predeclared(alloc: Global, names: &mut Names, base: Predeclared) -> Result<(), Memory>
-    requires { names.old ≡ no_names }
-    ensures { OnOk result (names.new ≡ predeclared_type_names base) }
-{
     match base {
-        Predeclared::List => write_both(alloc, names, b"[]", b"::"),
-        Predeclared::Option => write_both(alloc, names, b"None", b"Some"),
-        Predeclared::Ref => write_constr(alloc, names, b"ref"),
-        _ => Ok(()),
+        Predeclared::Sum(number) => names_of_sum(alloc, number),
+        _ => Ok(no_names(alloc)),
     }
 }
 
-/// Adds a constant constructor, and a constructor with arguments.
-fn write_both(
-    alloc: Global,
-    names: &mut Names,
-    constant: &[u8],
-    constr: &[u8],
-) -> Result<(), Memory>
-    ensures { OnOk result
-        (names.new
-        ≡ record names.old {
-          constants = names.old.constants ++ constant.now
-              ∷ [];
-          constructors = names.old.constructors ++ plain_constr constr.now ∷ [];
-        }) }
+/// Returns the names of the predeclared variant in row `number`.
+fn names_of_sum(alloc: Global, number: usize) -> Result<Names, Memory>
+    ensures { IfOk result (λ names. names ≡ sum_names (sum_at number)) }
 {
-    names.constants.push(text(alloc, constant)?)?;
-    write_constr(alloc, names, constr)
+    match sum(number) {
+        Some(row) => names_of_row(alloc, row),
+        None => Ok(no_names(alloc)),
+    }
 }
 
-/// Adds a constructor with arguments.
-fn write_constr(alloc: Global, names: &mut Names, constr: &[u8]) -> Result<(), Memory>
-    ensures { OnOk result
-        (names.new
-        ≡ record names.old
-        { constructors = names.old.constructors ++ plain_constr constr.now ∷ [] }) }
+/// Returns the names of the variant in this row of the table.
+fn names_of_row(alloc: Global, row: SumRow) -> Result<Names, Memory>
+    ensures { IfOk result (λ names. names ≡ sum_names (Some (sum_row_of row))) }
 {
-    names.constructors.push(plain_constr(alloc, constr)?)?;
-    Ok(())
+    let mut names = no_names(alloc);
+    names.constants = List::of(texts(alloc, row.constants)?);
+    names.constructors = List::of(plain_constrs(alloc, row.blocks)?);
+    Ok(names)
+}
+
+/// Returns a copy of the texts.
+fn texts(alloc: Global, from: &[&[u8]]) -> Result<Vec<List<u8>>, Memory>
+    ensures { IfOk result (λ v. v.items ≡ texts_of from.entry.now) }
+{
+    let mut copies = Vec::new(alloc);
+    for bytes in from {
+        copies.push(copied(alloc, *bytes)?)?;
+    }
+    Ok(copies)
+}
+
+/// Returns the names of constructors that have arguments and no inline records.
+fn plain_constrs(alloc: Global, rows: &[BlockRow]) -> Result<Vec<ConstrNames>, Memory>
+    ensures { IfOk result (λ v. v.items ≡ map constr_row rows.entry.now) }
+{
+    let mut names = Vec::new(alloc);
+    for row in rows {
+        names.push(plain_constr(alloc, row.name)?)?;
+    }
+    Ok(names)
 }
 
 /// Returns the names of a constructor with arguments and without an inline record.
@@ -123,7 +129,7 @@ fn plain_constr(alloc: Global, name: &[u8]) -> Result<ConstrNames, Memory>
     ensures { IfOk result (λ names. names ≡ plain_constr name.now) }
 {
     Ok(ConstrNames {
-        name: text(alloc, name)?,
+        name: copied(alloc, name)?,
         fields: List::new(alloc),
     })
 }
@@ -151,7 +157,7 @@ fn field_names(alloc: Global, fields: &[Field]) -> Result<Vec<List<u8>>, Memory>
 {
     let mut names = Vec::new(alloc);
     for field in fields {
-        names.push(text(alloc, field.name.as_slice())?)?;
+        names.push(copied(alloc, field.name.as_slice())?)?;
     }
     Ok(names)
 }
@@ -169,12 +175,13 @@ fn constant_names(alloc: Global, constructors: &[Constructor]) -> Result<Vec<Lis
     Ok(names)
 }
 
-/// Returns the name of a constructor if it is constant.
+/// Returns the name of a constructor if the constructor is constant, and `None` if the constructor
+/// has arguments.
 fn constant_name(alloc: Global, constructor: &Constructor) -> Result<Option<List<u8>>, Memory>
     ensures { IfOk result (λ name. name ≡ constant_name constructor.now) }
 {
     if is_constant(&constructor.arguments) {
-        Ok(Some(text(alloc, constructor.name.as_slice())?))
+        Ok(Some(copied(alloc, constructor.name.as_slice())?))
     } else {
         Ok(None)
     }
@@ -193,8 +200,8 @@ fn names_of_constrs(alloc: Global, constructors: &[Constructor]) -> Result<Vec<C
     Ok(names)
 }
 
-/// Returns the name of a constructor if it has arguments, and the field names of its inline record
-/// if it has one.
+/// Returns the name of a constructor with arguments, and the field names of the constructor's
+/// inline record. Returns `None` for a constant constructor.
 fn constr_names(alloc: Global, constructor: &Constructor) -> Result<Option<ConstrNames>, Memory>
     ensures { IfOk result (λ names. names ≡ constr_names constructor.now) }
 {
@@ -203,7 +210,7 @@ fn constr_names(alloc: Global, constructor: &Constructor) -> Result<Option<Const
         Arguments::Listed(_) => List::new(alloc),
         Arguments::Inline(fields) => List::of(field_names(alloc, fields.as_slice())?),
     };
-    let name = text(alloc, constructor.name.as_slice())?;
+    let name = copied(alloc, constructor.name.as_slice())?;
     Ok(Some(ConstrNames { name, fields }))
 }
 
@@ -215,16 +222,9 @@ fn tag_names(alloc: Global, tags: &[TagOf<usize>]) -> Result<Vec<TagName>, Memor
     for tag in tags {
         let name = tag.name.as_slice();
         names.push(TagName {
-            name: text(alloc, name)?,
+            name: copied(alloc, name)?,
             hash: hash(name),
         })?;
     }
     Ok(names)
-}
-
-/// Copies the bytes.
-fn text(alloc: Global, bytes: &[u8]) -> Result<List<u8>, Memory>
-    ensures { IfOk result (λ l. l ≡ bytes.now) }
-{
-    Ok(List::of(Vec::from_slice(alloc, bytes)?))
 }

@@ -9,12 +9,13 @@ use crate::representation::borrowed::Stored;
 use crate::representation::spine::{parts, root};
 use base_data::model::Memory;
 use base_data::model::list::List;
+use base_data::text::copied;
 use std::alloc::Global;
-use types_resolve::scope::predeclared::predeclared;
 use types_spec::types::head::HeadOf;
+use types_spec::types::predeclared::predeclared;
 use types_table::store::TypeNode;
 
-/// Returns the head of a type as it is written, or `None` if the type is a bracket.
+/// Returns the head of a type as written, or `None` if the type is a bracket.
 pub fn plain(alloc: Global, t: &Stored<'_>) -> Result<Option<HeadOf<usize>>, Memory>
     ensures { IfOk result
         (λ h. MatchOption h (IsBracketed (type_at t.now.types.now t.now.number))
@@ -24,7 +25,7 @@ pub fn plain(alloc: Global, t: &Stored<'_>) -> Result<Option<HeadOf<usize>>, Mem
     of_root(alloc, t.types.node(root(t)), found)
 }
 
-/// Returns the head of a type from its root and its parts.
+/// Returns the head of a type, given the node of the type's root and the type's parts.
 fn of_root(
     alloc: Global,
     root: TypeNode<'_>,
@@ -53,11 +54,4 @@ fn of_root(
             }
         }
     }
-}
-
-/// Copies the bytes.
-fn copied(alloc: Global, name: &[u8]) -> Result<List<u8>, Memory>
-    ensures { IfOk result (λ l. l ≡ name.now) }
-{
-    Ok(List::of(Vec::from_slice(alloc, name)?))
 }

@@ -1,24 +1,24 @@
 //! Computes the shapes of predeclared types, by type index.
 
-ghost use Rattle.std.specs.Prelude.{◌≡◌, ◌<◌, [], ◌∷◌, false, List, length, map, All, IfOk};
+ghost use Rattle.std.specs.Prelude.{◌≡◌, ◌<◌, [], ◌∷◌, List, length, map, All, IfOk};
 ghost use Rattle.types_spec.specs.types.Ty.{Ty};
 ghost use Rattle.types_spec.specs.types.Nodes.{type_at};
-ghost use Rattle.types_spec.specs.types.Shape.{predeclared_shape, block, list_of};
-ghost use Rattle.types_spec.specs.declared.types.shape.ShapeOf.TheVariants as shapes;
+ghost use Rattle.types_spec.specs.types.Shape.{predeclared_shape};
 ghost use Rattle.types_table.specs.store.Held.{Grows};
+ghost use Rattle.types_build.specs.representation.Kind.{IsBase};
 ghost use Rattle.types_build.specs.representation.Representation.{array_at, IsShapeAt};
 
 use crate::representation::head::head_of;
+use crate::representation::sum::sum_shape;
 use base_data::model::Memory;
-use base_data::model::list::List;
 use std::alloc::Global;
 use types_resolve::scope::SoundEnvironment;
 use types_spec::types::decl::{Decl, Predeclared};
 use types_spec::types::head::HeadOf;
-use types_spec::types::shape::{Constr, ShapeOf};
+use types_spec::types::shape::ShapeOf;
 use types_table::store::TypeStore;
 
-/// Returns the shape of a predeclared type. May append types to `types`, even if it returns
+/// Returns the shape of a predeclared type. May append types to `types`, even if the result is
 /// `Memory`.
 pub(crate) fn predeclared_shape(
     alloc: Global,
@@ -33,6 +33,28 @@ pub(crate) fn predeclared_shape(
         (predeclared_shape decls.now base (map (type_at types.old) parts.now))) }
     ensures grown { Grows types.old types.new }
 {
+    match base {
+        Predeclared::Sum(number) => sum_shape(alloc, types, number, parts),
+        _ => base_shape(alloc, types, decls, base, parts),
+    }
+}
+
+/// Returns the shape of a predeclared type with a representation of its own. May append types to
+/// `types`.
+fn base_shape(
+    alloc: Global,
+    types: &mut TypeStore,
+    decls: &SoundEnvironment<'_>,
+    base: Predeclared,
+    parts: &[usize],
+) -> Result<ShapeOf<usize>, Memory>
+    requires base { IsBase base }
+    requires within { All (λ i. i < length types.old) parts.now }
+    ensures ok { IfOk result
+        (IsShapeAt types.new
+        (predeclared_shape decls.now base (map (type_at types.old) parts.now))) }
+    ensures grown { Grows types.old types.new }
+{
     match parts {
         [] => Ok(alone(base)),
         [part] => of_one(alloc, types, decls, base, *part),
@@ -40,8 +62,10 @@ pub(crate) fn predeclared_shape(
     }
 }
 
-/// Returns the shape of a predeclared type without arguments.
+/// Returns the shape of a predeclared type without arguments. The type has a representation of its
+/// own.
 fn alone(base: Predeclared) -> ShapeOf<usize>
+    requires { IsBase base }
     ensures { (decls : List Decl) (types : List Ty)
         → IsShapeAt types (predeclared_shape decls base []) result }
 {
@@ -58,13 +82,13 @@ fn alone(base: Predeclared) -> ShapeOf<usize>
         Predeclared::Nativeint => ShapeOf::Native,
         Predeclared::Floatarray => ShapeOf::FloatArray,
         Predeclared::Any => ShapeOf::Anything,
-        Predeclared::List | Predeclared::Option | Predeclared::Array | Predeclared::Ref => {
-            ShapeOf::Variable
-        }
+        Predeclared::Array => ShapeOf::Variable,
+        Predeclared::Sum(_) => ShapeOf::Variable,
     }
 }
 
-/// Returns the shape of a predeclared type with one argument.
+/// Returns the shape of a predeclared type with one argument. The type has a representation of its
+/// own.
 fn of_one(
     alloc: Global,
     types: &mut TypeStore,
@@ -72,15 +96,13 @@ fn of_one(
     base: Predeclared,
     part: usize,
 ) -> Result<ShapeOf<usize>, Memory>
+    requires base { IsBase base }
     requires part { part < length types.old }
     ensures ok { IfOk result
         (IsShapeAt types.new (predeclared_shape decls.now base (type_at types.old part ∷ []))) }
     ensures grown { Grows types.old types.new }
 {
     match base {
-        Predeclared::List => list_shape(alloc, types, part),
-        Predeclared::Option => one_block(alloc, 1, false, vec![in alloc; part]?),
-        Predeclared::Ref => one_block(alloc, 0, true, vec![in alloc; part]?),
         Predeclared::Array => {
             let head = head_of(alloc, types, decls, part)?;
             Ok(array_at(&head, part))
@@ -89,37 +111,7 @@ fn of_one(
     }
 }
 
-/// Returns the shape of lists with elements of type `part`.
-fn list_shape(alloc: Global, types: &mut TypeStore, part: usize) -> Result<ShapeOf<usize>, Memory>
-    requires { part < length types.old }
-    ensures ok { IfOk result
-        (IsShapeAt types.new
-        (shapes.Sum 1
-        (block false (type_at types.old part ∷ list_of (type_at types.old part) ∷ [])
-        ∷ []))) }
-    ensures grown { Grows types.old types.new }
-{
-    let list = types.add_named(b"list")?;
-    let whole = types.add_part(list, part)?;
-    one_block(alloc, 1, false, vec![in alloc; part, whole]?)
-}
-
-/// Returns a shape with `constants` constants and one kind of block.
-fn one_block(
-    alloc: Global,
-    constants: u64,
-    mutable: bool,
-    fields: Vec<usize>,
-) -> Result<ShapeOf<usize>, Memory>
-    ensures { IfOk result
-        (λ s. s ≡ shapes.Sum constants (record { mutable = mutable; fields = fields.items } ∷ [])) }
-{
-    let fields = List::of(fields);
-    let blocks = vec![in alloc; Constr { mutable, fields }]?;
-    Ok(ShapeOf::Sum(constants, List::of(blocks)))
-}
-
-/// Returns the shape of arrays whose elements have this head.
+/// Returns the shape of arrays whose element type has this head.
 fn array_at(at: &HeadOf<usize>, element: usize) -> ShapeOf<usize>
     ensures { result ≡ array_at at.now element }
 {

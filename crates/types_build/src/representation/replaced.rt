@@ -19,8 +19,8 @@ use types_resolve::scope::SoundEnvironment;
 use types_spec::types::decl::Body;
 use types_table::store::TypeStore;
 
-/// Returns the type after one expansion at its head, or `None` if no abbreviation is there. Takes
-/// one step for each node of the type of the abbreviation and for each part.
+/// Returns the type after one expansion at its head, or `None` if no abbreviation is at the head.
+/// Takes one step for each node of the abbreviated type and for each part.
 pub fn unfolded(
     alloc: Global,
     types: &mut TypeStore,
@@ -54,8 +54,8 @@ pub fn unfolded(
     Ok(Some(next))
 }
 
-/// Returns the argument to which the abbreviation at the head is known to expand. If none is known,
-/// returns the type after one expansion.
+/// Returns the argument to which the abbreviation at the head is known to expand. If no argument is
+/// known, returns the type after one expansion.
 fn passed(
     alloc: Global,
     types: &mut TypeStore,
@@ -76,8 +76,8 @@ fn passed(
     }
 }
 
-/// Returns the type after one expansion at its head, which is this abbreviation without parameters.
-/// Takes one step for each node of the type of the abbreviation.
+/// Returns the type after one expansion of an abbreviation without parameters at its head. Takes
+/// one step for each node of the abbreviated type.
 fn bare_unfolded(
     alloc: Global,
     types: &mut TypeStore,
@@ -101,8 +101,8 @@ fn bare_unfolded(
     Ok(Some(next))
 }
 
-/// Returns the type after one or more expansions at its head, or `None` if no abbreviation is
-/// there. Each expansion after the first is of an abbreviation outside the group.
+/// Returns the type after one or more expansions at its head, or `None` if no abbreviation is at
+/// the head. Each expansion after the first is of an abbreviation outside the group.
 pub fn nearer(
     alloc: Global,
     types: &mut TypeStore,
@@ -124,7 +124,7 @@ pub fn nearer(
 }
 
 /// Returns the same result as `nearer`, given the abbreviation at the head. An abbreviation without
-/// parameters is expanded once, because it does not expand to an argument.
+/// parameters is expanded once, because no argument exists to which the abbreviation could expand.
 pub(crate) fn nearer_from(
     alloc: Global,
     types: &mut TypeStore,
@@ -155,7 +155,7 @@ pub(crate) fn nearer_from(
 
 /// Returns the type after all expansions at its head. An abbreviation that expands to one of its
 /// arguments is skipped in one step. Therefore each other abbreviation is expanded at most once
-/// before the head is that of an argument. May append types to `types`, even if it returns
+/// before the head of an argument is reached. May append types to `types`, even if the result is
 /// `Memory`.
 pub fn expanded(
     alloc: Global,

@@ -23,14 +23,14 @@ use types_spec::types::head::{HeadOf, TagOf};
 use types_spec::types::shape::{PolyTag, ShapeOf};
 use types_table::store::TypeStore;
 
-/// The head and the shape of a type. Their parts are type indices.
+/// The head and the shape of a type. The parts of the head and of the shape are type indices.
 #[derive(Drop)]
 pub struct Representation {
     pub head: HeadOf<usize>,
     pub shape: ShapeOf<usize>,
 }
 
-/// Returns the head and the shape of a type. May append types to `types`, even if it returns
+/// Returns the head and the shape of a type. May append types to `types`, even if the result is
 /// `Memory`.
 pub fn representation_of(
     alloc: Global,
@@ -51,8 +51,8 @@ pub fn representation_of(
     representation_with(alloc, types, decls, &none, number)
 }
 
-/// Returns the head and the shape of a type like `representation_of`, and uses heads that were
-/// found before.
+/// Returns the head and the shape of a type like `representation_of`, and uses the heads in
+/// `found`.
 pub fn representation_with(
     alloc: Global,
     types: &mut TypeStore,
@@ -71,7 +71,7 @@ pub fn representation_with(
     Ok(Representation { head, shape })
 }
 
-/// Returns the shape of a type with this head.
+/// Returns the shape of a type whose head is given.
 fn shape_at(
     alloc: Global,
     types: &mut TypeStore,

@@ -1,4 +1,5 @@
-//! Settled abbreviations: all their tags are already gathered, for any arguments.
+//! Finds settled abbreviations. An abbreviation is settled if all its tags are already gathered,
+//! for any arguments.
 
 ghost use Rattle.std.specs.Prelude.{◌<◌, ◌≤◌, ◌+◌, None, List, length, All, IfOk, OnOk, IsTrue};
 ghost use Rattle.types_spec.specs.declared.types.decl.Decl.{Decl as Declaration};
@@ -29,7 +30,7 @@ use types_table::store::{TypeNode, TypeStore};
 /// gathered, for any arguments.
 pub(crate) type SettledAbbreviations = IndexSet<usize>;
 
-/// Returns true if there is an abbreviation and it is settled.
+/// Returns true if `decl` exists and is a settled abbreviation.
 pub(crate) fn is_settled(settled: &SettledAbbreviations, decl: Option<usize>) -> bool
     ensures { IsTrue result → (decls : List Declaration) (tags : List (Tag Ty))
         → AreSettled decls tags settled.now.keys → IsSettledAt decls tags decl }
@@ -40,9 +41,9 @@ pub(crate) fn is_settled(settled: &SettledAbbreviations, decl: Option<usize>) ->
     }
 }
 
-/// Settles an abbreviation if all its tags are gathered for any arguments. This holds for an
-/// abbreviation without parameters, because its step comes after the tags of one of its types are
-/// gathered.
+/// Settles an abbreviation if all its tags are gathered for any arguments. An abbreviation without
+/// parameters is always settled, because the step of the abbreviation comes after the tags of one
+/// of its types are gathered.
 pub(crate) fn settle(
     alloc: Global,
     types: &mut TypeStore,
@@ -68,7 +69,7 @@ pub(crate) fn settle(
 }
 
 /// Settles an abbreviation if all its tags are gathered for any arguments. Takes one step for each
-/// node of its type.
+/// node of the abbreviated type.
 fn settle_if_there(
     alloc: Global,
     types: &mut TypeStore,
@@ -104,7 +105,7 @@ fn settle_if_there(
     Ok(())
 }
 
-/// Returns true if all tags of a type are gathered, whatever replaces its variables.
+/// Returns true if all tags of a type are gathered, whatever types replace the type's variables.
 fn are_there(
     alloc: Global,
     t: &Stored<'_>,
@@ -140,8 +141,8 @@ fn are_there(
     Ok(true)
 }
 
-/// Returns true if all tags of a type are gathered, provided that the tags of the pending types
-/// are.
+/// Returns true if all tags of a type are gathered, provided that the tags of the pending types are
+/// gathered.
 fn is_there(
     alloc: Global,
     t: &Stored<'_>,
@@ -177,7 +178,7 @@ fn is_there(
 }
 
 /// Returns true if the type is a bracket and all its items are gathered, provided that the tags of
-/// the pending types are.
+/// the pending types are gathered.
 fn items_are_there(t: &Stored<'_>, tags: &Tags, waiting: &mut Vec<usize>) -> Result<bool, Memory>
     requires within { All (λ n. n < length t.now.types.now) waiting.old.items }
     ensures there { let there = tags_at t.now.types.now (tags_of_entries tags.now.entries) in
@@ -204,8 +205,8 @@ fn items_are_there(t: &Stored<'_>, tags: &Tags, waiting: &mut Vec<usize>) -> Res
     Ok(has_bracket(&Stored { types, number: at }))
 }
 
-/// Returns true if the tag of an item is gathered. For an included type, pushes that type and
-/// returns true.
+/// Returns true if the tag of an item is gathered. If the item includes a type, pushes the included
+/// type and returns true.
 fn item_is_there(
     types: &TypeStore,
     tags: &Tags,

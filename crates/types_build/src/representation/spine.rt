@@ -22,7 +22,8 @@ pub fn root(t: &Stored<'_>) -> usize
     at
 }
 
-/// Returns the name whose arguments are the parts of the type.
+/// Returns the name at the start of the type, whose arguments are the type's parts. Returns `None`
+/// if the type does not start with a name.
 pub fn name<'a>(t: &Stored<'a>) -> Option<&'a [u8]>
     ensures { option_copied result ≡ name_of (type_at t.now.types.now t.now.number) }
 {
@@ -36,7 +37,7 @@ pub fn name<'a>(t: &Stored<'a>) -> Option<&'a [u8]>
     }
 }
 
-/// Returns the indices of the arguments or components.
+/// Returns the indices of the arguments or components of the type.
 pub fn parts(alloc: Global, t: &Stored<'_>) -> Result<Vec<usize>, Memory>
     ensures are { IfOk result
         (λ v. map (type_at t.now.types.now) v.items

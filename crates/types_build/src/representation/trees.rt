@@ -12,7 +12,7 @@ use types_spec::types::shape::{Constr, PolyTag, ShapeOf};
 use types_spec::types::ty::Ty;
 use types_table::store::TypeStore;
 
-/// Returns the shape with types instead of indices.
+/// Returns the shape in which types replace type indices.
 pub(crate) fn trees_of_shape(
     alloc: Global,
     types: &TypeStore,
@@ -53,7 +53,7 @@ pub(crate) fn trees_of_shape(
     }
 }
 
-/// Returns the blocks with types instead of indices.
+/// Returns the blocks in which types replace type indices.
 fn trees_of_blocks(
     alloc: Global,
     types: &TypeStore,
@@ -73,7 +73,7 @@ fn trees_of_blocks(
     Ok(found)
 }
 
-/// Returns the tags with types instead of indices.
+/// Returns the tags in which types replace type indices.
 fn trees_of_tags(
     alloc: Global,
     types: &TypeStore,
@@ -96,7 +96,7 @@ fn trees_of_tags(
     Ok(found)
 }
 
-/// Returns the types with these indices.
+/// Returns the types with the indices `numbers` in the store.
 fn trees(alloc: Global, types: &TypeStore, numbers: &[usize]) -> Result<Vec<Ty>, Memory>
     requires { All (λ i. i < length types.now) numbers.now }
     ensures { IfOk result (λ v. v.items ≡ map (type_at types.now) numbers.now) }

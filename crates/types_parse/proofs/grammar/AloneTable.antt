@@ -1,4 +1,4 @@
--- The table reads a type by itself.
+-- The table reads every type that stands alone.
 use Rattle.std.proofs.Common.{◌≡◌, Some, refl, sym, ap}
 use Rattle.types_parse.specs.grammar.Grammar.{Texpr, single, starred, texpr}
 use Rattle.types_parse.specs.grammar.Depths.{texpr_ends}

@@ -269,7 +269,8 @@ parentheses_200 = refl
 parentheses_201 : ty (many 201 paren ++ t ∷ many 201 close) ≡ too_deep 200
 parentheses_201 = refl
 
--- 200 parentheses may be open. If both errors are at one position, the syntax error is reported.
+-- If 200 parentheses are open, no error is reported. If both errors are at one position, the syntax
+-- error is reported.
 open_200 : ty (many 200 paren) ≡ syntax 200
 open_200 = refl
 
@@ -284,8 +285,8 @@ in_a_record : file (head ++ k symbols.OpenBrace ∷ t ∷ k symbols.Colon ∷ ma
     ≡ too_deep 205
 in_a_record = refl
 
--- A name applied 199 times has depth 200. A tuple with this component is too deep where two
--- components end.
+-- A name applied 199 times has depth 200. If a tuple has a component of depth 200, the tuple is too
+-- deep at the end of the second component.
 applied_199 : ty (t ∷ many 199 t) ≡ fine
 applied_199 = refl
 
@@ -295,7 +296,7 @@ applied_200 = refl
 tuple_of_deep : ty (t ∷ many 199 t ++ star ∷ t ∷ []) ≡ too_deep 201
 tuple_of_deep = refl
 
--- The error does not depend on later lexemes.
+-- The depth error does not depend on the lexemes after the error.
 tuple_goes_on : ty (t ∷ many 199 t ++ star ∷ t ∷ t ∷ []) ≡ too_deep 201
 tuple_goes_on = refl
 
@@ -303,7 +304,7 @@ tuple_goes_on = refl
 arguments_of_deep : file (head ++ A ∷ of ∷ t ∷ many 199 t ++ star ∷ t ∷ []) ≡ fine
 arguments_of_deep = refl
 
--- An included type counts as deep as an argument.
+-- An included type counts with the depth of an argument.
 included_deep : ty (k symbols.OpenBracket ∷ t ∷ many 199 t ++ mark symbols.CloseBracket)
     ≡ too_deep 201
 included_deep = refl

@@ -1,4 +1,4 @@
--- Each step outside of types appends its lexeme to the lexemes read.
+-- Each step outside of types appends the lexeme of the step to the lexemes read.
 use Rattle.std.proofs.Common.{
   ℕ,
   ◌≡◌,
@@ -154,7 +154,7 @@ row_grows between encoded (so_far f m) x = ap (λ k. encoded f ++ k)
     regroup : (f e s x : Kinds) → f ++ (e ++ (s ++ x)) ≡ f ++ e ++ s ++ x
     regroup f e s x = simp append_assoc
 
--- A list within its context.
+-- An equation between the lexemes of two lists also holds inside a longer list of lexemes.
 row_within : (a h e r d m : Kinds) → h ++ e ≡ r ++ d → a ++ h ++ e ++ m ≡ a ++ r ++ d ++ m
 row_within a h e r d m i = ap (λ k. k ++ m) (append_assoc a h e ∙ ap (λ k. a ++ k) i
     ∙ sym (append_assoc a r d))

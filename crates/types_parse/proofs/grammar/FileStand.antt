@@ -345,12 +345,12 @@ alone_stands (listed_part c x b) a =
 
 -- ---- states outside of types
 
--- If a file consists of the lexemes read and further ones, then the state is completed.
+-- If a file begins with the lexemes read by a state, then the state is completed.
 by_more : (q : Outside) (text : FileTree) (extra : Kinds) → file_kinds text ≡ outer_prefix q
     ++ extra → Completed declarations file_kinds file_ends (outside q)
 by_more q text extra e = record { text = text; rest = extra; begins = e; deep = omega arith }
 
--- If the lexemes read lie within a part of the file, then the state is completed.
+-- If the lexemes read by a state lie within a part of a file, then the state is completed.
 by_part : (q : Outside) (text : FileTree) {before inner : Kinds} {depths : List ℕ} (extra : Kinds) →
     before ++ inner ≡ outer_prefix q ++ extra → Stands before inner depths (file_kinds text)
     (file_ends text) → Completed declarations file_kinds file_ends (outside q)
@@ -363,7 +363,7 @@ some_type = single (simple (variable []))
 abbrev decl_of : Params → Name → DeclTree
 decl_of ps x = record { params = ps; name = x; body = type_body some_type }
 
--- After some or all of the parameters.
+-- The lexemes of a list of parameters, split at the last parameter.
 params_grow : (b : Before Name) (x : Name) → params_kinds (params (head_of b x) (rest_of b x))
     ≡ mark symbols.OpenParen ++ row_prefix (mark symbols.Comma) variable_kind b ++ variable_kind x
     ++ mark symbols.CloseParen

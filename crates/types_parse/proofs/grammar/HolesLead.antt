@@ -1,5 +1,5 @@
--- The lexemes of a tree lead the table to that tree. The types that end on the way are no deeper
--- than the states report.
+-- The lexemes of a tree lead the table to the tree. A type that ends at a lexeme is at most as deep
+-- as the state at the lexeme reports.
 use Rattle.std.proofs.Common.{
   ℕ,
   ◌≡◌,
@@ -158,7 +158,7 @@ module _ {W P O Text : Type 0} (o : Outer W P O Text) where
   end_next p bar (one i) = end_after (first_item p bar) i
   end_next p bar (more before i) = end_after (next_item p bar before) i
 
-  -- The state that expects the first item of a bracket.
+  -- The lexemes before the first item of a bracket lead to the state that expects the item.
   bar_leads : (p : PartHole W P) (bar : Bool) → Led (due (inclusion (first_item p false)))
       (bar_if bar) (replicate (length (bar_if bar)) 0) (due (inclusion (first_item p bar)))
   bar_leads p true = one_more refl

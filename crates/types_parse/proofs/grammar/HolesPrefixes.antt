@@ -1,5 +1,5 @@
--- Each step appends its lexeme to the lexemes read, and updates the number of open brackets as the
--- lexeme does.
+-- Each step appends its lexeme to the lexemes read, and changes the number of open brackets as the
+-- lexeme requires.
 use Rattle.std.proofs.Common.{
   ℕ,
   suc,

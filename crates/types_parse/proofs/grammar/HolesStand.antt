@@ -1,5 +1,5 @@
--- For each state of the table, some text begins with the lexemes read so far. In this text, a type
--- that ends at the last lexeme read is at least as deep as the state records.
+-- For each state of the table, some text begins with the lexemes that the state has read. If a type
+-- of the text ends at the last lexeme read, the type is at least as deep as the state records.
 use Rattle.std.proofs.Common.{
   ℕ,
   ◌-◌,

@@ -138,7 +138,7 @@ module _ {Text State : Type 0} {encoded : Text → Kinds} {ends : Text → List 
       (λ (k, s). inr (k, s, λ j i. one_syntax lexemes j k i s)) (read_on lexemes (length lexemes) 0
       start (omega arith) refl)
 
-  -- ---- the same, with depths
+  -- ---- reading with depths
 
   abbrev Readable : Kinds → Type 0
   Readable lexemes = (reading : Reading Text) × IsReading encoded ends lexemes reading

@@ -1,4 +1,4 @@
--- Reading two texts one after the other, for any table.
+-- If a table reads two texts one after another, then the table reads the concatenation.
 use Rattle.std.proofs.Common.{
   ℕ,
   suc,
@@ -47,7 +47,8 @@ module _ {State : Type 0} {step : State → LexemeKind → Option State} {ended 
   leads_run (go {rest = xs} h l p) rest = ap (option_and_then (λ next. run step next (xs ++ rest)))
       h ∙ leads_run p rest
 
-  -- If the final state admits a deeper type, then the last lexeme may end one.
+  -- If the final state admits a type of depth `n`, then the last lexeme may end a type of depth
+  -- `n`.
   pub raised : {s t : State} {xs : Kinds} {ds : List ℕ} (n : ℕ) → n ≤ ended t →
       Leads step ended s xs ds t → Leads step ended s xs (at_last n ds) t
   raised n e stop = stop

@@ -1,6 +1,6 @@
--- A loop that reads lexemes as a table does: the state that it has reached at a position, and the
--- results that it may return there. `Shown` relates the variables of the code to the states of the
--- table.
+-- A loop that reads lexemes as a table does: the state reached at a position, and the results that
+-- the loop may return at the position. `Shown` relates the variables of the code to the states of
+-- the table.
 use Rattle.std.proofs.Common.{ℕ, suc, ◌≡◌, ◌≤◌, ◌<◌, ◌⊎◌, inl, inr, ⊎_elim, ◌∙◌, min, List, [], ◌∷◌, ◌++◌, length, take, Option, Some, None, refl, sym, ap, subst, arith}
 use Rattle.std.specs.Prelude.{IfSome}
 use Rattle.std.proofs.lemmas.Bool.{cases_lt}
@@ -42,7 +42,7 @@ module _ {Text State : Type 0} {encoded : Text → Kinds} {ends : Text → List 
   }
 
   module _ {Shown : State → Type 0} {count position : ℕ} (here : Reached Shown count position) where
-    -- No lexeme is left.
+    -- If no lexeme is left, then the table has read all lexemes and is in the state reached.
     ran_whole : length lexemes ≤ position → run step start lexemes ≡ Some here.state
     ran_whole h = let e : position ≡ length lexemes = omega (arith, here.within) in
         subst (λ ks. run step start ks ≡ Some here.state) (ap (λ k. take k lexemes) e

@@ -1,4 +1,4 @@
--- The position of lexemes in a longer list, with the types that end in them.
+-- The position of a list of lexemes in a longer list, with the types that end inside the list.
 use Rattle.std.proofs.Common.{
   ℕ,
   zero,
@@ -78,7 +78,8 @@ use Rattle.types_parse.proofs.grammar.HolesLead.{
   item_leads,
 }
 
--- In a longer list, these lexemes, with types that end in them, follow others.
+-- The list `all` contains the lexemes `inner` after `before`, and `depths` are the depths of the
+-- types that end in `inner`.
 pub record Stands (before inner : Kinds) (depths : List ℕ) (all : Kinds) (ends : List ℕ) : Type 0
   where
     pub rest : Kinds

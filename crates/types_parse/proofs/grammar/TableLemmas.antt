@@ -1,5 +1,5 @@
--- The table agrees with the grammar about whether lexemes are a text, where the syntax error is,
--- and where they are too deep.
+-- The table and the grammar agree on three questions: whether lexemes are a text, where the syntax
+-- error is, and where the lexemes are too deep.
 use Rattle.std.proofs.Common.{
   ℕ,
   zero,
@@ -50,7 +50,7 @@ pub record Completes {Text State : Type 0} (encoded : Text → Kinds) (ends : Te
   pub begins : encoded text ≡ prefix s ++ rest
   pub deep : ended s ≤ slice_index (ends text) (length (prefix s) - 1)
 
--- A table that reads the texts of this grammar.
+-- The table reads the texts of the grammar.
 pub record Reads {Text State : Type 0} (encoded : Text → Kinds) (ends : Text → List ℕ)
     (step : State → LexemeKind → Option State) (start : State) (prefix : State → Kinds)
     (brackets ended : State → ℕ) (accepted : State → Option Text) : Type 0 where
@@ -64,7 +64,8 @@ pub record Reads {Text State : Type 0} (encoded : Text → Kinds) (ends : Text �
       IfSome (step s kind) (λ next. Adds prefix brackets (prefix s) (brackets s) kind next)
   pub completes : (s : State) → Completes encoded ends prefix ended s
 
--- One more lexeme.
+-- If `k` is less than the number of lexemes, then the first `suc k` lexemes are the first `k` and
+-- one more.
 pub next_lexeme : (lexemes : Kinds) (k : ℕ) → k < length lexemes → (kind : LexemeKind)
     × (take (suc k) lexemes ≡ take k lexemes ++ kind ∷ [])
 next_lexeme [] k h = absurd (omega arith)
@@ -90,7 +91,7 @@ take_whole [] = refl
 take_whole (kind ∷ rest) = ap (λ xs. kind ∷ xs) (take_whole rest)
 
 module _ {State : Type 0} {step : State → LexemeKind → Option State} {ended : State → ℕ} where
-  -- If a list of lexemes leads to a state, then each of its prefixes does.
+  -- If a list of lexemes leads to a state, then each prefix of the list leads to some state.
   through : (xs rest : Kinds) {s t : State} {ds : List ℕ} → Leads step ended s (xs ++ rest) ds t →
       (m : State) × (run step s xs ≡ Some m)
   through [] rest {s = s} p = (s, refl)
@@ -126,7 +127,8 @@ module _ {Text State : Type 0} {encoded : Text → Kinds} {ends : Text → List 
     LexemeKind → Option State} {start : State} {prefix : State → Kinds} {brackets ended : State → ℕ}
     {accepted : State → Option Text} (r : Reads encoded ends step start prefix brackets ended
     accepted) where
-  -- The lexemes that a state has read.
+  -- If reading `xs` leads to a state, then the lexemes `xs` are appended to the lexemes that the
+  -- state has read.
   reached : (xs : Kinds) (s t : State) → run step s xs ≡ Some t → (prefix t ≡ prefix s ++ xs)
       × (brackets t ≡ open_after (brackets s) xs)
   reached [] s t h = let e : s ≡ t = cc in (
@@ -183,7 +185,7 @@ module _ {Text State : Type 0} {encoded : Text → Kinds} {ends : Text → List 
   text_is_accepted t s lexemes h e = let f : Some s ≡ Some (r.final t) = sym h ∙ ap (run step start)
       (sym e) ∙ text_leads t in let g : s ≡ r.final t = cc in ap accepted g ∙ r.accepts t
 
-  -- At most one tree has these lexemes.
+  -- At most one tree has a given list of lexemes.
   pub one_text : (t u : Text) → encoded t ≡ encoded u → t ≡ u
   one_text t u e = let f : accepted (r.final u) ≡ Some t = text_is_accepted t (r.final u)
       (encoded u) (text_leads u) e in let g : accepted (r.final u) ≡ Some u = r.accepts u in cc

@@ -25,7 +25,7 @@ use Rattle.types_parse.specs.parse.FileShown.{row_list, group_of, declared_of, c
 use Rattle.types_parse.proofs.parse.TypeLemmas.{none_outside, EndsAt, Follows, begin_follows, step_follows, depth_follows}
 use Rattle.types_parse.proofs.parse.WrittenLemmas.{row_more, row_map, group_ends}
 
--- Either both continue or both fail.
+-- The step of the table and the step of the code both continue, or both fail.
 abbrev pub FollowsOut : Option FileState → Option FilePhase → Type 0
 FollowsOut next (Some phase) = (n : FileState) × (next ≡ Some n) × file_shown [] [] phase n
 FollowsOut next None = next ≡ None
@@ -40,7 +40,8 @@ from_outside : (next : Option FileState) (c : Option FilePhase) → FollowsOut n
 from_outside next (Some phase) f = f
 from_outside next None f = f
 
--- A state outside of types.
+-- If the code's phase represents a state outside of types, then the code's step agrees with the
+-- table's step to the state.
 goes_out : (q : Outside) (phase : FilePhase) → phase ≡ phase_of q → FollowsOut (Some (outside q))
     (Some phase)
 goes_out q phase e = (outside q, refl, (refl, refl, e))
@@ -310,14 +311,14 @@ outside_follows (field_named r b mutable x) kind = take_colon_follows r b mutabl
 outside_follows (record_read r t) kind = from_outside (after_record r t kind)
     (after_record_code (record_of r) (fields_of_tree t) kind) (record_follows r t kind)
 
--- ---- both
+-- ---- inside and outside of types
 
 argument_alone : (b : Bottom TypeOutside PartOutside) → is_argument (around_of b) ≡ is_alone b
 argument_alone (at_type (body_type b)) = refl
 argument_alone (at_type (field_type r b mutable x)) = refl
 argument_alone (at_part (listed_part c x b)) = refl
 
--- The step of the type that is being read.
+-- While a type is being read, the code's step agrees with the table's step.
 pub inner_follows : (ns : List TypeTreeNode) (fs : List OpenConstruct) (phase : FilePhase) (s : FileState)
     (kind : LexemeKind) (h : IsInType ns fs phase s) → Follows declarations h.bottom
     (step declarations s kind) kind (step_code (is_argument h.around) ns fs h.inner kind)

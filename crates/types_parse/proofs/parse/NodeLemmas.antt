@@ -31,7 +31,7 @@ all_at_end ns [] [] a b = (b, tt)
 all_at_end ns (m ∷ all) (u ∷ ts) a b = (a.0, all_at_end ns all ts a.1 b)
 all_at_end ns all ts a b = absurd a
 
--- The appended node.
+-- After a node is appended, the node with the last index has the type of the appended node.
 pub at_last : (ns : List TypeTreeNode) (node : TypeTreeNode) → IsAt (ns ++ node ∷ []) (length ns)
     (type_of_node (types_of ns) node)
 at_last ns node = record {
@@ -47,7 +47,7 @@ at_last_as ns node t e = subst (IsAt (ns ++ node ∷ []) (length ns)) e (at_last
 pub is_last : (ns : List TypeTreeNode) (node : TypeTreeNode) → suc (length ns) ≡ length (ns ++ node ∷ [])
 is_last ns node = omega (arith, length-append ns (node ∷ []))
 
--- One more part.
+-- If a part is added to the type `t` in a new node, then the new node has the type `part t u`.
 pub part_last : {ns : List TypeTreeNode} {n m : ℕ} {t u : Ty} → IsAt ns n t → IsAt ns m u →
     IsAt (ns ++ nodes.Part n m ∷ []) (length ns) (part t u)
 part_last {ns} {n} {m} {t} {u} a b = at_last_as ns (nodes.Part n m) (part t u)
@@ -79,7 +79,7 @@ pub arguments_as : (name : Name) (ts : Texprs) (u : Ty) → parts_with (named na
 arguments_as name ts u = parts_with-end (named name) (types_of_texprs ts) u ∙ ap (λ x. part x u)
     (applied_as name ts)
 
--- The nodes after these parts are added.
+-- The nodes after a list of parts was added to node `n`, which makes the type `t`.
 pub record Added (ns : List TypeTreeNode) (all : List ℕ) (t : Ty) (n : ℕ) : Type 0 where
   pub extra : List TypeTreeNode
   pub nodes_are : parts_nodes ns n all ≡ ns ++ extra
@@ -110,7 +110,7 @@ adds_parts (m ∷ all) (u ∷ us) ns n t their a l o =
     }
 adds_parts all us ns n t their a l o = absurd their
 
--- The type of the last node.
+-- If node `n` is the last node and has the type `t`, then the type of the nodes is `t`.
 pub last_type : (ns : List TypeTreeNode) (n : ℕ) (t : Ty) → IsAt ns n t → suc n ≡ length ns → type_of ns ≡ t
 unfolding type_of
 last_type ns n t a l = let e : length ns - 1 ≡ n = omega arith in ap (type_at (types_of ns)) e

@@ -1,4 +1,4 @@
--- A step of a type, in its context.
+-- A step of the type parser, in the context of the type.
 use Rattle.std.proofs.Common.{◌≡◌, List, Option, Result, sym, ap, subst}
 use Rattle.types_lex.specs.declared.lexeme.LexemeKind.{LexemeKind}
 use Rattle.types_parse.specs.grammar.File.{TypeOutside, PartOutside, Outside, file_due, decl_due, param_due, param_read, params_read, name_read, body_due, constr_due, upper_read, of_read, field_due, mutable_read, field_named, record_read, FileState, declarations}
@@ -53,7 +53,7 @@ inside_written ns fs phase s h kind steps.Ended all frames i = let f =
     (inner_follows ns fs phase s kind h) in ends_written h.bottom (step_of s kind) kind all f.0
 inside_written ns fs phase s h kind steps.Stops all frames i = tt
 
--- Outside of types, no phase is inside a type.
+-- No phase outside of types is a phase inside a type.
 never_in_type : (q : Outside) (around : Around) (phase : ParsePhase) → files.InType around phase
     ≡ phase_of q → ⊥
 never_in_type (file_due gs) around phase e = absurd (cc)

@@ -168,7 +168,7 @@ module _ {W P O Text : Type 0} (o : Outer W P O Text) (b : Bottom W P) where
   begin_item_follows (alone q) ns [] kind i r = refl
   begin_item_follows p ns fs kind i r = absurd r
 
-  -- A new node is what was read last.
+  -- If a new node is the part read last, then the code's step agrees with the table's step.
   reads_new : (p : PartHole W P) (a : App) (ns : List TypeTreeNode) (fs : List OpenConstruct) (node : TypeTreeNode)
       (d : ℕ) → IsAt (ns ++ node ∷ []) (length ns) (type_of_app a) → d ≡ min 201 (app_depth a) →
       AreOrdered (ns ++ node ∷ []) → part_frames b p ns fs →
@@ -453,7 +453,7 @@ module _ {W P O Text : Type 0} (o : Outer W P O Text) (b : Bottom W P) where
       })
       (part_ordered v.at s.at i) (type_frames_more b h ns (nodes.Part w.node q.node ∷ []) fs r)
 
-  -- An outermost component.
+  -- After an outermost component, the code's step agrees with the table's step.
   type_outermost : (w : W) (a : App) (ns : List TypeTreeNode) (q : OpenPart) (kind : LexemeKind) →
       b ≡ at_type w → HasLast ns (type_of_app a) (app_depth a) q → AreOrdered ns →
       Follows (after_type o (whole w) (single a) kind) kind (outermost_code (is_alone b) ns q kind)

@@ -26,7 +26,7 @@ use Rattle.types_parse.proofs.parse.WholeLemmas.{may_end, Ends, whole_ends}
 abbrev bottom : Bottom End Nowhere
 bottom = at_type end
 
--- The nodes, frames and phase represent this state.
+-- The nodes, frames and phase represent the state `s`, and the nodes are ordered.
 pub record IsShown (ns : List TypeTreeNode) (fs : List OpenConstruct) (phase : ParsePhase) (s : TypeState) : Type 0 where
   pub shown : type_shown (at_type end) ns fs phase s
   pub ordered : AreOrdered ns

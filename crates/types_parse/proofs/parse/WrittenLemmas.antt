@@ -1,4 +1,4 @@
--- Lemmas about the declarations so far and one more.
+-- Lemmas about appending a declaration to the declarations read so far.
 use Rattle.std.proofs.Common.{◌≡◌, ◌∙◌, Bool, List, [], ◌∷◌, ◌++◌, length, map, refl, sym, ap, append_assoc}
 use Rattle.types_parse.specs.grammar.Grammar.{DeclTree, GroupTree}
 use Rattle.types_parse.specs.grammar.File.{Before, nothing, so_far, head_of, rest_of, GroupHole, group_with}
@@ -16,7 +16,8 @@ pub map_more : {X Y : Type 0} (f : X → Y) (xs : List X) (x : X) → map f (xs 
 map_more f [] x = refl
 map_more f (y ∷ xs) x = ap (λ ys. f y ∷ ys) (map_more f xs x)
 
--- Mapping a function over a list so far and one more item.
+-- If a function is mapped over the items read so far and one more, the image of the last item comes
+-- last.
 pub row_map : {X Y : Type 0} (f : X → Y) (b : Before X) (x : X) → map f (head_of b x ∷ rest_of b x)
     ≡ map f (row_list b) ++ f x ∷ []
 row_map f b x = ap (map f) (row_more b x) ∙ map_more f (row_list b) x
@@ -26,7 +27,8 @@ after_more : (before : List Decl) (gs : List GroupTree) (g : GroupTree) → decl
 after_more before [] g = refl
 after_more before (h ∷ gs) g = after_more (with_group before h) gs g
 
--- The declarations of a file whose last group ends with this declaration.
+-- If the last group of a file ends with a declaration, then the declaration comes last in the
+-- file's declarations.
 pub group_ends : (g : GroupHole) (d : DeclTree) (ended : Bool) →
     declarations_of (group_with g d ended) ≡ (group_of g).decls ++ declaration_of_tree
     (group_of g).group d ∷ []

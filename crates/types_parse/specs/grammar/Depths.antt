@@ -23,7 +23,7 @@ abbrev mutual
   texpr_depth (single a) = app_depth a
   texpr_depth (starred t a) = suc (max (part_depth t) (app_depth a))
 
-  -- The depth of the deepest component so far.
+  -- The depth of the deepest component among the components read so far.
   pub part_depth : Texpr → ℕ
   part_depth (single a) = app_depth a
   part_depth (starred t a) = max (part_depth t) (app_depth a)
@@ -52,11 +52,11 @@ abbrev mutual
   item_depth (tag_of name t) = texpr_depth t
   item_depth (included a) = app_depth a
 
--- For each lexeme, the depth of the deepest type of the tree that ends there, or 0 if none does. A
--- prefix of an application or of a tuple is a type of its own. In `a * b c`, however, the tuple `a
--- * b` is not counted, because it is a type only in another tree that begins with the same lexemes.
+-- For each lexeme, the depth of the deepest type of the tree that ends at the lexeme, or 0 if no
+-- type ends at the lexeme. A prefix of an application or of a tuple counts as a type. The tuple `a
+-- * b` in `a * b c` does not count, because `a * b` is a type only in another tree.
 
--- The last lexeme ends a type of this depth.
+-- The list of depths for lexemes of which the last one ends a type of depth `n`.
 abbrev pub at_last : ℕ → List ℕ → List ℕ
 at_last n [] = []
 at_last n (m ∷ []) = max m n ∷ []

@@ -1,6 +1,6 @@
--- The grammar of declarations and types, as trees of lexemes. It covers a part of the syntax of
--- type definitions and type expressions in OCaml's reference manual. A tree has one case for each
--- production. Here a name is any list of bytes; the lexer only produces valid names.
+-- The grammar of declarations and types, as trees of lexemes. The grammar covers a part of the
+-- syntax of type definitions and type expressions in OCaml's reference manual. A tree has one case
+-- for each production. A name in a tree is any list of bytes; the lexer only produces valid names.
 use Rattle.std.specs.Prelude.{ℕ, Bool, true, false, List, [], ◌∷◌, ◌++◌}
 use Rattle.std.specs.List.{flat_map}
 use Rattle.types_lex.specs.declared.lexeme.LexemeKind.{LexemeKind}
@@ -30,9 +30,9 @@ mutual
     variable : Name → Simple
     named : Name → Simple
     grouped : Texpr → Simple
-    -- Two or more arguments, and the name of the type constructor.
+    -- Two or more arguments in parentheses, and the name of the type constructor.
     arguments : Texprs → Texpr → Name → Simple
-    -- With or without a leading bar.
+    -- The items in brackets, with a leading bar if the first argument is true.
     bracket : Bool → Items → Simple
 
   -- texpr { "," texpr }
@@ -98,7 +98,7 @@ abbrev mutual
 
 -- ---- declarations
 
--- Nothing, a VAR, or names in parentheses, separated by commas.
+-- The parameters of a declaration: nothing, a VAR, or names in parentheses, separated by commas.
 pub data Params : Type 0 where
   no_params : Params
   param : Name → Params
@@ -157,7 +157,7 @@ word_if false keyword = []
 abbrev pub variable_kind : Name → Kinds
 variable_kind name = kinds.Variable name ∷ []
 
--- Each element, preceded by these lexemes.
+-- The lexemes of the elements of `all`, where the lexemes `before` precede each element.
 abbrev pub each_after : {X : Type 0} → Kinds → (X → Kinds) → List X → Kinds
 each_after before encoded all = flat_map (λ x. before ++ encoded x) all
 

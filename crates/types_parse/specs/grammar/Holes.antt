@@ -1,6 +1,6 @@
--- The states of the parsing table inside a type: the tree that was read last, within its context so
--- far. The context of the whole type, or of a type that is not a tuple, belongs to another grammar
--- and is a parameter.
+-- The states of the parsing table inside a type. A state consists of the tree that was read last
+-- and the context read so far. The context of the whole type, or of a type that is not a tuple,
+-- belongs to another grammar and is a parameter.
 use Rattle.std.specs.Prelude.{ℕ, suc, Bool, true, false, Option, Some, None, [], ◌∷◌, ◌++◌}
 use Rattle.types_lex.specs.declared.lexeme.LexemeKind.{LexemeKind}
 use Rattle.types_lex.specs.declared.lexeme.LexemeKind.TheVariants as kinds
@@ -47,14 +47,14 @@ mutual
     argument : PartHole W P → Texprs → TypeHole W P
     of_tag : ItemHole W P → Name → TypeHole W P
 
-  -- The context of a component.
+  -- The context of a component of a type.
   pub data PartHole (W P : Type 0) : Type 0 where
     first_part : TypeHole W P → PartHole W P
     next_part : TypeHole W P → Texpr → PartHole W P
     inclusion : ItemHole W P → PartHole W P
     alone : P → PartHole W P
 
-  -- The context of an item.
+  -- The context of an item of a bracket.
   pub data ItemHole (W P : Type 0) : Type 0 where
     first_item : PartHole W P → Bool → ItemHole W P
     next_item : PartHole W P → Bool → Items → ItemHole W P
@@ -62,12 +62,13 @@ mutual
 pub data State (W P O : Type 0) : Type 0 where
   due : PartHole W P → State W P O
   read : PartHole W P → App → State W P O
-  -- After the parenthesis that closes several arguments.
+  -- The state after the parenthesis that closes several arguments.
   name_due : PartHole W P → Texprs → Texpr → State W P O
   tag_read : ItemHole W P → Name → State W P O
   outside : O → State W P O
 
--- The grammar outside of types.
+-- The grammar outside of types: the steps, the lexemes read, the open brackets and the closed
+-- texts.
 pub record Outer (W P O Text : Type 0) : Type 0 where
   pub type_step : W → Texpr → LexemeKind → Option (State W P O)
   pub part_step : P → App → LexemeKind → Option (State W P O)
@@ -192,7 +193,7 @@ module _ {W P O Text : Type 0} (o : Outer W P O Text) where
   prefix (tag_read h x) = item_prefix h ++ kinds.Tag x ∷ []
   prefix (outside q) = o.prefix_of_outside q
 
-  -- The number of open brackets.
+  -- The number of brackets that are open in a context.
   abbrev mutual
     pub type_open : TypeHole W P → ℕ
     type_open (whole w) = o.open_of_type w

@@ -4,7 +4,7 @@ use Rattle.types_parse.specs.grammar.Grammar.{Kinds}
 use Rattle.types_parse.specs.grammar.Refusals.{IsSyntax, IsDeep, Reading, IsReading}
 
 module _ {Text : Type 0} (encoded : Text → Kinds) where
-  -- At most one tree has these lexemes.
+  -- At most one tree has a given list of lexemes.
   abbrev pub HasOneTree : Type 0
   HasOneTree = (t u : Text) → encoded t ≡ encoded u → t ≡ u
 
@@ -21,7 +21,7 @@ module _ {Text : Type 0} (encoded : Text → Kinds) where
   HasNoSyntax = (t : Text) (k : ℕ) → IsSyntax encoded (encoded t) k → ⊥
 
 module _ {Text : Type 0} (encoded : Text → Kinds) (ends : Text → List ℕ) where
-  -- A tree has one depth for each of its lexemes.
+  -- The list of depths of a tree is as long as the tree's list of lexemes.
   abbrev pub HasEndsForEach : Type 0
   HasEndsForEach = (t : Text) → length (ends t) ≡ length (encoded t)
 

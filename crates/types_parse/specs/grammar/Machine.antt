@@ -1,4 +1,5 @@
--- A table that reads lexemes one by one. A state stands for the lexemes read so far.
+-- A table that reads lexemes one by one. Each state of the table stands for the lexemes read so
+-- far.
 use Rattle.std.specs.Prelude.{ℕ, ◌≡◌, ◌≤◌, Option, Some, List, [], ◌∷◌, option_and_then}
 use Rattle.types_lex.specs.declared.lexeme.LexemeKind.{LexemeKind}
 use Rattle.types_parse.specs.grammar.Grammar.{Kinds}

@@ -24,7 +24,7 @@ use Rattle.types_parse.specs.grammar.Grammar.{Kinds}
 
 -- ---- brackets
 
--- The number of open brackets after this lexeme, given the number before it.
+-- The number of open brackets after a lexeme, where `n` is the number before the lexeme.
 abbrev pub opened : LexemeKind → ℕ → ℕ
 opened (kinds.Symbol symbols.OpenParen) n = suc n
 opened (kinds.Symbol symbols.OpenBracket) n = suc n
@@ -55,9 +55,9 @@ module _ {Text : Type 0} (encoded : Text → Kinds) where
 -- ---- too deep
 
 module _ {Text : Type 0} (encoded : Text → Kinds) (ends : Text → List ℕ) where
-  -- Some text begins with the lexemes up to and including lexeme `k`. In that text a type of depth
-  -- above 200 ends at `k`, or more than 200 brackets are open after `k`. The type may continue in
-  -- the given lexemes.
+  -- Some text begins with the lexemes up to and including lexeme `k`. In the text, a type of depth
+  -- above 200 ends at `k`, or more than 200 brackets are open after `k`. In the given lexemes, the
+  -- type that ends at `k` may continue after `k`.
   pub record IsDeep (lexemes : Kinds) (k : ℕ) : Type 0 where
     pub text : Text
     pub rest : Kinds
@@ -65,17 +65,18 @@ module _ {Text : Type 0} (encoded : Text → Kinds) (ends : Text → List ℕ) w
     pub begins : encoded text ≡ take (suc k) lexemes ++ rest
     pub deep : (200 < slice_index (ends text) k) ⊎ (200 < open_after 0 (take (suc k) lexemes))
 
-  -- The first position that is too deep. The lexemes up to it begin some text.
+  -- Position `k` is the first position at which the lexemes are too deep. Some text begins with the
+  -- lexemes up to and including `k`.
   pub record IsTooDeep (lexemes : Kinds) (k : ℕ) : Type 0 where
     pub deep : IsDeep lexemes k
     pub first : (j : ℕ) → j < k → IsDeep lexemes j → ⊥
 
-  -- The error at `k` is a syntax error, and no position before `k` is too deep.
+  -- The lexemes have a syntax error at `k`, and no position before `k` is too deep.
   pub record IsRefusedAsSyntax (lexemes : Kinds) (k : ℕ) : Type 0 where
     pub syntax : IsSyntax encoded lexemes k
     pub shallow : (j : ℕ) → j < k → IsDeep lexemes j → ⊥
 
-  -- The lexemes are this text, and no position is too deep.
+  -- The lexemes are those of `text`, and no position is too deep.
   pub record IsText (lexemes : Kinds) (text : Text) : Type 0 where
     pub encodes : encoded text ≡ lexemes
     pub shallow : (j : ℕ) → IsDeep lexemes j → ⊥

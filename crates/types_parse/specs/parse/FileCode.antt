@@ -108,7 +108,7 @@ listed_code c x all (kinds.Symbol symbols.Star) =
     Some (files.InType (arounds.Argument c x all) phases.Due)
 listed_code c x all kind = after_constr_code c (constr_code x (arguments.Listed all)) kind
 
--- After a complete type, in its context.
+-- The phase after a complete type in its context and one lexeme, or `None` on a syntax error.
 abbrev pub after_type_code : Around → Ty → LexemeKind → Option FilePhase
 after_type_code (arounds.Body b) t kind = after_decl_code b.group
     (decl_code b (bodies.Abbreviation t)) kind
@@ -180,7 +180,8 @@ begin_arguments_code ns fs c x (kinds.Symbol symbols.OpenBrace) =
 begin_arguments_code ns fs c x kind = in_type_code (arounds.Argument c x []) kind
     (begin_code ns fs kind)
 
--- The brace that closes the fields after a semicolon.
+-- The phase after the closing brace of a record that directly follows a semicolon, or `None` if the
+-- record has no field.
 abbrev pub close_record_code : Fields → List Field → Option FilePhase
 close_record_code f [] = None
 close_record_code f (field ∷ more) = Some (files.RecordRead f)
@@ -237,7 +238,7 @@ abbrev pub closed_constr_code : Constructors → Constructor → List Decl
 closed_constr_code c k = more_decls c.declared.group
     (decl_code c.declared (bodies.Variant (c.constructors ++ k ∷ [])))
 
--- A complete type at the end of the file.
+-- The declarations of a file that ends with a complete type, or `None` if a record is open.
 abbrev pub closed_type_code : Around → Ty → Option (List Decl)
 closed_type_code (arounds.Body b) t =
     Some (more_decls b.group (decl_code b (bodies.Abbreviation t)))
@@ -258,7 +259,8 @@ abbrev pub FileSteps : {E : Type 0} → Result (Option FilePhase) E → List Typ
 FileSteps (Ok phase) ns fs next = FileStepIs phase ns fs next
 FileSteps (Err e) ns fs next = ⊤
 
--- A step of the type parser, in the context of the type.
+-- The step of the file parser that corresponds to a step of the type parser in the context of the
+-- type.
 abbrev pub after_step : Around → LexemeKind → List OpenConstruct → TypeStep → List TypeTreeNode
     → FileStep
 after_step around kind fs (steps.Goes phase) ns = file_goes ns fs (files.InType around phase)
@@ -266,7 +268,8 @@ after_step around kind fs steps.Ended ns =
     outside_of [] fs (after_type_code around (type_of ns) kind)
 after_step around kind fs steps.Stops ns = file_stops
 
--- The declarations of a complete file.
+-- The declarations of a file that ends while a type is being read, or `None` if the type is not
+-- complete.
 abbrev pub in_type_whole : Around → Option (List TypeTreeNode) → Option (List Decl)
 in_type_whole around (Some all) = closed_type_code around (type_of all)
 in_type_whole around None = None

@@ -56,7 +56,7 @@ use Rattle.types_parse.specs.declared.parse.so_far.FilePhase.{FilePhase}
 use Rattle.types_parse.specs.declared.parse.so_far.FilePhase.TheVariants as files
 use Rattle.types_parse.specs.parse.TypeShown.{Bottom, at_type, at_part, type_shown}
 
--- The items of a list so far.
+-- The items of a list with separators that were read so far.
 abbrev pub row_list : {X : Type 0} → Before X → List X
 row_list nothing = []
 row_list (so_far x more) = x ∷ more
@@ -115,7 +115,7 @@ phase_of (field_named r b mutable x) = files.FieldNamed (fields_of r b) mutable 
 phase_of (record_read r t) = files.RecordRead
     (record { position = record_of r; fields = fields_of_tree t })
 
--- A type is being read, in its context.
+-- The nodes, the frames and the phase represent the state `s`, in which a type is being read.
 pub record IsInType (ns : List TypeTreeNode) (fs : List OpenConstruct) (phase : FilePhase)
     (s : FileState) : Type 0
   where
@@ -135,7 +135,7 @@ file_shown ns fs phase s = IsInType ns fs phase s
 abbrev pub IsReadable : List TypeTreeNode → List OpenConstruct → FilePhase → Type 0
 IsReadable ns fs phase = (s : FileState) × file_shown ns fs phase s
 
--- If a type ended, its nodes are ordered.
+-- If the step ended a type, then the nodes of the type are ordered.
 abbrev pub IfEnded : TypeStep → List TypeTreeNode → Type 0
 IfEnded steps.Ended ns = AreOrdered ns
 IfEnded step ns = ⊤

@@ -28,7 +28,7 @@ deeper depth = min 201 (suc depth)
 abbrev pub part : ℕ → ℕ → OpenPart
 part node depth = record { node = node; depth = depth }
 
--- One more node, which is what was read last.
+-- The step that appends a node, after which the new node is the part read last.
 abbrev pub reads : List TypeTreeNode → List OpenConstruct → TypeTreeNode → ℕ → StepCode
 reads ns fs node depth = goes (ns ++ node ∷ []) fs (phases.Read (part (length ns) depth))
 
@@ -49,7 +49,7 @@ begin_code ns fs (kinds.Symbol symbols.OpenBracket) = goes (ns ++ nodes.Bracket 
     (frames.Opened false (length ns) ∷ fs) phases.Due
 begin_code ns fs kind = begin_item_code ns fs kind
 
--- An item added to a bracket.
+-- The node of the bracket `whole` with one further item.
 abbrev pub item_node : ℕ → OpenItem → TypeTreeNode
 item_node whole (items.Tag x) = nodes.Tag whole x
 item_node whole (items.TagOf x t) = nodes.TagOf whole x t.node
@@ -115,7 +115,8 @@ after_tuple_code ns fs r a (kinds.Symbol symbols.Star) = goes (ns ++ nodes.Part 
 after_tuple_code ns fs r a kind = close_type_code (ns ++ nodes.Part r.node a.node ∷ []) fs
     (part (length ns) (deeper (max r.depth a.depth))) kind
 
--- A component outside of every frame. It may be the first of a tuple, unless it stands alone.
+-- The step after a component outside of every frame. Unless the component stands alone, the
+-- component may be the first of a tuple.
 abbrev pub outermost_code : Bool → List TypeTreeNode → OpenPart → LexemeKind → StepCode
 outermost_code true ns a kind = ended ns []
 outermost_code false ns a kind = after_single_code ns [] a kind
@@ -136,7 +137,7 @@ after_part_code alone ns fs a (kinds.Lower x) = reads (ns ++ nodes.Named x ∷ [
     (nodes.Part (length ns) a.node) (deeper a.depth)
 after_part_code alone ns fs a kind = close_part_code alone ns fs a kind
 
--- The nodes after these parts are added to node `n`.
+-- The nodes after a list of parts was added to node `n`.
 abbrev pub parts_nodes : List TypeTreeNode → ℕ → List ℕ → List TypeTreeNode
 parts_nodes ns n [] = ns
 parts_nodes ns n (a ∷ more) = parts_nodes (ns ++ nodes.Part n a ∷ []) (length ns) more
@@ -172,7 +173,7 @@ abbrev pub depth_code : List OpenConstruct → ParsePhase → ℕ
 depth_code fs (phases.Read a) = part_depth_code fs a
 depth_code fs phase = 0
 
--- The nodes of the complete type, if every construct is closed.
+-- The nodes of the complete type, or `None` if a construct is open.
 abbrev pub whole_part_code : List TypeTreeNode → List OpenConstruct → OpenPart
     → Option (List TypeTreeNode)
 whole_part_code ns [] a = Some ns

@@ -22,29 +22,30 @@ use Rattle.types_parse.specs.declared.parse.open.ParsePhase.TheVariants as phase
 
 -- ---- indices of nodes
 
--- Node `n` is this type.
+-- The type of node `n` is `t`.
 pub record IsAt (ns : List TypeTreeNode) (n : ℕ) (t : Ty) : Type 0 where
   pub below : n < length ns
   pub is : type_at (types_of ns) n ≡ t
 
--- These nodes are these types.
+-- The nodes with these indices have these types, in order.
 abbrev pub AreAt : List TypeTreeNode → List ℕ → List Ty → Type 0
 AreAt ns [] [] = ⊤
 AreAt ns (n ∷ all) (t ∷ ts) = IsAt ns n t × AreAt ns all ts
 AreAt ns all ts = ⊥
 
--- A type so far, with its depth.
+-- The part `r` represents a type of depth `depth` that was read so far.
 pub record Has (ns : List TypeTreeNode) (t : Ty) (depth : ℕ) (r : OpenPart) : Type 0 where
   pub at : IsAt ns r.node t
   pub capped : r.depth ≡ min 201 depth
 
--- Arguments so far, with their depth.
+-- The indices `all` and the depth `d` represent the arguments read so far, whose greatest depth is
+-- `depth`.
 pub record HasAll (ns : List TypeTreeNode) (ts : List Ty) (depth : ℕ) (all : List ℕ)
     (d : ℕ) : Type 0 where
   pub at : AreAt ns all ts
   pub capped : d ≡ min 201 depth
 
--- What was read last is the last node.
+-- The part `r` represents the type `t`, and the part's node is the last node.
 pub record HasLast (ns : List TypeTreeNode) (t : Ty) (depth : ℕ) (r : OpenPart) : Type 0 where
   pub has : Has ns t depth r
   pub last : suc r.node ≡ length ns

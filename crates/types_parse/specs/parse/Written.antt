@@ -52,7 +52,7 @@ abbrev mutual
   type_of_texpr (trees.single a) = type_of_app a
   type_of_texpr (trees.starred t a) = part (tuple_of t) (type_of_app a)
 
-  -- The tuple of the components so far.
+  -- The tuple of the components read so far.
   pub tuple_of : Texpr → Ty
   tuple_of (trees.single a) = part tuple (type_of_app a)
   tuple_of (trees.starred t a) = part (tuple_of t) (type_of_app a)

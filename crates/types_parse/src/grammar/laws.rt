@@ -26,7 +26,7 @@ pub fn no_syntax_in_texts()
     ensures files { HasNoSyntax file_kinds }
 {}
 
-/// Proves that a tree has one depth for each of its lexemes.
+/// Proves that the list of depths of a tree is as long as the tree's list of lexemes.
 pub fn ends_for_each()
     ensures types { HasEndsForEach texpr texpr_ends }
     ensures files { HasEndsForEach file_kinds file_ends }

@@ -1,4 +1,4 @@
-//! The end of a file of declarations.
+//! The last step of the file parser, after the last lexeme of the file.
 
 ghost use Rattle.std.specs.Prelude.{◌≡◌, IfOk};
 ghost use Rattle.types_parse.specs.declared.parse.so_far.FilePhase.TheVariants as files;
@@ -9,38 +9,25 @@ ghost use Rattle.types_parse.specs.parse.FileCode.{in_type_whole};
 ghost use Rattle.types_parse.specs.parse.FileCode.{file_whole_code};
 ghost use Rattle.types_parse.specs.parse.FileShown.{IsReadable};
 
-use crate::parse::file_step::with_decl;
+use crate::parse::file_step::{decl_with, with_decl};
 use crate::parse::known::whole;
 use crate::parse::open::ParsePhase;
-use crate::parse::parse_stack::ParseStack;
 use crate::parse::so_far::{Around, Constructors, Declared, Fields, FilePhase, RecordOf};
+use crate::parse::type_step::TypeSoFar;
 use base_data::model::Memory;
 use base_data::model::list::List;
 use types_spec::types::decl::{Arguments, Body, Constructor, Decl};
-use types_spec::types::ty::{Ty, TypeTreeNode};
+use types_spec::types::ty::Ty;
 
-/// Returns all declarations, closed with this body.
+/// Returns all declarations of the file, where the last declaration has this body.
 fn closed_body(declared: Declared, body: Body) -> Result<List<Decl>, Memory>
     ensures { IfOk result (λ all. all ≡ more_decls declared.group (decl_code declared body)) }
 {
-    let Declared {
-        group,
-        parameters,
-        name,
-    } = declared;
-    let number = group.group;
-    with_decl(
-        group.decls,
-        Decl {
-            name,
-            parameters,
-            body,
-            group: number,
-        },
-    )
+    let (group, decl) = decl_with(declared, body);
+    with_decl(group.decls, decl)
 }
 
-/// Returns all declarations, closed with this last constructor.
+/// Returns all declarations of the file, where the last variant type ends with this constructor.
 fn closed_constr(constructors: Constructors, constructor: Constructor) -> Result<List<Decl>, Memory>
     ensures { IfOk result (λ all. all ≡ closed_constr_code constructors constructor) }
 {
@@ -52,7 +39,7 @@ fn closed_constr(constructors: Constructors, constructor: Constructor) -> Result
     closed_body(declared, Body::Variant(constructors))
 }
 
-/// Returns all declarations, closed with this record.
+/// Returns all declarations of the file, which ends with this record.
 fn closed_record(fields: Fields) -> Result<List<Decl>, Memory>
     ensures { IfOk result (λ all. all ≡ closed_record_code fields.position fields.fields) }
 {
@@ -69,7 +56,8 @@ fn closed_record(fields: Fields) -> Result<List<Decl>, Memory>
     }
 }
 
-/// Returns all declarations, closed with this last type. Returns `None` if a record is open.
+/// Returns all declarations of the file, which ends with this type. Returns `None` if a record is
+/// open.
 fn closed_type(around: Around, ty: Ty) -> Result<Option<List<Decl>>, Memory>
     ensures { IfOk result (λ all. all ≡ closed_type_code around ty) }
 {
@@ -90,20 +78,20 @@ fn closed_type(around: Around, ty: Ty) -> Result<Option<List<Decl>>, Memory>
     }
 }
 
-/// Returns all declarations, closed with the type that is being read. Returns `None` if the type
-/// cannot end here.
+/// Returns all declarations of the file, if the file ends while a type is being read. Returns
+/// `None` if the type cannot end after the last lexeme.
 fn closed_in_type(
-    mut nodes: Vec<TypeTreeNode>,
-    mut frames: ParseStack,
+    mut so_far: TypeSoFar,
     around: Around,
     phase: ParsePhase,
 ) -> Result<Option<List<Decl>>, Memory>
-    requires { IsReadable nodes.items frames (files.InType around phase) }
+    requires { IsReadable so_far.nodes.items so_far.frames (files.InType around phase) }
     ensures { IfOk result
-        (λ all. all ≡ in_type_whole around (whole_code nodes.items frames phase)) }
+        (λ all. all ≡ in_type_whole around
+        (whole_code so_far.nodes.items so_far.frames phase)) }
 {
-    match whole(&mut nodes, &mut frames, phase) {
-        Ok(true) => closed_type(around, Ty::of(nodes)),
+    match whole(&mut so_far, phase) {
+        Ok(true) => closed_type(around, Ty::of(so_far.nodes)),
         Ok(false) => {
             drop(around);
             Ok(None)
@@ -115,15 +103,12 @@ fn closed_in_type(
     }
 }
 
-/// Returns the declarations of the file. Returns `None` if the file cannot end here, which is a
-/// syntax error at its end. Fails only if memory runs out.
-pub fn file_whole(
-    nodes: Vec<TypeTreeNode>,
-    frames: ParseStack,
-    phase: FilePhase,
-) -> Result<Option<List<Decl>>, Memory>
-    requires { IsReadable nodes.items frames phase }
-    ensures { IfOk result (λ all. all ≡ file_whole_code nodes.items frames phase) }
+/// Returns the declarations of the file. Returns `None` if the file cannot end in this phase; the
+/// syntax error is then at the end of the file. Fails only if memory runs out.
+pub fn file_whole(so_far: TypeSoFar, phase: FilePhase) -> Result<Option<List<Decl>>, Memory>
+    requires { IsReadable so_far.nodes.items so_far.frames phase }
+    ensures { IfOk result
+        (λ all. all ≡ file_whole_code so_far.nodes.items so_far.frames phase) }
 {
     match phase {
         FilePhase::FileDue(decls) => Ok(Some(decls)),
@@ -135,7 +120,7 @@ pub fn file_whole(
             Ok(Some(closed_constr(constructors, constructor)?))
         }
         FilePhase::RecordRead(fields) => Ok(Some(closed_record(fields)?)),
-        FilePhase::InType(around, phase) => closed_in_type(nodes, frames, around, phase),
+        FilePhase::InType(around, phase) => closed_in_type(so_far, around, phase),
         other => {
             drop(other);
             Ok(None)

@@ -14,11 +14,11 @@ ghost use Rattle.types_parse.specs.parse.FileCode.{after_upper_code};
 ghost use Rattle.types_parse.specs.parse.FileCode.{close_record_code, begin_field_code};
 ghost use Rattle.types_parse.specs.parse.FileCode.{take_field_name_code, take_colon_code};
 
-use crate::parse::names::copied;
 use crate::parse::open::ParsePhase;
 use crate::parse::so_far::{Around, Constructors, Declared, Fields, FilePhase, Group, RecordOf};
 use base_data::model::Memory;
 use base_data::model::list::List;
+use base_data::text::copied_name;
 use std::alloc::Global;
 use types_lex::lexeme::{Keyword, LexemeKind, Symbol};
 use types_spec::types::decl::{Arguments, Body, Constructor, Decl, Field};
@@ -40,7 +40,7 @@ fn group_after(decls: List<Decl>) -> Group
     Group { decls, group }
 }
 
-/// Returns the phase after a declaration and this lexeme, or `None` on a syntax error.
+/// Returns the phase after a declaration and the lexeme `kind`, or `None` on a syntax error.
 fn after_decl(group: Group, decl: Decl, kind: &LexemeKind) -> Result<Option<FilePhase>, Memory>
     ensures { IfOk result (λ phase. phase ≡ after_decl_code group decl kind.now) }
 {
@@ -54,7 +54,26 @@ fn after_decl(group: Group, decl: Decl, kind: &LexemeKind) -> Result<Option<File
     }
 }
 
-/// Returns the phase after a body and this lexeme, or `None` on a syntax error.
+/// Returns the declaration with this body, and the group to which the declaration belongs.
+pub fn decl_with(declared: Declared, body: Body) -> (Group, Decl)
+    ensures { result ≡ (declared.group, decl_code declared body) }
+{
+    let Declared {
+        group,
+        parameters,
+        name,
+    } = declared;
+    let number = group.group;
+    let decl = Decl {
+        name,
+        parameters,
+        body,
+        group: number,
+    };
+    (group, decl)
+}
+
+/// Returns the phase after a body and the next lexeme, or `None` on a syntax error.
 fn after_body(
     declared: Declared,
     body: Body,
@@ -63,25 +82,11 @@ fn after_body(
     ensures { IfOk result
         (λ phase. phase ≡ after_decl_code declared.group (decl_code declared body) kind.now) }
 {
-    let Declared {
-        group,
-        parameters,
-        name,
-    } = declared;
-    let number = group.group;
-    after_decl(
-        group,
-        Decl {
-            name,
-            parameters,
-            body,
-            group: number,
-        },
-        kind,
-    )
+    let (group, decl) = decl_with(declared, body);
+    after_decl(group, decl, kind)
 }
 
-/// Returns the phase after a constructor and this lexeme, or `None` on a syntax error.
+/// Returns the phase after a constructor and the lexeme `kind`, or `None` on a syntax error.
 fn after_constr(
     constructors: Constructors,
     constructor: Constructor,
@@ -103,7 +108,7 @@ fn after_constr(
     }
 }
 
-/// Returns the phase after a record and this lexeme, or `None` on a syntax error.
+/// Returns the phase after a record and the lexeme `kind`, or `None` on a syntax error.
 pub fn after_record(fields: Fields, kind: &LexemeKind) -> Result<Option<FilePhase>, Memory>
     ensures { IfOk result
         (λ phase. phase ≡ after_record_code fields.position fields.fields kind.now) }
@@ -122,7 +127,7 @@ pub fn after_record(fields: Fields, kind: &LexemeKind) -> Result<Option<FilePhas
     }
 }
 
-/// Returns the phase after a field and this lexeme, or `None` on a syntax error.
+/// Returns the phase after a field and the lexeme `kind`, or `None` on a syntax error.
 fn after_field(fields: Fields, field: Field, kind: &LexemeKind) -> Result<Option<FilePhase>, Memory>
     ensures { IfOk result (λ phase. phase ≡ after_field_code fields field kind.now) }
 {
@@ -144,8 +149,8 @@ fn after_field(fields: Fields, field: Field, kind: &LexemeKind) -> Result<Option
     }
 }
 
-/// Returns the phase after an argument of a constructor and this lexeme, or `None` on a syntax
-/// error.
+/// Returns the phase after an argument of a constructor and the lexeme `kind`, or `None` on a
+/// syntax error.
 fn after_argument(
     constructors: Constructors,
     name: List<u8>,
@@ -170,7 +175,7 @@ fn after_argument(
     }
 }
 
-/// Returns the phase after a complete type and this lexeme, or `None` on a syntax error.
+/// Returns the phase after a complete type and the lexeme `kind`, or `None` on a syntax error.
 pub fn after_type(around: Around, ty: Ty, kind: &LexemeKind) -> Result<Option<FilePhase>, Memory>
     ensures { IfOk result (λ phase. phase ≡ after_type_code around ty kind.now) }
 {
@@ -203,7 +208,7 @@ fn one(alloc: Global, name: &List<u8>) -> Result<List<List<u8>>, Memory>
     ensures { IfOk result (λ all. all ≡ name.now ∷ []) }
 {
     let mut names = List::new(alloc);
-    names.push(copied(alloc, name)?)?;
+    names.push(copied_name(alloc, name)?)?;
     Ok(names)
 }
 
@@ -224,7 +229,7 @@ pub fn begin_decl(
         LexemeKind::Lower(name) => Ok(Some(FilePhase::NameRead(Declared {
             group,
             parameters: List::new(alloc),
-            name: copied(alloc, name)?,
+            name: copied_name(alloc, name)?,
         }))),
         _ => Ok(None),
     }
@@ -241,7 +246,7 @@ pub fn take_param(
 {
     match kind {
         LexemeKind::Variable(name) => {
-            parameters.push(copied(alloc, name)?)?;
+            parameters.push(copied_name(alloc, name)?)?;
             Ok(Some(FilePhase::ParamRead(group, parameters)))
         }
         _ => Ok(None),
@@ -273,7 +278,7 @@ pub fn take_decl_name(
         LexemeKind::Lower(name) => Ok(Some(FilePhase::NameRead(Declared {
             group,
             parameters,
-            name: copied(alloc, name)?,
+            name: copied_name(alloc, name)?,
         }))),
         _ => Ok(None),
     }
@@ -300,7 +305,7 @@ pub fn take_upper(
     match kind {
         LexemeKind::Upper(name) => Ok(Some(FilePhase::UpperRead(
             constructors,
-            copied(alloc, name)?,
+            copied_name(alloc, name)?,
         ))),
         _ => Ok(None),
     }
@@ -336,7 +341,7 @@ fn field_named(
 ) -> Result<Option<FilePhase>, Memory>
     ensures { IfOk result (λ phase. phase ≡ Some (files.FieldNamed fields mutable name.now)) }
 {
-    let name = copied(alloc, name)?;
+    let name = copied_name(alloc, name)?;
     Ok(Some(FilePhase::FieldNamed(fields, mutable, name)))
 }
 
@@ -357,8 +362,8 @@ pub fn begin_field(
     }
 }
 
-/// Returns the phase after a closing brace where a field may begin, or `None` if the record has no
-/// field.
+/// Returns the phase after a closing brace at a position where a field may begin. Returns `None` if
+/// the record has no field.
 fn close_record(fields: Fields) -> Option<FilePhase>
     ensures { result ≡ close_record_code fields fields.fields }
 {

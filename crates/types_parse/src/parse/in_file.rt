@@ -15,17 +15,20 @@ use crate::parse::file_step::{
     take_colon, take_decl_name, take_equals, take_field_name, take_param, take_upper,
 };
 use crate::parse::known::depth;
-use crate::parse::names::copied;
 use crate::parse::open::{ParsePhase, TypeStep};
 use crate::parse::parse_stack::ParseStack;
 use crate::parse::so_far::{Around, Constructors, Declared, Fields, FilePhase, RecordOf};
-use crate::parse::type_step::{begin, step};
+use crate::parse::type_step::TypeSoFar;
 use base_data::model::Memory;
 use base_data::model::list::List;
+use base_data::text::copied_name;
 use std::alloc::Global;
 use std::mem;
 use types_lex::lexeme::{LexemeKind, Symbol};
 use types_spec::types::ty::{Ty, TypeTreeNode};
+
+/// The phase of a file after a lexeme, or `None` if no file continues with the lexeme.
+type NextPhase = Result<Option<FilePhase>, Memory>;
 
 /// Returns the phase of the file after a step of the type parser, or `None` on a syntax error.
 fn after_type_step(
@@ -34,7 +37,7 @@ fn after_type_step(
     around: Around,
     step: TypeStep,
     kind: &LexemeKind,
-) -> Result<Option<FilePhase>, Memory>
+) -> NextPhase
     requires { IfEnded step nodes.old.items }
     ensures { (fs : Seq AFrame)
         → FileSteps result nodes.new.items fs (after_step around kind.now fs step nodes.old.items) }
@@ -53,18 +56,13 @@ fn after_type_step(
 }
 
 /// Parses the first lexeme of a type. Returns `None` on a syntax error.
-fn begin_type(
-    alloc: Global,
-    nodes: &mut Vec<TypeTreeNode>,
-    frames: &mut ParseStack,
-    around: Around,
-    kind: &LexemeKind,
-) -> Result<Option<FilePhase>, Memory>
-    ensures { FileSteps result nodes.new.items frames.new
-        (in_type_code around kind.now (begin_code nodes.old.items frames.old kind.now)) }
+fn begin_type(alloc: Global, so_far: &mut TypeSoFar, around: Around, kind: &LexemeKind) -> NextPhase
+    ensures { FileSteps result so_far.new.nodes.items so_far.new.frames
+        (in_type_code around kind.now
+        (begin_code so_far.old.nodes.items so_far.old.frames kind.now)) }
 {
-    match begin(alloc, nodes, frames, kind) {
-        Ok(step) => after_type_step(alloc, nodes, around, step, kind),
+    match so_far.begin(alloc, kind) {
+        Ok(step) => after_type_step(alloc, &mut so_far.nodes, around, step, kind),
         Err(Memory) => {
             drop(around);
             Err(Memory)
@@ -79,22 +77,21 @@ fn is_argument(around: &Around) -> bool
     matches!(around, Around::Argument(_, _, _))
 }
 
-/// Parses one lexeme while a type is open. Returns `None` on a syntax error.
+/// Parses one lexeme of a file while a type is being read. Returns `None` on a syntax error.
 fn in_type(
     alloc: Global,
-    nodes: &mut Vec<TypeTreeNode>,
-    frames: &mut ParseStack,
+    so_far: &mut TypeSoFar,
     around: Around,
     phase: ParsePhase,
     kind: &LexemeKind,
-) -> Result<Option<FilePhase>, Memory>
-    requires { IsReadable nodes.old.items frames.old (files.InType around phase) }
-    ensures { FileSteps result nodes.new.items frames.new
+) -> NextPhase
+    requires { IsReadable so_far.old.nodes.items so_far.old.frames (files.InType around phase) }
+    ensures { FileSteps result so_far.new.nodes.items so_far.new.frames
         (in_type_code around kind.now
-        (step_code (is_argument around) nodes.old.items frames.old phase kind.now)) }
+        (step_code (is_argument around) so_far.old.nodes.items so_far.old.frames phase kind.now)) }
 {
-    match step(alloc, is_argument(&around), nodes, frames, phase, kind) {
-        Ok(step) => after_type_step(alloc, nodes, around, step, kind),
+    match so_far.step(alloc, is_argument(&around), phase, kind) {
+        Ok(step) => after_type_step(alloc, &mut so_far.nodes, around, step, kind),
         Err(Memory) => {
             drop(around);
             Err(Memory)
@@ -105,13 +102,12 @@ fn in_type(
 /// Parses the first lexeme of a declaration's body. Returns `None` on a syntax error.
 fn begin_body(
     alloc: Global,
-    nodes: &mut Vec<TypeTreeNode>,
-    frames: &mut ParseStack,
+    so_far: &mut TypeSoFar,
     declared: Declared,
     kind: &LexemeKind,
-) -> Result<Option<FilePhase>, Memory>
-    ensures { FileSteps result nodes.new.items frames.new
-        (begin_body_code nodes.old.items frames.old declared kind.now) }
+) -> NextPhase
+    ensures { FileSteps result so_far.new.nodes.items so_far.new.frames
+        (begin_body_code so_far.old.nodes.items so_far.old.frames declared kind.now) }
 {
     match kind {
         LexemeKind::Symbol(Symbol::OpenBrace) => Ok(Some(FilePhase::FieldDue(Fields {
@@ -127,23 +123,22 @@ fn begin_body(
                 declared,
                 constructors: List::new(alloc),
             },
-            copied(alloc, name)?,
+            copied_name(alloc, name)?,
         ))),
-        _ => begin_type(alloc, nodes, frames, Around::Body(declared), kind),
+        _ => begin_type(alloc, so_far, Around::Body(declared), kind),
     }
 }
 
 /// Parses the first lexeme of a constructor's arguments. Returns `None` on a syntax error.
 fn begin_arguments(
     alloc: Global,
-    nodes: &mut Vec<TypeTreeNode>,
-    frames: &mut ParseStack,
+    so_far: &mut TypeSoFar,
     constructors: Constructors,
     name: List<u8>,
     kind: &LexemeKind,
-) -> Result<Option<FilePhase>, Memory>
-    ensures { FileSteps result nodes.new.items frames.new
-        (begin_arguments_code nodes.old.items frames.old constructors name kind.now) }
+) -> NextPhase
+    ensures { FileSteps result so_far.new.nodes.items so_far.new.frames
+        (begin_arguments_code so_far.old.nodes.items so_far.old.frames constructors name kind.now) }
 {
     match kind {
         LexemeKind::Symbol(Symbol::OpenBrace) => Ok(Some(FilePhase::FieldDue(Fields {
@@ -152,8 +147,7 @@ fn begin_arguments(
         }))),
         _ => begin_type(
             alloc,
-            nodes,
-            frames,
+            so_far,
             Around::Argument(constructors, name, List::new(alloc)),
             kind,
         ),
@@ -164,14 +158,13 @@ fn begin_arguments(
 /// this lexeme.
 pub fn file_step(
     alloc: Global,
-    nodes: &mut Vec<TypeTreeNode>,
-    frames: &mut ParseStack,
+    so_far: &mut TypeSoFar,
     phase: FilePhase,
     kind: &LexemeKind,
-) -> Result<Option<FilePhase>, Memory>
-    requires { IsReadable nodes.old.items frames.old phase }
-    ensures { FileSteps result nodes.new.items frames.new
-        (file_step_code nodes.old.items frames.old phase kind.now) }
+) -> NextPhase
+    requires { IsReadable so_far.old.nodes.items so_far.old.frames phase }
+    ensures { FileSteps result so_far.new.nodes.items so_far.new.frames
+        (file_step_code so_far.old.nodes.items so_far.old.frames phase kind.now) }
 {
     match phase {
         FilePhase::FileDue(decls) => Ok(begin_file(decls, kind)),
@@ -180,13 +173,12 @@ pub fn file_step(
         FilePhase::ParamRead(group, parameters) => Ok(after_param(group, parameters, kind)),
         FilePhase::ParamsRead(group, parameters) => take_decl_name(alloc, group, parameters, kind),
         FilePhase::NameRead(declared) => Ok(take_equals(declared, kind)),
-        FilePhase::BodyDue(declared) => begin_body(alloc, nodes, frames, declared, kind),
+        FilePhase::BodyDue(declared) => begin_body(alloc, so_far, declared, kind),
         FilePhase::ConstrDue(constructors) => take_upper(alloc, constructors, kind),
         FilePhase::UpperRead(constructors, name) => after_upper(constructors, name, kind),
         FilePhase::OfRead(constructors, name) => begin_arguments(
             alloc,
-            nodes,
-            frames,
+            so_far,
             constructors,
             name,
             kind,
@@ -195,7 +187,7 @@ pub fn file_step(
         FilePhase::MutableRead(fields) => take_field_name(alloc, fields, kind),
         FilePhase::FieldNamed(fields, mutable, name) => Ok(take_colon(fields, mutable, name, kind)),
         FilePhase::RecordRead(fields) => after_record(fields, kind),
-        FilePhase::InType(around, phase) => in_type(alloc, nodes, frames, around, phase, kind),
+        FilePhase::InType(around, phase) => in_type(alloc, so_far, around, phase, kind),
     }
 }
 

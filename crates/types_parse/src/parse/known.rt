@@ -1,4 +1,5 @@
-//! Properties of a type that is being read.
+//! Functions that read the depth, the open brackets and the completeness of the type that is being
+//! read.
 
 ghost use Rattle.std.specs.Prelude.{◌≡◌, ◌≤◌, ◌<◌, ◌++◌, ◌∷◌, [], suc, length, take};
 ghost use Rattle.types_parse.specs.grammar.Lexemes.{kinds_of};
@@ -7,7 +8,7 @@ ghost use Rattle.types_parse.specs.parse.TypeCode.{part_depth_code, depth_code, 
 
 use crate::parse::open::{OpenConstruct, OpenPart, ParsePhase};
 use crate::parse::parse_stack::ParseStack;
-use crate::parse::type_step::{add, deeper, deepest};
+use crate::parse::type_step::{TypeSoFar, add, deeper, deepest};
 use base_data::model::Memory;
 use types_lex::lexeme::{Lexeme, LexemeKind, Symbol};
 use types_spec::types::ty::TypeTreeNode;
@@ -22,7 +23,8 @@ pub fn kind_at(lexemes: &[Lexeme], position: usize) -> &LexemeKind
     &lexeme.kind
 }
 
-/// Returns the number of open brackets after a lexeme, given the number before it.
+/// Returns the number of open brackets after the lexeme `kind`, where `brackets` is the number
+/// before the lexeme.
 pub fn opened(kind: &LexemeKind, brackets: usize) -> usize
     requires { brackets ≤ 200 }
     ensures { result ≡ opened kind.now brackets }
@@ -57,22 +59,23 @@ pub fn depth(frames: &ParseStack, phase: &ParsePhase) -> usize
     }
 }
 
-/// Returns true if every construct is closed. Then the last node is the complete type.
-pub fn whole(
-    nodes: &mut Vec<TypeTreeNode>,
-    frames: &mut ParseStack,
-    phase: ParsePhase,
-) -> Result<bool, Memory>
-    ensures { Finds result nodes.new.items (whole_code nodes.old.items frames.old phase) }
+/// Returns true if every construct is closed. If the result is true, the last node is the complete
+/// type.
+pub fn whole(so_far: &mut TypeSoFar, phase: ParsePhase) -> Result<bool, Memory>
+    ensures { Finds result so_far.new.nodes.items
+        (whole_code so_far.old.nodes.items so_far.old.frames phase) }
 {
     let ParsePhase::Read(component) = phase else {
         return Ok(false);
     };
-    match frames.pop() {
+    match so_far.frames.pop() {
         None => Ok(true),
-        Some(OpenConstruct::Component(tuple)) => match frames.pop() {
+        Some(OpenConstruct::Component(tuple)) => match so_far.frames.pop() {
             None => {
-                add(nodes, TypeTreeNode::Part(tuple.node, component.node))?;
+                add(
+                    &mut so_far.nodes,
+                    TypeTreeNode::Part(tuple.node, component.node),
+                )?;
                 Ok(true)
             }
             Some(_) => Ok(false),

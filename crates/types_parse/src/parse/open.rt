@@ -2,25 +2,25 @@
 
 use base_data::model::list::List;
 
-/// A type, or a tuple or bracket so far, as the index of its node. Depths above 200 are stored as
-/// 201.
+/// The index of the node of a complete type, or of a tuple or bracket that is not yet complete, and
+/// its depth. Depths above 200 are stored as 201.
 #[derive(Clone, Copy)]
 pub struct OpenPart {
     pub node: usize,
     pub depth: usize,
 }
 
-/// A construct that is still open.
+/// A construct whose end the parser has not yet read.
 #[derive(Drop)]
 pub enum OpenConstruct {
     Group,
-    /// The indices of the arguments so far, and their depth.
+    /// The indices of the arguments read so far, and the depth of the deepest argument.
     Arguments(List<usize>, usize),
-    /// The tuple so far.
+    /// A tuple, with the components read so far.
     Component(OpenPart),
-    /// A bracket without items: whether a bar was read, and the index of its node.
+    /// A bracket without items: whether a bar was read, and the index of the bracket's node.
     Opened(bool, usize),
-    /// The bracket so far.
+    /// A bracket, with the items read so far.
     Items(OpenPart),
     /// A tag whose argument comes next.
     TagArgument(List<u8>),
@@ -31,12 +31,13 @@ pub enum OpenConstruct {
 pub enum ParsePhase {
     Due,
     Read(OpenPart),
-    /// Several arguments, with their depth. The name of the type comes next.
+    /// Several arguments, with the depth of the deepest one, after which the name of the type comes
+    /// next.
     NameDue(List<usize>, usize),
     TagRead(List<u8>),
 }
 
-/// An item of a bracket.
+/// An item of a bracket: a tag, a tag with an argument, or an included type.
 #[derive(Drop)]
 pub enum OpenItem {
     Tag(List<u8>),

@@ -1,4 +1,4 @@
-//! The stack of open constructs. The innermost construct comes first in the model.
+//! The stack of open constructs. In the model, the innermost construct comes first in the list.
 
 ghost use Rattle.std.specs.Prelude.{◌≡◌, List, [], ◌∷◌, reverse, IfOk, Option};
 ghost use Rattle.types_parse.specs.declared.parse.open.OpenConstruct.{OpenConstruct};
@@ -10,7 +10,7 @@ use base_data::model::Memory;
 use std::alloc::Global;
 use std::marker::Model;
 
-/// The stack of open frames. In memory, the innermost frame comes last.
+/// The stack of open constructs. In memory, the innermost construct comes last.
 #[derive(Drop)]
 pub struct ParseStack {
     items: Vec<OpenConstruct>,
@@ -47,7 +47,7 @@ impl ParseStack {
         self.items.pop()
     }
 
-    /// Returns the innermost frame, or `None` if no frame is open.
+    /// Returns the innermost open construct, or `None` if no construct is open.
     pub fn top(&self) -> Option<&OpenConstruct>
         ensures { option_copied result ≡ first self.now }
     {

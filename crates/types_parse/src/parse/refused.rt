@@ -7,16 +7,16 @@ ghost use Rattle.types_parse.specs.declared.parse.refused.ParseFault.TheVariants
 use base_data::model::Memory;
 use types_lex::lexeme::Lexeme;
 
-/// An error of a parser, with the index of the lexeme where it is.
+/// An error of a parser, with the index of the lexeme at which the error is.
 #[derive(Clone, Copy)]
 pub enum ParseFault {
     /// Syntax error: the index of the first lexeme at which no text of the grammar continues. If
-    /// the lexemes end too early, the number of lexemes.
+    /// the lexemes end too early, the index is the number of lexemes.
     Syntax(usize),
     /// The index of the first lexeme at which a type of depth above 200 ends, or at which the 201st
     /// bracket opens.
     TooDeep(usize),
-    /// Out of memory.
+    /// Memory ran out.
     Memory,
 }
 
@@ -28,8 +28,8 @@ impl From<Memory> for ParseFault {
     }
 }
 
-/// Returns the byte offset at which the lexeme with index `position` begins. Returns `end`, the
-/// length of the text in bytes, if there is no such lexeme.
+/// Returns the byte offset at which the lexeme with index `position` begins. If no lexeme has this
+/// index, returns `end`, which is the length of the text in bytes.
 pub fn byte_of(lexemes: &[Lexeme], end: usize, position: usize) -> usize
     ensures { result ≡ byte_of lexemes.now end position }
 {

@@ -5,7 +5,7 @@ use base_data::model::list::List;
 use types_spec::types::decl::{Constructor, Decl, Field};
 use types_spec::types::ty::Ty;
 
-/// The declarations so far, and the number of declarations before the current group.
+/// The declarations read so far, and the number of declarations before the current group.
 #[derive(Drop)]
 pub struct Group {
     pub decls: List<Decl>,
@@ -27,7 +27,8 @@ pub struct Constructors {
     pub constructors: List<Constructor>,
 }
 
-/// The owner of a record: a declaration, or a constructor after its `of`.
+/// The owner of a record: a declaration, or a constructor with its name, directly after the keyword
+/// `of`.
 #[derive(Drop)]
 pub enum RecordOf {
     Body(Declared),
@@ -41,12 +42,13 @@ pub struct Fields {
     pub fields: List<Field>,
 }
 
-/// The context of a type.
+/// The construct that directly contains the type that is being read.
 #[derive(Drop)]
 pub enum Around {
     Body(Declared),
     Field(Fields, bool, List<u8>),
-    /// An argument of a constructor, after these arguments.
+    /// An argument of a constructor: the constructors before it, the constructor's name, and the
+    /// constructor's arguments read so far.
     Argument(Constructors, List<u8>, List<Ty>),
 }
 

@@ -18,14 +18,24 @@ ghost use Rattle.types_spec.specs.declared.types.ty.TypeTreeNode.{TypeTreeNode a
 ghost use Rattle.types_lex.specs.declared.lexeme.LexemeKind.TheVariants as kinds;
 ghost use Rattle.types_lex.specs.declared.lexeme.Symbol.TheVariants as symbols;
 
-use crate::parse::names::copied;
 use crate::parse::open::{OpenConstruct, OpenItem, OpenPart, ParsePhase, TypeStep};
 use crate::parse::parse_stack::ParseStack;
 use base_data::model::Memory;
 use base_data::model::list::List;
+use base_data::text::copied_name;
 use std::alloc::Global;
 use types_lex::lexeme::{Keyword, LexemeKind, Symbol};
 use types_spec::types::ty::TypeTreeNode;
+
+/// The nodes of a type that were read so far, and the open constructs.
+#[derive(Drop)]
+pub struct TypeSoFar {
+    pub nodes: Vec<TypeTreeNode>,
+    pub frames: ParseStack,
+}
+
+/// The step after a lexeme of a type, or `Memory`.
+pub type NextStep = Result<TypeStep, Memory>;
 
 /// Returns the depth of a type that directly contains a type of this depth. Depths above 200 are
 /// returned as 201.
@@ -52,12 +62,8 @@ pub fn add(nodes: &mut Vec<TypeTreeNode>, node: TypeTreeNode) -> Result<usize, M
     Ok(number)
 }
 
-/// Appends a node. The new node is what was read last.
-fn reads(
-    nodes: &mut Vec<TypeTreeNode>,
-    node: TypeTreeNode,
-    depth: usize,
-) -> Result<TypeStep, Memory>
+/// Appends a node, which becomes the node that was read last.
+fn reads(nodes: &mut Vec<TypeTreeNode>, node: TypeTreeNode, depth: usize) -> NextStep
     ensures { (fs : Seq AFrame)
         → Steps result nodes.new.items fs (reads nodes.old.items fs node depth) }
 {
@@ -65,7 +71,7 @@ fn reads(
     Ok(TypeStep::Goes(ParsePhase::Read(OpenPart { node, depth })))
 }
 
-/// Appends a node and returns it with its depth.
+/// Appends a node and returns the node's index with the depth `depth`.
 fn part(nodes: &mut Vec<TypeTreeNode>, node: TypeTreeNode, depth: usize) -> Result<OpenPart, Memory>
     ensures part { IfOk result (λ r. r ≡ part (length nodes.old.items) depth) }
     ensures added { OnOk result (nodes.new.items ≡ nodes.old.items ++ node ∷ []) }
@@ -75,7 +81,7 @@ fn part(nodes: &mut Vec<TypeTreeNode>, node: TypeTreeNode, depth: usize) -> Resu
 }
 
 /// Parses a bar before the first item of a bracket.
-fn begin_bar(frames: &mut ParseStack) -> Result<TypeStep, Memory>
+fn begin_bar(frames: &mut ParseStack) -> NextStep
     ensures { (ns : Seq ANode)
         → Steps result ns frames.new (begin_item_code ns frames.old (kinds.Symbol symbols.Bar)) }
 {
@@ -89,58 +95,15 @@ fn begin_bar(frames: &mut ParseStack) -> Result<TypeStep, Memory>
 }
 
 /// Parses a tag at the beginning of an item.
-fn begin_tag(alloc: Global, frames: &ParseStack, name: &List<u8>) -> Result<TypeStep, Memory>
+fn begin_tag(alloc: Global, frames: &ParseStack, name: &List<u8>) -> NextStep
     ensures { (ns : Seq ANode)
         → Steps result ns frames.now (begin_item_code ns frames.now (kinds.Tag name.now)) }
 {
     match frames.top() {
         Some(OpenConstruct::Opened(_, _) | OpenConstruct::Items(_)) => Ok(TypeStep::Goes(
-            ParsePhase::TagRead(copied(alloc, name)?),
+            ParsePhase::TagRead(copied_name(alloc, name)?),
         )),
         _ => Ok(TypeStep::Stops),
-    }
-}
-
-/// Parses the first lexeme of an item.
-fn begin_item(
-    alloc: Global,
-    nodes: &mut Vec<TypeTreeNode>,
-    frames: &mut ParseStack,
-    kind: &LexemeKind,
-) -> Result<TypeStep, Memory>
-    ensures { Steps result nodes.new.items frames.new
-        (begin_item_code nodes.old.items frames.old kind.now) }
-{
-    match kind {
-        LexemeKind::Symbol(Symbol::Bar) => begin_bar(frames),
-        LexemeKind::Tag(name) => begin_tag(alloc, frames, name),
-        _ => Ok(TypeStep::Stops),
-    }
-}
-
-/// Parses the first lexeme of a component, an argument or an included type.
-pub fn begin(
-    alloc: Global,
-    nodes: &mut Vec<TypeTreeNode>,
-    frames: &mut ParseStack,
-    kind: &LexemeKind,
-) -> Result<TypeStep, Memory>
-    ensures { Steps result nodes.new.items frames.new
-        (begin_code nodes.old.items frames.old kind.now) }
-{
-    match kind {
-        LexemeKind::Variable(name) => reads(nodes, TypeTreeNode::Variable(copied(alloc, name)?), 1),
-        LexemeKind::Lower(name) => reads(nodes, TypeTreeNode::Named(copied(alloc, name)?), 1),
-        LexemeKind::Symbol(Symbol::OpenParen) => {
-            frames.push(OpenConstruct::Group)?;
-            Ok(TypeStep::Goes(ParsePhase::Due))
-        }
-        LexemeKind::Symbol(Symbol::OpenBracket) => {
-            let bracket = add(nodes, TypeTreeNode::Bracket)?;
-            frames.push(OpenConstruct::Opened(false, bracket))?;
-            Ok(TypeStep::Goes(ParsePhase::Due))
-        }
-        _ => begin_item(alloc, nodes, frames, kind),
     }
 }
 
@@ -155,7 +118,7 @@ fn item_node(whole: usize, item: OpenItem) -> TypeTreeNode
     }
 }
 
-/// Returns the depth of an item.
+/// Returns the depth of the type in an item of a bracket.
 fn item_depth(item: &OpenItem) -> usize
     ensures { result ≡ item_depth_code item.now }
 {
@@ -163,266 +126,6 @@ fn item_depth(item: &OpenItem) -> usize
         OpenItem::Tag(_) => 0,
         OpenItem::TagOf(_, argument) => argument.depth,
         OpenItem::Included(included) => included.depth,
-    }
-}
-
-/// Parses the lexeme after the items of a bracket.
-fn after_items(
-    nodes: &mut Vec<TypeTreeNode>,
-    frames: &mut ParseStack,
-    bracket: OpenPart,
-    kind: &LexemeKind,
-) -> Result<TypeStep, Memory>
-    ensures { Steps result nodes.new.items frames.new
-        (after_items_code nodes.old.items frames.old bracket kind.now) }
-{
-    match kind {
-        LexemeKind::Symbol(Symbol::Bar) => {
-            frames.push(OpenConstruct::Items(bracket))?;
-            Ok(TypeStep::Goes(ParsePhase::Due))
-        }
-        LexemeKind::Symbol(Symbol::CloseBracket) => Ok(TypeStep::Goes(ParsePhase::Read(
-            OpenPart {
-                node: bracket.node,
-                depth: deeper(bracket.depth),
-            },
-        ))),
-        _ => Ok(TypeStep::Stops),
-    }
-}
-
-/// Parses the lexeme after an item.
-fn after_item(
-    nodes: &mut Vec<TypeTreeNode>,
-    frames: &mut ParseStack,
-    item: OpenItem,
-    kind: &LexemeKind,
-) -> Result<TypeStep, Memory>
-    ensures { Steps result nodes.new.items frames.new
-        (after_item_code nodes.old.items frames.old item kind.now) }
-{
-    let depth = item_depth(&item);
-    match frames.pop() {
-        Some(OpenConstruct::Opened(_, bracket)) => {
-            let bracket = part(nodes, item_node(bracket, item), depth)?;
-            after_items(nodes, frames, bracket, kind)
-        }
-        Some(OpenConstruct::Items(bracket)) => {
-            let depth = deepest(bracket.depth, depth);
-            let bracket = part(nodes, item_node(bracket.node, item), depth)?;
-            after_items(nodes, frames, bracket, kind)
-        }
-        _ => Ok(TypeStep::Stops),
-    }
-}
-
-/// Parses the lexeme after the first type in parentheses.
-fn after_group(
-    alloc: Global,
-    nodes: &mut Vec<TypeTreeNode>,
-    frames: &mut ParseStack,
-    ty: OpenPart,
-    kind: &LexemeKind,
-) -> Result<TypeStep, Memory>
-    ensures { Steps result nodes.new.items frames.new
-        (after_group_code nodes.old.items frames.old ty kind.now) }
-{
-    match kind {
-        LexemeKind::Symbol(Symbol::CloseParen) => Ok(TypeStep::Goes(ParsePhase::Read(OpenPart {
-            node: ty.node,
-            depth: deeper(ty.depth),
-        }))),
-        LexemeKind::Symbol(Symbol::Comma) => {
-            let mut arguments = List::new(alloc);
-            arguments.push(ty.node)?;
-            frames.push(OpenConstruct::Arguments(arguments, ty.depth))?;
-            Ok(TypeStep::Goes(ParsePhase::Due))
-        }
-        _ => Ok(TypeStep::Stops),
-    }
-}
-
-/// Parses the lexeme after a further type in parentheses.
-fn after_argument(
-    nodes: &mut Vec<TypeTreeNode>,
-    frames: &mut ParseStack,
-    mut arguments: List<usize>,
-    depth: usize,
-    ty: OpenPart,
-    kind: &LexemeKind,
-) -> Result<TypeStep, Memory>
-    ensures { Steps result nodes.new.items frames.new
-        (after_argument_code nodes.old.items frames.old arguments depth ty kind.now) }
-{
-    arguments.push(ty.node)?;
-    let depth = deepest(depth, ty.depth);
-    match kind {
-        LexemeKind::Symbol(Symbol::CloseParen) => Ok(TypeStep::Goes(ParsePhase::NameDue(
-            arguments, depth,
-        ))),
-        LexemeKind::Symbol(Symbol::Comma) => {
-            frames.push(OpenConstruct::Arguments(arguments, depth))?;
-            Ok(TypeStep::Goes(ParsePhase::Due))
-        }
-        _ => Ok(TypeStep::Stops),
-    }
-}
-
-/// Parses the lexeme after a type that is complete.
-fn close_type(
-    alloc: Global,
-    nodes: &mut Vec<TypeTreeNode>,
-    frames: &mut ParseStack,
-    ty: OpenPart,
-    kind: &LexemeKind,
-) -> Result<TypeStep, Memory>
-    ensures { Steps result nodes.new.items frames.new
-        (close_type_code nodes.old.items frames.old ty kind.now) }
-{
-    match frames.pop() {
-        None => Ok(TypeStep::Ended),
-        Some(OpenConstruct::Group) => after_group(alloc, nodes, frames, ty, kind),
-        Some(OpenConstruct::Arguments(arguments, depth)) => after_argument(
-            nodes, frames, arguments, depth, ty, kind,
-        ),
-        Some(OpenConstruct::TagArgument(name)) => after_item(
-            nodes,
-            frames,
-            OpenItem::TagOf(name, ty),
-            kind,
-        ),
-        Some(_) => Ok(TypeStep::Stops),
-    }
-}
-
-/// Parses the lexeme after the first component of a type.
-fn after_single(
-    alloc: Global,
-    nodes: &mut Vec<TypeTreeNode>,
-    frames: &mut ParseStack,
-    component: OpenPart,
-    kind: &LexemeKind,
-) -> Result<TypeStep, Memory>
-    ensures { Steps result nodes.new.items frames.new
-        (after_single_code nodes.old.items frames.old component kind.now) }
-{
-    match kind {
-        LexemeKind::Symbol(Symbol::Star) => {
-            let tuple = add(nodes, TypeTreeNode::Tuple)?;
-            let tuple = part(
-                nodes,
-                TypeTreeNode::Part(tuple, component.node),
-                component.depth,
-            )?;
-            frames.push(OpenConstruct::Component(tuple))?;
-            Ok(TypeStep::Goes(ParsePhase::Due))
-        }
-        _ => close_type(alloc, nodes, frames, component, kind),
-    }
-}
-
-/// Parses the lexeme after a further component.
-fn after_tuple(
-    alloc: Global,
-    nodes: &mut Vec<TypeTreeNode>,
-    frames: &mut ParseStack,
-    tuple: OpenPart,
-    component: OpenPart,
-    kind: &LexemeKind,
-) -> Result<TypeStep, Memory>
-    ensures { Steps result nodes.new.items frames.new
-        (after_tuple_code nodes.old.items frames.old tuple component kind.now) }
-{
-    let node = TypeTreeNode::Part(tuple.node, component.node);
-    let depth = deepest(tuple.depth, component.depth);
-    match kind {
-        LexemeKind::Symbol(Symbol::Star) => {
-            let tuple = part(nodes, node, depth)?;
-            frames.push(OpenConstruct::Component(tuple))?;
-            Ok(TypeStep::Goes(ParsePhase::Due))
-        }
-        _ => {
-            let tuple = part(nodes, node, deeper(depth))?;
-            close_type(alloc, nodes, frames, tuple, kind)
-        }
-    }
-}
-
-/// Parses the lexeme after a component that is complete. If `alone` is true, the outermost
-/// component cannot begin a tuple.
-fn close_part(
-    alloc: Global,
-    alone: bool,
-    nodes: &mut Vec<TypeTreeNode>,
-    frames: &mut ParseStack,
-    component: OpenPart,
-    kind: &LexemeKind,
-) -> Result<TypeStep, Memory>
-    ensures { Steps result nodes.new.items frames.new
-        (close_part_code alone nodes.old.items frames.old component kind.now) }
-{
-    match frames.pop() {
-        Some(OpenConstruct::Component(tuple)) => after_tuple(
-            alloc, nodes, frames, tuple, component, kind,
-        ),
-        Some(OpenConstruct::Opened(bar, bracket)) => {
-            frames.push(OpenConstruct::Opened(bar, bracket))?;
-            after_item(nodes, frames, OpenItem::Included(component), kind)
-        }
-        Some(OpenConstruct::Items(bracket)) => {
-            frames.push(OpenConstruct::Items(bracket))?;
-            after_item(nodes, frames, OpenItem::Included(component), kind)
-        }
-        Some(frame) => {
-            frames.push(frame)?;
-            after_single(alloc, nodes, frames, component, kind)
-        }
-        None => outermost(alloc, alone, nodes, frames, component, kind),
-    }
-}
-
-/// Parses the lexeme after the outermost component.
-fn outermost(
-    alloc: Global,
-    alone: bool,
-    nodes: &mut Vec<TypeTreeNode>,
-    frames: &mut ParseStack,
-    component: OpenPart,
-    kind: &LexemeKind,
-) -> Result<TypeStep, Memory>
-    requires { frames.old ≡ [] }
-    ensures { Steps result nodes.new.items frames.new
-        (outermost_code alone nodes.old.items component kind.now) }
-{
-    if alone {
-        Ok(TypeStep::Ended)
-    } else {
-        after_single(alloc, nodes, frames, component, kind)
-    }
-}
-
-/// Parses the lexeme after a component.
-fn after_part(
-    alloc: Global,
-    alone: bool,
-    nodes: &mut Vec<TypeTreeNode>,
-    frames: &mut ParseStack,
-    component: OpenPart,
-    kind: &LexemeKind,
-) -> Result<TypeStep, Memory>
-    ensures { Steps result nodes.new.items frames.new
-        (after_part_code alone nodes.old.items frames.old component kind.now) }
-{
-    match kind {
-        LexemeKind::Lower(name) => {
-            let whole = add(nodes, TypeTreeNode::Named(copied(alloc, name)?))?;
-            reads(
-                nodes,
-                TypeTreeNode::Part(whole, component.node),
-                deeper(component.depth),
-            )
-        }
-        _ => close_part(alloc, alone, nodes, frames, component, kind),
     }
 }
 
@@ -438,68 +141,337 @@ fn add_parts(nodes: &mut Vec<TypeTreeNode>, whole: usize, parts: &[usize]) -> Re
     Ok(last)
 }
 
-/// Parses the name after several arguments.
-fn take_name(
-    alloc: Global,
-    nodes: &mut Vec<TypeTreeNode>,
-    frames: &mut ParseStack,
-    arguments: List<usize>,
-    depth: usize,
-    kind: &LexemeKind,
-) -> Result<TypeStep, Memory>
-    ensures { Steps result nodes.new.items frames.new
-        (take_name_code nodes.old.items frames.old arguments depth kind.now) }
-{
-    match kind {
-        LexemeKind::Lower(name) => {
-            let whole = add(nodes, TypeTreeNode::Named(copied(alloc, name)?))?;
-            let node = add_parts(nodes, whole, arguments.as_slice())?;
-            Ok(TypeStep::Goes(ParsePhase::Read(OpenPart {
-                node,
-                depth: deeper(depth),
-            })))
+impl TypeSoFar {
+    /// Parses the first lexeme of an item.
+    fn begin_item(&mut self, alloc: Global, kind: &LexemeKind) -> NextStep
+        ensures { Steps result self.new.nodes.items self.new.frames
+            (begin_item_code self.old.nodes.items self.old.frames kind.now) }
+    {
+        match kind {
+            LexemeKind::Symbol(Symbol::Bar) => begin_bar(&mut self.frames),
+            LexemeKind::Tag(name) => begin_tag(alloc, &self.frames, name),
+            _ => Ok(TypeStep::Stops),
         }
-        _ => Ok(TypeStep::Stops),
     }
-}
 
-/// Parses the lexeme after a tag.
-fn after_tag(
-    nodes: &mut Vec<TypeTreeNode>,
-    frames: &mut ParseStack,
-    name: List<u8>,
-    kind: &LexemeKind,
-) -> Result<TypeStep, Memory>
-    ensures { Steps result nodes.new.items frames.new
-        (after_tag_code nodes.old.items frames.old name kind.now) }
-{
-    match kind {
-        LexemeKind::Keyword(Keyword::Of) => {
-            frames.push(OpenConstruct::TagArgument(name))?;
-            Ok(TypeStep::Goes(ParsePhase::Due))
+    /// Parses the first lexeme of a component, an argument or an included type.
+    pub fn begin(&mut self, alloc: Global, kind: &LexemeKind) -> NextStep
+        ensures { Steps result self.new.nodes.items self.new.frames
+            (begin_code self.old.nodes.items self.old.frames kind.now) }
+    {
+        match kind {
+            LexemeKind::Variable(name) => reads(
+                &mut self.nodes,
+                TypeTreeNode::Variable(copied_name(alloc, name)?),
+                1,
+            ),
+            LexemeKind::Lower(name) => reads(
+                &mut self.nodes,
+                TypeTreeNode::Named(copied_name(alloc, name)?),
+                1,
+            ),
+            LexemeKind::Symbol(Symbol::OpenParen) => {
+                self.frames.push(OpenConstruct::Group)?;
+                Ok(TypeStep::Goes(ParsePhase::Due))
+            }
+            LexemeKind::Symbol(Symbol::OpenBracket) => {
+                let bracket = add(&mut self.nodes, TypeTreeNode::Bracket)?;
+                self.frames.push(OpenConstruct::Opened(false, bracket))?;
+                Ok(TypeStep::Goes(ParsePhase::Due))
+            }
+            _ => self.begin_item(alloc, kind),
         }
-        _ => after_item(nodes, frames, OpenItem::Tag(name), kind),
     }
-}
 
-/// Parses one lexeme of a type.
-pub fn step(
-    alloc: Global,
-    alone: bool,
-    nodes: &mut Vec<TypeTreeNode>,
-    frames: &mut ParseStack,
-    phase: ParsePhase,
-    kind: &LexemeKind,
-) -> Result<TypeStep, Memory>
-    ensures { Steps result nodes.new.items frames.new
-        (step_code alone nodes.old.items frames.old phase kind.now) }
-{
-    match phase {
-        ParsePhase::Due => begin(alloc, nodes, frames, kind),
-        ParsePhase::Read(component) => after_part(alloc, alone, nodes, frames, component, kind),
-        ParsePhase::NameDue(arguments, depth) => take_name(
-            alloc, nodes, frames, arguments, depth, kind,
-        ),
-        ParsePhase::TagRead(name) => after_tag(nodes, frames, name, kind),
+    /// Parses the lexeme after the items of a bracket.
+    fn after_items(&mut self, bracket: OpenPart, kind: &LexemeKind) -> NextStep
+        ensures { Steps result self.new.nodes.items self.new.frames
+            (after_items_code self.old.nodes.items self.old.frames bracket kind.now) }
+    {
+        match kind {
+            LexemeKind::Symbol(Symbol::Bar) => {
+                self.frames.push(OpenConstruct::Items(bracket))?;
+                Ok(TypeStep::Goes(ParsePhase::Due))
+            }
+            LexemeKind::Symbol(Symbol::CloseBracket) => Ok(TypeStep::Goes(ParsePhase::Read(
+                OpenPart {
+                    node: bracket.node,
+                    depth: deeper(bracket.depth),
+                },
+            ))),
+            _ => Ok(TypeStep::Stops),
+        }
+    }
+
+    /// Parses the lexeme after an item.
+    fn after_item(&mut self, item: OpenItem, kind: &LexemeKind) -> NextStep
+        ensures { Steps result self.new.nodes.items self.new.frames
+            (after_item_code self.old.nodes.items self.old.frames item kind.now) }
+    {
+        let depth = item_depth(&item);
+        match self.frames.pop() {
+            Some(OpenConstruct::Opened(_, bracket)) => {
+                let bracket = part(&mut self.nodes, item_node(bracket, item), depth)?;
+                self.after_items(bracket, kind)
+            }
+            Some(OpenConstruct::Items(bracket)) => {
+                let depth = deepest(bracket.depth, depth);
+                let bracket = part(&mut self.nodes, item_node(bracket.node, item), depth)?;
+                self.after_items(bracket, kind)
+            }
+            _ => Ok(TypeStep::Stops),
+        }
+    }
+
+    /// Parses the lexeme after the first type in parentheses.
+    fn after_group(&mut self, alloc: Global, ty: OpenPart, kind: &LexemeKind) -> NextStep
+        ensures { Steps result self.new.nodes.items self.new.frames
+            (after_group_code self.old.nodes.items self.old.frames ty kind.now) }
+    {
+        match kind {
+            LexemeKind::Symbol(Symbol::CloseParen) => Ok(TypeStep::Goes(ParsePhase::Read(
+                OpenPart {
+                    node: ty.node,
+                    depth: deeper(ty.depth),
+                },
+            ))),
+            LexemeKind::Symbol(Symbol::Comma) => {
+                let mut arguments = List::new(alloc);
+                arguments.push(ty.node)?;
+                self.frames
+                    .push(OpenConstruct::Arguments(arguments, ty.depth))?;
+                Ok(TypeStep::Goes(ParsePhase::Due))
+            }
+            _ => Ok(TypeStep::Stops),
+        }
+    }
+
+    /// Parses the lexeme after a second or later type in parentheses.
+    fn after_argument(
+        &mut self,
+        mut arguments: List<usize>,
+        depth: usize,
+        ty: OpenPart,
+        kind: &LexemeKind,
+    ) -> NextStep
+        ensures { Steps result self.new.nodes.items self.new.frames
+            (after_argument_code self.old.nodes.items self.old.frames arguments depth ty kind.now) }
+    {
+        arguments.push(ty.node)?;
+        let depth = deepest(depth, ty.depth);
+        match kind {
+            LexemeKind::Symbol(Symbol::CloseParen) => Ok(TypeStep::Goes(ParsePhase::NameDue(
+                arguments, depth,
+            ))),
+            LexemeKind::Symbol(Symbol::Comma) => {
+                self.frames
+                    .push(OpenConstruct::Arguments(arguments, depth))?;
+                Ok(TypeStep::Goes(ParsePhase::Due))
+            }
+            _ => Ok(TypeStep::Stops),
+        }
+    }
+
+    /// Parses the lexeme after a type that is complete.
+    fn close_type(&mut self, alloc: Global, ty: OpenPart, kind: &LexemeKind) -> NextStep
+        ensures { Steps result self.new.nodes.items self.new.frames
+            (close_type_code self.old.nodes.items self.old.frames ty kind.now) }
+    {
+        match self.frames.pop() {
+            None => Ok(TypeStep::Ended),
+            Some(OpenConstruct::Group) => self.after_group(alloc, ty, kind),
+            Some(OpenConstruct::Arguments(arguments, depth)) => self.after_argument(
+                arguments, depth, ty, kind,
+            ),
+            Some(OpenConstruct::TagArgument(name)) => self.after_item(
+                OpenItem::TagOf(name, ty),
+                kind,
+            ),
+            Some(_) => Ok(TypeStep::Stops),
+        }
+    }
+
+    /// Parses the lexeme after the first component of a type.
+    fn after_single(&mut self, alloc: Global, component: OpenPart, kind: &LexemeKind) -> NextStep
+        ensures { Steps result self.new.nodes.items self.new.frames
+            (after_single_code self.old.nodes.items self.old.frames component kind.now) }
+    {
+        match kind {
+            LexemeKind::Symbol(Symbol::Star) => {
+                let tuple = add(&mut self.nodes, TypeTreeNode::Tuple)?;
+                let tuple = part(
+                    &mut self.nodes,
+                    TypeTreeNode::Part(tuple, component.node),
+                    component.depth,
+                )?;
+                self.frames.push(OpenConstruct::Component(tuple))?;
+                Ok(TypeStep::Goes(ParsePhase::Due))
+            }
+            _ => self.close_type(alloc, component, kind),
+        }
+    }
+
+    /// Parses the lexeme after a second or later component of a tuple.
+    fn after_tuple(
+        &mut self,
+        alloc: Global,
+        tuple: OpenPart,
+        component: OpenPart,
+        kind: &LexemeKind,
+    ) -> NextStep
+        ensures { Steps result self.new.nodes.items self.new.frames
+            (after_tuple_code self.old.nodes.items self.old.frames tuple component kind.now) }
+    {
+        let node = TypeTreeNode::Part(tuple.node, component.node);
+        let depth = deepest(tuple.depth, component.depth);
+        match kind {
+            LexemeKind::Symbol(Symbol::Star) => {
+                let tuple = part(&mut self.nodes, node, depth)?;
+                self.frames.push(OpenConstruct::Component(tuple))?;
+                Ok(TypeStep::Goes(ParsePhase::Due))
+            }
+            _ => {
+                let tuple = part(&mut self.nodes, node, deeper(depth))?;
+                self.close_type(alloc, tuple, kind)
+            }
+        }
+    }
+
+    /// Parses the lexeme after a component that is complete. If `alone` is true, the outermost
+    /// component cannot begin a tuple.
+    fn close_part(
+        &mut self,
+        alloc: Global,
+        alone: bool,
+        component: OpenPart,
+        kind: &LexemeKind,
+    ) -> NextStep
+        ensures { Steps result self.new.nodes.items self.new.frames
+            (close_part_code alone self.old.nodes.items self.old.frames component kind.now) }
+    {
+        match self.frames.pop() {
+            Some(OpenConstruct::Component(tuple)) => self.after_tuple(
+                alloc, tuple, component, kind,
+            ),
+            Some(OpenConstruct::Opened(bar, bracket)) => {
+                self.frames.push(OpenConstruct::Opened(bar, bracket))?;
+                self.after_item(OpenItem::Included(component), kind)
+            }
+            Some(OpenConstruct::Items(bracket)) => {
+                self.frames.push(OpenConstruct::Items(bracket))?;
+                self.after_item(OpenItem::Included(component), kind)
+            }
+            Some(frame) => {
+                self.frames.push(frame)?;
+                self.after_single(alloc, component, kind)
+            }
+            None => self.outermost(alloc, alone, component, kind),
+        }
+    }
+
+    /// Parses the lexeme after the outermost component.
+    fn outermost(
+        &mut self,
+        alloc: Global,
+        alone: bool,
+        component: OpenPart,
+        kind: &LexemeKind,
+    ) -> NextStep
+        requires { self.old.frames ≡ [] }
+        ensures { Steps result self.new.nodes.items self.new.frames
+            (outermost_code alone self.old.nodes.items component kind.now) }
+    {
+        if alone {
+            Ok(TypeStep::Ended)
+        } else {
+            self.after_single(alloc, component, kind)
+        }
+    }
+
+    /// Parses the lexeme after a component.
+    fn after_part(
+        &mut self,
+        alloc: Global,
+        alone: bool,
+        component: OpenPart,
+        kind: &LexemeKind,
+    ) -> NextStep
+        ensures { Steps result self.new.nodes.items self.new.frames
+            (after_part_code alone self.old.nodes.items self.old.frames component kind.now) }
+    {
+        match kind {
+            LexemeKind::Lower(name) => {
+                let whole = add(
+                    &mut self.nodes,
+                    TypeTreeNode::Named(copied_name(alloc, name)?),
+                )?;
+                reads(
+                    &mut self.nodes,
+                    TypeTreeNode::Part(whole, component.node),
+                    deeper(component.depth),
+                )
+            }
+            _ => self.close_part(alloc, alone, component, kind),
+        }
+    }
+
+    /// Parses the name after several arguments in parentheses.
+    fn take_name(
+        &mut self,
+        alloc: Global,
+        arguments: List<usize>,
+        depth: usize,
+        kind: &LexemeKind,
+    ) -> NextStep
+        ensures { Steps result self.new.nodes.items self.new.frames
+            (take_name_code self.old.nodes.items self.old.frames arguments depth kind.now) }
+    {
+        match kind {
+            LexemeKind::Lower(name) => {
+                let whole = add(
+                    &mut self.nodes,
+                    TypeTreeNode::Named(copied_name(alloc, name)?),
+                )?;
+                let node = add_parts(&mut self.nodes, whole, arguments.as_slice())?;
+                Ok(TypeStep::Goes(ParsePhase::Read(OpenPart {
+                    node,
+                    depth: deeper(depth),
+                })))
+            }
+            _ => Ok(TypeStep::Stops),
+        }
+    }
+
+    /// Parses the lexeme after a tag.
+    fn after_tag(&mut self, name: List<u8>, kind: &LexemeKind) -> NextStep
+        ensures { Steps result self.new.nodes.items self.new.frames
+            (after_tag_code self.old.nodes.items self.old.frames name kind.now) }
+    {
+        match kind {
+            LexemeKind::Keyword(Keyword::Of) => {
+                self.frames.push(OpenConstruct::TagArgument(name))?;
+                Ok(TypeStep::Goes(ParsePhase::Due))
+            }
+            _ => self.after_item(OpenItem::Tag(name), kind),
+        }
+    }
+
+    /// Parses one lexeme of a type.
+    pub fn step(
+        &mut self,
+        alloc: Global,
+        alone: bool,
+        phase: ParsePhase,
+        kind: &LexemeKind,
+    ) -> NextStep
+        ensures { Steps result self.new.nodes.items self.new.frames
+            (step_code alone self.old.nodes.items self.old.frames phase kind.now) }
+    {
+        match phase {
+            ParsePhase::Due => self.begin(alloc, kind),
+            ParsePhase::Read(component) => self.after_part(alloc, alone, component, kind),
+            ParsePhase::NameDue(arguments, depth) => self.take_name(alloc, arguments, depth, kind),
+            ParsePhase::TagRead(name) => self.after_tag(name, kind),
+        }
     }
 }

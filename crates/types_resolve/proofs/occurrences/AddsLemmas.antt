@@ -1,4 +1,4 @@
--- Additions to a site, one at a time.
+-- Lemmas about additions to a site, one addition at a time.
 use Rattle.std.proofs.Common.{ℕ, ◌≡◌, ◌∙◌, ◌⊎◌, ⊎_elim, inl, inr, Option, List, [], ◌∷◌, ◌++◌}
 use Rattle.std.proofs.Common.{length, refl, sym, ap, subst, append_assoc}
 use Rattle.std.specs.Prelude.{Contains}
@@ -29,7 +29,7 @@ then_mapped h a b c more last first second =
     then_list a b c (filter_map h more) (filter_map h last) first second
     ∙ ap (λ l. a ++ l) (sym (filter_map-append h more last))
 
--- A row is in one of three lists.
+-- The row `row` is in `old`, in `rows`, or among the rows of the occurrences `all`.
 abbrev Among : List (List Placed) → List (List Placed) → List Occurrence → List Placed → Type 0
 Among old rows all row = Contains old row ⊎ (Contains rows row ⊎ Contains (filter_map as_row all) row)
 

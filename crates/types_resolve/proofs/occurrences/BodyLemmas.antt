@@ -1,4 +1,4 @@
--- The additions of a body and of a declaration.
+-- Lemmas about the additions of a declaration and of its body.
 use Rattle.std.proofs.Common.{ℕ, ◌+◌, ◌≡◌, ◌∙◌, false, List, [], ◌∷◌, ◌++◌, length, drop, sym, ap, subst}
 use Rattle.std.proofs.lemmas.List.{drop-drop}
 use Rattle.types_spec.specs.types.Ty.{Ty}
@@ -20,7 +20,7 @@ use Rattle.types_resolve.specs.occurrences.Bodies.{records_of, carrying_of, occu
 use Rattle.types_resolve.proofs.occurrences.FoundLemmas.{AddsFound-then, AddsFound-row, then_row, AreBrackets-added}
 use Rattle.types_resolve.proofs.occurrences.SiteLemmas.{nothing, IsSite-added}
 
--- The additions of a body with the row of its constructors.
+-- `b` is `a` with the additions of a body, including the row of the body's constructors.
 abbrev pub AddsBody : List ℕ → Body → FoundOccurrences → FoundOccurrences → Type 0
 AddsBody ms body a b =
     AddsFound a b (records_in ms body ++ names_in ms body ∷ []) (carrying_body ms body) (in_body ms body)
@@ -59,7 +59,8 @@ module _ (ms name body : List ℕ) (d : Decl) (count : ℕ) (counted : count ≡
   decl_rest rest is = is ∙ ap (drop (body_count d.body)) behind_name
       ∙ drop-drop (body_count d.body) (length d.parameters + 1) ms
 
-  -- The result of a declaration, from the empty result.
+  -- If the additions of a declaration start from the empty result, then the result is the
+  -- declaration's occurrences.
   module _ (start first found : FoundOccurrences) (row : List Placed) (empty : start ≡ record { site = nothing; brackets = [] })
       (row_is : row ≡ parameters_in ms d.parameters)
       (write : first ≡ record start { site = record start.site { rows = start.site.rows ++ row ∷ [] } })

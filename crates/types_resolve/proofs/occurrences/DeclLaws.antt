@@ -430,7 +430,7 @@ made d position parameters records constructors carrying occurrences = record {
   occurrences = occurrences;
 }
 
--- A declaration's occurrences from its marks and those of its body.
+-- The occurrences of a declaration, given the declaration's marks and the marks of its body.
 abbrev made_from : Decl → List ℕ → List ℕ → DeclPositions
 made_from d ms body = made d (slice_index ms (length d.parameters)) (parameters_in ms d.parameters)
     (records_in body d.body) (of_constructors name_of_constructor body d.body)

@@ -1,4 +1,4 @@
--- The facts of one more node.
+-- Lemmas about the facts of a node that is appended to a list of nodes.
 use Rattle.std.proofs.Common.{ℕ, ◌+◌, ◌<◌, ◌≤◌, ◌≡◌, ◌∙◌, ⊎_elim, Bool, true, false, not, ◌&&◌, ◌||◌, List, [], ◌∷◌, ◌++◌}
 use Rattle.std.proofs.Common.{length, get_or, Some, refl, sym, ap, subst, arith, length-append}
 use Rattle.std.specs.Prelude.{slice_get}
@@ -149,7 +149,7 @@ node_facts types n facts (nodes.Including w a) small are below at =
     (ap (λ m. capped (m + 1)) f_is.inner_is ∙ cap_one (inner_count t)) (total_is types a u g g_is))
     refl refl (either_same f.holds g.holds (holds t) (holds u) f_is.holds_is g_is.holds_is)
 
--- The invariant after one more iteration of the loop over the nodes.
+-- The invariant of the loop over the nodes holds after one more iteration.
 pub facts_more :
     (nodes : List TypeTreeNode) (i : ℕ) (node : TypeTreeNode) (facts next : List Facts) → length nodes < 18446744073709551616
     → AreOrdered nodes → i < length nodes → node ≡ get_or nodes i node

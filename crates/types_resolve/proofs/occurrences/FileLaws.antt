@@ -12,14 +12,14 @@ use Rattle.types_resolve.proofs.occurrences.StandLemmas.{IsSilent, IsClosed, clo
 
 -- ---- rows
 
--- Counting gives the occurrences of an element by its lexemes.
+-- Counting the marks of an element gives the occurrences of the element by its lexemes.
 pub record IsCounted {T X Y : Type 0} (encoded : T → Kinds) (made : T → X) (count : X → ℕ)
     (of : List ℕ → X → List Y) (in' : ℕ → T → List Y) : Type 0 where
   pub closed : (t : T) → IsClosed (encoded t)
   pub counted : (k : ℕ) (t : T) → length (marks k false (encoded t)) ≡ count (made t)
   pub seen : (k : ℕ) (t : T) (rest : List ℕ) → of (marks k false (encoded t) ++ rest) (made t) ≡ in' k t
 
--- Elements with one lexeme between them, after which no item begins.
+-- Let one lexeme separate neighbouring elements, and let no item begin after the separating lexeme.
 module _ {T X Y : Type 0} (encoded : T → Kinds) (made : T → X) (count : X → ℕ)
     (of : List ℕ → X → List Y) (in' : ℕ → T → List Y) (is : IsCounted encoded made count of in')
     (before : LexemeKind) (silent : IsSilent (before ∷ []))
@@ -51,7 +51,8 @@ module _ {T X Y : Type 0} (encoded : T → Kinds) (made : T → X) (count : X �
       ∙ ap (λ n. n + length (marks j false (others ts))) (is.counted (k + 1) t)
       ∙ ap (λ n. count (made t) + n) (more_counted j ts)
 
-  -- One element, and the others after it.
+  -- The results for a list are the results for its first element and the results for the other
+  -- elements.
   pub then_along :
       (k j : ℕ) (t : T) (ts : List T) (rest : List ℕ)
       → along count of (marks j false (others ts) ++ rest) (map made ts) ≡ spread (λ x. length (encoded x)) in' j ts
@@ -101,7 +102,7 @@ module _ {T X Y : Type 0} (encoded : T → Kinds) (made : T → X) (count : X �
       ap (λ ms. along count of (ms ++ rest) (map made (t ∷ ts))) (row_marks k t ts)
       ∙ then_along k (k + length (encoded t)) t ts rest (more_seen (k + length (encoded t)) ts rest)
 
-  -- After a row, no item begins.
+  -- After a row of elements, no item begins.
   pub others_closed : (ts : List T) → after false (others ts) ≡ false
   others_closed [] = refl
   others_closed (t ∷ ts) =

@@ -49,7 +49,7 @@ AreSites-cons decls names sites all site d is are = record {
       subst (λ x. IsSite x e) (same_Some site s s_is) (subst (IsSite site) (same_Some d e e_is) is)
   stand (suc i) s e s_is e_is = are.stand i s e s_is e_is
 
--- The sites so far, followed by those of the remaining declarations, are the sites of all
+-- The collected sites, followed by the sites of the remaining declarations, are the sites of all
 -- declarations.
 pub record FileFollows (ms : List ℕ) (decls : List Decl) (names : List Placed) (sites : List Site)
     (rest : List ℕ) (left : List Decl) : Type 0 where
@@ -125,8 +125,8 @@ AreFileBrackets-cons found all brackets d is are = record { counted = ap suc are
       (subst (λ (x : DeclPositions). AreBrackets brackets x.occurrences) (same_Some d e e_is) is)
   stand (suc i) b e b_is e_is = are.stand i b e b_is e_is
 
--- The brackets so far, followed by those of the remaining declarations, are the brackets of all
--- declarations.
+-- The collected brackets, followed by the brackets of the remaining declarations, are the brackets
+-- of all declarations.
 pub record BracketsFollow (ms : List ℕ) (decls : List Decl) (found : List (List TypeBrackets)) (rest : List ℕ)
     (left : List Decl) : Type 0 where
   pub are :

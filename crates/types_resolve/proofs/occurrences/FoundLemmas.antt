@@ -1,4 +1,4 @@
--- Additions to a result, one at a time.
+-- Lemmas about additions to a result, one addition at a time.
 use Rattle.std.proofs.Common.{ℕ, ◌≡◌, ◌∙◌, List, [], ◌∷◌, ◌++◌, sym, ap, subst, append_assoc}
 use Rattle.std.specs.Prelude.{All}
 use Rattle.std.proofs.lemmas.Grind.{flat_map-append}
@@ -17,8 +17,8 @@ use Rattle.types_resolve.proofs.occurrences.AddsLemmas.{Adds-none, Adds-then, Ad
 
 -- ---- brackets, one occurrence at a time
 
--- If the remaining occurrences complete the brackets, then they do so after the first of them is
--- added.
+-- Let remaining occurrences complete the collected brackets. If the first remaining occurrences are
+-- added, then the occurrences after the added occurrences complete the brackets.
 pub known_next :
     (old new whole : List (List PlacedItem)) (left first rest : List Occurrence) → left ≡ first ++ rest
     → new ≡ old ++ brackets_among first → old ++ brackets_among left ≡ whole
@@ -52,7 +52,7 @@ AddsFound-then a b c rows rows' carrying carrying' all all' first second = recor
 
 -- ---- one more addition without a bracket
 
--- An addition to the site only.
+-- If an addition changes only the site, then the brackets stay the same.
 site_alone :
     (old : FoundOccurrences) (site : Site) (rows : List (List Placed)) (carrying : List ℕ) → Adds old.site site rows carrying []
     → AddsFound old (record old { site = site }) rows carrying []

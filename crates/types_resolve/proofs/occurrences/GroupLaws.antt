@@ -1,4 +1,4 @@
--- Counting gives the occurrences of files, group by group.
+-- Counting the marks gives the occurrences of files, group by group.
 use Rattle.std.proofs.Common.{ℕ, suc, ◌+◌, ◌≡◌, ◌∙◌, Bool, true, false, List, [], ◌∷◌, ◌++◌, length, drop}
 use Rattle.std.proofs.Common.{refl, sym, ap, arith, append_assoc, length-append}
 use Rattle.std.specs.Prelude.{map}
@@ -98,7 +98,7 @@ along_append count of ms (x ∷ xs) ys =
     ∙ sym (append_assoc (of ms x) (along count of (drop (count x) ms) xs)
     (along count of (drop (count x + count_all count xs) ms) ys))
 
--- The declarations of groups that come after `n` declarations.
+-- The declarations of groups, if `n` declarations precede the groups.
 abbrev decls_after : ℕ → FileTree → List Decl
 decls_after n [] = []
 decls_after n (g ∷ groups) = group_decls n g ++ decls_after (n + length (g.first ∷ g.more)) groups

@@ -1,4 +1,4 @@
--- The items of brackets, and the tags among them, node by node.
+-- Lemmas about the items of brackets and the tags among the items, node by node.
 use Rattle.std.proofs.Common.{ℕ, ◌+◌, ◌<◌, ◌≡◌, ◌∙◌, ⊎_elim, List, [], ◌∷◌, ◌++◌, Option, Some, None}
 use Rattle.std.proofs.Common.{length, drop, get_or, refl, sym, ap, subst, arith, append_assoc}
 use Rattle.std.specs.Prelude.{slice_index, slice_get, reverse}
@@ -25,7 +25,8 @@ use Rattle.types_resolve.proofs.occurrences.WalkLemmas.{position_of, type_at-nod
 
 -- ---- the items of a bracket
 
--- The items of a bracket are the last one and those without it.
+-- The items of a bracket are the items of the bracket without its last item, followed by the last
+-- item.
 items_more :
     (types : List Ty) (ms : List ℕ) (n : ℕ) (node : TypeTreeNode) (w : ℕ) → without_item node ≡ Some w
     → type_at types n ≡ type_of_node types node
@@ -61,7 +62,7 @@ items_none types ms (nodes.Tag v x) is = absurd (none-some v (sym is))
 items_none types ms (nodes.TagOf v x a) is = absurd (none-some v (sym is))
 items_none types ms (nodes.Including v u) is = absurd (none-some v (sym is))
 
--- No item is left.
+-- If no item is left, then the collected items are all items of the bracket.
 pub items_end :
     (types : List Ty) (ms : List ℕ) (n : ℕ) (node : TypeTreeNode) (items : List BracketItem) (whole : List PlacedItem)
     → without_item node ≡ None → type_at types n ≡ type_of_node types node
@@ -80,7 +81,7 @@ item_below n w (nodes.Tag v x) is below = subst (λ m. m < n) (same_Some v w is)
 item_below n w (nodes.TagOf v x a) is below = subst (λ m. m < n) (same_Some v w is) below.0
 item_below n w (nodes.Including v u) is below = subst (λ m. m < n) (same_Some v w is) below.0
 
--- The invariant after one more iteration of the loop over the items.
+-- The invariant of the loop over the items holds after one more iteration.
 module _ (all : List TypeTreeNode) (ordered : AreOrdered all) (facts : List Facts)
     (are : AreFacts (types_of all) (length all) facts) (ms : List ℕ) (small : length ms < 18446744073709551616)
     (first n w : ℕ) (node : TypeTreeNode) (below : n < length all) (read : node ≡ get_or all n node)
@@ -123,7 +124,7 @@ tag_of_node types position (nodes.Tag w x) = refl
 tag_of_node types position (nodes.TagOf w x a) = refl
 tag_of_node types position (nodes.Including w u) = refl
 
--- The tag of an item is that of its node.
+-- The tag of an item is the tag that the item's node adds.
 tag_known :
     (all : List TypeTreeNode) (i : BracketItem) → AreOrdered all
     → filter_map written_tag (item_known (types_of all) i ∷ []) ≡ tag_there all i
@@ -142,7 +143,7 @@ tag_known all i ordered = by (slice_get all i.node) refl where
       ap (λ t. filter_map written_tag ((i.position, item_of t) ∷ [])) at ∙ ap (tag_if i.position) (sym is))
       (cases_lt i.node (length all))
 
--- The invariant after one more iteration of the loop over the items.
+-- The invariant of the loop over the items holds after one more iteration.
 pub tags_turn :
     (all : List TypeTreeNode) (items : List BracketItem) (k : ℕ) (e : BracketItem) (row next whole : List Placed)
     → AreOrdered all → k < length items → next ≡ row ++ tag_there all (get_or items k e)

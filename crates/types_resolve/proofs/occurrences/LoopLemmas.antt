@@ -1,4 +1,4 @@
--- Loops over lists, by the remaining additions.
+-- Invariants of loops over lists, stated by the remaining additions.
 use Rattle.std.proofs.Common.{ℕ, ◌+◌, ◌<◌, ◌≤◌, ◌≡◌, ◌∙◌, List, [], ◌∷◌, ◌++◌, length, drop, get_or}
 use Rattle.std.proofs.Common.{refl, sym, ap, subst, append_assoc}
 use Rattle.std.proofs.lemmas.List.{append-nil, drop-drop, drop_more, drop_all}
@@ -8,7 +8,7 @@ use Rattle.types_resolve.specs.occurrences.CountedFile.{along, count_all}
 use Rattle.types_resolve.specs.occurrences.Found.{AddsFound}
 use Rattle.types_resolve.proofs.occurrences.FoundLemmas.{AddsFound-none, AddsFound-then}
 
--- The remaining list begins with the current element.
+-- The list of the remaining elements begins with the current element.
 pub left_is :
     {X : Type 0} (xs : List X) (i : ℕ) (x : X) → i < length xs → x ≡ get_or xs i x
     → drop i xs ≡ x ∷ drop (i + 1) xs
@@ -20,8 +20,8 @@ pub along_none :
 along_none count ms [] = refl
 along_none count ms (x ∷ xs) = along_none count (drop (count x) ms) xs
 
--- From the current result, the remaining elements give the result that all elements give from the
--- start, and the remaining marks are those after all elements.
+-- The remaining elements add to the current result what completes the additions of all elements to
+-- the first result. The marks after the remaining elements are the marks after all elements.
 pub record Follows {X : Type 0} (count : X → ℕ) (rows : List ℕ → X → List (List Placed))
     (carrying : List ℕ → X → List ℕ) (seen : List ℕ → X → List Occurrence) (start : FoundOccurrences) (ms : List ℕ)
     (all : List X) (found : FoundOccurrences) (rest : List ℕ) (left : List X) : Type 0 where
@@ -31,7 +31,8 @@ pub record Follows {X : Type 0} (count : X → ℕ) (rows : List ℕ → X → L
       → AddsFound start last (along count rows ms all) (along count carrying ms all) (along count seen ms all)
   pub rest_is : drop (count_all count left) rest ≡ drop (count_all count all) ms
 
--- The row of names so far, and the remaining names.
+-- The collected row of names, followed by the names of the remaining elements, is the row of all
+-- elements.
 pub record RowFollows {X : Type 0} (count : X → ℕ) (name : List ℕ → X → List Placed) (ms : List ℕ)
     (all : List X) (row : List Placed) (rest : List ℕ) (left : List X) : Type 0 where
   pub row_is : row ++ along count name rest left ≡ along count name ms all
@@ -107,7 +108,8 @@ module _ {X : Type 0} (count : X → ℕ) (rows : List ℕ → X → List (List 
   Follows-end found rest i past follows = Follows-last found rest
       (subst (Follows count rows carrying seen start ms all found rest) (drop_all i all past) follows)
 
--- The invariant without rows and without lexemes of constructors.
+-- If the elements add neither rows nor lexemes of constructors, then the invariant concerns
+-- occurrences only.
 pub Follows-plain :
     {X : Type 0} (count : X → ℕ) (seen : List ℕ → X → List Occurrence) (start : FoundOccurrences) (ms : List ℕ)
     (all : List X) (found : FoundOccurrences) (rest : List ℕ) (i : ℕ) → length all ≤ i

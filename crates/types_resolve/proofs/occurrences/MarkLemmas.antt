@@ -1,4 +1,4 @@
--- The marks of the first lexemes, one lexeme at a time.
+-- Lemmas about the marks of the first lexemes, one lexeme at a time.
 use Rattle.std.proofs.Common.{ℕ, suc, ◌+◌, ◌<◌, ◌≤◌, ◌≡◌, ◌∙◌, Bool, false, List, [], ◌∷◌, ◌++◌, length, get_or, take}
 use Rattle.std.proofs.Common.{sym, ap, arith, append_assoc}
 use Rattle.std.specs.Prelude.{◌&&◌}
@@ -9,12 +9,13 @@ use Rattle.types_parse.proofs.grammar.LexemeLemmas.{kinds_length, kinds_next}
 use Rattle.types_resolve.specs.occurrences.Counted.{is_marked, opens_item, begins_type, after, one_if, marks}
 use Rattle.types_resolve.proofs.occurrences.StandLemmas.{after_append, marks_append}
 
--- The invariant of the loop over the lexemes before lexeme `i`.
+-- The invariant of the loop over the lexemes: `so_far` contains the marks of the lexemes before
+-- `i`.
 pub record AreMarksTo (lexemes : List Lexeme) (i : ℕ) (fresh : Bool) (so_far : List ℕ) : Type 0 where
   pub marked : so_far ≡ marks 0 false (take i (kinds_of lexemes))
   pub opened : fresh ≡ after false (take i (kinds_of lexemes))
 
--- The invariant after one more iteration of the loop over the lexemes.
+-- The invariant of the loop over the lexemes holds after one more iteration.
 pub marks_next :
     (lexemes : List Lexeme) (i : ℕ) (l : Lexeme) (fresh opened : Bool) (so_far first next : List ℕ) → i < length lexemes
     → l ≡ get_or lexemes i l → AreMarksTo lexemes i fresh so_far

@@ -43,7 +43,7 @@ module _ (types : List Ty) (n : ℕ) (facts : List Facts) (are : AreFacts types 
   skipped_brackets brackets is =
       sym (append-nil brackets) ∙ ap (λ l. brackets ++ brackets_among l) (sym (own_skipped is))
 
-  -- The node with which the type begins determines the occurrence.
+  -- The first node of a type determines the occurrence with which the type begins.
   pub own_known :
       (node : TypeTreeNode) (position : ℕ) → task.whole ≡ true → type_at types known.base ≡ type_of_node types node
       → position ≡ slice_index ms (capped (task.first + known.inner))
@@ -85,7 +85,7 @@ module _ (all : List TypeTreeNode) (ordered : AreOrdered all) (facts : List Fact
       (base_is ∙ ap (type_of_node types) is)
       (position_is ∙ ap (λ (f : Facts). slice_index ms (capped (task.first + f.inner))) known_is)
 
-  -- If the occurrence is not a bracket, then no bracket is added.
+  -- If the occurrence with which a type begins is not a bracket, then no bracket is added.
   none_there :
       (old : List (List PlacedItem)) (all : List Occurrence) → shown ≡ all → brackets_among all ≡ []
       → old ≡ old ++ brackets_among shown

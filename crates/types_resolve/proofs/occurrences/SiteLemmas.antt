@@ -1,4 +1,5 @@
--- The additions to the empty site are the site that the scope rules require.
+-- If all additions are made to the empty site, then the result is the site that the scope rules
+-- require.
 use Rattle.std.proofs.Common.{ℕ, ◌≡◌, ◌⊎◌, ⊎_elim, inl, inr, Bool, true, false, not, ◌&&◌, ◌||◌, List, [], ◌∷◌}
 use Rattle.std.proofs.Common.{◌++◌, Some, length, refl, sym, ap, subst}
 use Rattle.std.specs.Prelude.{Contains, IsTrue, ◌↔◌}
@@ -149,7 +150,7 @@ tag_row_there all row is =
 abbrev pub nothing : Site
 nothing = record { rows = []; carrying = []; uses = []; variables = [] }
 
--- If only occurrences were added, then the site is that of a type.
+-- If only occurrences were added to the empty site, then the result is the site of a type.
 pub IsTypeSite-added :
     (site : Site) (all : List Occurrence) → Adds nothing site [] [] all
     → IsTypeSite (record { rows = site.rows; uses = site.uses }) all
@@ -160,7 +161,8 @@ IsTypeSite-added site all adds = record {
   used = uses_are site.uses all adds.uses_are;
 }
 
--- The rows of a declaration are its parameters, its records and its constructors.
+-- If the rows of a declaration are added to the empty site, then the result is the site of the
+-- declaration.
 pub IsSite-added :
     (site : Site) (d : DeclPositions)
     → Adds nothing site (d.parameters ∷ (d.records ++ d.constructors ∷ [])) d.carrying d.occurrences

@@ -1,5 +1,5 @@
--- The lexemes of a type, or of its parts, with the occurrences in them. These lemmas serve the law
--- that types are counted.
+-- The lexemes of a type, or of its parts, with the occurrences in the type. The lemmas serve the
+-- law `TypesAreCounted`.
 use Rattle.std.proofs.Common.{ℕ, suc, ◌+◌, ◌≡◌, ◌∙◌, Bool, false, List, [], ◌∷◌, ◌++◌, length, drop}
 use Rattle.std.proofs.Common.{refl, sym, ap, arith, append_assoc, length-append}
 use Rattle.std.specs.Prelude.{◌&&◌, slice_index}
@@ -32,11 +32,11 @@ marks_append k fresh (x ∷ xs) ys =
     ∙ ap (λ l. first ++ l) (sym (append_assoc second others rest))
     ∙ sym (append_assoc first (second ++ others) rest)
 
--- Lexemes without a mark.
+-- The lexemes `gap` have no mark.
 abbrev pub IsSilent : Kinds → Type 0
 IsSilent gap = (j : ℕ) (fresh : Bool) → marks j fresh gap ≡ []
 
--- No item begins after these lexemes.
+-- No item begins directly after the lexemes `xs`.
 abbrev pub IsClosed : Kinds → Type 0
 IsClosed xs = (fresh : Bool) → after fresh xs ≡ false
 
@@ -54,7 +54,8 @@ pub marks_after :
 marks_after k fresh gap ys silent = marks_append k fresh gap ys
     ∙ ap (λ l. l ++ marks (k + length gap) (after fresh gap) ys) (silent k fresh)
 
--- The marks on both sides of a lexeme without a mark.
+-- If a lexeme without a mark is between lexemes, then the marks are those of the lexemes on its two
+-- sides.
 pub marks_over :
     (k : ℕ) (fresh : Bool) (xs : Kinds) (x : LexemeKind) (ys : Kinds) → IsSilent (x ∷ [])
     → marks k fresh ((xs ++ x ∷ []) ++ ys)
@@ -72,17 +73,17 @@ marks_over k fresh xs x ys silent =
 abbrev pub total : Ty → ℕ
 total t = inner_count t + own_count t
 
--- These are the marks of the type, with its occurrences.
+-- `ms` are the marks of the type `t`, and `all` are the occurrences in `t`.
 pub record Stands (b : Bool) (ms : List ℕ) (t : Ty) (all : List Occurrence) : Type 0 where
   pub counted : length ms ≡ total t
   pub seen : (rest : List ℕ) → in_type (ms ++ rest) b t ≡ all
 
--- These are the marks of the type's parts, with their occurrences.
+-- `ms` are the marks of the parts of the type `t`, and `all` are the occurrences in the parts.
 pub record Inside (b : Bool) (ms : List ℕ) (t : Ty) (all : List Occurrence) : Type 0 where
   pub counted : length ms ≡ inner_count t
   pub seen : (rest : List ℕ) → inner (ms ++ rest) b t ≡ all
 
--- The first part.
+-- If a type without marks is extended by a first part, then the marks are the marks of the part.
 pub first_part :
     (b : Bool) (ms : List ℕ) (w a : Ty) (all : List Occurrence) → inner_count w ≡ 0
     → ((ns : List ℕ) → inner ns b w ≡ []) → Stands b ms a all → Inside b ms (part w a) all
@@ -93,7 +94,7 @@ first_part b ms w a all none empty s = record {
       ∙ ap (λ n. in_type (drop n ns) b a) none ∙ s.seen rest;
 }
 
--- One more part.
+-- If a type is extended by one more part, then the marks of the part follow the marks of the type.
 pub next_part :
     (b : Bool) (ms ns : List ℕ) (w a whole : Ty) (one other : List Occurrence)
     → inner_count whole ≡ inner_count w + total a
@@ -110,7 +111,7 @@ next_part b ms ns w a whole one other count write i s = record {
       ∙ ap (λ l. one ++ l) (s.seen rest);
 }
 
--- A type without an occurrence of its own, for example a tuple.
+-- If a type has no occurrence of its own, then its marks are the marks of its parts.
 pub alone :
     (b : Bool) (ms : List ℕ) (t : Ty) (all : List Occurrence) → own_count t ≡ 0
     → ((j : ℕ) (arguments : List Ty) (items : List PlacedItem) → begins j b arguments items t ≡ [])
@@ -122,7 +123,8 @@ alone b ms t all none empty i = record {
       ∙ i.seen rest;
 }
 
--- A name after its arguments.
+-- If a type begins with a name, then the mark of the name follows the marks of the name's
+-- arguments.
 pub with_name :
     (b : Bool) (ms : List ℕ) (j : ℕ) (name : Name) (t : Ty) (all : List Occurrence) → own_count t ≡ 1
     → ((i : ℕ) (arguments : List Ty) (items : List PlacedItem)
@@ -141,11 +143,11 @@ with_name b ms j name t all one named i = record {
 
 -- ---- items of a bracket
 
--- These are the marks of the items.
+-- `ms` are the marks of the bracket `w`, and `items` are the items of `w`.
 abbrev pub WritesOrFails : List ℕ → Ty → List PlacedItem → Type 0
 WritesOrFails ms w items = (rest : List ℕ) → items_in (ms ++ rest) w ≡ items
 
--- A tag without an argument.
+-- If a bracket is extended by a tag without an argument, then the mark of the tag follows.
 pub next_tag :
     (b : Bool) (ms : List ℕ) (j : ℕ) (name : Name) (w : Ty) (one : List Occurrence)
     → Inside b ms w one → Inside b (ms ++ j ∷ []) (tag w name) (one ++ [])
@@ -155,7 +157,8 @@ next_tag b ms j name w one i = record {
       ∙ i.seen (j ∷ rest) ∙ sym (append-nil one);
 }
 
--- A tag with an argument, or an included type.
+-- If a bracket is extended by a tag with an argument, or by an included type, then the marks of the
+-- item follow.
 pub next_item :
     (b c : Bool) (ms : List ℕ) (j : ℕ) (ns : List ℕ) (w a whole : Ty) (one other : List Occurrence)
     → inner_count whole ≡ inner_count w + 1 + total a

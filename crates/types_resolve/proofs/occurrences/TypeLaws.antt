@@ -88,7 +88,7 @@ a_closing j fresh = refl
 a_bracket_closing : IsSilent (mark symbols.CloseBracket)
 a_bracket_closing j fresh = refl
 
--- After a type, no item begins.
+-- After the lexemes of a type, no item begins.
 simple_closed : (s : Simple) → IsClosed (simple_kinds s)
 simple_closed (trees.variable name) fresh = refl
 simple_closed (trees.named name) fresh = refl
@@ -108,7 +108,7 @@ pub texpr_closed : (t : Texpr) → IsClosed (texpr t)
 texpr_closed (trees.single a) fresh = app_closed a fresh
 texpr_closed (trees.starred t a) fresh = closed_last (texpr t ++ mark symbols.Star) (app a) (app_closed a) fresh
 
--- An included type has one more mark, at its first lexeme.
+-- If a bracket includes a type, then the type has one more mark, at its first lexeme.
 simple_included : (k : ℕ) (s : Simple) → marks k true (simple_kinds s) ≡ k ∷ marks k false (simple_kinds s)
 simple_included k (trees.variable name) = refl
 simple_included k (trees.named name) = refl
@@ -116,7 +116,7 @@ simple_included k (trees.grouped t) = refl
 simple_included k (trees.arguments ts t name) = refl
 simple_included k (trees.bracket bar all) = refl
 
--- A name after an application.
+-- The marks of a name after its single argument.
 applied_marks :
     (k : ℕ) (fresh : Bool) (a : App) (name : Name)
     → marks k fresh (app a ++ lower name) ≡ marks k fresh (app a) ++ (k + length (app a)) ∷ []
@@ -146,7 +146,7 @@ closed_bracket b ms all placed one i writes = record {
       ∙ ap (λ l. bracket_of placed ∷ l) (i.seen rest);
 }
 
--- The marks of a bracket are those of its items.
+-- The marks of a bracket are the marks of the bracket's items.
 bracket_marks :
     (k : ℕ) (bar : Bool) (all : Items)
     → marks k false (simple_kinds (trees.bracket bar all)) ≡ marks (k + length (bar_if bar) + 1) true (items all)
@@ -159,7 +159,7 @@ bracket_marks k false all =
     marks_before k false (mark symbols.OpenBracket ++ bar_if false ++ items all) (mark symbols.CloseBracket) a_bracket_closing
     ∙ ap (λ j. marks j true (items all)) e
 
--- The marks of several arguments and a name.
+-- The marks of a name after its several arguments in parentheses.
 arguments_marks :
     (k : ℕ) (ts : Texprs) (t : Texpr) (name : Name)
     → marks k false (simple_kinds (trees.arguments ts t name))
@@ -179,7 +179,7 @@ arguments_marks k ts t name =
     ∙ ap (λ j. marks (k + 1) false (texprs ts) ++ marks j false (texpr t)) two)
     ∙ ap (λ j. (marks (k + 1) false (texprs ts) ++ marks (k + length (texprs ts) + 2) false (texpr t)) ++ j ∷ []) at
 
--- One more component.
+-- The marks of a tuple that is extended by one more component.
 tuple_next :
     (k : ℕ) (b : Bool) (t : Texpr) (a : App)
     → Inside b (marks k false (texpr t)) (tuple_of t) (in_texpr k b t)

@@ -1,4 +1,4 @@
--- The remaining occurrences of a traversal, step by step.
+-- Lemmas about the remaining occurrences of a traversal, step by step.
 use Rattle.std.proofs.Common.{ℕ, ◌+◌, ◌<◌, ◌≡◌, ◌∙◌, ⊎_elim, Bool, true, List, [], ◌∷◌, ◌++◌}
 use Rattle.std.proofs.Common.{length, drop, take, ◌-◌, refl, sym, ap, subst, arith, append_assoc, get_or}
 use Rattle.std.specs.Prelude.{slice_index}
@@ -32,7 +32,8 @@ index_capped n ms small = ⊎_elim
     (λ past. get_or_past ms (capped n) 0 (omega arith) ∙ sym (get_or_past ms n 0 (omega arith)))
     (cases_lt n 18446744073709551615)
 
--- The mark of a part.
+-- The mark with index `n` after the first `first` marks is the mark with index `first + n` of all
+-- marks.
 pub position_of :
     (first inside n : ℕ) (ms : List ℕ) → length ms < 18446744073709551616 → inside ≡ capped n
     → slice_index ms (capped (first + inside)) ≡ slice_index (drop first ms) n
@@ -40,7 +41,8 @@ position_of first inside n ms small is =
     let e : capped (first + inside) ≡ capped (first + n) = omega arith in
     ap (λ m. slice_index ms m) e ∙ index_capped (first + n) ms small ∙ sym (get_or-drop first ms n 0)
 
--- The marks after a part.
+-- The marks after the first `first + n` marks are the marks that remain after dropping `first`
+-- marks and then `n` marks.
 behind_part :
     (first inside n : ℕ) (ms : List ℕ) → length ms < 18446744073709551616 → inside ≡ capped n
     → drop (capped (first + inside)) ms ≡ drop n (drop first ms)
@@ -116,7 +118,7 @@ module _ (types : List Ty) (facts : List Facts) (n : ℕ) (are : AreFacts types 
   abbrev from : List ℕ
   from = drop task.first ms
 
-  -- A part with these marks.
+  -- If a part has the marks `at`, then the occurrences of the part's task are those of the part.
   part_seen :
       (w a first : ℕ) (in_tag : Bool) (at : List ℕ) → drop first ms ≡ at
       → stack_seen types ms (whole_task a first in_tag ∷ inner_task task w ∷ [])
@@ -181,7 +183,7 @@ pub popped_below :
 popped_below n tasks kept task popped below =
     (AreBelow-back n kept (task ∷ []) (subst (AreBelow n) popped below)).0
 
--- No task is left.
+-- If the loop ends, then no task is left.
 pub none_left :
     (tasks kept : List WalkTask) (n : ℕ) → tasks ≡ kept ++ [] → kept ≡ take (n - 1) tasks → n ≡ 0 → tasks ≡ []
 none_left tasks kept n popped rest none =

@@ -167,7 +167,7 @@ module _ (graph : Graph) (names : List Placed) (i : ℕ) (p : Placed) (best : Op
       (least_same (λ k. (p.0 ≡ k) × IsOnCycle graph i) (CyclicAt graph names i) (position_if back p.0)
       (least_if (IsOnCycle graph i) back p.0 is.0 is.1) (λ k here. (p, p_is, here)) same_position)
 
-  -- If a name does not come before the best one, then the best one stays least.
+  -- If the lexeme of a name is not before the best lexeme, then the best lexeme stays least.
   pub late_cyclic :
       ¬ ComesBefore p.0 best → IsLeast (Before (CyclicAt graph names) (i + 1)) best
   late_cyclic late = by_best best so_far late where

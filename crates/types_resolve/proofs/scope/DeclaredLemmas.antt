@@ -1,4 +1,4 @@
--- The declaration of a name is the first one with this name.
+-- The declaration of a name is the first declaration with the name.
 use Rattle.std.proofs.Common.{ℕ, zero, suc, ◌<◌, ◌≡◌, ◌≢◌, Option, Some, None, List, [], ◌∷◌, Bool}
 use Rattle.std.proofs.Common.{true, false, cond, length, get_or, refl, sym, ap, subst, arith, ◌∙◌}
 use Rattle.std.specs.Prelude.{slice_get, option_map, is_some, IsSome, IsTrue, ◌↔◌}
@@ -71,14 +71,14 @@ pub nowhere :
 nowhere names n name None is at = at
 nowhere names n name (Some i) is at = absurd (none-some i (sym is))
 
--- The name of an item.
+-- The name at index `j` of the declared names is the name of declaration `j`.
 pub decl_named :
     (decls : List Decl) (j : ℕ) (d : Decl) → j < length decls → d ≡ get_or decls j d
     → slice_get (names_of_decls decls) j ≡ Some d.name
 decl_named decls j d below read = slice_get-map (λ (x : Decl). x.name) decls j
     ∙ ap (option_map (λ (x : Decl). x.name)) (slice_get_read decls (length decls) j d refl below read)
 
--- A name is predeclared if and only if it has a predeclared arity.
+-- A name is predeclared if and only if the name has a predeclared arity.
 pub known :
     (base : Option Predeclared) (test : Bool)
     → test ≡ is_some (option_map predeclared_arity base) → IsTrue test ↔ IsSome base

@@ -1,4 +1,4 @@
--- The collected data of a file breaks a rule if and only if the file breaks it.
+-- The collected data of a file breaks a rule if and only if the file breaks the rule.
 use Rattle.std.proofs.Common.{ℕ, ◌<◌, ◌≤◌, ◌≡◌, ◌≢◌, ◌⊎◌, ⊎_elim, inl, inr, List, [], ◌∷◌}
 use Rattle.std.proofs.Common.{Option, Some, None, Bool, true, false, cond, length, refl, sym, ap, subst, arith, ◌∙◌}
 use Rattle.std.specs.Prelude.{slice_get, Contains, ◌↔◌, map, option_map}
@@ -85,7 +85,8 @@ uses_break decls uses occurrences are rule Breaks group same k = (
 
 -- ---- the declaration of a name
 
--- If a name is found, then it is the name of a declaration of the file.
+-- If the lookup of a name finds a declaration, then the declaration is in the file and has the
+-- name.
 found_in :
     (all : List DeclPositions) (name : List ℕ) (x : Decl)
     → declaration_of (decls_of all) name ≡ Some x
@@ -134,7 +135,7 @@ pub name_placed :
 name_placed all j d at = slice_get-map (λ (x : DeclPositions). (x.position, x.decl.name)) all j
     ∙ ap (option_map (λ (x : DeclPositions). (x.position, x.decl.name))) at
 
--- If names are distinct, then no earlier declaration has the name of a declaration.
+-- If declared names are distinct, then no earlier declaration has the name of a declaration.
 pub not_earlier :
     (all : List DeclPositions) → ((k : ℕ) → ¬ NamesBreak all twice k) → (name : List ℕ) (j : ℕ)
     (e : DeclPositions) → slice_get all j ≡ Some e → e.decl.name ≡ name → (i : ℕ) → i < j
@@ -153,7 +154,7 @@ not_earlier all distinct name j e at named i before same =
       second = name_placed all j e at ∙ ap (λ x. Some (e.position, x)) named;
     }))
 
--- If names are distinct, then the name of a declaration refers to it.
+-- If declared names are distinct, then the lookup of a declaration's name finds the declaration.
 first_named :
     (all : List DeclPositions) → ((k : ℕ) → ¬ NamesBreak all twice k) → (name : List ℕ)
     (e : DeclPositions) → Contains all e → e.decl.name ≡ name

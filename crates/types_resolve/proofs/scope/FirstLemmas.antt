@@ -10,7 +10,7 @@ use Rattle.types_resolve.specs.scope.Breaks.{WantsDistinctNames, rule_of}
 use Rattle.types_resolve.specs.scope.First.{KeepsBefore}
 use Rattle.types_resolve.specs.scope.Least.{IsLeast}
 
--- The rule with this turn.
+-- The rule whose turn is the given number.
 rule_of_turn : ℕ → Rule
 rule_of_turn zero = scope.twice
 rule_of_turn (suc zero) = scope.unknown_name
@@ -59,7 +59,8 @@ first_at Breaks n keeps rule is k least = record {
   earlier = λ other j before. keeps other j (omega (arith, is, before));
 }
 
--- At the turn of the rule, no name is declared twice.
+-- If the check has reached the turn of the rule `Cyclic` or `Irregular`, then no name is declared
+-- twice.
 pub distinct_by_then :
     (all : List DeclPositions) (n : ℕ) → KeepsBefore (BreaksInFile all) n → (rule : NameRule)
     → turn (rule_of rule) ≡ n → WantsDistinctNames rule → (k : ℕ) → ¬ NamesBreak all scope.twice k

@@ -1,4 +1,4 @@
--- Lists of marks with one mark changed.
+-- Lemmas about lists of node states in which one state is replaced.
 use Rattle.std.proofs.Common.{ℕ, zero, suc, ◌<◌, ◌≡◌, Some, List, [], ◌∷◌, length, refl}
 use Rattle.std.proofs.Common.{arith}
 use Rattle.std.specs.Prelude.{slice_get, slice_set}

@@ -1,4 +1,5 @@
--- The least position of several, and of the items of a list in order.
+-- Lemmas about the least of several positions, and about the least position over the items of a
+-- list.
 use Rattle.std.proofs.Common.{ℕ, ◌<◌, ◌≤◌, ◌+◌, ◌≡◌, ◌⊎◌, ⊎_elim, inl, inr, min, Option, Some, None}
 use Rattle.std.proofs.Common.{List, Bool, true, false, length, get_or, refl, sym, ap, subst, arith, ◌∙◌}
 use Rattle.std.specs.Prelude.{slice_get, Contains, IsTrue, ◌↔◌}
@@ -13,7 +14,7 @@ pub least_same :
 least_same P Q None least to from = λ k holds. least k (from k holds)
 least_same P Q (Some k) least to from = (to k least.0, λ j before holds. least.1 j before (from j holds))
 
--- If there is no least position, then there is no position.
+-- If the least position is `None`, then the property holds at no position.
 pub least_none :
     (P : ℕ → Type 0) (o : Option ℕ) → o ≡ None → IsLeast P o → (k : ℕ) → ¬ P k
 least_none P o is least = subst (IsLeast P) is least
@@ -35,7 +36,7 @@ least_of_either P Q (Some j) (Some k) first second = ⊎_elim
     (inr second.0, λ i before. ⊎_elim (first.1 i (omega arith)) (second.1 i before)))
     (cases_lt j k)
 
--- One position with a test.
+-- If a test decides a property of a single position, then `position_if` gives the least position.
 pub least_if :
     (Q : Type 0) (test : Bool) (position : ℕ) → (IsTrue test → Q) → (Q → IsTrue test)
     → IsLeast (λ k. (position ≡ k) × Q) (position_if test position)
@@ -45,7 +46,7 @@ least_if Q false position to from = λ k here. absurd (false≢true (from here.1
 
 -- ---- items in order
 
--- At an index below this one.
+-- `At` holds for position `k` at some index below `i`.
 abbrev pub Before : (ℕ → ℕ → Type 0) → ℕ → ℕ → Type 0
 Before At i k = (j : ℕ) × (j < i) × At j k
 
@@ -69,7 +70,7 @@ least_more At i best found so_far here =
     (λ k. (before_more At i k).0) (λ k. (before_more At i k).1)
 
 module _ {X : Type 0} (xs : List X) (Holds : X → ℕ → Type 0) where
-  -- The item at this index.
+  -- `Holds` relates the item at index `j` to position `k`.
   abbrev pub AtItem : ℕ → ℕ → Type 0
   AtItem j k = (x : X) × (slice_get xs j ≡ Some x) × Holds x k
 
@@ -93,7 +94,7 @@ module _ {X : Type 0} (xs : List X) (Holds : X → ℕ → Type 0) where
       least_same (Before AtItem (length xs)) (λ k. (x : X) × Contains xs x × Holds x k) best least
       (λ k. (before_end k).0) (λ k. (before_end k).1)
 
-  -- The next iteration of a loop over the items.
+  -- The invariant of a loop over the items holds after one more iteration.
   pub more_items :
       (i : ℕ) (x : X) (best found next : Option ℕ) → i < length xs → x ≡ get_or xs i x
       → IsLeast (Before AtItem i) best → IsLeast (Holds x) found → next ≡ earliest best found
@@ -102,14 +103,14 @@ module _ {X : Type 0} (xs : List X) (Holds : X → ℕ → Type 0) where
       subst (IsLeast (Before AtItem (i + 1))) (sym is) (least_more AtItem i best found so_far
       (least_at i x found (slice_get_read xs (length xs) i x refl below read) here))
 
-  -- The end of a loop over the items.
+  -- At the end of a loop over the items, the best position is the least position over all items.
   pub all_items :
       (i : ℕ) (best : Option ℕ) → i ≤ length xs → length xs ≤ i → IsLeast (Before AtItem i) best
       → IsLeast (λ k. (x : X) × Contains xs x × Holds x k) best
   all_items i best le ge least = let e : i ≡ length xs = omega arith in
       least_of_items best (subst (λ n. IsLeast (Before AtItem n) best) e least)
 
--- The next iteration of a loop that tests each item.
+-- The invariant of a loop that tests each item holds after one more iteration.
 pub more_tested :
     {X : Type 0} (xs : List X) (position : X → ℕ) (Breaks : X → Type 0) (i : ℕ) (x : X)
     (best found next : Option ℕ) (test : Bool) → i < length xs → x ≡ get_or xs i x

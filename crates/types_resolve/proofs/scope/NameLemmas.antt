@@ -1,4 +1,4 @@
--- Tables of names.
+-- Lemmas about tables of names.
 use Rattle.std.proofs.Common.{ℕ, ◌+◌, ◌≡◌, ◌≢◌, ⊎_elim, Option, Some, None, List, Bool}
 use Rattle.std.proofs.Common.{true, false, cond, length, refl, sym, ap, subst, arith, ◌∙◌}
 use Rattle.std.specs.Prelude.{slice_get, unwrap_or, IsTrue, is_some, not, ◌↔◌, Contains}
@@ -39,7 +39,8 @@ positions_at names n name q numbers true to from here positions =
 positions_at names n name q numbers false to from here positions =
     more_positions names n q name (numbers q) here (λ same. absurd (false≢true (from same))) (positions q)
 
--- After the next name is added, the numbers are still first indices.
+-- If the next name is added to a table of first indices, then the numbers are first indices of one
+-- more name.
 pub positions_more :
     (names : List (List ℕ)) (n : ℕ) (name : List ℕ) (numbers next : List ℕ → Option ℕ)
     → slice_get names n ≡ Some name → ArePositions names n numbers
@@ -49,7 +50,7 @@ positions_more names n name numbers next here positions is = λ q.
     (positions_at names n name q numbers (bytes_eq name q) (bytes_eq-Decides name q).0
     (bytes_eq-Decides name q).1 here positions)
 
--- If the table of all names does not have a name, then the name is none of them.
+-- If the table of all names does not have a name, then the name is not among the names.
 pub absent :
     (names : List (List ℕ)) (name : List ℕ) (found : Option ℕ) (test : Bool)
     → IsPosition names (length names) name found → is_some found ≡ not test

@@ -17,7 +17,7 @@ use Rattle.types_resolve.proofs.scope.GraphLemmas.{slice_get-set_same, slice_get
 
 -- ---- consequences of ranks
 
--- Ranks decrease along each path.
+-- If a node with a rank has a path to another node, then the other node has a lower rank.
 falls :
     (graph : Graph) (all : List VisitState) → AreRanks graph all → (i rank : ℕ) (between : List ℕ) (j : ℕ)
     → HasRank all i rank → IsPath graph i between j
@@ -57,7 +57,7 @@ rank_of all i has_rank = rank_in (slice_get all i) has_rank
 unranked : (all : List VisitState) (i rank : ℕ) → is_ranked all i ≡ false → ¬ HasRank all i rank
 unranked all i rank has_none has = false≢true (sym has_none ∙ ap is_rank has)
 
--- The mark of a node without a rank changes.
+-- If the state of a node without a rank is replaced, then each node with a rank keeps its rank.
 module _ (all : List VisitState) (i : ℕ) (mark : VisitState) (unranked_before : is_ranked all i ≡ false) where
   still_ranked : (j rank : ℕ) → HasRank all j rank → HasRank (slice_set all i mark) j rank
   still_ranked j rank has =
@@ -82,7 +82,7 @@ module _ (all : List VisitState) (i : ℕ) (mark : VisitState) (unranked_before 
           omega (arith, length-set all i mark)
     by_position (inr apart) = inl (sym (slice_get-set_other all i j mark apart) ∙ has)
 
-  -- The new mark is not a rank.
+  -- If a node without a rank is opened, then ranks decrease along each edge.
   pub ranks_opened :
       (graph : Graph) → AreRanks graph all → (mark ≡ marks.Opened)
       → AreRanks graph (slice_set all i mark)
@@ -105,7 +105,7 @@ module _ (all : List VisitState) (i : ℕ) (mark : VisitState) (unranked_before 
       (λ here. let e : marks.Opened ≡ marks.Ranked rank = sym is ∙ here.1 in absurd (cc))
       (ranked_before j rank has)
 
-  -- The new mark is a rank above those of the successors.
+  -- If a node gets a rank above the ranks of its successors, then ranks decrease along each edge.
   pub ranks_more :
       (graph : Graph) (rank : ℕ) → AreRanks graph all → RanksBelow all rank
       → mark ≡ marks.Ranked rank

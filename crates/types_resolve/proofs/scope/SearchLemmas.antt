@@ -1,4 +1,4 @@
--- At the end of a search, exactly the reachable nodes are seen.
+-- At the end of a search, the seen nodes are exactly the reachable nodes.
 use Rattle.std.proofs.Common.{ℕ, zero, suc, ◌<◌, ◌≤◌, ◌+◌, ◌≡◌, ◌⊎◌, ⊎_elim, inl, inr, Option, Some, None, List, [], ◌∷◌, ◌++◌, Bool, true, false, cond}
 use Rattle.std.proofs.Common.{length, get_or, refl, sym, ap, subst, arith, ◌∙◌}
 use Rattle.std.specs.Prelude.{slice_get, slice_set, Contains, IsTrue, ◌↔◌}
@@ -57,7 +57,7 @@ module _ (graph : Graph) (start node next : ℕ) (seen : List Bool) (stack : Lis
     by_position (inl same) = inl same
     by_position (inr apart) = inr (sym (slice_get-set_other seen next i true apart) ∙ now)
 
-  -- The waiting nodes after the push.
+  -- If a node is waiting before a push, then the node is waiting after the push.
   waits : (i : ℕ) → Contains (node ∷ stack) i → Contains (node ∷ (stack ++ next ∷ [])) i
   waits i among = ⊎_elim
       (λ here. subst (Contains (node ∷ (stack ++ next ∷ []))) here (Contains-first node (stack ++ next ∷ [])))
@@ -133,7 +133,8 @@ search_expanded graph start node seen stack search expanded = record {
 
 -- ---- the loop over the successors of a node
 
--- The first successors of the node, up to the loop index, are seen.
+-- The invariant of the loop over the successors of a node: the search has seen the first `count`
+-- successors.
 pub record IsExpanding (graph : Graph) (node : ℕ) (before : List Bool) (waiting : List ℕ)
     (seen : List Bool) (stack nodes : List ℕ) (count : ℕ) : Type 0 where
   pub search :
@@ -221,7 +222,7 @@ search_first graph start seen stack below are waits =
 
 -- ---- waiting nodes
 
--- The last node of the stack is popped.
+-- If the last node of the stack is popped, then the state of the search stays valid.
 pub search_pop :
     (graph : Graph) (start node : ℕ) (seen : List Bool) (stack : List ℕ)
     → IsSearch graph start seen (stack ++ node ∷ []) → IsSearch graph start seen (node ∷ stack)
@@ -254,7 +255,7 @@ seen_or_unseen seen i below = by_mark (slice_get seen i) refl where
   by_mark (Some true) is_seen = inl is_seen
   by_mark (Some false) unseen = inr unseen
 
--- If a node has an edge, then it is a node of the graph.
+-- If a node has an edge, then the node is a node of the graph.
 pub edge_within : (graph : Graph) (i j : ℕ) → IsEdge graph i j → i < length graph
 edge_within [] i j edge = absurd (Contains-none j edge)
 edge_within (nodes ∷ graph) zero j edge = omega arith
@@ -285,7 +286,7 @@ search_end graph start seen search below =
           (λ unseen. absurd (expanded i from next path.0 unseen))
           (seen_or_unseen seen next (search_within next (path_within graph next between start path.1)))
 
--- The mark of the start at the end of the search.
+-- At the end of the search, the start is marked as seen if and only if the start lies on a cycle.
 pub search_answer :
     (graph : Graph) (start : ℕ) (seen : List Bool) (stack : List ℕ) (answer : Bool)
     → IsSearch graph start seen stack → stack ≡ [] → start < length graph

@@ -13,7 +13,7 @@ use Rattle.types_resolve.proofs.scope.LeastLemmas.{least_same, least_if, least_m
 abbrev pub names_of : List Placed → List (List ℕ)
 names_of row = map (λ (p : Placed). p.1) row
 
--- The name occurs before this index too.
+-- The list contains the name at an index before `j`.
 abbrev pub StandsBefore : List Placed → ℕ → List ℕ → Type 0
 StandsBefore row j name =
     (i : ℕ) × (i < j) × (position : ℕ) × (slice_get row i ≡ Some (position, name))
@@ -82,7 +82,7 @@ seconds_of_row row best least =
       (second.name, second.second, (second.earlier, second.before, second.position, second.first)),
     ))
 
--- The next iteration of the loop over a list.
+-- The invariant of the loop over a list of names holds after one more iteration.
 pub more_seconds :
     (row : List Placed) (j : ℕ) (p : Placed) (numbers : List ℕ → Option ℕ)
     (best had found next : Option ℕ) → j < length row → p ≡ get_or row j p
@@ -101,7 +101,7 @@ pub all_seconds :
 all_seconds row j best le ge least = let e : j ≡ length row = omega arith in
     seconds_of_row row best (subst (λ n. IsLeast (Before (SecondAt row) n) best) e least)
 
--- The name of an item of a list.
+-- The name at index `j` of the list of names is the name of item `j`.
 pub name_at :
     (row : List Placed) (j : ℕ) (p : Placed) → j < length row → p ≡ get_or row j p
     → slice_get (names_of row) j ≡ Some p.1

@@ -1,4 +1,4 @@
--- The collected data of declarations, in order.
+-- Lemmas about the collected data of declarations, in the order of the declarations.
 use Rattle.std.proofs.Common.{ℕ, ◌<◌, ◌≤◌, ◌+◌, ◌≡◌, List, Option, Some, length, get_or, refl, sym}
 use Rattle.std.proofs.Common.{subst, arith, ◌∙◌}
 use Rattle.std.specs.Prelude.{slice_get}
@@ -21,7 +21,7 @@ module _ (rule : NameRule) (decls : List Decl) (sites : List Site) where
       (λ k at. subst (λ e. SiteBreaks rule decls e site k) (same_Some at.0 d (sym at.2 ∙ d_is))
       (subst (λ s. SiteBreaks rule decls at.0 s k) (same_Some at.1 site (sym at.3 ∙ site_is)) at.4))
 
-  -- The next iteration of the loop over the declarations.
+  -- The invariant of the loop over the declarations holds after one more iteration.
   pub more_sites :
       (i : ℕ) (d : Decl) (site : Site) (best found next : Option ℕ)
       → length decls ≡ length sites → i < length decls → d ≡ get_or decls i d

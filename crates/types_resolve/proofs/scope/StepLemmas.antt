@@ -18,7 +18,7 @@ use Rattle.types_resolve.proofs.scope.LeastLemmas.{Before, AtItem, before_more, 
 -- ---- the steps of one declaration
 
 module _ {X : Type 0} (xs : List X) (LeadsTo : X → ℕ → Type 0) where
-  -- The declarations to which the first uses lead, up to an index.
+  -- `found` contains the declarations to which the uses with an index below `i` lead.
   abbrev pub AreLed : ℕ → List ℕ → Type 0
   AreLed i found = (j : ℕ) → Contains found j ↔ Before (AtItem xs LeadsTo) i j
 
@@ -64,7 +64,7 @@ module _ {X : Type 0} (xs : List X) (LeadsTo : X → ℕ → Type 0) where
 
 -- ---- the graph
 
--- The steps of the first declarations, up to index i.
+-- The graph contains the steps of the declarations with an index below `i`.
 pub record AreFirstSteps (decls : List Decl) (sites : List Site) (graph : Graph) (i : ℕ) : Type 0 where
   pub counted : length graph ≡ i
   pub edges :

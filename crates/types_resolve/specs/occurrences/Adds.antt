@@ -23,14 +23,15 @@ as_variable (use_of k name arguments in_tag) = None
 as_variable (variable_at k name) = Some (k, name)
 as_variable (bracket_of items) = None
 
--- The row of the tags in a bracket.
+-- The row of the tags that a bracket writes, or `None` if the occurrence is not a bracket.
 abbrev pub as_row : Occurrence → Option (List Placed)
 as_row (use_of k name arguments in_tag) = None
 as_row (variable_at k name) = None
 as_row (bracket_of items) = Some (filter_map written_tag items)
 
--- The new site extends the old one by these rows, by these lexemes of constructors, and by the data
--- of these occurrences. The order of rows is left open.
+-- The site `new` extends the site `old` by the rows `rows`, by the lexemes `carrying` of
+-- constructors, and by the data of the occurrences `all`. The definition does not fix the order of
+-- rows.
 pub record Adds (old new : Site) (rows : List (List Placed)) (carrying : List ℕ)
     (all : List Occurrence) : Type 0 where
   pub rows_are :

@@ -1,5 +1,5 @@
--- The occurrences in a type, by the tree of the type: its n-th name, tag, variable or included type
--- is at the n-th mark of its text.
+-- The occurrences in a type, by the tree of the type. The n-th name, tag, variable or included type
+-- of the tree is at the n-th mark of the type's text.
 use Rattle.std.specs.Prelude.{ℕ, suc, ◌+◌, Bool, true, false, List, [], ◌∷◌, ◌++◌}
 use Rattle.std.specs.Prelude.{◌&&◌, drop, slice_index, if◌then◌else◌}
 use Rattle.types_lex.specs.declared.lexeme.LexemeKind.{LexemeKind}
@@ -14,7 +14,7 @@ use Rattle.types_spec.specs.types.Occurrence.{bracket_of}
 
 -- ---- lexemes
 
--- The lexeme is a name, a tag or a variable.
+-- Tests whether the lexeme is a name, a tag or a variable.
 abbrev pub is_marked : LexemeKind → Bool
 is_marked (kinds.Lower name) = true
 is_marked (kinds.Upper name) = true
@@ -22,13 +22,13 @@ is_marked (kinds.Tag name) = true
 is_marked (kinds.Variable name) = true
 is_marked kind = false
 
--- An item of a bracket may begin after the lexeme.
+-- Tests whether an item of a bracket may begin directly after the lexeme.
 abbrev pub opens_item : LexemeKind → Bool
 opens_item (kinds.Symbol symbols.OpenBracket) = true
 opens_item (kinds.Symbol symbols.Bar) = true
 opens_item kind = false
 
--- An item that is a type may begin with the lexeme.
+-- Tests whether a type that a bracket includes may begin with the lexeme.
 abbrev pub begins_type : LexemeKind → Bool
 begins_type (kinds.Lower name) = true
 begins_type (kinds.Variable name) = true
@@ -36,7 +36,7 @@ begins_type (kinds.Symbol symbols.OpenParen) = true
 begins_type (kinds.Symbol symbols.OpenBracket) = true
 begins_type kind = false
 
--- An item may begin after these lexemes.
+-- Tests whether an item of a bracket may begin directly after the lexemes.
 abbrev pub after : Bool → Kinds → Bool
 after fresh [] = fresh
 after fresh (kind ∷ more) = after (opens_item kind) more
@@ -44,9 +44,9 @@ after fresh (kind ∷ more) = after (opens_item kind) more
 abbrev pub one_if : Bool → ℕ → List ℕ
 one_if test k = if test then k ∷ [] else []
 
--- The marks of these lexemes, the first of which has index `k`: each name, tag and variable, and
--- before them the first lexeme of each included type. `fresh` says whether an item may begin with
--- the first lexeme.
+-- The marks of lexemes, the first of which has index `k`. Each name, tag and variable has a mark,
+-- and each included type has a mark at its first lexeme. The mark of an included type precedes the
+-- lexeme's own mark. If an item may begin with the first lexeme, `fresh` is true.
 abbrev pub marks : ℕ → Bool → Kinds → List ℕ
 marks k fresh [] = []
 marks k fresh (kind ∷ more) =
@@ -55,7 +55,7 @@ marks k fresh (kind ∷ more) =
 
 -- ---- types
 
--- 1 if the type is a variable, or begins with a name whose arguments are its parts.
+-- 1 if the type is a variable or begins with a name, and 0 for all other types.
 abbrev pub own_count : Ty → ℕ
 own_count (variable x) = 1
 own_count (named x) = 1
@@ -90,7 +90,7 @@ items_in ms (including whole included) =
     items_in ms whole ++ (slice_index ms (inner_count whole), including bracket included) ∷ []
 items_in ms t = []
 
--- The variable, name or bracket with which a type begins.
+-- The occurrence of the variable, name or bracket with which a type begins, at the lexeme `k`.
 abbrev pub begins : ℕ → Bool → List Ty → List PlacedItem → Ty → List Occurrence
 begins k in_tag arguments items (variable x) = variable_at k x ∷ []
 begins k in_tag arguments items (named x) = use_of k x arguments in_tag ∷ []
@@ -101,11 +101,12 @@ begins k in_tag arguments items (tag whole x) = begins k in_tag arguments items 
 begins k in_tag arguments items (tag_of whole x argument) = begins k in_tag arguments items whole
 begins k in_tag arguments items (including whole included) = begins k in_tag arguments items whole
 
--- The beginning of a type with its lexeme, whose mark follows those of the parts.
+-- The occurrence with which a type begins. The mark of the occurrence follows the marks of the
+-- type's parts.
 abbrev pub own : List ℕ → Bool → Ty → List Occurrence
 own ms in_tag t = begins (slice_index ms (inner_count t)) in_tag (parts t) (items_in ms t) t
 
--- The occurrences in the parts.
+-- The occurrences in the parts of a type.
 abbrev pub inner : List ℕ → Bool → Ty → List Occurrence
 inner ms in_tag (part whole added) =
     inner ms in_tag whole ++ (own (drop (inner_count whole) ms) in_tag added
@@ -119,6 +120,7 @@ inner ms in_tag (including whole included) =
     ++ inner (drop (inner_count whole + 1) ms) in_tag included)
 inner ms in_tag t = []
 
--- The occurrences in a type.
+-- All occurrences in a type: the occurrence with which the type begins, and the occurrences in its
+-- parts.
 abbrev pub in_type : List ℕ → Bool → Ty → List Occurrence
 in_type ms in_tag t = own ms in_tag t ++ inner ms in_tag t

@@ -1,5 +1,5 @@
--- The occurrences in declarations, by the declarations themselves: their n-th name, tag, variable
--- or included type is at the n-th mark of the text.
+-- The occurrences in declarations, by the declarations themselves. The n-th name, tag, variable or
+-- included type of the declarations is at the n-th mark of the text.
 use Rattle.std.specs.Prelude.{ℕ, ◌+◌, List, [], ◌∷◌, ◌++◌, length, false, drop, slice_index}
 use Rattle.types_spec.specs.declared.types.decl.Field.{Field}
 use Rattle.types_spec.specs.declared.types.decl.Arguments.{Arguments}
@@ -12,7 +12,7 @@ use Rattle.types_spec.specs.types.Ty.{Ty}
 use Rattle.types_spec.specs.types.Occurrence.{Placed, Occurrence, DeclPositions}
 use Rattle.types_resolve.specs.occurrences.Counted.{own_count, inner_count, in_type}
 
--- The results for each element, if each element takes the number of marks that `count` gives.
+-- The results of `of` for each element of a list, if each element takes `count` of the marks.
 abbrev pub along : {X Y : Type 0} → (X → ℕ) → (List ℕ → X → List Y) → List ℕ → List X → List Y
 along count of ms [] = []
 along count of ms (x ∷ xs) = of ms x ++ along count of (drop (count x) ms) xs
@@ -24,7 +24,7 @@ count_all count (x ∷ xs) = count x + count_all count xs
 abbrev pub type_count : Ty → ℕ
 type_count t = inner_count t + own_count t
 
--- A name at the first of these marks.
+-- The name `name`, located at the first mark of `ms`.
 abbrev pub placed : List ℕ → List ℕ → Placed
 placed ms name = (slice_index ms 0, name)
 
@@ -67,7 +67,7 @@ carrying_in ms arguments.Constant = []
 carrying_in ms (arguments.Listed types) = slice_index ms 0 ∷ []
 carrying_in ms (arguments.Inline fields) = slice_index ms 0 ∷ []
 
--- The results for each constructor of a body.
+-- The results of `of` for each constructor of a body.
 abbrev pub of_constructors :
     {Y : Type 0} → (List ℕ → Constructor → List Y) → List ℕ → Body → List Y
 of_constructors of ms (bodies.Abbreviation t) = []

@@ -28,7 +28,7 @@ abbrev pub is_alone : Ty → Bool
 is_alone (variable x) = true
 is_alone t = false
 
--- One of the types contains a variable without being one.
+-- Tests whether one of the types contains a variable but is not a variable.
 abbrev pub some_grow : List Ty → Bool
 some_grow [] = false
 some_grow (t ∷ ts) = (holds t && not (is_alone t)) || some_grow ts
@@ -97,7 +97,7 @@ IsLeaf tuple = Unit {0}
 IsLeaf bracket = Unit {0}
 IsLeaf t = ⊥
 
--- These are the facts of the type of node `n`.
+-- `f` states the facts of the type `t` of node `n`.
 pub record IsFacts (types : List Ty) (n : ℕ) (t : Ty) (f : Facts) : Type 0 where
   pub inner_is : f.inner ≡ capped (inner_count t)
   pub own_is : f.own ≡ own_count t

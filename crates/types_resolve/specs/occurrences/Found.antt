@@ -1,4 +1,4 @@
--- The occurrences found in a text, and what one step adds to them.
+-- The occurrences found in a text, and the additions of one step to the found occurrences.
 use Rattle.std.specs.Prelude.{ℕ, ◌≡◌, List, ◌++◌, All}
 use Rattle.types_spec.specs.types.Occurrence.{Placed, Occurrence}
 use Rattle.types_resolve.specs.declared.occurrences.found.FoundOccurrences.{FoundOccurrences}
@@ -6,8 +6,7 @@ use Rattle.types_resolve.specs.occurrences.Adds.{Adds}
 use Rattle.types_resolve.specs.scope.Brackets.{brackets_among, all_known, IsOrdered}
 
 -- `new` is `old` with additions: the rows `rows`, the lexemes `carrying` of constructors with
--- arguments, and the data and the brackets of the occurrences `all`. The scope rules read this
--- data.
+-- arguments, and the data and the brackets of the occurrences `all`.
 pub record AddsFound (old new : FoundOccurrences) (rows : List (List Placed)) (carrying : List ℕ)
     (all : List Occurrence) : Type 0 where
   pub site : Adds old.site new.site rows carrying all

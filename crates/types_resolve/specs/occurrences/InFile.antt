@@ -15,8 +15,8 @@ use Rattle.types_spec.specs.types.Occurrence.{Placed, Occurrence, DeclPositions}
 use Rattle.types_parse.specs.parse.Written.{declaration_of_tree}
 use Rattle.types_resolve.specs.occurrences.InText.{in_texpr, in_app}
 
--- The results for each element, if lexeme `k` is before the first one and one lexeme is before each
--- of the others.
+-- The results of `of` for each element of a list. Lexeme `k` is directly before the first element,
+-- and one lexeme separates each two neighbours.
 abbrev pub spread : {X Y : Type 0} → (X → ℕ) → (ℕ → X → List Y) → ℕ → List X → List Y
 spread size of k [] = []
 spread size of k (x ∷ xs) = of (k + 1) x ++ spread size of (k + 1 + size x) xs
@@ -30,7 +30,7 @@ placed_parameters k (params name names) =
 abbrev pub field_size : FieldTree → ℕ
 field_size f = length (field_kinds f)
 
--- The results for each field of a record whose brace is lexeme `k`.
+-- The results of `of` for each field of a record whose opening brace is lexeme `k`.
 abbrev pub in_fields : {Y : Type 0} → (ℕ → FieldTree → List Y) → ℕ → RecordTree → List Y
 in_fields of k r = of (k + 1) r.first ++ spread field_size of (k + 1 + field_size r.first) r.more
 
@@ -72,7 +72,7 @@ arguments_occurrences k (trees.listed a others) =
 abbrev pub constr_occurrences : ℕ → ConstrTree → List Occurrence
 constr_occurrences k c = arguments_occurrences (k + 2) c.arguments
 
--- The results for each constructor of a body that begins with lexeme `k`.
+-- The results of `of` for each constructor of a body that begins with lexeme `k`.
 abbrev pub in_constrs : {Y : Type 0} → (ℕ → ConstrTree → List Y) → ℕ → BodyTree → List Y
 in_constrs of k (record_body r) = []
 in_constrs of k (variant_body bar c cs) =
@@ -90,7 +90,7 @@ body_occurrences k (record_body r) = in_fields field_occurrences k r
 body_occurrences k (variant_body bar c cs) = in_constrs constr_occurrences k (variant_body bar c cs)
 body_occurrences k (type_body t) = in_texpr k false t
 
--- The occurrences of a declaration of this group that begins with lexeme `k`.
+-- The occurrences of a declaration of the group `group`, if the declaration begins with lexeme `k`.
 abbrev pub decl_positions : ℕ → ℕ → DeclTree → DeclPositions
 decl_positions group k d =
     let name = k + length (params_kinds d.params) in
@@ -112,7 +112,8 @@ group_positions group k g =
     decl_positions group (k + 1) g.first
     ∷ spread decl_size (λ j d. decl_positions group j d ∷ []) (k + 1 + decl_size g.first) g.more
 
--- The occurrences of groups that come after `before` declarations.
+-- The occurrences of groups that begin with lexeme `k`, if `before` declarations precede the
+-- groups.
 abbrev pub positions_after : ℕ → ℕ → FileTree → List DeclPositions
 positions_after before k [] = []
 positions_after before k (g ∷ groups) =

@@ -11,13 +11,14 @@ use Rattle.types_spec.specs.types.Occurrence.{bracket_of}
 use Rattle.types_parse.specs.parse.Written.{type_of_texpr, type_of_app, with_item}
 use Rattle.types_parse.specs.parse.TypeShown.{types_of_texprs}
 
--- The items, each with its first lexeme. The first item begins with lexeme `k`.
+-- The items of a bracket, each with its first lexeme. The first item begins with lexeme `k`.
 abbrev pub placed_items : ℕ → Items → List PlacedItem
 placed_items k (trees.one i) = (k, with_item bracket i) ∷ []
 placed_items k (trees.more all i) =
     placed_items k all ++ (k + length (items all) + 1, with_item bracket i) ∷ []
 
--- The occurrences in a text that begins with lexeme `k`. A name comes before its arguments.
+-- The occurrences in the text of a type that begins with lexeme `k`. The occurrence of a name comes
+-- before the occurrences in its arguments.
 abbrev mutual
   pub in_texpr : ℕ → Bool → Texpr → List Occurrence
   in_texpr k in_tag (trees.single a) = in_app k in_tag a

@@ -20,7 +20,7 @@ inner_task task w = record { node = w; first = task.first; in_tag = task.in_tag;
 abbrev pub whole_task : ℕ → ℕ → Bool → WalkTask
 whole_task a first in_tag = record { node = a; first = first; in_tag = in_tag; whole = true }
 
--- The index of the first mark after those of a node's parts.
+-- The index of the first mark after the marks in the parts of node `w`.
 abbrev pub behind : List Facts → WalkTask → ℕ → ℕ
 behind facts task w = capped (task.first + (fact_at facts w).inner)
 
@@ -36,7 +36,7 @@ tasks_of facts task node = []
 
 -- ---- the remaining occurrences
 
--- The number of tasks in the traversal of this type or of its parts.
+-- The number of tasks in the traversal of a type or of its parts.
 abbrev pub weight : Ty → ℕ
 weight (variable x) = 1
 weight (named x) = 1
@@ -48,7 +48,7 @@ weight (tag_of whole x argument) = suc (weight whole + weight argument)
 weight (including whole included) = suc (weight whole + weight included)
 
 module _ (types : List Ty) (marks : List ℕ) where
-  -- The beginning of the task's type, if the task asks for it.
+  -- The occurrence with which the task's type begins, if the task's `whole` is true.
   abbrev pub task_own : WalkTask → List Occurrence
   task_own task =
       if task.whole then own (drop task.first marks) task.in_tag (type_at types task.node) else []

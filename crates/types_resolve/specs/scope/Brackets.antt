@@ -1,5 +1,5 @@
--- The brackets (polymorphic variant types) among occurrences, and brackets by the nodes of their
--- types.
+-- The brackets (polymorphic variant types) among occurrences, given by their items or by the nodes
+-- of their types.
 use Rattle.std.specs.Prelude.{ℕ, ◌≡◌, Option, Some, None, List, length, slice_get, map, All}
 use Rattle.std.specs.List.{filter_map, flat_map}
 use Rattle.types_spec.specs.types.Ty.{Ty, bracket, tag, tag_of, including}
@@ -23,7 +23,7 @@ brackets_among all = filter_map as_bracket all
 
 -- ---- brackets by nodes
 
--- The bracket that consists of the last item only.
+-- The bracket that contains only the last item of a bracket.
 abbrev pub item_of : Ty → Ty
 item_of (tag whole x) = tag bracket x
 item_of (tag_of whole x argument) = tag_of bracket x argument
@@ -50,12 +50,12 @@ all_known found = flat_map type_known found
 abbrev pub IsOrdered : TypeBrackets → Type 0
 IsOrdered t = AreOrdered t.nodes.now
 
--- These are the brackets among the occurrences, in the same order.
+-- `found` contains the brackets among the occurrences `all`, in the same order.
 pub record AreBrackets (found : List TypeBrackets) (all : List Occurrence) : Type 0 where
   pub ordered : All IsOrdered found
   pub known : all_known found ≡ brackets_among all
 
--- The brackets of each declaration.
+-- `found` contains the brackets of each declaration in `all`.
 pub record AreFileBrackets (found : List (List TypeBrackets))
     (all : List DeclPositions) : Type 0 where
   pub counted : length found ≡ length all

@@ -3,16 +3,16 @@ use Rattle.std.specs.Prelude.{ℕ, ◌<◌, ◌≡◌, List, length, Option, Non
 use Rattle.types_spec.specs.types.Occurrence.{Placed}
 use Rattle.types_resolve.specs.scope.Graph.{Graph, IsOnCycle}
 
--- Node i lies on a cycle, and its name is at lexeme k.
+-- Node `i` lies on a cycle, and the name of node `i` is at lexeme `k`.
 abbrev pub CyclicAt : Graph → List Placed → ℕ → ℕ → Type 0
 CyclicAt graph names i k =
     (p : Placed) × (slice_get names i ≡ Some p) × ((p.0 ≡ k) × IsOnCycle graph i)
 
--- Some node lies on a cycle, and its name is at lexeme k.
+-- Some node lies on a cycle, and the name of the node is at lexeme `k`.
 abbrev pub IsCyclicName : Graph → List Placed → ℕ → Type 0
 IsCyclicName graph names k = (i : ℕ) × (i < length names) × CyclicAt graph names i k
 
--- There is no best position so far, or the position is less than it.
+-- The best position is `None`, or `position` is less than the best position.
 abbrev pub ComesBefore : ℕ → Option ℕ → Type 0
 ComesBefore position None = Unit {0}
 ComesBefore position (Some best) = position < best

@@ -4,12 +4,12 @@ use Rattle.types_spec.specs.types.Scope.{IsFirst, Rule, turn}
 use Rattle.types_resolve.specs.declared.scope.first.Broken.{Broken}
 use Rattle.types_resolve.specs.scope.Breaks.{rule_of}
 
--- No rule with a turn before n is broken.
+-- No rule with a turn before `n` is broken.
 abbrev pub KeepsBefore : (Rule → ℕ → Type 0) → ℕ → Type 0
 KeepsBefore Breaks n = (rule : Rule) (k : ℕ) → turn rule < n → ¬ Breaks rule k
 
--- The first broken rule with a turn before n, with its least lexeme. `None` means that none of
--- these rules is broken.
+-- The first broken rule with a turn before `n`, with the least lexeme that breaks the rule. `None`
+-- means that no rule with a turn before `n` is broken.
 abbrev pub IsFirstBefore : (Rule → ℕ → Type 0) → ℕ → Option Broken → Type 0
 IsFirstBefore Breaks n None = KeepsBefore Breaks n
 IsFirstBefore Breaks n (Some broken) =

@@ -4,11 +4,11 @@ use Rattle.types_resolve.specs.declared.scope.ranks.VisitState.{VisitState}
 use Rattle.types_resolve.specs.declared.scope.ranks.VisitState.TheVariants as marks
 use Rattle.types_resolve.specs.scope.Graph.{Graph, IsEdge}
 
--- The node has this rank.
+-- Node `i` has the rank `rank`.
 abbrev pub HasRank : List VisitState → ℕ → ℕ → Type 0
 HasRank all i rank = slice_get all i ≡ Some (marks.Ranked rank)
 
--- The node is new.
+-- Node `i` is neither opened nor ranked.
 abbrev pub IsNew : List VisitState → ℕ → Type 0
 IsNew all i = slice_get all i ≡ Some marks.New
 
@@ -16,7 +16,7 @@ abbrev pub is_rank : Option VisitState → Bool
 is_rank (Some (marks.Ranked rank)) = true
 is_rank other = false
 
--- The node has a rank.
+-- Tests whether node `i` has a rank.
 abbrev pub is_ranked : List VisitState → ℕ → Bool
 is_ranked all i = is_rank (slice_get all i)
 
@@ -27,6 +27,6 @@ pub record AreRanks (graph : Graph) (all : List VisitState) : Type 0 where
       (i rank j : ℕ) → HasRank all i rank → IsEdge graph i j
       → (lower : ℕ) × HasRank all j lower × (lower < rank)
 
--- All ranks are less than this number.
+-- All ranks are less than `limit`.
 abbrev pub RanksBelow : List VisitState → ℕ → Type 0
 RanksBelow all limit = (i rank : ℕ) → HasRank all i rank → rank < limit

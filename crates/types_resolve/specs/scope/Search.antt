@@ -9,16 +9,16 @@ IsSeen seen i = slice_get seen i ≡ Some true
 abbrev pub IsUnseen : List Bool → ℕ → Type 0
 IsUnseen seen i = slice_get seen i ≡ Some false
 
--- The number of unseen nodes.
+-- The number of nodes that the search has not seen.
 abbrev pub unseen_count : List Bool → ℕ
 unseen_count seen = sum_by (λ s. if s then 0 else 1) seen
 
--- The node has no unseen successor.
+-- The search has seen all successors of node `i`.
 abbrev pub IsExpanded : Graph → List Bool → ℕ → Type 0
 IsExpanded graph seen i = (j : ℕ) → IsEdge graph i j → ¬ IsUnseen seen j
 
--- Each seen node can be reached from the start. The start and each seen node are waiting or
--- expanded.
+-- The state of a search. Edges lead from the start to each seen node. The start and each seen node
+-- are waiting or expanded.
 pub record IsSearch (graph : Graph) (start : ℕ) (seen : List Bool) (waiting : List ℕ) : Type 0 where
   pub counted : length seen ≡ length graph
   pub reached : (i : ℕ) → IsSeen seen i → Reaches graph start i

@@ -1,4 +1,5 @@
--- What the code collects from a declaration, and how it corresponds to the occurrences.
+-- The data that the code collects from a declaration, and the correspondence of the data to the
+-- occurrences.
 use Rattle.std.specs.Prelude.{ℕ, ◌≡◌, ◌⊎◌, ◌↔◌, Bool, IsTrue, List, length, Contains}
 use Rattle.std.specs.Prelude.{Some, slice_get}
 use Rattle.std.specs.List.{filter_map}
@@ -13,29 +14,29 @@ use Rattle.types_resolve.specs.declared.scope.site.TypeUse.{TypeUse}
 use Rattle.types_resolve.specs.declared.scope.site.Site.{Site}
 use Rattle.types_resolve.specs.declared.scope.site.TypeSite.{TypeSite}
 
--- Some argument contains a variable but is not a variable itself.
+-- Some argument contains a variable but is not a variable.
 abbrev pub Grow : List Ty → Type 0
 Grow arguments = (t : Ty) × Contains arguments t × HoldsVariable t × (¬ IsVariable t)
 
--- A use with these arguments.
+-- The use `u` states the number of its arguments, and whether some argument grows (`Grow`).
 pub record HasArguments (u : TypeUse) (arguments : List Ty) : Type 0 where
   pub counted : u.arguments ≡ length arguments
   pub grow : IsTrue u.grows ↔ Grow arguments
 
--- The tags that some bracket writes.
+-- The row contains the tags that some bracket among the occurrences writes.
 abbrev pub IsTagRow : List Occurrence → List Placed → Type 0
 IsTagRow occurrences row =
     (items : List PlacedItem) × Contains occurrences (bracket_of items)
     × (row ≡ filter_map written_tag items)
 
--- Names that must be distinct: parameters, constructors, the fields of a record, or the tags that a
--- bracket writes.
+-- A row of names that must be distinct: the parameters, the constructors, the fields of a record,
+-- or the tags that a bracket writes.
 abbrev pub IsRow : DeclPositions → List Placed → Type 0
 IsRow d row =
     (row ≡ d.parameters) ⊎ (row ≡ d.constructors) ⊎ Contains d.records row
     ⊎ IsTagRow d.occurrences row
 
--- The uses of names among occurrences.
+-- `uses` contains exactly the uses of type names among the occurrences.
 pub record AreUses (uses : List TypeUse) (occurrences : List Occurrence) : Type 0 where
   pub occur :
       (u : TypeUse) → Contains uses u
@@ -47,7 +48,7 @@ pub record AreUses (uses : List TypeUse) (occurrences : List Occurrence) : Type 
       → (u : TypeUse) × Contains uses u × HasArguments u arguments
       × (u.position ≡ position) × (u.name ≡ name) × (u.in_tag ≡ in_tag)
 
--- What the code collects from a declaration.
+-- The site contains exactly the data of a declaration that the scope rules read.
 pub record IsSite (site : Site) (d : DeclPositions) : Type 0 where
   pub rows : (row : List Placed) → Contains site.rows row → IsRow d row
   pub all_rows : (row : List Placed) → IsRow d row → Contains site.rows row
@@ -60,13 +61,14 @@ pub record IsSite (site : Site) (d : DeclPositions) : Type 0 where
       (position : ℕ) (name : List ℕ) → Contains d.occurrences (variable_at position name)
       → Contains site.variables (position, name)
 
--- What the code collects from the text of a type.
+-- The site contains exactly the data of a type's text that the scope rules read.
 pub record IsTypeSite (site : TypeSite) (occurrences : List Occurrence) : Type 0 where
   pub rows : (row : List Placed) → Contains site.rows row → IsTagRow occurrences row
   pub all_rows : (row : List Placed) → IsTagRow occurrences row → Contains site.rows row
   pub used : AreUses site.uses occurrences
 
--- What the code collects from a file.
+-- The sites contain exactly the data of a file that the scope rules read, one site for each
+-- declaration.
 pub record AreSites (decls : List Decl) (names : List Placed) (sites : List Site)
     (all : List DeclPositions) : Type 0 where
   pub declares : decls ≡ decls_of all

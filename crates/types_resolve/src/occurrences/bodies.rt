@@ -102,8 +102,8 @@ fn write_constructor<'m, 'a>(
     write_arguments(alloc, found, skip(marks, 1), &constructor.arguments)
 }
 
-/// Adds the occurrences in a list of constructors, and the row of their names. Returns the
-/// remaining marks.
+/// Adds the occurrences in a list of constructors, and the row of the constructors' names. Returns
+/// the remaining marks.
 fn write_constructors<'m, 'a>(
     alloc: Global,
     found: &mut FoundOccurrences<'a>,
@@ -129,7 +129,7 @@ fn write_constructors<'m, 'a>(
     Ok(rest)
 }
 
-/// Adds the occurrences in a body, and the row of its constructor names.
+/// Adds the occurrences in the body of a declaration, and the row of the body's constructor names.
 pub fn write_body<'m, 'a>(
     alloc: Global,
     found: &mut FoundOccurrences<'a>,

@@ -1,4 +1,4 @@
-//! Facts about each node of a type.
+//! Facts about the type of each node in a list of nodes.
 
 ghost use Rattle.std.specs.Prelude.{◌≡◌, ◌&&◌, ◌||◌, not, length, IfOk};
 ghost use Rattle.types_spec.specs.types.Nodes.{types_of, AreOrdered};
@@ -9,22 +9,23 @@ use base_data::model::Memory;
 use std::alloc::Global;
 use types_spec::types::ty::TypeTreeNode;
 
-/// The number of marks of a node's type, and properties of its parts.
+/// The facts of a node: the number of marks of the node's type, and properties of the type's parts.
 #[derive(Clone, Copy)]
 pub struct Facts {
-    /// The number of marks in the parts, at most `usize::MAX`.
+    /// The number of marks in the parts of the node's type, at most `usize::MAX`.
     pub inner: usize,
-    /// 1 if the type is a variable or begins with a name, otherwise 0.
+    /// 1 if the node's type is a variable or begins with a name, and 0 for all other types.
     pub own: usize,
-    /// The number of arguments or components.
+    /// The number of arguments or components of the node's type.
     pub arguments: usize,
-    /// True if one of these contains a variable without being one.
+    /// True if an argument or component of the node's type contains a variable but is not a
+    /// variable.
     pub grows: bool,
-    /// True if the type contains a variable.
+    /// True if the node's type contains a variable.
     pub holds: bool,
-    /// True if the type is a variable.
+    /// True if the node's type is a variable.
     pub alone: bool,
-    /// The node of the variable, name, tuple or bracket with which the type begins.
+    /// The index of the variable, name, tuple or bracket node with which the node's type begins.
     pub base: usize,
 }
 
@@ -46,14 +47,14 @@ pub fn fact_at(facts: &[Facts], n: usize) -> Facts
     }
 }
 
-/// Returns true if one of the two is true.
+/// Returns true if `first` or `second` is true.
 fn either(first: bool, second: bool) -> bool
     ensures { result ≡ (first || second) }
 {
     first || second
 }
 
-/// Returns true if the first is true and the second is false.
+/// Returns true if `first` is true and `second` is false.
 fn but_not(first: bool, second: bool) -> bool
     ensures { result ≡ (first && not second) }
 {
@@ -97,7 +98,7 @@ pub fn total(g: Facts) -> usize
     g.inner.saturating_add(g.own)
 }
 
-/// Returns the facts of the next node.
+/// Returns the facts of the node `node` that follows the nodes with the facts `facts`.
 fn facts_of(facts: &[Facts], node: &TypeTreeNode) -> Facts
     ensures { result ≡ facts_of facts.now node.now }
 {
@@ -137,7 +138,7 @@ fn facts_of(facts: &[Facts], node: &TypeTreeNode) -> Facts
     }
 }
 
-/// Returns the facts of all nodes.
+/// Returns the facts of all nodes in a list, in which each node refers to earlier nodes only.
 pub fn all_facts(alloc: Global, nodes: &[TypeTreeNode]) -> Result<Vec<Facts>, Memory>
     requires { AreOrdered nodes.now }
     ensures { IfOk result (λ v. AreFacts (types_of nodes.now) (length nodes.now) v.items) }

@@ -16,17 +16,17 @@ use base_data::model::list::List;
 use std::alloc::Global;
 use types_spec::types::decl::Decl;
 
-/// The occurrences in declarations.
+/// The occurrences in a list of declarations.
 #[derive(Drop)]
 pub struct FileSites<'a> {
-    /// The declared names.
+    /// The declared type names, each with its lexeme.
     pub names: List<LocatedName>,
     pub sites: List<Site>,
-    /// The brackets of each declaration, type by type.
+    /// The brackets of each declaration, one entry for each type of the declaration.
     pub brackets: List<List<TypeBrackets<'a>>>,
 }
 
-/// Returns the row of a declaration's parameters.
+/// Returns the row of a declaration's parameters, each with its lexeme.
 fn parameters_row(
     alloc: Global,
     marks: &[usize],
@@ -66,7 +66,7 @@ fn decl_found<'m, 'a>(
     Ok((found, rest))
 }
 
-/// Returns the occurrences in declarations with these marks.
+/// Returns the occurrences in declarations whose marks are `marks`.
 pub fn file_sites<'a>(
     alloc: Global,
     marks: &[usize],

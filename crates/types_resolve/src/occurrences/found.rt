@@ -13,16 +13,16 @@ use std::alloc::Global;
 use types_spec::types::decl::Arguments;
 use types_spec::types::ty::TypeTreeNode;
 
-/// The occurrences found so far.
+/// The occurrences found so far in a declaration or type.
 #[derive(Drop)]
 pub struct FoundOccurrences<'a> {
     /// The data for the rules on names.
     pub site: Site,
-    /// The brackets, type by type.
+    /// The brackets found so far, one entry for each type.
     pub brackets: List<TypeBrackets<'a>>,
 }
 
-/// Returns the empty result.
+/// Returns the result without any occurrence.
 pub fn nothing<'a>(alloc: Global) -> FoundOccurrences<'a>
     ensures { result
         ≡ record {
@@ -70,7 +70,7 @@ pub fn write_carrying<'a>(
     }
 }
 
-/// Appends the brackets of a type, if there are any.
+/// Appends the brackets of a type, if the type has brackets.
 pub fn write_brackets<'a>(
     found: &mut FoundOccurrences<'a>,
     nodes: &'a [TypeTreeNode],

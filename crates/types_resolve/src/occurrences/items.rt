@@ -15,7 +15,8 @@ use base_data::model::list::List;
 use std::alloc::Global;
 use types_spec::types::ty::TypeTreeNode;
 
-/// Returns the node of the bracket without its last item, if there is an item.
+/// Returns the node of the bracket without its last item. If the node is not an item, returns
+/// `None`.
 fn without_item(node: &TypeTreeNode) -> Option<usize>
     ensures { result ≡ without_item node.now }
 {
@@ -45,7 +46,8 @@ fn write_item(items: &mut Vec<BracketItem>, position: usize, node: usize) -> Res
     Ok(items.push(BracketItem { position, node })?)
 }
 
-/// Returns the items of a node's bracket. The marks of its parts begin with the mark `first`.
+/// Returns the items of a node's bracket. The marks of the bracket's parts begin with the mark of
+/// index `first`.
 pub fn items_of(
     alloc: Global,
     nodes: &[TypeTreeNode],

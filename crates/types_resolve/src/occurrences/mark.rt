@@ -6,9 +6,10 @@ ghost use Rattle.types_resolve.specs.occurrences.CountedFile.{placed};
 use crate::scope::{LocatedName, Site};
 use base_data::model::Memory;
 use base_data::model::list::List;
+use base_data::text::copied_name;
 use std::alloc::Global;
 
-/// Returns the mark with this index, or 0 beyond the end.
+/// Returns the mark with index `n`, or 0 if there is no mark with index `n`.
 pub fn position_at(marks: &[usize], n: usize) -> usize
     ensures { result ≡ slice_index marks.now n }
 {
@@ -18,25 +19,18 @@ pub fn position_at(marks: &[usize], n: usize) -> usize
     }
 }
 
-/// Returns the marks after the first `n`.
+/// Returns the marks after the first `n` marks.
 pub fn skip(marks: &[usize], n: usize) -> &[usize]
     ensures { result.now ≡ drop n marks.now }
 {
     if n < marks.len() { &marks[n..] } else { &[] }
 }
 
-/// Returns a copy of a name.
-pub fn copied(alloc: Global, name: &List<u8>) -> Result<List<u8>, Memory>
-    ensures { IfOk result (λ own. own ≡ name.now) }
-{
-    Ok(List::of(Vec::from_slice(alloc, name.as_slice())?))
-}
-
-/// Returns a name at the first of these marks.
+/// Returns a name, located at the first of these marks.
 pub fn placed(alloc: Global, marks: &[usize], name: &List<u8>) -> Result<LocatedName, Memory>
     ensures { IfOk result (λ p. p ≡ placed marks.now name.now) }
 {
-    Ok(LocatedName::new(position_at(marks, 0), copied(alloc, name)?))
+    Ok(LocatedName::new(position_at(marks, 0), copied_name(alloc, name)?))
 }
 
 /// Appends a row of names that must be distinct.
@@ -46,7 +40,7 @@ pub fn write_row(site: &mut Site, row: List<LocatedName>) -> Result<(), Memory>
     site.rows.push(row)
 }
 
-/// Returns the empty site.
+/// Returns the site without any names, uses or variables.
 pub fn none(alloc: Global) -> Site
     ensures { result ≡ record { rows = []; carrying = []; uses = []; variables = [] } }
 {

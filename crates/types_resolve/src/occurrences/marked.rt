@@ -33,8 +33,8 @@ fn opens_item(kind: &LexemeKind) -> bool
     }
 }
 
-/// Returns true if an included type begins with the lexeme. `fresh` says whether an item may begin
-/// there.
+/// Returns true if an included type begins with the lexeme. The argument `fresh` is true if an item
+/// of a bracket may begin with the lexeme.
 fn includes(kind: &LexemeKind, fresh: bool) -> bool
     ensures { result ≡ (begins_type kind.now && fresh) }
 {
@@ -46,7 +46,7 @@ fn includes(kind: &LexemeKind, fresh: bool) -> bool
     }
 }
 
-/// Appends the number if the test is true.
+/// Appends `number` to `marked` if `test` is true.
 fn push_if(test: bool, marked: &mut Vec<usize>, number: usize) -> Result<(), Memory>
     ensures { OnOk result (marked.new.items ≡ marked.old.items ++ one_if test number) }
 {
@@ -57,8 +57,8 @@ fn push_if(test: bool, marked: &mut Vec<usize>, number: usize) -> Result<(), Mem
 }
 
 /// Returns the marks of the lexemes. The index of each name, tag or variable is a mark. If a type
-/// that a bracket includes begins at a lexeme, then the lexeme's index is also the mark of that
-/// type, before the lexeme's own mark.
+/// that a bracket includes begins at a lexeme, the included type also has a mark with the lexeme's
+/// index. The mark of an included type precedes the lexeme's own mark.
 pub fn marks(alloc: Global, lexemes: &[Lexeme]) -> Result<Vec<usize>, Memory>
     ensures { IfOk result (λ v. v.items ≡ marks 0 false (kinds_of lexemes.now)) }
 {

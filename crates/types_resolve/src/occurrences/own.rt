@@ -1,4 +1,4 @@
-//! The occurrence with which a type begins.
+//! The variable, name or bracket with which a type begins, as an occurrence.
 
 ghost use Rattle.std.specs.Prelude.{◌≡◌, ◌<◌, ◌++◌, ◌∷◌, [], OnOk, length, drop};
 ghost use Rattle.std.specs.List.{filter_map};
@@ -12,16 +12,17 @@ ghost use Rattle.types_resolve.specs.occurrences.Walk.{task_own};
 
 use crate::occurrences::fact::{Facts, fact_at};
 use crate::occurrences::items::items_of;
-use crate::occurrences::mark::{copied, position_at, write_row};
+use crate::occurrences::mark::{position_at, write_row};
 use crate::occurrences::row::row_of;
 use crate::occurrences::walk::WalkTask;
 use crate::scope::{BracketItem, LocatedName, Site, TypeUse};
 use base_data::model::Memory;
 use base_data::model::list::List;
+use base_data::text::copied_name;
 use std::alloc::Global;
 use types_spec::types::ty::TypeTreeNode;
 
-/// Appends a variable.
+/// Appends a variable and its lexeme to the occurrences.
 fn write_variable(
     alloc: Global,
     site: &mut Site,
@@ -33,17 +34,17 @@ fn write_variable(
         ≡ record site.old { variables = site.old.variables ++ (position, name.now) ∷ [] }) }
 {
     site.variables
-        .push(LocatedName::new(position, copied(alloc, name)?))
+        .push(LocatedName::new(position, copied_name(alloc, name)?))
 }
 
-/// Appends a use of a type name.
+/// Appends a use of a type name to a site.
 fn write_use(site: &mut Site, used: TypeUse) -> Result<(), Memory>
     ensures { OnOk result (site.new ≡ record site.old { uses = site.old.uses ++ used ∷ [] }) }
 {
     site.uses.push(used)
 }
 
-/// Appends the bracket of a task's type.
+/// Appends the bracket with which a task's type begins.
 fn write_bracket(
     alloc: Global,
     site: &mut Site,
@@ -76,7 +77,7 @@ fn write_bracket(
     brackets.push(items)
 }
 
-/// Appends the occurrence with which a task's type begins, if the task asks for it.
+/// Appends the occurrence with which a task's type begins, if the task's `whole` is true.
 pub fn write_own(
     alloc: Global,
     site: &mut Site,
@@ -106,7 +107,7 @@ pub fn write_own(
         TypeTreeNode::Named(x) => {
             let used = TypeUse {
                 position,
-                name: copied(alloc, x)?,
+                name: copied_name(alloc, x)?,
                 arguments: known.arguments,
                 grows: known.grows,
                 in_tag: task.in_tag,

@@ -7,14 +7,14 @@ ghost use Rattle.types_spec.specs.types.Scope.{written_tag};
 ghost use Rattle.types_resolve.specs.scope.Brackets.{items_known};
 ghost use Rattle.types_resolve.specs.occurrences.BracketItems.{tag_at, tag_there};
 
-use crate::occurrences::mark::copied;
 use crate::scope::{BracketItem, LocatedName};
 use base_data::model::Memory;
 use base_data::model::list::List;
+use base_data::text::copied_name;
 use std::alloc::Global;
 use types_spec::types::ty::TypeTreeNode;
 
-/// Appends the tag of a node, if the node adds a tag.
+/// Appends the tag that a node adds to a bracket, if the node adds a tag.
 fn write_tag(
     alloc: Global,
     row: &mut List<LocatedName>,
@@ -25,7 +25,7 @@ fn write_tag(
 {
     match node {
         TypeTreeNode::Tag(_, x) | TypeTreeNode::TagOf(_, x, _) => {
-            row.push(LocatedName::new(position, copied(alloc, x)?))
+            row.push(LocatedName::new(position, copied_name(alloc, x)?))
         }
         _ => Ok(()),
     }
@@ -46,7 +46,7 @@ fn write_written(
     }
 }
 
-/// Returns the tags among these items of a bracket.
+/// Returns the tags among the items of a bracket, each with its lexeme.
 pub fn row_of(
     alloc: Global,
     nodes: &[TypeTreeNode],

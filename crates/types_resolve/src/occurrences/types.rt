@@ -13,14 +13,14 @@ use base_data::model::list::List;
 use std::alloc::Global;
 use types_spec::types::ty::Ty;
 
-/// The occurrences in a type.
+/// The occurrences found in the text of a type.
 #[derive(Drop)]
 pub struct TypeFound<'a> {
     pub site: TypeSite,
     pub brackets: List<TypeBrackets<'a>>,
 }
 
-/// Returns the occurrences in a type with these marks.
+/// Returns the occurrences in a type whose marks are `marks`.
 pub fn type_site<'a>(alloc: Global, marks: &[usize], ty: &'a Ty) -> Result<TypeFound<'a>, Memory>
     ensures site { IfOk result (λ found. IsTypeSite found.site (in_type marks.now false ty.now)) }
     ensures brackets { IfOk result

@@ -1,4 +1,4 @@
-//! A traversal of a type.
+//! A traversal of the nodes of a type, which collects the occurrences in the type.
 
 ghost use Rattle.std.specs.Prelude.{◌≡◌, ◌<◌, ◌++◌, ◌∷◌, [], IfOk, OnOk, length, drop, false};
 ghost use Rattle.types_spec.specs.types.Nodes.{types_of, AreOrdered};
@@ -20,18 +20,18 @@ use base_data::model::list::List;
 use std::alloc::Global;
 use types_spec::types::ty::{Ty, TypeTreeNode};
 
-/// A node to visit: with the occurrence with which it begins if `whole` is true, otherwise its
-/// parts only.
+/// A node to visit. If `whole` is true, the visit includes the occurrence with which the node's
+/// type begins. If `whole` is false, the visit includes only the parts of the node's type.
 #[derive(Clone, Copy)]
 pub struct WalkTask {
     pub node: usize,
-    /// The index of its first mark.
+    /// The index of the first mark of the node's type.
     pub first: usize,
     pub in_tag: bool,
     pub whole: bool,
 }
 
-/// Pushes the task of a part, and below it the task of the whole that the part extends.
+/// Pushes the task of a part, and on top the task of the whole that the part extends.
 fn push_both(
     tasks: &mut Vec<WalkTask>,
     task: WalkTask,
@@ -54,7 +54,7 @@ fn push_both(
     Ok(())
 }
 
-/// Returns the index of the first mark after those of the parts of node `w`.
+/// Returns the index of the first mark after the marks in the parts of node `w`.
 fn behind(facts: &[Facts], task: WalkTask, w: usize) -> usize
     ensures { result ≡ behind facts.now task w }
 {
@@ -112,7 +112,7 @@ fn push_parts(
     }
 }
 
-/// Adds the occurrences in a task's type.
+/// Adds the occurrences in the type of a task's node.
 fn walk(
     alloc: Global,
     site: &mut Site,
@@ -141,7 +141,8 @@ fn walk(
     Ok(())
 }
 
-/// Adds the occurrences in a type, whose marks are the first of these. Returns the remaining marks.
+/// Adds the occurrences in a type, whose marks are at the beginning of `marks`. Returns the
+/// remaining marks.
 pub fn write_type<'m, 'a>(
     alloc: Global,
     found: &mut FoundOccurrences<'a>,

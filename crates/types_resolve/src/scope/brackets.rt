@@ -3,7 +3,7 @@
 use base_data::model::list::List;
 use types_spec::types::ty::TypeTreeNode;
 
-/// An item of a bracket. Its node is the bracket that ends with this item.
+/// An item of a bracket. The node of an item is the bracket that ends with the item.
 #[derive(Clone, Copy)]
 pub struct BracketItem {
     /// Index of the first lexeme of the item.
@@ -11,11 +11,11 @@ pub struct BracketItem {
     pub node: usize,
 }
 
-/// The brackets of a type.
+/// The brackets of a type, given by nodes of the type.
 #[derive(Drop)]
 pub struct TypeBrackets<'a> {
-    /// Nodes of the type.
+    /// All nodes of the type.
     pub nodes: &'a [TypeTreeNode],
-    /// Items of each bracket.
+    /// The items of each bracket in the type.
     pub brackets: List<List<BracketItem>>,
 }

@@ -19,7 +19,7 @@ use base_data::model::Memory;
 use base_data::model::list::List;
 use std::alloc::Global;
 
-/// Returns true if `best` is `None`, or if `position` is less than it.
+/// Returns true if `best` is `None`, or if `position` is less than `best`.
 fn comes_before(position: usize, best: Option<usize>) -> bool
     ensures { IsTrue result ↔ ComesBefore position best }
 {
@@ -47,8 +47,8 @@ fn comes_back(
     }
 }
 
-/// Returns the least lexeme of a name whose node lies on a cycle. After a first name is found, only
-/// names before it are tried.
+/// Returns the least lexeme of a name whose node lies on a cycle. After a first name is found, the
+/// search tries only names with lesser lexemes.
 fn least_cyclic_name(
     alloc: Global,
     graph: &[List<usize>],
@@ -69,7 +69,7 @@ fn least_cyclic_name(
     Ok(best)
 }
 
-/// Returns the least lexeme of the name of a cyclic abbreviation.
+/// Returns the least lexeme of the declared name of a cyclic abbreviation.
 pub fn least_cyclic(
     alloc: Global,
     decls: &Environment<'_>,

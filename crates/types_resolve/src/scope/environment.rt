@@ -11,8 +11,8 @@ use std::alloc::Global;
 use std::marker::Model;
 use types_spec::types::decl::Decl;
 
-/// Declarations, with the first index of each declared name. In contracts, an environment is its
-/// list of declarations.
+/// A list of declarations with the first index of each declared name. In contracts, an environment
+/// is the list of declarations.
 #[derive(Drop)]
 pub struct Environment<'a> {
     decls: &'a [Decl],
@@ -61,7 +61,7 @@ fn nth(decls: &[Decl], position: usize) -> &Decl
 }
 
 impl<'a> Environment<'a> {
-    /// Builds the environment of these declarations.
+    /// Builds the environment of the declarations `decls`.
     pub fn new(alloc: Global, decls: &'a [Decl]) -> Result<Environment<'a>, Memory>
         ensures { IfOk result (λ e. e ≡ decls.now) }
     {
@@ -69,7 +69,7 @@ impl<'a> Environment<'a> {
         Ok(Environment { decls, positions })
     }
 
-    /// Returns all declarations.
+    /// Returns all declarations of the environment, in the order of the file.
     #[inline(always)]
     pub fn all(&self) -> &[Decl]
         ensures { result.now ≡ self.now }
@@ -77,7 +77,7 @@ impl<'a> Environment<'a> {
         self.decls
     }
 
-    /// Returns the number of declarations.
+    /// Returns the number of declarations in the environment.
     #[inline(always)]
     pub fn len(&self) -> usize
         ensures { result ≡ length self.now }

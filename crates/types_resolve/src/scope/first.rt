@@ -15,14 +15,14 @@ use base_data::model::Memory;
 use std::alloc::Global;
 use types_spec::types::decl::Decl;
 
-/// A broken rule, and the index of the lexeme that breaks it.
+/// A broken rule on names, and the index of the lexeme that breaks the rule.
 #[derive(Clone, Copy)]
 pub struct Broken {
     pub rule: NameRule,
     pub position: usize,
 }
 
-/// Returns the rule that is checked at this turn.
+/// Returns the rule whose turn is `i`, for a turn below 7.
 fn rule_at(i: usize) -> NameRule
     requires { i < 7 }
     ensures { turn (rule_of result) ≡ i }
@@ -38,8 +38,8 @@ fn rule_at(i: usize) -> NameRule
     }
 }
 
-/// Returns the first rule on names that a file breaks, with the least lexeme that breaks it. The
-/// rules are checked in the order of their turns.
+/// Returns the first rule on names that a file breaks, and the least lexeme that breaks the rule.
+/// The rules are checked in the order of their turns.
 pub fn first_break(
     alloc: Global,
     decls: &[Decl],
@@ -74,8 +74,8 @@ fn first_of_file(
     Ok(None)
 }
 
-/// Returns the first rule on names that the text of a type breaks, with the least lexeme that
-/// breaks it.
+/// Returns the first rule on names that the text of a type breaks, and the least lexeme that breaks
+/// the rule.
 pub fn first_break_in_type(
     alloc: Global,
     decls: &[Decl],

@@ -1,4 +1,4 @@
-//! Graphs as lists of successors, indexed by node.
+//! Directed graphs, as lists of successors indexed by node.
 
 ghost use Rattle.std.specs.Prelude.{◌≡◌, ◌<◌, [], length, slice_index_or};
 

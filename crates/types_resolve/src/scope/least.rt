@@ -3,7 +3,8 @@
 ghost use Rattle.std.specs.Prelude.{◌≡◌};
 ghost use Rattle.types_resolve.specs.scope.Least.{earliest, position_if};
 
-/// Returns the lesser of two positions. If only one exists, returns that one.
+/// Returns the lesser of two positions. If only one of the two positions exists, returns the
+/// existing position.
 pub fn earliest(first: Option<usize>, second: Option<usize>) -> Option<usize>
     ensures { result ≡ earliest first second }
 {
@@ -14,7 +15,7 @@ pub fn earliest(first: Option<usize>, second: Option<usize>) -> Option<usize>
     }
 }
 
-/// Returns the position if the test is true, and `None` otherwise.
+/// Returns `position` if `test` is true, and `None` if `test` is false.
 pub fn position_if(test: bool, position: usize) -> Option<usize>
     ensures { result ≡ position_if test position }
 {

@@ -7,7 +7,7 @@ use base_data::model::Memory;
 use indexmap::IndexMap;
 use std::alloc::Global;
 
-/// Names, each with a number.
+/// A table that maps names to numbers.
 #[derive(Drop)]
 pub struct NameTable<'a> {
     entries: IndexMap<&'a [u8], usize>,
@@ -22,15 +22,15 @@ pub fn empty<'a>(alloc: Global) -> NameTable<'a>
     }
 }
 
-/// Returns the number of a name, or `None` if the table does not have it.
+/// Returns the number of a name, or `None` if the table does not have the name.
 pub fn find(table: &NameTable<'_>, name: &[u8]) -> Option<usize>
     ensures { result ≡ number_of table.now name.now }
 {
     table.entries.get(name).copied()
 }
 
-/// Adds a name with this number, unless the table has the name. Returns the number that the name
-/// had before.
+/// Adds a name with the number `number`, unless the table has the name. Returns the number that the
+/// table had for the name before the call.
 pub fn add<'a>(
     table: &mut NameTable<'a>,
     name: &'a [u8],

@@ -5,13 +5,13 @@ ghost use Rattle.types_resolve.specs.scope.Breaks.{IsPredeclaredAt, NamesTwice};
 ghost use Rattle.types_resolve.specs.scope.Least.{IsLeast};
 
 use crate::scope::least::{earliest, position_if};
-use crate::scope::predeclared::predeclared_arity;
 use crate::scope::seconds::least_second;
 use crate::scope::site::LocatedName;
 use base_data::model::Memory;
 use std::alloc::Global;
+use types_spec::types::predeclared::predeclared_arity;
 
-/// Returns the least lexeme of a name that is predeclared.
+/// Returns the least lexeme of a declared name that is predeclared.
 fn least_predeclared(names: &[LocatedName]) -> Option<usize>
     ensures { IsLeast (IsPredeclaredAt names.now) result }
 {
@@ -24,7 +24,8 @@ fn least_predeclared(names: &[LocatedName]) -> Option<usize>
     best
 }
 
-/// Returns the least lexeme of a name that is declared earlier too, or that is predeclared.
+/// Returns the least lexeme of a declared name that is predeclared or also declared at an earlier
+/// position.
 pub fn least_name_twice(alloc: Global, names: &[LocatedName]) -> Result<Option<usize>, Memory>
     ensures { IfOk result (IsLeast (NamesTwice names.now)) }
 {

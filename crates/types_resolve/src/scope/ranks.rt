@@ -1,4 +1,4 @@
-//! Ranks nodes of a graph. A node with a rank lies on no cycle.
+//! Ranks the nodes of a graph. A node with a rank lies on no cycle.
 
 ghost use Rattle.std.specs.Prelude.{◌≡◌, ◌+◌, ◌<◌, ◌↔◌, IfOk, IsTrue, length};
 ghost use Rattle.std.specs.List.{list_all};
@@ -9,13 +9,13 @@ use base_data::model::Memory;
 use base_data::model::list::List;
 use std::alloc::Global;
 
-/// The state of a node.
+/// The state of a node during the traversal of the graph.
 #[derive(Clone, Copy)]
 pub enum VisitState {
     New,
-    /// Its successors were pushed onto the stack.
+    /// The successors of the node were pushed onto the stack.
     Opened,
-    /// All its successors have lower ranks.
+    /// All successors of the node have lower ranks.
     Ranked(usize),
 }
 
@@ -29,14 +29,14 @@ pub fn is_ranked(marks: &[VisitState], node: usize) -> bool
     }
 }
 
-/// Returns true if each of these nodes has a rank.
+/// Returns true if each of `nodes` has a rank.
 fn are_ranked(marks: &[VisitState], nodes: &[usize]) -> bool
     ensures { result ≡ list_all (λ i. is_ranked marks.now i) nodes.now }
 {
     nodes.iter().all(|node| is_ranked(marks, *node))
 }
 
-/// Returns true if a node is new.
+/// Returns true if the traversal has neither opened nor ranked the node.
 fn is_new(marks: &[VisitState], node: usize) -> bool
     ensures { IsTrue result ↔ IsNew marks.now node }
 {
@@ -46,7 +46,7 @@ fn is_new(marks: &[VisitState], node: usize) -> bool
     }
 }
 
-/// Pushes those of these nodes that are new onto the stack.
+/// Pushes each node of `nodes` that is new onto the stack.
 fn push_new(marks: &[VisitState], nodes: &[usize], stack: &mut Vec<usize>) -> Result<(), Memory> {
     for node in nodes {
         if is_new(marks, *node) {
@@ -56,8 +56,8 @@ fn push_new(marks: &[VisitState], nodes: &[usize], stack: &mut Vec<usize>) -> Re
     Ok(())
 }
 
-/// Ranks the node if all its successors have ranks. Otherwise opens the node if it is new. Returns
-/// true if the node was opened.
+/// If all successors of the node have ranks, ranks the node. If the node is new and some successor
+/// has no rank, opens the node. Returns true if the node was opened.
 fn rank_or_open(graph: &[List<usize>], node: usize, turn: usize, marks: &mut [VisitState]) -> bool
     requires node { node < length graph.now }
     requires ranks { AreRanks graph.now marks.old }
@@ -79,8 +79,8 @@ fn rank_or_open(graph: &[List<usize>], node: usize, turn: usize, marks: &mut [Vi
     false
 }
 
-/// Ranks a node if its successors have ranks. Otherwise, if the node is new, pushes it onto the
-/// stack, and then its new successors.
+/// If all successors of a node have ranks, ranks the node. If the node is new and some successor
+/// has no rank, pushes the node onto the stack, followed by the node's new successors.
 fn visit(
     graph: &[List<usize>],
     node: usize,

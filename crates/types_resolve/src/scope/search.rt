@@ -10,7 +10,7 @@ use base_data::model::Memory;
 use base_data::model::list::List;
 use std::alloc::Global;
 
-/// Returns true if a node is unseen.
+/// Returns true if the search has not seen the node.
 fn is_unseen(seen: &[bool], node: usize) -> bool
     ensures { IsTrue result ↔ IsUnseen seen.now node }
 {
@@ -20,7 +20,7 @@ fn is_unseen(seen: &[bool], node: usize) -> bool
     }
 }
 
-/// Marks the successors of a node as seen. Pushes those that were unseen onto the stack.
+/// Marks the successors of a node as seen. Pushes each successor that was unseen onto the stack.
 fn expand(
     graph: &[List<usize>],
     node: usize,
@@ -45,7 +45,7 @@ fn expand(
     Ok(())
 }
 
-/// Returns true if edges lead from a node back to it.
+/// Returns true if edges lead from a node back to the node.
 pub fn is_on_cycle(alloc: Global, graph: &[List<usize>], node: usize) -> Result<bool, Memory>
     requires { node < length graph.now }
     ensures { IfOk result (λ back. IsTrue back ↔ IsOnCycle graph.now node) }

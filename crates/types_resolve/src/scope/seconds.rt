@@ -12,7 +12,7 @@ use base_data::model::Memory;
 use base_data::model::list::List;
 use std::alloc::Global;
 
-/// Returns the least lexeme of a name that also occurs earlier in the list.
+/// Returns the least lexeme of a name that also occurs at an earlier position in the list.
 pub fn least_second(alloc: Global, row: &[LocatedName]) -> Result<Option<usize>, Memory>
     ensures { IfOk result (IsLeast (IsSecond row.now)) }
 {
@@ -26,8 +26,8 @@ pub fn least_second(alloc: Global, row: &[LocatedName]) -> Result<Option<usize>,
     Ok(best)
 }
 
-/// Returns the least lexeme of a name that also occurs earlier in the same list, over several
-/// lists.
+/// Returns the least lexeme, over several lists, of a name that also occurs at an earlier position
+/// in its list.
 pub fn least_second_of_rows(
     alloc: Global,
     rows: &[List<LocatedName>],

@@ -5,7 +5,7 @@ ghost use Rattle.std.specs.Prelude.{◌≡◌};
 use base_data::model::list::List;
 use std::marker::Model;
 
-/// A name in a text, with the index of its lexeme.
+/// A name in a text, with the index of the name's lexeme.
 #[derive(Drop)]
 pub struct LocatedName {
     position: usize,
@@ -21,21 +21,21 @@ impl Model for LocatedName {
 }
 
 impl LocatedName {
-    /// Makes a name at a lexeme.
+    /// Makes a located name from the index of a lexeme and a name.
     pub fn new(position: usize, name: List<u8>) -> LocatedName
         ensures { result ≡ (position, name) }
     {
         LocatedName { position, name }
     }
 
-    /// Returns the index of the lexeme.
+    /// Returns the index of the name's lexeme.
     pub fn position(&self) -> usize
         ensures { result ≡ self.now.0 }
     {
         self.position
     }
 
-    /// Returns the name.
+    /// Returns the bytes of the name.
     pub fn name(&self) -> &[u8]
         ensures { result.now ≡ self.now.1 }
     {
@@ -43,12 +43,12 @@ impl LocatedName {
     }
 }
 
-/// A use of a type name, with what the rules require of its arguments.
+/// A use of a type name, with the facts about its arguments that the rules read.
 #[derive(Drop)]
 pub struct TypeUse {
     pub position: usize,
     pub name: List<u8>,
-    /// Number of arguments.
+    /// The number of arguments in the use.
     pub arguments: usize,
     /// True if some argument contains a variable but is not a variable itself.
     pub grows: bool,
@@ -62,7 +62,7 @@ pub struct Site {
     /// Lists of names that must be distinct: the parameters, the constructors, the fields of each
     /// record, and the tags that each bracket writes.
     pub rows: List<List<LocatedName>>,
-    /// Lexemes of the constructors with arguments.
+    /// The lexemes of the names of constructors with arguments.
     pub carrying: List<usize>,
     pub uses: List<TypeUse>,
     pub variables: List<LocatedName>,

@@ -28,7 +28,7 @@ fn nth(positions: &[usize], n: usize) -> Option<usize>
     positions.get(n).copied()
 }
 
-/// Returns the least lexeme at which a declaration breaks the rule.
+/// Returns the least lexeme at which a declaration breaks the rule `rule`.
 fn least_in_site(
     alloc: Global,
     rule: NameRule,
@@ -55,7 +55,8 @@ fn least_in_site(
     }
 }
 
-/// Returns the least lexeme at which the text of a type breaks the rule, by its occurrences.
+/// Returns the least lexeme at which the text of a type breaks the rule, given the occurrences in
+/// the text.
 pub fn least_in_type(
     alloc: Global,
     rule: NameRule,

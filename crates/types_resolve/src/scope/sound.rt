@@ -37,7 +37,7 @@ impl<'a> Model for SoundEnvironment<'a> {
 }
 
 impl<'a> SoundEnvironment<'a> {
-    /// Builds the environment of these declarations.
+    /// Builds the environment of the sound declarations `decls`.
     pub fn new(alloc: Global, decls: &'a [Decl]) -> Result<SoundEnvironment<'a>, Memory>
         requires { AreSound decls.now }
         ensures { IfOk result (λ e. e ≡ decls.now) }
@@ -54,7 +54,7 @@ impl<'a> SoundEnvironment<'a> {
         let _ = &self.of;
     }
 
-    /// Returns all declarations.
+    /// Returns all declarations of the environment, in the order of the file.
     #[inline(always)]
     pub fn all(&self) -> &[Decl]
         ensures { result.now ≡ self.now }
@@ -62,7 +62,7 @@ impl<'a> SoundEnvironment<'a> {
         self.of.all()
     }
 
-    /// Returns the number of declarations.
+    /// Returns the number of declarations in the environment.
     #[inline(always)]
     pub fn len(&self) -> usize
         ensures { result ≡ length self.now }

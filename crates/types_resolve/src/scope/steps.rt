@@ -21,14 +21,15 @@ fn is_abbreviation(decl: &Decl) -> bool
     }
 }
 
-/// Returns true if a use of the name of `other` is a step from a declaration of this group.
+/// Returns true if a use of the name of `other` is a step from a declaration of the group `group`.
 fn is_step(group: usize, usage: &TypeUse, other: &Decl) -> bool
     ensures { IsTrue result ↔ IsStepTo group usage.now other.now }
 {
     !usage.in_tag && other.group == group && is_abbreviation(other)
 }
 
-/// Returns the index of the declaration to which a use is a step.
+/// Returns the index of the declaration to which a use is a step, or `None` if the use is not a
+/// step.
 fn step(decls: &Environment<'_>, group: usize, usage: &TypeUse) -> Option<usize>
     ensures { (j : ℕ) → (result ≡ Some j) ↔ LeadsTo decls.now group usage.now j }
 {
@@ -67,7 +68,7 @@ fn steps_of(
     Ok(steps)
 }
 
-/// Builds the graph of steps.
+/// Builds the graph whose nodes are the declarations and whose edges are the steps.
 pub fn step_graph(
     alloc: Global,
     decls: &Environment<'_>,

@@ -7,12 +7,12 @@ ghost use Rattle.types_resolve.specs.scope.Least.{IsLeast};
 
 use crate::scope::environment::Environment;
 use crate::scope::least::{earliest, position_if};
-use crate::scope::predeclared::predeclared_arity;
 use crate::scope::rule::UseRule;
 use crate::scope::site::TypeUse;
 use types_spec::types::decl::Decl;
+use types_spec::types::predeclared::predeclared_arity;
 
-/// Returns the number of arguments of a name.
+/// Returns the number of arguments that a name takes, or `None` if the name is unknown.
 fn arity(decls: &Environment<'_>, name: &[u8]) -> Option<usize>
     ensures { result ≡ arity_of decls.now name.now }
 {
@@ -25,7 +25,7 @@ fn arity(decls: &Environment<'_>, name: &[u8]) -> Option<usize>
     }
 }
 
-/// Returns true if there is no declaration, or if it belongs to a later group than `group`.
+/// Returns true if `decl` is `None`, or if the declaration belongs to a later group than `group`.
 fn is_later(decl: Option<&Decl>, group: Option<usize>) -> bool
     ensures { IsTrue result ↔ Later (option_copied decl.entry) group }
 {
@@ -36,7 +36,7 @@ fn is_later(decl: Option<&Decl>, group: Option<usize>) -> bool
     }
 }
 
-/// Returns true if there is a declaration and it belongs to `group`.
+/// Returns true if `decl` exists and belongs to the group `group`.
 fn is_of_group(decl: Option<&Decl>, group: Option<usize>) -> bool
     ensures { IsTrue result ↔ OfGroup (option_copied decl.entry) group }
 {
@@ -56,8 +56,8 @@ fn is_other(arity: Option<usize>, arguments: usize) -> bool
     }
 }
 
-/// Returns true if a use breaks the rule. The use is in a declaration of `group`, or in the text of
-/// a type if `group` is `None`.
+/// Returns true if a use breaks the rule. If the use is in a declaration, `group` is the group of
+/// the declaration. If the use is in the text of a type, `group` is `None`.
 fn breaks(rule: UseRule, decls: &Environment<'_>, group: Option<usize>, usage: &TypeUse) -> bool
     ensures { IsTrue result ↔ BreaksUse rule decls.now group usage.now }
 {

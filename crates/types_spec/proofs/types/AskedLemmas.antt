@@ -20,7 +20,7 @@ use Rattle.types_spec.specs.types.Table.{Table, node_or_none, table_shapes, type
 use Rattle.types_spec.proofs.types.FaultLemmas.{named_is_needed}
 use Rattle.types_spec.proofs.types.ListLemmas.{filtered-Contains}
 
--- No index has two types.
+-- No index has two types in the list of fields.
 abbrev pub AreOnce : {T : Type 0} → List (ℕ × T) → Type 0
 AreOnce {T} fields =
     (i : ℕ) (a b : T) → Contains fields (i, a) → Contains fields (i, b) → a ≡ b
@@ -39,7 +39,7 @@ module _ {T : Type 0} (shape : T → ShapeOf T) where
   is_needed fields i a among asked =
       Contains-filter (λ (field : ℕ × T). is_asked (shape field.1)) fields (i, a) among asked
 
-  -- There are at most as many required fields as fields.
+  -- The required fields of a list are at most as many as all fields of the list.
   pub few_asked : (fields : List (ℕ × T)) → length (asked_of shape fields) ≤ length fields
   few_asked [] = omega arith
   few_asked (field ∷ fields) = by (is_asked (shape field.1)) (few_asked fields) where
@@ -49,12 +49,12 @@ module _ {T : Type 0} (shape : T → ShapeOf T) where
     by true rest = omega (arith, rest)
     by false rest = omega (arith, rest)
 
-  -- The type, if it restricts its values.
+  -- The type `a`, or `None` if `a` does not restrict its values.
   abbrev pub if_asked : T → Option T
   if_asked a = if is_asked (shape a) then Some a else None
 
-  -- If no index has two types, then the required type at an index is the field's type, if that type
-  -- restricts its values.
+  -- If no index has two types, then the required type at an index is the field's type, provided
+  -- that the field's type restricts its values.
   pub asked_type : (fields : List (ℕ × T)) (i : ℕ) → AreOnce fields
       → type_of_field (asked_of shape fields) i
       ≡ option_and_then if_asked (type_of_field fields i)
@@ -101,7 +101,8 @@ no_fields : (T : Type 0) → IsSome {T = List (ℕ × T)} None → ⊥
 no_fields T some = false≢true some
 
 module _ {T : Type 0} where
-  -- If a representation restricts its values, then a double or an integer does not match it.
+  -- If a representation restricts its values, then a double or an integer does not match the
+  -- representation.
   misses : (s : ShapeOf T) → IsTrue (is_asked s)
       → (¬ IsSome (fields_of (objects.Double 0 ∷ []) (vals.Ref 0) s))
       ⊎ (¬ IsSome (fields_of [] (vals.Int (pos 0)) s))
@@ -109,7 +110,7 @@ module _ {T : Type 0} where
   misses shapes.Anything asked = absurd (false≢true asked)
   misses s asked = inl (no_fields T)
 
-  -- If a representation restricts nothing, then a double and an integer match it.
+  -- If a representation restricts nothing, then a double and an integer match the representation.
   double_fits : (s : ShapeOf T) → is_asked s ≡ false
       → IsSome (fields_of (objects.Double 0 ∷ []) (vals.Ref 0) s)
   double_fits shapes.Anything wildcard = refl
@@ -120,8 +121,8 @@ module _ {T : Type 0} where
   integer_fits shapes.Anything wildcard = refl
   integer_fits s wildcard = absurd (false≢true (sym wildcard))
 
-  -- If representations are lawful, then of two equal types both restrict their values, or neither
-  -- does.
+  -- If representations are lawful and one of two equal types restricts its values, then the other
+  -- type restricts its values.
   pub equal_asked : (shape : T → ShapeOf T) (Equal : T → T → Type 0) (InQuestion : T → Type 0)
       → AreLawful (shaped shape Equal) InQuestion → (t u : T) → InQuestion t ⊎ InQuestion u
       → Equal t u → IsTrue (is_asked (shape t)) → IsTrue (is_asked (shape u))

@@ -1,5 +1,5 @@
--- If representations are lawful at types that include the requested one, then a value with a fault
--- does not have the type.
+-- If representations are lawful at a set of types that contains the requested type, then a value
+-- with a fault does not have the requested type.
 use Rattle.std.proofs.Common.{ℕ, ◌≡◌, ◌==◌, ⊎_elim, inl, inr, List, [], ◌∷◌, Bool, true, false}
 use Rattle.std.proofs.Common.{cond, Option, Some, None, refl, ap, subst}
 use Rattle.std.specs.Prelude.{option_map, find, Contains}
@@ -32,7 +32,7 @@ named_at_first {T} true k i u t needs same later named =
 named_at_first false k i u t needs same later named =
     Contains-later (k, u) needs (i, t) (later named)
 
--- If a type is found for a field, then the field is required at this type.
+-- If the lookup of field `i` finds a type, then field `i` is required at the type.
 pub named_is_needed :
     {T : Type 0} (needs : List (ℕ × T)) (i : ℕ) (t : T) → type_of_field needs i ≡ Some t
     → Contains needs (i, t)
@@ -100,7 +100,7 @@ module _ {T : Type 0} (shapes : Shapes T) (InQuestion : T → Type 0)
             next.1 in_question held (subst (λ x. field_at graph o i ≡ Some x) parts.1 field) need,
       ))
 
-  -- If a value is held, then the value at the end of a path from it is held.
+  -- If a value is held, then each path from the value leads to a value that is held.
   pub position_is_held :
       (path : List ℕ) (v : Val) (t : T) (w : Val) (u : T) → InQuestion t
       → IsHeld shapes graph pairs v t → value_at shapes graph v t path ≡ Some (w, u) → InQuestion u
@@ -114,7 +114,8 @@ module _ {T : Type 0} (shapes : Shapes T) (InQuestion : T → Type 0)
       let after = step_is_held v t i next in_question held stepped in
       position_is_held path next.0 next.1 w u after.0 after.1 rest)
 
-  -- If an object is held at two types and is mutable at one of them, then the types are equal.
+  -- If an object is held at two types and is mutable at one of the two types, then the types are
+  -- equal.
   equal_where_mutable :
       (o : ℕ) (one other : T) → InQuestion one → IsHeld shapes graph pairs (vals.Ref o) one
       → IsHeld shapes graph pairs (vals.Ref o) other → shapes.mutable graph o one
@@ -155,7 +156,7 @@ module _ {T : Type 0} (shapes : Shapes T) (InQuestion : T → Type 0)
     },
   )
 
-  -- If a value has a fault, then it does not have the type.
+  -- If a value has a fault at a type, then the value does not have the type.
   pub fault_excludes_type :
       (v : Val) (t : T) (fault : Fault) → InQuestion t → IsFault shapes graph v t fault
       → HasType shapes graph v t → ⊥

@@ -47,7 +47,7 @@ with_none : (types : List Ty) → types ++ [] ≡ types
 with_none [] = refl
 with_none (t ∷ types) = ap (λ ts. t ∷ ts) (with_none types)
 
--- Further nodes only append types.
+-- If nodes are appended to a list, then the list of the nodes' types only gains types at its end.
 grown_keeps : (types : List Ty) (all : List TypeTreeNode) → (added : List Ty)
     × (grown types all ≡ types ++ added)
 grown_keeps types [] = ([], sym (with_none types))
@@ -58,7 +58,7 @@ grown_keeps types (node ∷ all) =
           more.0,
     )
 
--- Further nodes keep the type at each index.
+-- If types are appended to a list, then the type at each earlier index stays the same.
 pub at_kept : (types added : List Ty) (i : ℕ) → i < length types → type_at (types ++ added) i ≡ type_at
     types i
 at_kept [] added i below = absurd (omega arith)
@@ -74,7 +74,7 @@ at_end : (types : List Ty) (t : Ty) (more : List Ty) → slice_get (types ++ t �
 at_end [] t more = refl
 at_end (u ∷ types) t more = at_end types t more
 
--- A node that refers to earlier types denotes the same type after more are appended.
+-- If types are appended to a list, then a node that refers to earlier types denotes the same type.
 pub node_kept : (types added : List Ty) (node : TypeTreeNode) → IsBelow (length types) node
     → type_of_node (types ++ added) node ≡ type_of_node types node
 node_kept types added (nodes.Variable x) below = refl
@@ -118,7 +118,7 @@ grown_at types (first ∷ all) (suc i) node is below =
     ∙ grown_at (types ++ type_of_node types first ∷ []) all i node is
     (subst (λ n. IsBelow n node) (sym here) below)
 
--- The type at an index is that of the node at the index.
+-- The type at an index is the type that the node at the index denotes.
 pub types_of-at :
     (all : List TypeTreeNode) (i : ℕ) (node : TypeTreeNode) → AreOrdered all → slice_get all i ≡ Some node
     → slice_get (types_of all) i ≡ Some (type_of_node (types_of all) node)
@@ -144,7 +144,7 @@ pub AreOrdered-none : AreOrdered []
 AreOrdered-none zero node is = absurd (none-some node is)
 AreOrdered-none (suc i) node is = absurd (none-some node is)
 
--- If a node refers to earlier nodes only, then appending it keeps the order.
+-- If a node refers to earlier nodes only, then appending the node keeps the list ordered.
 pub AreOrdered-push :
     (all : List TypeTreeNode) (node : TypeTreeNode) → AreOrdered all → IsBelow (length all) node
     → AreOrdered (all ++ node ∷ [])
@@ -164,7 +164,7 @@ AreOrdered-push all node ordered below i other is = ⊎_elim
                 node,
           )
 
--- Further nodes change no type.
+-- If nodes are appended to a list, then the type of each earlier node stays the same.
 pub type_at-more :
     (all more : List TypeTreeNode) (i : ℕ) → i < length all
     → type_at (types_of (all ++ more)) i ≡ type_at (types_of all) i
@@ -174,7 +174,7 @@ type_at-more all more i below =
     ap (λ types. type_at types i) (grown_append [] all more ∙ kept.1)
     ∙ at_kept (grown [] all) kept.0 i (omega (arith, below, types_of-length all))
 
--- The type of an appended node.
+-- The type at the index of an appended node is the type that the node denotes.
 pub type_at-last :
     (all : List TypeTreeNode) (node : TypeTreeNode)
     → type_at (types_of (all ++ node ∷ [])) (length all) ≡ type_of_node (types_of all) node
@@ -184,7 +184,7 @@ type_at-last all node =
     (ap (λ types. type_at types (length (types_of all))) (types_of-push all node)
     ∙ at_last (types_of all) (type_of_node (types_of all) node))
 
--- The type of a list of nodes is that of the last node.
+-- The type of a list of nodes is the type that the last node denotes.
 pub type_of-push :
     (all : List TypeTreeNode) (node : TypeTreeNode) → type_of (all ++ node ∷ []) ≡ type_of_node (types_of all) node
 unfolding type_of
@@ -197,7 +197,7 @@ type_of-push all node =
 
 -- ---- the first nodes
 
--- The types of the first nodes are the first types.
+-- The types of the first `n` nodes are the first `n` types of all nodes.
 pub types_of-take :
     (n : ℕ) (all : List TypeTreeNode) → n ≤ length all → types_of (take n all) ≡ take n (types_of all)
 unfolding types_of
@@ -211,7 +211,8 @@ types_of-take n all within =
     sym (ap (take n) whole ∙ ap (λ k. take k (prefix ++ kept.0)) (sym many)
     ∙ take-append_seam prefix kept.0)
 
--- An element among the first elements is an element at the same index.
+-- If the first `n` elements of a list have an element at an index, then the list has the same
+-- element at the same index.
 pub from_prefix :
     {A : Type 0} (n : ℕ) (xs : List A) (i : ℕ) (x : A) → slice_get (take n xs) i ≡ Some x
     → slice_get xs i ≡ Some x
@@ -220,6 +221,6 @@ from_prefix (suc n) [] i x is = is
 from_prefix (suc n) (y ∷ xs) zero x is = is
 from_prefix (suc n) (y ∷ xs) (suc i) x is = from_prefix n xs i x is
 
--- The first nodes refer to earlier nodes only.
+-- If a list of nodes is ordered, then the first `n` nodes are ordered.
 pub AreOrdered-take : (n : ℕ) (all : List TypeTreeNode) → AreOrdered all → AreOrdered (take n all)
 AreOrdered-take n all ordered i node is = ordered i node (from_prefix n all i node is)

@@ -3,7 +3,8 @@
 use Rattle.std.specs.Prelude.{ℕ, ℤ, pos, ◌-ℤ◌, ◌+◌, ◌*◌, ◌^◌, ◌%◌, List, [], ◌∷◌, length, nat_lt}
 use Rattle.std.specs.Prelude.{if◌then◌else◌}
 
--- The bytes as digits in base 223. The last byte has weight 1. The number is unbounded.
+-- The number whose digits in base 223 are the bytes. The last byte has weight 1. The number is
+-- unbounded.
 abbrev pub number_of_tag : List ℕ → ℕ
 number_of_tag [] = 0
 number_of_tag (byte ∷ bytes) = byte * 223 ^ length bytes + number_of_tag bytes

@@ -1,4 +1,4 @@
--- The properties of accepted declarations: the expansion of abbreviations terminates, no declared
+-- The properties of accepted declarations. The expansion of abbreviations terminates, no declared
 -- type is deeper than 200, and distinct tags of a bracket have distinct hashes.
 use Rattle.std.specs.Prelude.{ℕ, suc, ◌<◌, ◌≤◌, ◌≡◌, ◌⊎◌, List, [], ◌∷◌, ◌++◌, length, Some, None}
 use Rattle.types_spec.specs.tag_hash.TagHash.{tag_hash}
@@ -28,7 +28,8 @@ abbrev pub IsVariable : Ty → Type 0
 IsVariable (variable name) = Unit {0}
 IsVariable t = ⊥
 
--- Parts extend a name, a tuple or a bracket, and never a variable.
+-- The type is a name, a tuple or a bracket, with or without parts. The parts of a type extend a
+-- name, a tuple or a bracket, but never a variable.
 abbrev pub IsWhole : Ty → Type 0
 IsWhole (variable name) = ⊥
 IsWhole (named name) = Unit {0}
@@ -55,8 +56,8 @@ names_outside (tag whole x) = names_outside whole
 names_outside (tag_of whole x argument) = names_outside whole
 names_outside (including whole included) = names_outside whole ++ names_outside included
 
--- A ranking: the rank of each abbreviation is greater than the ranks of all names that it uses
--- outside tag arguments.
+-- A ranking of names: the rank of each abbreviation is greater than the ranks of all names that the
+-- abbreviation uses outside tag arguments.
 pub record IsRanking (decls : List Decl) (rank : List ℕ → ℕ) : Type 0 where
   pub bounded : (name : List ℕ) → rank name ≤ length decls
   pub positive :
@@ -80,8 +81,8 @@ types_of_body (bodies.Record fields) = types_of_fields fields
 types_of_body (bodies.Variant constructors) =
     flat_map (λ (constructor : Constructor). types_of_arguments constructor.arguments) constructors
 
--- The consequences of the scope rules and of the depth limit: no abbreviation expands to itself,
--- and each declared type follows the grammar and is at most 200 deep.
+-- The consequences of the scope rules and of the depth limit. No abbreviation expands to itself.
+-- Each declared type follows the grammar and is at most 200 deep.
 pub record AreSound (decls : List Decl) : Type 0 where
   pub rank : List ℕ → ℕ
   pub ranking : IsRanking decls rank
@@ -92,7 +93,8 @@ pub record AreSound (decls : List Decl) : Type 0 where
 
 -- ---- well-formed types
 
--- All names are known, and each has the right number of arguments, if `k` more arguments follow.
+-- If `k` more arguments follow the type, then all names in the type are known, and each name has
+-- the right number of arguments.
 abbrev pub TakeArguments : List Decl → ℕ → Ty → Type 0
 TakeArguments decls k (variable x) = Unit {0}
 TakeArguments decls k (named name) = arity_of decls name ≡ Some k
@@ -106,7 +108,7 @@ TakeArguments decls k (tag_of whole x argument) =
 TakeArguments decls k (including whole included) =
     TakeArguments decls 0 whole × TakeArguments decls 0 included
 
--- Each variable is one of these.
+-- Each variable of the type is one of `names`.
 abbrev pub VariablesAmong : List (List ℕ) → Ty → Type 0
 VariablesAmong names (variable x) = Contains names x
 VariablesAmong names (named name) = Unit {0}
@@ -123,13 +125,13 @@ abbrev pub AreVariants : HeadOf Ty → Type 0
 AreVariants (heads.Variants tags) = Unit {0}
 AreVariants other = ⊥
 
--- Tags with the same hash have the same name.
+-- Two tags of `tags` with the same hash have the same name.
 abbrev pub HaveOwnHashes : List (TagOf Ty) → Type 0
 HaveOwnHashes tags =
     (one other : TagOf Ty) → Contains tags one → Contains tags other
     → tag_hash one.name ≡ tag_hash other.name → one.name ≡ other.name
 
--- The type is a bracket that ends in an item, and its distinct tags have distinct hashes.
+-- Distinct tags in the head of `t` have distinct hashes.
 abbrev pub IsHashed : List Decl → Ty → Type 0
 IsHashed decls t = HaveOwnHashes (tags_in (head decls t))
 
@@ -150,7 +152,7 @@ HasSoundBrackets decls (including whole included) =
     HasSoundBrackets decls whole × HasSoundBrackets decls included
     × AreVariants (head decls included) × IsHashed decls (including whole included)
 
--- A valid type over declarations: it follows the grammar and breaks no scope rule.
+-- A valid type over declarations: the type follows the grammar and breaks no scope rule.
 pub record IsSoundType (decls : List Decl) (t : Ty) : Type 0 where
   pub written : IsType t
   pub arguments : TakeArguments decls 0 t
@@ -172,13 +174,14 @@ pub record AreWellFormed (decls : List Decl) : Type 0 where
 
 -- ---- hashes of reached types
 
--- Tags with the same hash are equal.
+-- If two of `tags` have the same hash, then the two tags are equal.
 abbrev pub AreHashed : {T : Type 0} → List (PolyTag T) → Type 0
 AreHashed {T} tags =
     (one other : PolyTag T) → Contains tags one → Contains tags other
     → one.hash ≡ other.hash → one ≡ other
 
--- At the head of each of these types, tags with the same hash are equal.
+-- If the head of one of `types` is a polymorphic variant, then tags of the variant with the same
+-- hash are equal.
 abbrev pub AreKnownByHash : List Decl → List Ty → Type 0
 AreKnownByHash decls types =
     (t : Ty) (tags : List (PolyTag Ty)) → Contains types t

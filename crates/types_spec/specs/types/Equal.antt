@@ -1,5 +1,5 @@
--- Type equality: a finite list of pairs of types justifies an equality, even if types recur through
--- polymorphic variants (Henry, Mauny, Chailloux and Manoury 2012).
+-- Type equality: a finite list of pairs of types justifies each equality, although types can recur
+-- through polymorphic variants (Henry, Mauny, Chailloux and Manoury 2012).
 use Rattle.std.specs.Prelude.{◌≡◌, List, [], ◌∷◌, Option, Some, None, Contains}
 use Rattle.types_spec.specs.declared.types.decl.Decl.{Decl}
 use Rattle.types_spec.specs.declared.types.head.TagOf.{TagOf}
@@ -12,7 +12,7 @@ use Rattle.types_spec.specs.types.Shapes.{Shapes}
 use Rattle.types_spec.specs.types.Fitting.{shaped}
 
 module _ {T : Type 0} where
-  -- The lists have the same length, and the types at each position are related.
+  -- The two lists have the same length, and at each position `Similar` relates the two types.
   abbrev pub Pairwise : (T → T → Type 0) → List T → List T → Type 0
   Pairwise Similar [] [] = Unit {0}
   Pairwise Similar (t ∷ ts) (u ∷ us) = Similar t u × Pairwise Similar ts us
@@ -27,7 +27,8 @@ module _ {T : Type 0} where
   TagsAgree Similar one other =
       (one.name ≡ other.name) × ArgumentsAgree Similar one.argument other.argument
 
-  -- Each tag of one list is in the other list, and conversely, with related arguments.
+  -- For each tag of either list, the other list contains a tag with the same name, and `Similar`
+  -- relates the arguments of the two tags.
   pub record SameTags (Similar : T → T → Type 0) (tags others : List (TagOf T)) : Type 0 where
     pub there :
         (tag : TagOf T) → Contains tags tag
@@ -36,8 +37,8 @@ module _ {T : Type 0} where
         (other : TagOf T) → Contains others other
         → (tag : TagOf T) × Contains tags tag × TagsAgree Similar tag other
 
-  -- Two heads agree: they are the same variable, predeclared type or datatype, tuples of the same
-  -- length, or the same tags, with related parts.
+  -- Two heads agree: the heads are the same variable, predeclared type or datatype, or tuples of
+  -- the same length, or have the same tags. `Similar` relates the parts of the two heads.
   abbrev pub HeadsAgree : (T → T → Type 0) → HeadOf T → HeadOf T → Type 0
   HeadsAgree Similar (heads.Variable x) (heads.Variable y) = x ≡ y
   HeadsAgree Similar (heads.Predeclared b ts) (heads.Predeclared c us) =
@@ -48,24 +49,25 @@ module _ {T : Type 0} where
   HeadsAgree Similar heads.Absent heads.Absent = Unit {0}
   HeadsAgree Similar one other = ⊥
 
-  -- The list contains this pair.
+  -- The list `pairs` contains the pair of `t` and `u`.
   abbrev pub Holds : List (T × T) → T → T → Type 0
   Holds pairs t u = Contains pairs (t, u)
 
-  -- The heads of each pair agree, and the pairs of their parts are in the list too.
+  -- A list of pairs is closed: the heads of each pair agree, and the list contains the pairs of the
+  -- heads' parts.
   abbrev pub IsClosed : (T → HeadOf T) → List (T × T) → Type 0
   IsClosed head pairs = (t u : T) → Holds pairs t u → HeadsAgree (Holds pairs) (head t) (head u)
 
-  -- Some closed list contains the pair.
+  -- `t` and `u` are equal by their heads: some closed list contains the pair of `t` and `u`.
   pub record EqualBy (head : T → HeadOf T) (t u : T) : Type 0 where
     pub pairs : List (T × T)
     pub holds : Holds pairs t u
     pub closed : IsClosed head pairs
 
--- Two types over declarations are equal.
+-- Equality of two types over the declarations `decls`.
 abbrev pub Equal : List Decl → Ty → Ty → Type 0
 Equal decls = EqualBy (head decls)
 
--- The representations of types over declarations.
+-- The interface `Shapes` for types over the declarations `decls`.
 abbrev pub declared_shapes : List Decl → Shapes Ty
 declared_shapes decls = shaped (shape decls) (Equal decls)

@@ -9,30 +9,31 @@ use Rattle.types_spec.specs.declared.types.fault.Fault.TheVariants.{Mismatch, Co
 use Rattle.types_spec.specs.types.Shapes.{Shapes}
 use Rattle.types_spec.specs.types.Typing.{field_at}
 
--- Field `i` of the object to which a value refers.
+-- Field `i` of the object to which the value `v` refers.
 abbrev pub field_of : List Obj → Val → ℕ → Option Val
 field_of graph (vals.Int z) i = None
 field_of graph (vals.Atom tag) i = None
 field_of graph (vals.Ref o) i = field_at graph o i
 
--- The type that the required fields give for field `i`.
+-- The type at which `needs` requires field `i`.
 abbrev pub type_of_field : {T : Type 0} → List (ℕ × T) → ℕ → Option T
 type_of_field needs i = option_map (λ need. need.1) (find (λ need. need.0 == i) needs)
 
--- One step from a value at a type: to field `i`, at the type required there.
+-- One step from a value at a type: the value of field `i`, and the type at which field `i` is
+-- required.
 abbrev pub step : {T : Type 0} → Shapes T → List Obj → Val → T → ℕ → Option (Val × T)
 step shapes graph v t i =
     option_and_then (λ w. option_map (λ u. (w, u)) (type_of_field (shapes.needs graph v t) i))
     (field_of graph v i)
 
--- The value and its type at the end of a path, if the path exists.
+-- The value at the end of a path and the type required there, or `None` if the path does not exist.
 abbrev pub value_at : {T : Type 0} → Shapes T → List Obj → Val → T → List ℕ → Option (Val × T)
 value_at shapes graph v t [] = Some (v, t)
 value_at shapes graph v t (i ∷ path) =
     option_and_then (λ next. value_at shapes graph next.0 next.1 path) (step shapes graph v t i)
 
--- Lexicographic order of two lists: the smaller number at the first difference decides. A proper
--- prefix is not before the longer list.
+-- Lexicographic order of two lists: at the first difference, the list with the smaller number comes
+-- first. A proper prefix is not before the longer list.
 abbrev pub IsLexicallyBefore : List ℕ → List ℕ → Type 0
 IsLexicallyBefore [] second = ⊥
 IsLexicallyBefore (i ∷ first) [] = ⊥
@@ -44,14 +45,14 @@ IsBefore first second =
     (length first < length second)
     ⊎ ((length first ≡ length second) × IsLexicallyBefore first second)
 
--- The value at the path does not match its type.
+-- A type mismatch at a path: the value at the path does not match the type required there.
 abbrev pub IsMismatch : {T : Type 0} → Shapes T → List Obj → Val → T → List ℕ → Type 0
 IsMismatch shapes graph v t path =
     IsSomeAnd (value_at shapes graph v t path)
     (λ position. ¬ shapes.fits graph position.0 position.1)
 
--- An aliasing conflict: the two paths lead to one object at unequal types, at one of which it is
--- mutable.
+-- An aliasing conflict: the two paths lead to one object at unequal types, and the object is
+-- mutable at one of the two types.
 pub record IsConflict {T : Type 0} (shapes : Shapes T) (graph : List Obj) (v : Val) (t : T)
     (first second : List ℕ) : Type 0 where
   pub object : ℕ
@@ -63,7 +64,7 @@ pub record IsConflict {T : Type 0} (shapes : Shapes T) (graph : List Obj) (v : V
   pub unequal : ¬ shapes.equal one other
   pub mutable : shapes.mutable graph object one ⊎ shapes.mutable graph object other
 
--- The fault is a type mismatch or an aliasing conflict of the value.
+-- The fault is a type mismatch or an aliasing conflict of the value `v` at the type `t`.
 abbrev pub IsFault : {T : Type 0} → Shapes T → List Obj → Val → T → Fault → Type 0
 IsFault shapes graph v t (Mismatch path) = IsMismatch shapes graph v t path
 IsFault shapes graph v t (Conflict first second) = IsConflict shapes graph v t first second

@@ -1,7 +1,7 @@
--- The values that a representation allows in a graph, generic in the types: the table of
--- representations, by the kinds of values and objects (`mlvalues.h`; Henry, Mauny, Chailloux and
--- Manoury 2012). The table determines which values match, which fields are required, and which
--- objects are mutable.
+-- The values that a representation allows in a graph, generic in the types (`mlvalues.h`; Henry,
+-- Mauny, Chailloux and Manoury 2012). The definitions form a table of representations by the kinds
+-- of values and objects. The table determines which values match, which fields are required, and
+-- which objects are mutable.
 use Rattle.std.specs.Prelude.{ℕ, suc, ◌==◌, nat_lt, ◌&&◌, not, Bool, true, false, if◌then◌else◌}
 use Rattle.std.specs.Prelude.{IsTrue, IsSome, List, [], ◌∷◌, length, slice_get, find, replicate}
 use Rattle.std.specs.Prelude.{filter}
@@ -29,17 +29,17 @@ is_number (pos m) (pos n) = m == n
 is_number (negsuc m) (negsuc n) = m == n
 is_number m n = false
 
--- The tag of a block.
+-- The tag of a block, or 0 if the object is not a block.
 abbrev pub tag_of_block : Option Obj → ℕ
 tag_of_block (Some (objects.Block tag values)) = tag
 tag_of_block object = 0
 
 module _ {T : Type 0} where
-  -- The first tag with this hash.
+  -- The first tag whose hash is `z`.
   abbrev pub tag_with : List (PolyTag T) → ℤ → Option (PolyTag T)
   tag_with tags z = find (λ (tag : PolyTag T). is_number tag.hash z) tags
 
-  -- The tag exists and has no argument.
+  -- Tests whether a tag was found and has no argument.
   abbrev pub is_bare : Option (PolyTag T) → Bool
   is_bare None = false
   is_bare (Some tag) = not (is_some tag.arg)
@@ -52,7 +52,8 @@ module _ {T : Type 0} where
   fits_int shapes.Anything z = true
   fits_int shape z = false
 
-  -- The empty array `[||]` is the atom 0.
+  -- Tests whether an atom matches a representation. OCaml represents the empty array `[||]` by the
+  -- atom 0.
   abbrev pub fits_atom : ShapeOf T → ℕ → Bool
   fits_atom (shapes.ArrayOf t) tag = tag == 0
   fits_atom shapes.FloatArray tag = tag == 0
@@ -74,7 +75,8 @@ module _ {T : Type 0} where
   constr_fields size None = None
   constr_fields size (Some constr) = fields_if (length constr.fields == size) constr.fields
 
-  -- Field 0 is the hash, and field 1 is the argument.
+  -- The typed field of a tag's block. Field 0 contains the hash and has no type, and field 1
+  -- contains the argument.
   abbrev pub argument_field : Option T → Option (List (ℕ × T))
   argument_field arg = option_map (λ t. (1, t) ∷ []) arg
 
@@ -156,7 +158,8 @@ module _ {T : Type 0} where
   is_mutable_block None = false
   is_mutable_block (Some constr) = constr.mutable
 
-  -- The representation makes an object mutable, given that the object matches.
+  -- Tests whether a representation makes an object mutable. The definition presupposes that the
+  -- object matches the representation.
   abbrev pub is_mutable : ShapeOf T → Option Obj → Bool
   is_mutable (shapes.Bytes mutable) object = mutable
   is_mutable (shapes.Sum constants blocks) object =
@@ -174,7 +177,8 @@ module _ {T : Type 0} where
 
   -- ---- wildcards
 
-  -- The representation restricts its values.
+  -- Tests whether a representation restricts its values, which only the wildcard's representation
+  -- does not.
   abbrev pub is_asked : ShapeOf T → Bool
   is_asked shapes.Anything = false
   is_asked shape = true
@@ -183,8 +187,8 @@ module _ {T : Type 0} where
 abbrev pub asked_of : {T : Type 0} → (T → ShapeOf T) → List (ℕ × T) → List (ℕ × T)
 asked_of {T} shape fields = filter (λ (field : ℕ × T). is_asked (shape field.1)) fields
 
--- The interface `Shapes` from representations of any types and from a type equality. A field whose
--- type does not restrict its values is not required.
+-- The interface `Shapes`, made from representations of types and from a type equality. If a field's
+-- type does not restrict its values, the field is not required.
 abbrev pub shaped : {T : Type 0} → (T → ShapeOf T) → (T → T → Type 0) → Shapes T
 shaped shape Equal = record {
   fits = λ graph v t. IsSome (fields_of graph v (shape t));

@@ -1,6 +1,6 @@
 -- The head of a type (the OCaml manual, "Polymorphic variant types"). Abbreviations at the head are
--- expanded until none is left. Each included type is replaced, in its position, by the tags of its
--- own head.
+-- expanded until no abbreviation is left at the head. The tags of each included type's head stand
+-- at the position of the inclusion.
 use Rattle.std.specs.Prelude.{ℕ, zero, suc, ◌*◌, ◌^◌, Bool, not, List, [], ◌∷◌, ◌++◌, length}
 use Rattle.std.specs.Prelude.{filter}
 use Rattle.std.specs.Prelude.{Option, Some, None}
@@ -21,7 +21,7 @@ use Rattle.types_spec.specs.types.Declarations.{predeclared, unfolded}
 abbrev pub has_tag : List (TagOf Ty) → List ℕ → Bool
 has_tag tags name = list_any (λ (other : TagOf Ty). bytes_eq other.name name) tags
 
--- If a tag occurs twice, the first occurrence stays.
+-- The tags of two lists. If a tag occurs twice, the first occurrence stays.
 abbrev pub joined : List (TagOf Ty) → List (TagOf Ty) → List (TagOf Ty)
 joined tags more = tags ++ filter (λ (tag : TagOf Ty). not (has_tag tags tag.name)) more
 
@@ -45,7 +45,7 @@ abbrev pub head_meant : Option Predeclared → List ℕ → HeadOf Ty
 head_meant (Some base) name = heads.Predeclared base []
 head_meant None name = heads.Datatype name []
 
--- The head of a name, before its arguments.
+-- The head of a name without arguments.
 abbrev pub name_head : List ℕ → HeadOf Ty
 name_head name = head_meant (predeclared name) name
 
@@ -55,7 +55,8 @@ with_part (heads.Datatype name ts) t = heads.Datatype name (ts ++ t ∷ [])
 with_part (heads.Tuple ts) t = heads.Tuple (ts ++ t ∷ [])
 with_part other t = heads.Absent
 
--- The head of a type without an abbreviation at its head, given the heads of included types.
+-- The head of a type that has no abbreviation at its head. `head` gives the heads of included
+-- types.
 abbrev pub plain_head : (Ty → HeadOf Ty) → Ty → HeadOf Ty
 plain_head head (variable name) = heads.Variable name
 plain_head head (named name) = name_head name
@@ -68,22 +69,24 @@ plain_head head (tag_of whole name argument) =
 plain_head head (including whole included) =
     with_tags (plain_head head whole) (tags_in (head included))
 
--- The head of the expansion, if there is one, or else the type's own head.
+-- The head of the type's expansion. If the type has no expansion, the plain head of the type.
 abbrev pub head_by : (Ty → HeadOf Ty) → Ty → Option Ty → HeadOf Ty
 head_by head t (Some other) = head other
 head_by head t None = plain_head head t
 
--- The head with at most `n` nested expansions.
+-- The head of a type, computed with fewer than `n` nested expansions. If `n` is too small, the
+-- result is `Absent`.
 abbrev pub head_within : List Decl → ℕ → Ty → HeadOf Ty
 head_within decls zero t = heads.Absent
 head_within decls (suc n) t = head_by (head_within decls n) t (unfolded decls t)
 
--- A sufficient number of nested expansions, if no abbreviation expands to itself and no declared
--- type is deeper than 200.
+-- A sufficient number of nested expansions for the head of `t`, if no abbreviation expands to
+-- itself and no declared type is deeper than 200.
 abbrev pub enough : List Decl → Ty → ℕ
 enough decls t = depth t * 202 ^ suc (length decls)
 
--- The head of `t`: if an abbreviation is at its head, the head of the expansion of `t`, otherwise
--- its plain head. Over accepted declarations, this is the only such function.
+-- The head of `t`. If an abbreviation is at the head of `t`, the result is the head of the
+-- expansion of `t`. If no abbreviation is at the head of `t`, the result is the plain head of `t`.
+-- Over accepted declarations, the two properties determine `head`.
 unfoldable pub head : List Decl → Ty → HeadOf Ty
 head decls t = head_within decls (enough decls t) t

@@ -9,10 +9,10 @@ use Rattle.types_spec.specs.types.Shapes.{Shapes}
 abbrev pub Everything : {T : Type 0} → T → Type 0
 Everything t = Unit {0}
 
--- The laws of representations. Equality is symmetric and transitive. It is reflexive on the given
--- types, and their required fields have given types. A given type and any type equal to it have the
--- same meaning: the same values match, the same fields are required at equal types, and the same
--- objects are mutable.
+-- The laws of representations. Equality is symmetric and transitive. Equality is reflexive on the
+-- given types, and the fields that given types require have given types. If a type is equal to a
+-- given type, the same values match the two types, and the same objects are mutable at the two
+-- types. The two types require the same fields at equal types.
 pub record AreLawful {T : Type 0} (shapes : Shapes T) (InQuestion : T → Type 0) : Type 0 where
   pub reflexive : (t : T) → InQuestion t → shapes.equal t t
   pub symmetric : (t u : T) → shapes.equal t u → shapes.equal u t

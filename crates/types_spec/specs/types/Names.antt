@@ -1,5 +1,5 @@
 -- The constructor, field and tag names of a type, in the order of the declaration.
-use Rattle.std.specs.Prelude.{ℕ, List, [], ◌∷◌, map, Option, Some, None, codes, if◌then◌else◌}
+use Rattle.std.specs.Prelude.{ℕ, List, [], map, Option, Some, None, if◌then◌else◌}
 use Rattle.std.specs.List.{filter_map}
 use Rattle.types_spec.specs.tag_hash.TagHash.{tag_hash}
 use Rattle.types_spec.specs.declared.types.decl.Predeclared.{Predeclared}
@@ -17,6 +17,7 @@ use Rattle.types_spec.specs.declared.types.head.HeadOf.TheVariants as heads
 use Rattle.types_spec.specs.declared.types.names.ConstrNames.{ConstrNames}
 use Rattle.types_spec.specs.declared.types.names.TagName.{TagName}
 use Rattle.types_spec.specs.declared.types.names.Names.{Names}
+use Rattle.types_spec.specs.types.Predeclared.{Sum, SumBlock, sum_at}
 use Rattle.types_spec.specs.types.Ty.{Ty}
 use Rattle.types_spec.specs.types.Declarations.{declaration_of}
 use Rattle.types_spec.specs.types.Shape.{is_constant}
@@ -30,13 +31,13 @@ no_names = record { constants = []; constructors = []; fields = []; tags = [] }
 abbrev pub field_names : List Field → List (List ℕ)
 field_names fields = map (λ (field : Field). field.name) fields
 
--- The name of a constant constructor.
+-- The name of a constant constructor, or `None` if the constructor has arguments.
 abbrev pub constant_name : Constructor → Option (List ℕ)
 constant_name constructor =
     if is_constant constructor.arguments then Some constructor.name else None
 
--- The name of a constructor with arguments, and the field names of its inline record, if it has
--- one.
+-- The name of a constructor with arguments, and the field names of the constructor's inline record.
+-- The result for a constant constructor is `None`.
 abbrev pub carrying_names : List ℕ → Arguments → Option ConstrNames
 carrying_names name arguments.Constant = None
 carrying_names name (arguments.Listed types) = Some (record { name = name; fields = [] })
@@ -63,24 +64,22 @@ abbrev pub declared_body_names : Option Decl → Names
 declared_body_names None = no_names
 declared_body_names (Some decl) = body_names decl.body
 
--- A constructor with arguments and without an inline record.
+-- The names of a constructor with arguments and without an inline record.
 abbrev pub plain_constr : List ℕ → ConstrNames
 plain_constr name = record { name = name; fields = [] }
 
--- The names of a predeclared type. Lists, options and references have names as if they were
--- declared. The others have none.
+-- The names of the variant in a row of the table.
+abbrev pub sum_names : Option Sum → Names
+sum_names None = no_names
+sum_names (Some known) = record no_names {
+  constants = known.constants;
+  constructors = map (λ (block : SumBlock). plain_constr block.name) known.blocks;
+}
+
+-- The names of a predeclared type. A predeclared variant has the names of its constructors, as a
+-- declared variant has. Other predeclared types have no names.
 abbrev pub predeclared_type_names : Predeclared → Names
-predeclared_type_names bases.List = record no_names {
-  constants = codes "[]" ∷ [];
-  constructors = plain_constr (codes "::") ∷ [];
-}
-predeclared_type_names bases.Option = record no_names {
-  constants = codes "None" ∷ [];
-  constructors = plain_constr (codes "Some") ∷ [];
-}
-predeclared_type_names bases.Ref = record no_names {
-  constructors = plain_constr (codes "ref") ∷ [];
-}
+predeclared_type_names (bases.Sum k) = sum_names (sum_at k)
 predeclared_type_names base = no_names
 
 abbrev pub head_names : List Decl → HeadOf Ty → Names
@@ -89,6 +88,6 @@ head_names decls (heads.Datatype name ts) = declared_body_names (declaration_of 
 head_names decls (heads.Variants tags) = record no_names { tags = map tag_name tags }
 head_names decls other = no_names
 
--- The names of a type.
+-- The names of constructors, fields and tags that the head of the type `t` declares.
 abbrev pub names_of : List Decl → Ty → Names
 names_of decls t = head_names decls (head decls t)

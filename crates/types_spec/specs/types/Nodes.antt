@@ -6,7 +6,7 @@ use Rattle.types_spec.specs.types.Ty.{including}
 use Rattle.types_spec.specs.declared.types.ty.TypeTreeNode.{TypeTreeNode}
 use Rattle.types_spec.specs.declared.types.ty.TypeTreeNode.TheVariants as nodes
 
--- The type with this index.
+-- The type with index `i` in the list.
 abbrev pub type_at : List Ty → ℕ → Ty
 type_at types i = slice_index_or types i tuple
 
@@ -23,11 +23,11 @@ type_of_node types (nodes.TagOf whole name argument) =
 type_of_node types (nodes.Including whole included) =
     including (type_at types whole) (type_at types included)
 
--- The type of each node.
+-- The type that each node of the list denotes.
 unfoldable pub types_of : List TypeTreeNode → List Ty
 types_of all = fold (λ types node. types ++ type_of_node types node ∷ []) [] all
 
--- The type of the last node.
+-- The type that the last node of the list denotes.
 unfoldable pub type_of : List TypeTreeNode → Ty
 type_of all = type_at (types_of all) (length all - 1)
 

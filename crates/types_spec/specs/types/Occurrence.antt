@@ -8,14 +8,14 @@ use Rattle.types_spec.specs.types.Ty.{Ty}
 abbrev pub Placed : Type 0
 Placed = ℕ × List ℕ
 
--- An item of a bracket, as a bracket with this item only, with the index of the item's first
--- lexeme.
+-- An item of a bracket, as a bracket that contains only the item. The number is the index of the
+-- item's first lexeme.
 abbrev pub PlacedItem : Type 0
 PlacedItem = ℕ × Ty
 
 pub data Occurrence : Type 0 where
-  -- The use of a type name with its arguments. `in_tag` is true if the use is inside a tag's
-  -- argument.
+  -- The use of a type name with its arguments. If the use is inside a tag's argument, `in_tag` is
+  -- true.
   use_of : (position : ℕ) (name : List ℕ) (arguments : List Ty) (in_tag : Bool) → Occurrence
   variable_at : (position : ℕ) (name : List ℕ) → Occurrence
   bracket_of : (items : List PlacedItem) → Occurrence
@@ -23,12 +23,12 @@ pub data Occurrence : Type 0 where
 -- A declaration with the positions of its occurrences, in the order of the text.
 pub record DeclPositions : Type 0 where
   pub decl : Decl
-  -- The lexeme of the declared name.
+  -- The index of the lexeme that is the declared name.
   pub position : ℕ
   pub parameters : List Placed
-  -- The fields of the record, or of each inline record.
+  -- The fields of the record, or of each constructor's inline record.
   pub records : List (List Placed)
   pub constructors : List Placed
-  -- The lexemes of the constructors with arguments.
+  -- The indices of the lexemes that are names of constructors with arguments.
   pub carrying : List ℕ
   pub occurrences : List Occurrence

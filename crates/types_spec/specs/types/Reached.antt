@@ -22,8 +22,7 @@ abbrev pub listed_if : {T : Type 0} → Option T → List T
 listed_if None = []
 listed_if (Some t) = t ∷ []
 
--- The types in a representation: constructor by constructor and field by field, or tags in their
--- order.
+-- The types in a representation: field by field for each constructor in turn, or tag by tag.
 abbrev pub named_in : {T : Type 0} → ShapeOf T → List T
 named_in {T} (shapes.Sum constants blocks) = flat_map (λ (constr : Constr T). constr.fields) blocks
 named_in (shapes.Product mutable ts) = ts
@@ -40,22 +39,24 @@ parts_of (heads.Tuple ts) = ts
 parts_of {T} (heads.Variants tags) = flat_map (λ (tag : TagOf T). listed_if tag.argument) tags
 parts_of head = []
 
--- The types in the representation, followed by the parts of the head.
+-- The types that `t` reaches directly: the types in its representation, and then the parts of its
+-- head.
 abbrev pub reached_from : List Decl → Ty → List Ty
 reached_from decls t = named_in (shape decls t) ++ parts_of (head decls t)
 
--- The head is that of the wildcard `_`.
+-- Tests whether a head is the head of the wildcard `_`.
 abbrev pub is_any_head : {T : Type 0} → HeadOf T → Bool
 is_any_head (heads.Predeclared bases.Any ts) = true
 is_any_head head = false
 
--- None of these types is a wildcard `_`.
+-- None of `types` is a wildcard `_`.
 abbrev pub NoneIsWildcard : List Decl → List Ty → Type 0
 NoneIsWildcard decls types = (t : Ty) → Contains types t → is_any_head (head decls t) ≡ false
 
 -- ---- all steps
 
--- The second list is the first without repetitions and without types already in `seen`.
+-- The list `others` is the second argument without repetitions and without types that are in
+-- `seen`.
 abbrev pub IsWithoutRepeats : List Ty → List Ty → List Ty → Type 0
 IsWithoutRepeats seen [] others = others ≡ []
 IsWithoutRepeats seen (t ∷ ts) others =
@@ -63,29 +64,29 @@ IsWithoutRepeats seen (t ∷ ts) others =
     ⊎ ((¬ Contains seen t) × (rest : List Ty) × (others ≡ t ∷ rest)
     × IsWithoutRepeats (seen ++ t ∷ []) ts rest)
 
--- Type `k` of the list is reached from an earlier one.
+-- An earlier type of the list, with an index below `k`, directly reaches the type `u`.
 abbrev pub IsFromEarlier : List Decl → List Ty → ℕ → Ty → Type 0
 IsFromEarlier decls types k u =
     (j : ℕ) × (w : Ty) × (j < k) × (slice_get types j ≡ Some w) × Contains (reached_from decls w) u
 
--- The types that `t` reaches: `t` itself, and then, type by type, the types that each reaches
--- directly, in the order of first occurrence.
+-- The list `types` contains `t`, followed by the types that each type of the list reaches directly.
+-- The list has the order of first occurrence.
 pub record IsReached (decls : List Decl) (t : Ty) (types : List Ty) : Type 0 where
   pub in_order : IsWithoutRepeats [] (t ∷ flat_map (reached_from decls) types) types
-  -- Each type but the first is reached from an earlier one. This excludes lists whose types only
-  -- reach one another.
+  -- Each type except the first is reached from an earlier type of the list. Lists whose types only
+  -- reach one another do not satisfy the condition.
   pub from_earlier :
       (k : ℕ) (u : Ty) → 0 < k → slice_get types k ≡ Some u → IsFromEarlier decls types k u
 
 -- ---- too many
 
--- No type is in the list twice.
+-- No type occurs twice in the list.
 abbrev pub AreDistinct : List Ty → Type 0
 AreDistinct types =
     (i j : ℕ) (u : Ty) → slice_get types i ≡ Some u → slice_get types j ≡ Some u → i ≡ j
 
 -- There are more than 65,536 distinct types, each of which is `t` or is reached from an earlier
--- one.
+-- type.
 pub record ReachesTooMany (decls : List Decl) (t : Ty) : Type 0 where
   pub types : List Ty
   pub many : 65536 < length types

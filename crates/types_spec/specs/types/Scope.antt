@@ -32,19 +32,20 @@ pub data Rule : Type 0 where
   unbound_variable : Rule
   -- No abbreviation expands to itself.
   cyclic : Rule
-  -- In its own group, a type name has no argument that contains a variable without being a
-  -- variable.
+  -- In its own group, a type name has no argument that contains a variable, unless the argument is
+  -- a variable.
   irregular : Rule
   too_many_constructors : Rule
   -- Every type that a bracket includes is a polymorphic variant.
   not_variant : Rule
-  -- A tag that comes from two items has one argument type.
+  -- If two items of a bracket have a tag with the same name, then the tags have the same argument
+  -- type.
   tag_clash : Rule
   hash_clash : Rule
-  -- No record is flat through an abbreviation of its own group.
+  -- No record is flat because of an abbreviation of the record's own group.
   float_in_group : Rule
 
--- The order in which the rules are checked.
+-- The position of a rule in the order in which the rules are checked.
 abbrev pub turn : Rule → ℕ
 turn twice = 0
 turn unknown_name = 1
@@ -58,20 +59,20 @@ turn tag_clash = 8
 turn hash_clash = 9
 turn float_in_group = 10
 
--- The violation that is reported, with its lexeme: the rule is broken there and at no smaller
--- lexeme, and no earlier rule is broken anywhere.
+-- The violation that is reported, with its lexeme: the rule is broken at `k` and at no smaller
+-- lexeme. No rule with an earlier turn is broken anywhere.
 pub record IsFirst (Breaks : Rule → ℕ → Type 0) (rule : Rule) (k : ℕ) : Type 0 where
   pub broken : Breaks rule k
   pub least : (j : ℕ) → j < k → ¬ Breaks rule j
   pub earlier : (other : Rule) (j : ℕ) → turn other < turn rule → ¬ Breaks other j
 
--- No rule is broken.
+-- `Breaks` holds for no rule and no lexeme.
 abbrev pub KeepsAll : (Rule → ℕ → Type 0) → Type 0
 KeepsAll Breaks = (rule : Rule) (k : ℕ) → ¬ Breaks rule k
 
 -- ---- names
 
--- The name at lexeme `k` occurs earlier in the list too.
+-- The list contains the name of lexeme `k` also at an earlier position.
 pub record IsSecond (all : List Placed) (k : ℕ) : Type 0 where
   pub earlier : ℕ
   pub later : ℕ
@@ -94,7 +95,7 @@ HoldsVariable (tag whole x) = HoldsVariable whole
 HoldsVariable (tag_of whole x argument) = HoldsVariable whole ⊎ HoldsVariable argument
 HoldsVariable (including whole included) = HoldsVariable whole ⊎ HoldsVariable included
 
--- An abbreviation of this group is among those that are expanded at the head of `t`.
+-- The expansions at the head of `t` include the expansion of an abbreviation of the group `group`.
 pub record IsThrough (decls : List Decl) (group : ℕ) (t : Ty) : Type 0 where
   pub times : ℕ
   pub type : Ty
@@ -108,13 +109,13 @@ pub record IsThrough (decls : List Decl) (group : ℕ) (t : Ty) : Type 0 where
 
 -- ---- brackets
 
--- The tag of an item, if the item is a tag.
+-- The tag that an item writes, or `None` if the item is an included type.
 abbrev pub written_tag : PlacedItem → Option Placed
 written_tag (k, tag bracket name) = Some (k, name)
 written_tag (k, tag_of bracket name argument) = Some (k, name)
 written_tag (k, t) = None
 
--- The tags that an item contributes.
+-- The tags that an item contributes to its bracket.
 abbrev pub tags_of_item : List Decl → Ty → List (TagOf Ty)
 tags_of_item decls item = tags_in (head decls item)
 
@@ -129,14 +130,14 @@ pub record HasTags (decls : List Decl) (items : List PlacedItem) (k i j : ℕ) (
   pub one_there : Contains (tags_of_item decls first) one
   pub other_there : Contains (tags_of_item decls second) other
 
--- One tag comes from two items with unequal arguments. Argument types are compared as they are
--- written.
+-- Two items of a bracket have a tag with one name and unequal argument types. Argument types are
+-- compared as written, with unexpanded abbreviations.
 abbrev pub ConflictsAt : List Decl → List PlacedItem → ℕ → Type 0
 ConflictsAt decls items k =
     (i j : ℕ) × (one other : TagOf Ty) × HasTags decls items k i j one other
     × (i < j) × (one.name ≡ other.name) × (one.argument ≢ other.argument)
 
--- Two tags with different names have the same hash. Both may come from one included type.
+-- Two tags with different names have the same hash. The two tags may come from one included type.
 abbrev pub HashesAt : List Decl → List PlacedItem → ℕ → Type 0
 HashesAt decls items k =
     (i j : ℕ) × (one other : TagOf Ty) × HasTags decls items k i j one other
@@ -145,12 +146,12 @@ HashesAt decls items k =
 -- ---- one list of occurrences, with the declarations of some groups visible
 
 module _ (decls : List Decl) (Seen : ℕ → Type 0) (occurrences : List Occurrence) where
-  -- Some bracket breaks a rule.
+  -- Some bracket among the occurrences breaks a rule.
   abbrev pub BracketBreaks : (List PlacedItem → Type 0) → Type 0
   BracketBreaks Breaks =
       (items : List PlacedItem) × Contains occurrences (bracket_of items) × Breaks items
 
-  -- The name at lexeme `k` breaks a rule.
+  -- The type name at lexeme `k` breaks a rule.
   abbrev pub UseBreaks : ℕ → (List ℕ → List Ty → Type 0) → Type 0
   UseBreaks k Breaks =
       (name : List ℕ) × (arguments : List Ty) × (in_tag : Bool)
@@ -174,7 +175,8 @@ module _ (decls : List Decl) (Seen : ℕ → Type 0) (occurrences : List Occurre
   BreaksIn hash_clash k = BracketBreaks (λ items. HashesAt decls items k)
   BreaksIn rule k = ⊥
 
--- In the text of a single type, all declarations are visible and all variables are allowed.
+-- The text of a single type breaks a rule at a lexeme. In the text of a single type, all
+-- declarations are visible and all variables are allowed.
 abbrev pub BreaksInType : List Decl → List Occurrence → Rule → ℕ → Type 0
 BreaksInType decls occurrences rule k = BreaksIn decls (λ group. Unit {0}) occurrences rule k
 
@@ -186,7 +188,7 @@ decls_of all = map (λ (d : DeclPositions). d.decl) all
 abbrev pub declared_names : List DeclPositions → List Placed
 declared_names all = map (λ (d : DeclPositions). (d.position, d.decl.name)) all
 
--- One abbreviation uses another one of its group outside tag arguments.
+-- The abbreviation `one` uses another abbreviation `other` of its group outside tag arguments.
 pub record IsStep (all : List DeclPositions) (one other : DeclPositions) : Type 0 where
   pub first : Contains all one
   pub second : Contains all other
@@ -197,13 +199,15 @@ pub record IsStep (all : List DeclPositions) (one other : DeclPositions) : Type 
   pub arguments : List Ty
   pub used : Contains one.occurrences (use_of position other.decl.name arguments false)
 
--- A sequence of such steps from one declaration through `between` to the other.
+-- A sequence of steps (`IsStep`) leads from the declaration `one` through `between` to the
+-- declaration `other`.
 abbrev pub AreSteps : List DeclPositions → DeclPositions → List DeclPositions → DeclPositions
     → Type 0
 AreSteps all one [] other = IsStep all one other
 AreSteps all one (next ∷ between) other = IsStep all one next × AreSteps all next between other
 
--- Each field expands to `float`, and at least one of them through an abbreviation of this group.
+-- Each field of the record expands to `float`, and at least one field expands through an
+-- abbreviation of the group `group`.
 abbrev pub IsFlatThroughGroup : List Decl → ℕ → Body → Type 0
 IsFlatThroughGroup decls group (bodies.Record fields) =
     ((f : Field) → Contains fields f → is_float decls f.ty ≡ true)
@@ -211,15 +215,16 @@ IsFlatThroughGroup decls group (bodies.Record fields) =
 IsFlatThroughGroup decls group body = ⊥
 
 module _ (all : List DeclPositions) where
-  -- The name at lexeme `k` is used in its own group with an argument that contains a variable
-  -- without being one.
+  -- The name at lexeme `k` is used in its own group with an argument that contains a variable but
+  -- is not a variable.
   abbrev pub IsIrregularAt : DeclPositions → ℕ → Type 0
   IsIrregularAt d k =
       UseBreaks (decls_of all) (λ group. Unit {0}) d.occurrences k (λ name arguments.
       (e : DeclPositions) × Contains all e × (e.decl.name ≡ name) × (e.decl.group ≡ d.decl.group)
       × (t : Ty) × Contains arguments t × HoldsVariable t × (¬ IsVariable t))
 
-  -- A declaration breaks a rule. It sees its own group and earlier ones.
+  -- The declaration `d` breaks a rule. The declarations of the same group and of earlier groups are
+  -- visible in `d`.
   abbrev pub BreaksInDecl : DeclPositions → Rule → ℕ → Type 0
   BreaksInDecl d twice k =
       IsSecond d.parameters k ⊎ IsSecond d.constructors k
@@ -237,7 +242,8 @@ module _ (all : List DeclPositions) where
   BreaksInDecl d rule k =
       BreaksIn (decls_of all) (λ group. group ≤ d.decl.group) d.occurrences rule k
 
-  -- Type names are distinct in the whole file, and none is predeclared.
+  -- The declared type names break a rule. Type names must be distinct in the whole file, and no
+  -- predeclared name may be declared.
   abbrev pub NamesBreak : Rule → ℕ → Type 0
   NamesBreak twice k =
       IsSecond (declared_names all) k

@@ -1,5 +1,5 @@
--- The invariant of a search over objects at types after it has seen all paths up to some path. The
--- check keeps the invariant from step to step. This project's own.
+-- The invariant of a search over objects at types, after the search has seen all paths up to some
+-- path. Each step of the check keeps the invariant. The invariant is this project's own.
 use Rattle.std.specs.Prelude.{ℕ, ◌≡◌, ◌⊎◌, List, [], ◌∷◌, ◌++◌, Some, Contains}
 use Rattle.base_data.specs.declared.model.value.Val.{Val}
 use Rattle.base_data.specs.declared.model.value.Val.TheVariants as vals
@@ -7,14 +7,14 @@ use Rattle.base_data.specs.declared.model.value.Obj.{Obj}
 use Rattle.types_spec.specs.types.Shapes.{Shapes}
 use Rattle.types_spec.specs.types.Fault.{IsBefore, field_of, value_at}
 
--- An object at a type, and the least path to them.
+-- An object at a type, and the path by which the search reached the object at the type.
 pub record Entry (T : Type 0) : Type 0 where
   pub path : List ℕ
   pub object : ℕ
   pub type : T
 
--- If the value is a reference, then its object has an entry at an equal type, and the entry's path
--- is not after this one.
+-- If the value is a reference, then its object has an entry at an equal type, and `path` is not
+-- before the entry's path.
 abbrev pub IsEntered : {T : Type 0} → Shapes T → List (Entry T) → Val → T → List ℕ → Type 0
 IsEntered shapes entries (vals.Int z) t path = Unit {0}
 IsEntered shapes entries (vals.Atom tag) t path = Unit {0}
@@ -22,8 +22,8 @@ IsEntered {T} shapes entries (vals.Ref o) t path =
     (entry : Entry T) × Contains entries entry × (entry.object ≡ o)
     × shapes.equal t entry.type × (¬ IsBefore path entry.path)
 
--- The state of the search. `Seen` holds for the inspected paths. If it holds for a path, then it
--- holds for all paths before it.
+-- The state of the search. `Seen` holds for the inspected paths. If `Seen` holds for a path, then
+-- `Seen` holds for all paths before the path.
 pub record IsSearched {T : Type 0} (shapes : Shapes T) (graph : List Obj) (root : Val) (t : T)
     (entries : List (Entry T)) (Seen : List ℕ → Type 0) : Type 0 where
   pub down : (path other : List ℕ) → Seen path → ¬ IsBefore path other → Seen other
@@ -41,7 +41,7 @@ pub record IsSearched {T : Type 0} (shapes : Shapes T) (graph : List Obj) (root 
       → shapes.fits graph w a × IsEntered shapes entries w a (entry.path ++ i ∷ [])
 
 -- Two entries of one object are in conflict: their types are unequal, and the object is mutable at
--- one of them. The first entry has the lesser path.
+-- one of the two types. The entry `one` has the lesser path.
 pub record AreConflicting {T : Type 0} (shapes : Shapes T) (graph : List Obj)
     (entries : List (Entry T)) (one other : Entry T) : Type 0 where
   pub first : Contains entries one
@@ -52,8 +52,8 @@ pub record AreConflicting {T : Type 0} (shapes : Shapes T) (graph : List Obj)
   pub mutable :
       shapes.mutable graph one.object one.type ⊎ shapes.mutable graph one.object other.type
 
--- Among all conflicting entries, these have the least second path and, for it, the least first
--- path.
+-- Among all pairs of conflicting entries, `one` and `other` have the least second path. Among the
+-- pairs with the least second path, `one` and `other` have the least first path.
 pub record AreLeastConflicting {T : Type 0} (shapes : Shapes T) (graph : List Obj)
     (entries : List (Entry T)) (one other : Entry T) : Type 0 where
   pub conflicting : AreConflicting shapes graph entries one other

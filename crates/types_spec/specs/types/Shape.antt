@@ -2,7 +2,7 @@
 -- runtime).
 use Rattle.std.specs.Prelude.{ℕ, Bool, true, false, if◌then◌else◌, List, [], ◌∷◌, length, map}
 use Rattle.std.specs.Prelude.{Option}
-use Rattle.std.specs.Prelude.{Some, None, codes}
+use Rattle.std.specs.Prelude.{Some, None}
 use Rattle.std.specs.List.{list_all, list_any, filter_map, count_by}
 use Rattle.types_spec.specs.tag_hash.TagHash.{tag_hash}
 use Rattle.types_spec.specs.declared.types.decl.Predeclared.{Predeclared}
@@ -21,7 +21,8 @@ use Rattle.types_spec.specs.declared.types.shape.Constr.{Constr}
 use Rattle.types_spec.specs.declared.types.shape.PolyTag.{PolyTag}
 use Rattle.types_spec.specs.declared.types.shape.ShapeOf.{ShapeOf}
 use Rattle.types_spec.specs.declared.types.shape.ShapeOf.TheVariants as shapes
-use Rattle.types_spec.specs.types.Ty.{Ty, named, part}
+use Rattle.types_spec.specs.types.Predeclared.{sum_at, name_at, sum_shape}
+use Rattle.types_spec.specs.types.Ty.{Ty}
 use Rattle.types_spec.specs.types.Declarations.{declaration_of, instance_of}
 use Rattle.types_spec.specs.types.Head.{head}
 
@@ -34,12 +35,12 @@ is_float_head other = false
 abbrev pub is_float : List Decl → Ty → Bool
 is_float decls t = is_float_head (head decls t)
 
--- A record is flat if the declared type of each field expands to `float`. A parameter does not,
--- even if the type is used at `float`.
+-- A record is flat if the declared type of each field expands to `float`. A field whose declared
+-- type is a parameter makes the record not flat, even if `float` replaces the parameter.
 abbrev pub is_flat : List Decl → List Field → Bool
 is_flat decls fields = list_all (λ (field : Field). is_float decls field.ty) fields
 
--- The declaration is a flat record. Inline records are never flat.
+-- Tests whether the body of a declaration is a flat record. Inline records are never flat.
 abbrev pub is_flat_body : List Decl → Body → Bool
 is_flat_body decls (bodies.Record fields) = is_flat decls fields
 is_flat_body decls body = false
@@ -59,7 +60,7 @@ constants_in all = count_by (λ (constructor : Constructor). is_constant constru
 abbrev pub types_of_fields : List Field → List Ty
 types_of_fields fields = map (λ (field : Field). field.ty) fields
 
--- The block of a constructor with arguments.
+-- The block of a constructor with arguments, or `None` for a constant constructor.
 abbrev pub block_of : (Ty → Ty) → Arguments → Option (Constr Ty)
 block_of instance arguments.Constant = None
 block_of instance (arguments.Listed types) =
@@ -73,22 +74,16 @@ blocks_in instance all =
 
 -- ---- shapes
 
-abbrev pub block : Bool → List Ty → Constr Ty
-block mutable types = record { mutable = mutable; fields = types }
-
 -- The representation of arrays whose element type has this head.
 abbrev pub array_of : HeadOf Ty → Ty → ShapeOf Ty
 array_of (heads.Variable name) t = shapes.ArrayOfVariable
 array_of (heads.Predeclared bases.Any ts) t = shapes.ArrayOfAnything t
 array_of head t = if is_float_head head then shapes.FloatArray else shapes.ArrayOf t
 
--- The type of lists of these elements.
-abbrev pub list_of : Ty → Ty
-list_of t = part (named (codes "list")) t
-
--- The representation of a predeclared type. A predeclared name with a wrong number of arguments has
--- no values.
+-- The representation of a predeclared type. If the number of arguments is wrong, the type has no
+-- values.
 abbrev pub predeclared_shape : List Decl → Predeclared → List Ty → ShapeOf Ty
+predeclared_shape decls (bases.Sum k) ts = sum_shape (sum_at k) (name_at k) ts
 predeclared_shape decls bases.Int [] = shapes.AnyInt
 predeclared_shape decls bases.Char [] = shapes.Below 256
 predeclared_shape decls bases.Bool [] = shapes.Below 2
@@ -101,9 +96,6 @@ predeclared_shape decls bases.Int64 [] = shapes.Int64
 predeclared_shape decls bases.Nativeint [] = shapes.Native
 predeclared_shape decls bases.Floatarray [] = shapes.FloatArray
 predeclared_shape decls bases.Any [] = shapes.Anything
-predeclared_shape decls bases.List (t ∷ []) = shapes.Sum 1 (block false (t ∷ list_of t ∷ []) ∷ [])
-predeclared_shape decls bases.Option (t ∷ []) = shapes.Sum 1 (block false (t ∷ []) ∷ [])
-predeclared_shape decls bases.Ref (t ∷ []) = shapes.Sum 0 (block true (t ∷ []) ∷ [])
 predeclared_shape decls bases.Array (t ∷ []) = array_of (head decls t) t
 predeclared_shape decls base ts = shapes.Variable
 
@@ -134,6 +126,6 @@ head_shape decls (heads.Tuple ts) = shapes.Product false ts
 head_shape decls (heads.Variants tags) = shapes.Poly (map tag_shape tags)
 head_shape decls heads.Absent = shapes.Variable
 
--- The representation of a type, which is that of its head.
+-- The representation of a type, which depends only on the head of the type.
 abbrev pub shape : List Decl → Ty → ShapeOf Ty
 shape decls t = head_shape decls (head decls t)

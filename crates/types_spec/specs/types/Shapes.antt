@@ -7,12 +7,12 @@ use Rattle.base_data.specs.declared.model.value.Obj.{Obj}
 -- The requirements on a value of a graph at each type of `T`. Other definitions are generic in this
 -- interface.
 pub record Shapes (T : Type 0) : Type 1 where
-  -- The value is allowed at the type, without regard to its fields.
+  -- The type allows the value, whatever the value's fields contain.
   pub fits : List Obj → Val → T → Type 0
-  -- The required fields, by index and type. There are none if the value does not match or has no
-  -- fields.
+  -- The required fields of the value, by index and type. If the value does not match the type or
+  -- has no fields, there are no required fields.
   pub needs : List Obj → Val → T → List (ℕ × T)
-  -- The object matches the type and is mutable at it.
+  -- The object matches the type and is mutable at the type.
   pub mutable : List Obj → ℕ → T → Type 0
   -- The two types are equal.
   pub equal : T → T → Type 0

@@ -1,5 +1,5 @@
 -- A table of types: types by number, with representations whose parts are numbers, and equivalence
--- classes of equal types. This project's own.
+-- classes of equal types. The table is this project's own.
 use Rattle.std.specs.Prelude.{ℕ, ◌≡◌, Bool, List, length, map, Option, Some, None, option_map}
 use Rattle.std.specs.Prelude.{slice_get}
 use Rattle.base_data.specs.declared.model.value.Val.{Val}
@@ -27,7 +27,7 @@ constr_with f constr = record { mutable = constr.mutable; fields = map f constr.
 abbrev pub tag_with_parts : {T U : Type 0} → (T → U) → PolyTag T → PolyTag U
 tag_with_parts f tag = record { hash = tag.hash; arg = option_map f tag.arg }
 
--- The representation with each type replaced.
+-- The representation in which `f` replaces each type.
 abbrev pub with_parts : {T U : Type 0} → (T → U) → ShapeOf T → ShapeOf U
 with_parts f shapes.AnyInt = shapes.AnyInt
 with_parts f (shapes.Below k) = shapes.Below k
@@ -52,7 +52,7 @@ with_parts f (shapes.ArrayOfAnything t) = shapes.ArrayOfAnything (f t)
 abbrev pub tag_with_part : {T U : Type 0} → (T → U) → TagOf T → TagOf U
 tag_with_part f tag = record { name = tag.name; argument = option_map f tag.argument }
 
--- The head with each part replaced.
+-- The head in which `f` replaces each part.
 abbrev pub head_with_parts : {T U : Type 0} → (T → U) → HeadOf T → HeadOf U
 head_with_parts f (heads.Variable name) = heads.Variable name
 head_with_parts f (heads.Predeclared base ts) = heads.Predeclared base (map f ts)
@@ -65,11 +65,12 @@ abbrev pub head_or_absent : Option (HeadOf ℕ) → HeadOf ℕ
 head_or_absent None = heads.Absent
 head_or_absent (Some head) = head
 
--- The head with this index, whose parts are numbers.
+-- The head with index `i` in a list of heads whose parts are numbers.
 abbrev pub head_at : List (HeadOf ℕ) → ℕ → HeadOf ℕ
 head_at all i = head_or_absent (slice_get all i)
 
--- These are the heads of the types, with the parts as indices into the list of types.
+-- The list `all` contains the heads of `types`. The parts of the heads in `all` are indices into
+-- `types`.
 abbrev pub AreHeadsOf : List Decl → List Ty → List (HeadOf ℕ) → Type 0
 AreHeadsOf decls types all =
     map (head_with_parts (slice_get types)) all
@@ -77,12 +78,14 @@ AreHeadsOf decls types all =
 
 -- ---- tables
 
--- For each number, the representation, whose parts are numbers, and the class.
+-- A table of types: for each number, the representation of the type, whose parts are numbers, and
+-- the class of the type.
 pub record Table : Type 0 where
   pub nodes : List (ShapeOf ℕ)
   pub classes : List ℕ
 
--- A number outside the table has no values.
+-- The representation at a number. If the number is outside the table, no value matches the
+-- representation.
 abbrev pub node_or_none : Option (ShapeOf ℕ) → ShapeOf ℕ
 node_or_none None = shapes.Variable
 node_or_none (Some node) = node
@@ -93,19 +96,21 @@ table_shapes table =
     shaped (λ i. node_or_none (slice_get table.nodes i))
     (λ i j. slice_get table.classes i ≡ slice_get table.classes j)
 
--- The fields of a value that have types at this number, by index.
+-- The fields of a value that have types at the number `i`, each as the field's index and the number
+-- of its type.
 abbrev pub typed_fields : Table → List Obj → Val → ℕ → List (ℕ × ℕ)
 typed_fields table graph v i = or_none (fields_of graph v (node_or_none (slice_get table.nodes i)))
 
--- The type of this number restricts its values. Only such a type makes a field required.
+-- Tests whether the type with the number `i` restricts its values. A field is required only if the
+-- field's type restricts its values.
 abbrev pub is_asked_in : Table → ℕ → Bool
 is_asked_in table i = is_asked (node_or_none (slice_get table.nodes i))
 
--- The table of these types: it has their representations, and two types are in one class if and
--- only if they are equal.
+-- The table contains the representations of `types`. Two types are in one class if and only if the
+-- two types are equal.
 pub record IsTableOf (decls : List Decl) (types : List Ty) (table : Table) : Type 0 where
   pub many : length table.classes ≡ length types
-  -- The representations, whose parts are the numbers of types.
+  -- The representations of the types, in which numbers stand for types.
   pub nodes :
       map (with_parts (slice_get types)) table.nodes
       ≡ map (λ t. with_parts Some (shape decls t)) types

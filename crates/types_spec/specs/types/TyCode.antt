@@ -1,5 +1,5 @@
--- The encoding of a type as a list in the logic, in postfix order: the parts from the left, and
--- then how they are combined. Contracts never refer to it.
+-- The encoding of a type as a list in the logic, in postfix order. The parts from the left come
+-- first, and the way of combining the parts follows. Contracts never refer to the encoding.
 use Rattle.std.specs.Prelude.{ℕ, ◌≡◌, List, [], ◌∷◌, cond, ◌==◌}
 use Rattle.std.specs.Coded.{Coded, code_by, coded×, coded_ℕ, coded_list}
 use mathlib.Core.Path.{refl, ap, ◌∙◌}

@@ -1,12 +1,12 @@
--- The text of a type, with abbreviations unexpanded. Parentheses surround a tuple only if it is the
--- single argument of a name, or a component of a tuple.
+-- The text of a type, with unexpanded abbreviations. Parentheses surround a tuple only if the tuple
+-- is the single argument of a name, or a component of a tuple.
 use Rattle.std.specs.Prelude.{ℕ, Bool, true, false, if◌then◌else◌, List, [], ◌∷◌, ◌++◌, map, codes}
 use Rattle.types_spec.specs.types.Ty.{Ty, variable, named, tuple, bracket, part, tag, tag_of}
 use Rattle.types_spec.specs.types.Ty.{including}
 
 -- ---- joined texts
 
--- The texts, with a separator between each two.
+-- The texts in one text, with the separator `between` between each two neighbours.
 abbrev pub joined_by : List ℕ → List (List ℕ) → List ℕ
 joined_by between [] = []
 joined_by between (text ∷ []) = text
@@ -25,7 +25,7 @@ enclosed chunk = if chunk.is_tuple then codes "(" ++ chunk.text ++ codes ")" els
 
 -- ---- types
 
--- The beginning of a type, before its parts.
+-- The beginning of a type before its parts: a name or variable, a tuple, or a bracket.
 pub data Stem : Type 0 where
   word : (text : List ℕ) → Stem
   product : Stem
@@ -76,6 +76,6 @@ chunks_of (tag_of whole name argument) =
     (plain_chunk (codes "`" ++ name ++ codes " of " ++ (as_chunk (chunks_of argument)).text))
 chunks_of (including whole included) = with_chunk (chunks_of whole) (as_chunk (chunks_of included))
 
--- The text of a type.
+-- The text of a type as OCaml writes type expressions.
 unfoldable pub type_text : Ty → List ℕ
 type_text t = (as_chunk (chunks_of t)).text

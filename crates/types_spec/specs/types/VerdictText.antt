@@ -45,7 +45,7 @@ conflict_text type_text first t second u =
     path_text first ++ codes " and " ++ path_text second ++ codes ": " ++ type_text t
     ++ codes " and " ++ type_text u ++ codes " share a mutable object"
 
--- The text of a fault, for the values and types at the ends of its paths.
+-- The text of a fault, with the values and types at the ends of the fault's paths.
 abbrev pub IsFaultText : {T : Type 0} → Shapes T → (T → List ℕ) → List Obj → Val → T → Fault
     → List ℕ → Type 0
 IsFaultText {T} shapes type_text graph v t (Mismatch path) text =
@@ -58,7 +58,7 @@ IsFaultText {T} shapes type_text graph v t (Conflict first second) text =
 
 -- ---- the line
 
--- A `no` line: the first fault, and its text after `no`.
+-- A line that begins with `no` and states the first fault of the value.
 pub record IsNoLine {T : Type 0} (shapes : Shapes T) (type_text : T → List ℕ) (graph : List Obj)
     (v : Val) (t : T) (line : List ℕ) : Type 0 where
   pub fault : Fault

@@ -3,7 +3,8 @@
 use crate::types::ty::Ty;
 use base_data::model::list::List;
 
-/// A predeclared type, whose name every file knows.
+/// A predeclared type, whose name is known in every file: a type with a representation of its own,
+/// or the variant in a row of the table of predeclared types.
 #[derive(Clone, Copy, Debug, PartialEq, Eq)]
 pub enum Predeclared {
     Int,
@@ -17,12 +18,11 @@ pub enum Predeclared {
     Int64,
     Nativeint,
     Floatarray,
-    List,
-    Option,
     Array,
-    Ref,
     /// The wildcard type `_`, which every value has.
     Any,
+    /// The variant in the row with this number.
+    Sum(usize),
 }
 
 /// A field of a record.
@@ -49,7 +49,7 @@ pub struct Constructor {
     pub arguments: Arguments,
 }
 
-/// The meaning of a declared name.
+/// The body of a declaration, which states what a declared name means.
 #[derive(Drop)]
 pub enum Body {
     Abbreviation(Ty),
@@ -57,8 +57,8 @@ pub enum Body {
     Variant(List<Constructor>),
 }
 
-/// A declaration. `group` is the number of declarations before the group of mutually recursive
-/// declarations to which this one belongs.
+/// A declaration. `group` is the number of declarations before the declaration's group of mutually
+/// recursive declarations.
 #[derive(Drop)]
 pub struct Decl {
     pub name: List<u8>,

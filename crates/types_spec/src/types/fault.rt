@@ -3,8 +3,9 @@
 use base_data::model::path::Path;
 
 /// A fault: a type mismatch or an aliasing conflict. A type mismatch has the path to the part that
-/// does not match its type. An aliasing conflict has two paths to one object at unequal types, at
-/// one of which the object is mutable. The lesser path comes first.
+/// does not match its type. An aliasing conflict has two paths to one object at unequal types, and
+/// the object is mutable at one of the two types. An aliasing conflict states the lesser path
+/// first.
 #[derive(Drop)]
 pub enum Fault {
     Mismatch(Path),

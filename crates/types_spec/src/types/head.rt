@@ -1,4 +1,5 @@
-//! Heads of types, generic in the type of their parts.
+//! The heads of types after all abbreviations at the head are expanded. The definitions are generic
+//! in the type of a head's parts.
 
 use crate::types::decl::Predeclared;
 use base_data::model::list::List;
@@ -18,9 +19,9 @@ pub enum HeadOf<T> {
     /// A declared record or variant, and its arguments.
     Datatype(List<u8>, List<T>),
     Tuple(List<T>),
-    /// The tags of a polymorphic variant. The tags of an included type replace the inclusion, in
-    /// its position.
+    /// The tags of a polymorphic variant. If the variant includes a type, the tags of the included
+    /// type stand at the position of the inclusion.
     Variants(List<TagOf<T>>),
-    /// The head of no type over accepted declarations.
+    /// The result for a type that has no head. Over accepted declarations, every type has a head.
     Absent,
 }

@@ -2,8 +2,8 @@
 
 use base_data::model::list::List;
 
-/// The name of a constructor with arguments, and the field names of its inline record, if it has
-/// one.
+/// The name of a constructor with arguments, and the field names of the constructor's inline
+/// record. If the constructor has no inline record, `fields` is empty.
 #[derive(Drop)]
 pub struct ConstrNames {
     pub name: List<u8>,
@@ -17,8 +17,8 @@ pub struct TagName {
     pub hash: i64,
 }
 
-/// The names of the constant constructors, the other constructors, the fields of a record, and the
-/// tags, each in the order of the declaration.
+/// The names that a type declares: constant constructors, constructors with arguments, fields of a
+/// record, and tags. Each list has the order of the declaration.
 #[derive(Drop)]
 pub struct Names {
     pub constants: List<List<u8>>,

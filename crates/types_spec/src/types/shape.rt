@@ -27,10 +27,11 @@ pub enum ShapeOf<T> {
     Int32,
     Int64,
     Native,
-    /// The number of constant constructors, and the other constructors by the tags of their blocks.
+    /// A declared variant: the number of constant constructors, and the constructors with arguments
+    /// in the order of their block tags.
     Sum(u64, List<Constr<T>>),
     Product(bool, List<T>),
-    /// One object with this number of doubles.
+    /// A record with fields of type `float` only, as one object with the given number of doubles.
     FlatFloats(bool, u64),
     ArrayOf(T),
     FloatArray,

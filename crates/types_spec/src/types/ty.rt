@@ -6,7 +6,7 @@ ghost use Rattle.types_spec.specs.types.Nodes.{type_of, AreOrdered};
 use base_data::model::list::List;
 use std::marker::Model;
 
-/// A node: a variable, a name, a tuple or a bracket of tags; or an earlier node extended by one
+/// A node: a variable, a name, a tuple or a bracket of tags, or an earlier node extended by one
 /// part. A node refers to an earlier node by the earlier node's index in the list.
 #[derive(Drop)]
 pub enum TypeTreeNode {
@@ -15,7 +15,8 @@ pub enum TypeTreeNode {
     Named(List<u8>),
     Tuple,
     Bracket,
-    /// A whole, extended by an argument or a component.
+    /// An earlier node, extended by an argument or a component. The first index is the extended
+    /// node, and the second index is the argument or component.
     Part(usize, usize),
     /// A bracket, extended by a tag without an argument. The tag has no backquote.
     Tag(usize, List<u8>),
@@ -25,8 +26,8 @@ pub enum TypeTreeNode {
     Including(usize, usize),
 }
 
-/// A type expression, with abbreviations unexpanded. Parentheses leave no node. In contracts, its
-/// model is the tree of the last node.
+/// A type expression with unexpanded abbreviations. Parentheses leave no node. In contracts, the
+/// model of a `Ty` is the tree of the last node.
 #[derive(Drop)]
 pub struct Ty {
     nodes: Vec<TypeTreeNode>,
@@ -48,7 +49,7 @@ impl Model for Ty {
 }
 
 impl Ty {
-    /// Returns the type of the last of these nodes.
+    /// Returns the type that the last of `nodes` denotes.
     pub fn of(nodes: Vec<TypeTreeNode>) -> Ty
         requires { AreOrdered nodes.items }
         ensures { result ≡ type_of nodes.items }
@@ -56,8 +57,8 @@ impl Ty {
         Ty { nodes }
     }
 
-    /// Returns the nodes. Each node refers to earlier nodes only, and the tree of the last node is
-    /// the type.
+    /// Returns the nodes of the type. Each node refers to earlier nodes only, and the tree of the
+    /// last node is the type.
     pub fn nodes(&self) -> &[TypeTreeNode]
         ensures ordered { AreOrdered result.now }
         ensures last { type_of result.now ≡ self.now }

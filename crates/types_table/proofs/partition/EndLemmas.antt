@@ -249,7 +249,8 @@ settled_as forms o o' signatures signatures' waited c is is_signatures settled =
     (subst (λ l. (i : ℕ) → i < length o → slice_index o i ≡ c → Contains waited i
     ⊎ ((s : List ℕ) × SignatureAt l c s × IsSignatureOf forms (slice_index o) i s)) (sym is_signatures) settled)
 
--- The members of a class are in its list.
+-- If each number is a member of its class, then the list of class `c` contains all numbers of class
+-- `c`.
 pub members_there : (o o' : List ℕ) (members : List (Vec ℕ)) (c : ℕ) (v : Vec ℕ) (list : List ℕ) → o' ≡ o
     → slice_get members c ≡ Some v → list ≡ v.items → ((i : ℕ) → i < length o → Has members (slice_index o i) i)
     → (i : ℕ) → i < length o' → slice_index o' i ≡ c → Contains list i

@@ -20,7 +20,8 @@ AllZip-more P Q more (a ∷ as') [] all = absurd all
 AllZip-more P Q more (a ∷ as') (b ∷ bs) all =
     (more a b all.0, AllZip-more P Q more as' bs all.1)
 
--- Extends the relation by one more element of the first list and its partner.
+-- If `R` relates the first `i` elements to `ys`, and the next element to `y`, then `R` relates the
+-- first `i + 1` elements to `ys` followed by `y`.
 pub AllZip-next : {A B : Type 0} (R : A → B → Type 0) (xs : List A) (i : ℕ) (ys new : List B) (x : A) (y : B)
     → i < length xs → AllZip R (take i xs) ys → x ≡ get_or xs i x → R x y → new ≡ ys ++ y ∷ []
     → AllZip R (take (i + 1) xs) new

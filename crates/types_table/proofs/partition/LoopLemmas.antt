@@ -29,7 +29,7 @@ pub only_one : (P : ℕ → Type 0) (x k : ℕ) → P x → Contains (x ∷ []) 
 only_one P x k holds among = ⊎_elim (λ here. subst P here holds) (λ later. absurd (Contains-none k later))
     (Contains-cases x [] k among)
 
--- The invariant for more parts.
+-- If `user` is a user of `parts` and is added for `more`, then `user` is a user of `parts ++ more`.
 pub uses_more : (old now new : List (Vec ℕ)) (parts more all : List ℕ) (user : ℕ) → UsesSoFar old now parts user
     → Keeps now new → ((k : ℕ) → Contains more k → k < length now → Has new k user) → all ≡ parts ++ more
     → UsesSoFar old new all user

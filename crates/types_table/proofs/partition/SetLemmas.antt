@@ -17,7 +17,7 @@ get_or_default [] k d e within = absurd (omega arith)
 get_or_default (x ∷ xs) zero d e within = refl
 get_or_default (x ∷ xs) (suc k) d e within = get_or_default xs k d e (omega arith)
 
--- Each number is below the numbers after it.
+-- Each number of the list is below the numbers that follow the number in the list.
 abbrev Rises : List ℕ → Type 0
 Rises [] = Unit {0}
 Rises (x ∷ xs) = ((y : ℕ) → Contains xs y → x < y) × Rises xs
@@ -42,7 +42,8 @@ same_first x y xs ys up up' here there = ⊎_elim (λ is. sym is)
     (λ later. ⊎_elim (λ is. is) (λ later'. absurd (omega (arith, up'.0 x later, up.0 y later'))) (Contains-cases x xs y there))
     (Contains-cases y ys x here)
 
--- If the first elements are equal, then inclusion holds for the rests.
+-- If two increasing lists begin with equal numbers, and one list includes the other, then inclusion
+-- also holds for the lists without their first numbers.
 rest_among : (x y : ℕ) (xs ys : List ℕ) → Rises (x ∷ xs) → x ≡ y → ((z : ℕ) → Contains (x ∷ xs) z → Contains (y ∷ ys) z)
     → (z : ℕ) → Contains xs z → Contains ys z
 rest_among x y xs ys up same there z among = ⊎_elim (λ is. absurd (omega (arith, up.0 z among)))
@@ -59,7 +60,7 @@ same_rising (x ∷ xs) (y ∷ ys) up up' there back =
     (rest_among y x ys xs up' (sym same) back) in
     cc
 
--- If two lists have the same elements, then their sets are the same list.
+-- If two lists have the same elements, then the set lists of the two lists are equal.
 pub same_sets : (numbers others set other : List ℕ) → IsSetOf numbers set → IsSetOf others other
     → ((z : ℕ) → Contains numbers z → Contains others z) → ((z : ℕ) → Contains others z → Contains numbers z)
     → set ≡ other
@@ -67,7 +68,7 @@ same_sets numbers others set other one two there back =
     same_rising set other (rises set one.increasing) (rises other two.increasing)
     (λ z among. two.there z (there z (one.back z among))) (λ z among. one.there z (back z (two.back z among)))
 
--- Sorting and removing repeats gives the set of a list.
+-- Sorting a list and removing repeats gives the set list of the list.
 pub is_set : (old sorted new : List ℕ) → IsPermutation old sorted → IsSorted nat_cmp sorted
     → IsFiltered (DiffersFromLast eqb) [] sorted new → IsSetOf old new
 is_set old sorted new permutation in_order filtered = record {

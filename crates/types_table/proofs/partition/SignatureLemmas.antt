@@ -1,4 +1,5 @@
--- Two heads have the same signature if and only if they agree, with parts of the same classes.
+-- Two heads have the same signature if and only if the heads agree, where parts agree if they have
+-- the same class.
 use Rattle.std.proofs.Common.{ℕ, ◌<◌, ◌+◌, ◌*◌, ◌≡◌, ◌∙◌, ⊎_elim, List, [], ◌∷◌, ◌++◌, Option, Some, None, refl, sym, ap, subst, map, arith}
 use Rattle.std.specs.Prelude.{Contains, slice_get}
 use Rattle.std.specs.List.{AllZip}
@@ -15,7 +16,7 @@ use Rattle.types_table.specs.store.Held.{AreDistinct}
 use Rattle.types_table.specs.declared.partition.head_form.TagForm.{TagForm}
 use Rattle.types_table.specs.declared.partition.head_form.HeadForm.{HeadForm}
 use Rattle.types_table.specs.declared.partition.signature.TheConstants.{WIDTH}
-use Rattle.types_table.specs.partition.Form.{code_of, IsTagForm, AreTagForms, IsPlain, IsTagged, IsForm}
+use Rattle.types_table.specs.partition.Form.{code_of, row_of, IsTagForm, AreTagForms, IsPlain, IsTagged, IsForm}
 use Rattle.types_table.specs.partition.Signature.{IsSetOf, offset, IsCode, AreCodes, IsSignature}
 use Rattle.types_table.proofs.partition.SetLemmas.{same_sets}
 
@@ -44,11 +45,11 @@ module _ {A B : Type 0} (R : A → B → Type 0) where
 
 -- ---- predeclared types
 
-abbrev in_order : List Predeclared
-in_order = bases.Int ∷ bases.Char ∷ bases.Bool ∷ bases.Unit ∷ bases.String ∷ bases.Bytes ∷ bases.Float ∷ bases.Int32
-    ∷ bases.Int64 ∷ bases.Nativeint ∷ bases.Floatarray ∷ bases.List ∷ bases.Option ∷ bases.Array ∷ bases.Ref ∷ bases.Any ∷ []
+abbrev in_order : ℕ → List Predeclared
+in_order k = bases.Int ∷ bases.Char ∷ bases.Bool ∷ bases.Unit ∷ bases.String ∷ bases.Bytes ∷ bases.Float ∷ bases.Int32
+    ∷ bases.Int64 ∷ bases.Nativeint ∷ bases.Floatarray ∷ bases.Array ∷ bases.Any ∷ bases.Sum k ∷ []
 
-at_code : (b : Predeclared) → slice_get in_order (code_of b) ≡ Some b
+at_code : (b : Predeclared) → slice_get (in_order (row_of b)) (code_of b) ≡ Some b
 at_code bases.Int = refl
 at_code bases.Char = refl
 at_code bases.Bool = refl
@@ -60,14 +61,14 @@ at_code bases.Int32 = refl
 at_code bases.Int64 = refl
 at_code bases.Nativeint = refl
 at_code bases.Floatarray = refl
-at_code bases.List = refl
-at_code bases.Option = refl
 at_code bases.Array = refl
-at_code bases.Ref = refl
 at_code bases.Any = refl
+at_code (bases.Sum k) = refl
 
-same_base : (b c : Predeclared) → code_of b ≡ code_of c → b ≡ c
-same_base b c is = same_Some b c (sym (at_code b) ∙ ap (slice_get in_order) is ∙ at_code c)
+same_base : (b c : Predeclared) → code_of b ≡ code_of c → row_of b ≡ row_of c → b ≡ c
+same_base b c is row = same_Some b c
+    (sym (at_code b) ∙ ap (slice_get (in_order (row_of b))) is
+    ∙ ap (λ (k : ℕ). slice_get (in_order k) (code_of c)) row ∙ at_code c)
 
 -- ---- codes
 
@@ -113,7 +114,7 @@ module _ (names : List (List ℕ)) (distinct : AreDistinct names) (class : ℕ �
   from_arguments (Some a) None agree = absurd agree
   from_arguments (Some a) (Some b) agree = ap (λ k. k + 1) agree
 
-  -- The code is the code of the tag.
+  -- `code` is the code of the form of the tag.
   record Says (tag : TagOf ℕ) (code : ℕ) : Type 0 where
     form : TagForm
     named : IsTagForm names tag form
@@ -192,10 +193,10 @@ module _ (names : List (List ℕ)) (distinct : AreDistinct names) (class : ℕ �
 
   -- ---- heads
 
-  -- The signature, by cases on the head.
+  -- `s` is the signature of the head, by cases on the head.
   abbrev Known : HeadOf ℕ → List ℕ → Type 0
   Known (heads.Variable name) s = (k : ℕ) × (slice_get names k ≡ Some name) × (s ≡ 0 ∷ k ∷ [])
-  Known (heads.Predeclared base ts) s = s ≡ 1 ∷ code_of base ∷ map class ts
+  Known (heads.Predeclared base ts) s = s ≡ 1 ∷ code_of base ∷ row_of base ∷ map class ts
   Known (heads.Datatype name ts) s = (k : ℕ) × (slice_get names k ≡ Some name) × (s ≡ 2 ∷ k ∷ map class ts)
   Known (heads.Tuple ts) s = s ≡ 3 ∷ map class ts
   Known (heads.Variants tags) s = (set : List ℕ) × Reports tags set × (s ≡ 4 ∷ set)
@@ -225,7 +226,7 @@ module _ (names : List (List ℕ)) (distinct : AreDistinct names) (class : ℕ �
 
   known : (head : HeadOf ℕ) (form : HeadForm) (s : List ℕ) → IsForm names head form → IsSignature class form s → Known head s
   known (heads.Variable name) form s is signature = (is.0, is.1, known_plain (0 ∷ is.0 ∷ []) [] form s is.2 signature)
-  known (heads.Predeclared base ts) form s is signature = known_plain (1 ∷ code_of base ∷ []) ts form s is signature
+  known (heads.Predeclared base ts) form s is signature = known_plain (1 ∷ code_of base ∷ row_of base ∷ []) ts form s is signature
   known (heads.Datatype name ts) form s is signature = (is.0, is.1, known_plain (2 ∷ is.0 ∷ []) ts form s is.2 signature)
   known (heads.Tuple ts) form s is signature = known_plain (3 ∷ []) ts form s is signature
   known (heads.Variants tags) form s is signature = (
@@ -262,7 +263,8 @@ module _ (names : List (List ℕ)) (distinct : AreDistinct names) (class : ℕ �
   heads_from (heads.Predeclared b ts) (heads.Predeclared c us) s one two =
       let e = sym one ∙ two in
       let base : code_of b ≡ code_of c = cc in
-      let parts : map class ts ≡ map class us = cc in (same_base b c base, pairwise_from ts us parts)
+      let row : row_of b ≡ row_of c = cc in
+      let parts : map class ts ≡ map class us = cc in (same_base b c base row, pairwise_from ts us parts)
   heads_from (heads.Datatype m ts) (heads.Datatype n us) s one two =
       let e = sym one.2 ∙ two.2 in
       let is : one.0 ≡ two.0 = cc in
@@ -284,7 +286,7 @@ module _ (names : List (List ℕ)) (distinct : AreDistinct names) (class : ℕ �
       let is : one.0 ≡ two.0 = distinct one.0 two.0 x one.1 (two.1 ∙ ap (λ n. Some n) (sym agree)) in
       one.2 ∙ ap (λ k. 0 ∷ k ∷ []) is ∙ sym two.2
   from_heads (heads.Predeclared b ts) (heads.Predeclared c us) s t agree one two =
-      one ∙ ap (λ d. 1 ∷ code_of d ∷ map class ts) agree.0 ∙ ap (λ l. 1 ∷ code_of c ∷ l) (from_pairwise ts us agree.1)
+      one ∙ ap (λ d. 1 ∷ code_of d ∷ row_of d ∷ map class ts) agree.0 ∙ ap (λ l. 1 ∷ code_of c ∷ row_of c ∷ l) (from_pairwise ts us agree.1)
       ∙ sym two
   from_heads (heads.Datatype m ts) (heads.Datatype n us) s t agree one two =
       let is : one.0 ≡ two.0 = distinct one.0 two.0 m one.1 (two.1 ∙ ap (λ n. Some n) (sym agree.0)) in

@@ -1,5 +1,5 @@
--- Splitting a class separates no two equal numbers. Afterwards each number is pending or has the
--- signature of its class.
+-- Splitting a class separates no two equal numbers. After a split, each number is pending or has
+-- the signature of its class.
 use Rattle.std.proofs.Common.{ℕ, zero, suc, ◌<◌, ◌+◌, ◌*◌, ◌≡◌, ◌≢◌, ◌∙◌, ⊎_elim, ◌⊎◌, inl, inr, List, [], ◌∷◌, ◌++◌, Option, Some, None, refl, sym, ap, subst, length, map, arith}
 use Rattle.std.specs.Prelude.{Contains, slice_get, slice_index}
 use Rattle.std.specs.Global.{Vec}
@@ -123,7 +123,7 @@ module _ (old new : ℕ → ℕ) where
 module _ (forms : List HeadForm) (o w : List ℕ) (c : ℕ) (inspect : Inspection) (numbers : List ℕ) (old new : List (Vec ℕ))
     (is_inspection : IsInspection forms o c inspect) (named : AreNamed inspect.found c inspect.kept numbers old new)
     (moved : AreMoved inspect.inspected.items inspect.positions.items numbers (length inspect.inspected.items) o w) where
-  -- The new class of the number is the class of its signature.
+  -- The new class of number `i` is the class of the signature of `i`.
   abbrev Fits : ℕ → Type 0
   Fits i = (p : ℕ) × (s : List ℕ) × (slice_get inspect.found p ≡ Some s) × (slice_get numbers p ≡ Some (slice_index w i))
       × IsSignatureOf forms (slice_index o) i s
@@ -165,7 +165,7 @@ module _ (forms : List HeadForm) (o w : List ℕ) (c : ℕ) (inspect : Inspectio
   within_new within i = ⊎_elim (λ placed. (named.fresh placed.position (slice_index w i) placed.named).1)
       (λ never. omega (arith, within i, never.1, named.more)) (moved i)
 
-  -- If the heads of two numbers agree, then they stay together.
+  -- If the heads of two numbers agree, then the two numbers stay in one class.
   module _ (all : List (HeadOf ℕ)) (are : AreForms all forms) (many : length all ≡ length o) where
     abbrev Together : ℕ → ℕ → Type 0
     Together = AreTogether (length all) (slice_index o)
@@ -192,7 +192,7 @@ module _ (forms : List HeadForm) (o w : List ℕ) (c : ℕ) (inspect : Inspectio
         → KeepsTogether (length all) (head_at all) (slice_index w)
     keeps_new parts = split_keeps (length all) (head_at all) parts (slice_index o) (slice_index w) together
 
-  -- Each number is pending or has the signature of its class.
+  -- After a turn, each number is pending or has the signature of its class.
   module _ (users waiting now : List (Vec ℕ)) (many : length o ≡ length forms) (uses : AreUsers forms users)
       (kept : (d y : ℕ) → Has waiting d y → Has now d y) (marked : MarksUsers w users c inspect.inspected.items now)
       (settled : (i : ℕ) → i < length o → slice_index o i ≢ c → Has waiting (slice_index o i) i
@@ -237,7 +237,8 @@ module _ (forms : List HeadForm) (o w : List ℕ) (c : ℕ) (inspect : Inspectio
                   (same_Some form.0 signature.0 (sym form.1 ∙ signature.1)) same) signature.2,
             )
 
-  -- Each number is a member of its class.
+  -- If each number was a member of its class before a turn, then each number is a member of its
+  -- class after the turn.
   pub has_new : (members now : List (Vec ℕ)) → ((d y : ℕ) → Has members d y → Has now d y)
       → HasMembers w c inspect.inspected.items now → ((i : ℕ) → i < length o → Has members (slice_index o i) i)
       → (i : ℕ) → i < length o → Has now (slice_index w i) i

@@ -17,7 +17,7 @@ module _ (names : List (List ℕ)) (all : List StoredNode) (store : IsStore name
   abbrev types : List Ty
   types = types_in names all
 
-  -- The node represents the type.
+  -- The stored node is the node of the type.
   abbrev Says : StoredNode → Ty → Type 0
   Says (nodes.Variable n) (variable x) = name_at names n ≡ x
   Says (nodes.Named n) (named x) = name_at names n ≡ x

@@ -56,7 +56,7 @@ AreDistinct-texts eq agree ks distinct i j x at_i at_j =
 pub agree_texts : (a b : Vec ℕ) → a.items ≡ b.items → pointwise nat_eq a.items b.items ≡ true
 agree_texts a b same = (bytes_decides a.items b.items).1 same
 
--- If a text is found at an index within the list, then the text is at that index.
+-- If the search finds a text at index `i`, then the text is at index `i` of the list.
 pub text_found :
     (name : List ℕ) (ks : List (Vec ℕ)) (i : ℕ)
     → position (λ (k : Vec ℕ). pointwise nat_eq name k.items) ks ≡ Some i → i < length ks
@@ -68,7 +68,8 @@ text_found name ks i found below =
     let same = (bytes_decides name (k.0).items).0 (sym (ap (λ (v : Vec ℕ). pointwise nat_eq name v.items) here) ∙ passes.1) in
     get-map (λ (v : Vec ℕ). v.items) ks i k.0 k.1 ∙ ap Some (sym same)
 
--- The set after a text is inserted.
+-- If a text is inserted into a set of texts, then the texts grow by at most one text, as `Adds`
+-- states.
 pub text_added :
     (eq : Vec ℕ → Vec ℕ → Bool) (old new : List (Vec ℕ)) (value k : Vec ℕ) (i : ℕ) (name : List ℕ)
     → new ≡ insert_key eq old value → slice_get new i ≡ Some k
@@ -89,7 +90,7 @@ text_added eq old new value k i name is stored same named =
           ∙ map-append (λ (v : Vec ℕ). v.items) old (value ∷ [])
           ∙ ap (λ (t : List ℕ). texts_of old ++ t ∷ []) named)
 
--- If an element is present, then nothing is added.
+-- If an element is in a list, then the unchanged list satisfies `Adds` for the element.
 pub adds_nothing : {T : Type 0} (old : List T) (x : T) (i : ℕ) → slice_get old i ≡ Some x → Adds old old x i
 adds_nothing old x i there = record { grown = inl refl; there = there }
 
@@ -114,7 +115,7 @@ Grows-then xs ys zs first second = record {
 pub Holds-grows : {T : Type 0} (xs ys : List T) (x : T) (i : ℕ) → Holds xs ys x i → Grows xs ys
 Holds-grows xs ys x i held = record { added = held.added; kept = held.kept }
 
--- If elements are appended, then earlier elements keep their indices.
+-- If elements are appended to a list, then the earlier elements keep their indices.
 pub there_kept :
     {T : Type 0} (xs ys : List T) (i : ℕ) (x : T) → Grows xs ys → slice_get xs i ≡ Some x → slice_get ys i ≡ Some x
 there_kept xs ys i x grown is =

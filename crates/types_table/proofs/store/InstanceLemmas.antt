@@ -106,7 +106,8 @@ module _ (old types : List Ty) (value : List ℕ → Ty) (all : List TypeTreeNod
           ∙ ap (map (instance value)) (sym (types_of-push (take k all) node) ∙ ap types_of (sym (take-more all k node is)));
     }
 
--- The same step if the node's instance was made in an extended store.
+-- If the instance of the next node was made in an extended store, then the instances of one more
+-- node are known.
 module _ (old types : List Ty) (parameters : List (List ℕ)) (arguments : List ℕ) (all : List TypeTreeNode) (k : ℕ) (numbers : List ℕ)
     (so_far : AreInstances old types (argument_at old parameters arguments) all k numbers)
     (among : All (λ i. i < length old) arguments) where
@@ -249,7 +250,8 @@ each_there old types value all numbers same are = record {
   };
 }
 
--- The type with one of the numbers.
+-- If `all` are the types with `numbers`, then the type with the `i`-th number is the `i`-th type of
+-- `all`.
 pub number_there :
     (types all : List Ty) (numbers : List ℕ) (i n : ℕ) → HasNumbers types all numbers → slice_get numbers i ≡ Some n
     → type_at types n ≡ type_at all i
@@ -260,7 +262,7 @@ number_there types all numbers i n has is =
 pub numbers_many : (types all : List Ty) (numbers : List ℕ) → HasNumbers types all numbers → length numbers ≡ length all
 numbers_many types all numbers has = sym (length-map numbers (type_at types)) ∙ ap length has.are
 
--- If types are appended, then numbers keep their types.
+-- If types are appended to a store, then each number keeps its type.
 pub numbers_kept :
     (types new all : List Ty) (numbers : List ℕ) → HasNumbers types all numbers → Grows types new
     → HasNumbers new all numbers

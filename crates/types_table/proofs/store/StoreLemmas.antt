@@ -57,7 +57,7 @@ map_same f g [] same = refl
 map_same f g (x ∷ xs) same =
     ap (λ y. y ∷ map f xs) (same 0 x refl) ∙ ap (λ ys. g x ∷ ys) (map_same f g xs (λ i. same (suc i)))
 
--- The new names extend the old names.
+-- Lemmas on the list `new` of names, which extends the list `names`.
 module _ (names new added : List (List ℕ)) (all : List StoredNode) (kept : new ≡ names ++ added) (store : IsStore names all) where
   encoded_same : map (encoded new) all ≡ map (encoded names) all
   encoded_same =
@@ -75,7 +75,7 @@ module _ (names new added : List (List ℕ)) (all : List StoredNode) (kept : new
     own_nodes = store.own_nodes;
   }
 
--- The added elements: none, or the element itself.
+-- If a list satisfies `Adds`, then the list is `old` followed by zero or one elements.
 pub added_by : {T : Type 0} (old new : List T) (x : T) (i : ℕ) → Adds old new x i → (added : List T) × (new ≡ old ++ added)
 added_by old new x i adds = ⊎_elim
     (λ same. ([], same ∙ sym (append-nil old)))
@@ -140,7 +140,7 @@ module _ (names : List (List ℕ)) (all new : List StoredNode) (node : StoredNod
 
 -- ---- after a call
 
--- A call that adds a name, or fails and adds nothing.
+-- Lemmas on a call that adds a name, or fails and adds nothing.
 module _ {E : Type 0} (names new : List (List ℕ)) (name : List ℕ) (r : Result ℕ E) (ok : IfOk r (Adds names new name)) (err : OnErr r (new ≡ names)) where
   pub names_grown : (added : List (List ℕ)) × (new ≡ names ++ added)
   names_grown = by r ok err where
@@ -160,7 +160,7 @@ module _ {E : Type 0} (names new : List (List ℕ)) (name : List ℕ) (r : Resul
     by (Ok i) adds = get_or_from_slice_get new i name [] adds.there
     by (Err e) none = tt
 
--- A call that adds a node, or fails and adds nothing.
+-- Lemmas on a call that adds a node, or fails and adds nothing.
 module _ {E : Type 0} (names : List (List ℕ)) (all new : List StoredNode) (node : StoredNode) (r : Result ℕ E) (ok : IfOk r (Adds all new node)) (err : OnErr r (new ≡ all))
     (store : IsStore names all) (distinct : AreDistinct new) (known : IsNamedBelow (length names) node)
     (below : IsBelow (length (types_in names all)) (encoded names node)) where
@@ -176,7 +176,7 @@ module _ {E : Type 0} (names : List (List ℕ)) (all new : List StoredNode) (nod
     by (Ok i) adds = holds_node names all new node i store adds distinct known below
     by (Err e) none = tt
 
--- The type with a number is the type of its node.
+-- The type with number `i` in a store is the type of node `i`.
 pub node_at :
     (names : List (List ℕ)) (all : List StoredNode) (i : ℕ) (node : StoredNode) → IsStore names all
     → slice_get all i ≡ Some node

@@ -9,7 +9,7 @@ use Rattle.types_spec.specs.declared.types.ty.TypeTreeNode.{TypeTreeNode}
 use Rattle.types_spec.specs.types.Nodes.{type_at, type_of_node, types_of, type_of, IsBelow, AreOrdered}
 use Rattle.types_spec.proofs.types.NodeLemmas.{types_of-push, types_of-length, type_of-push, node_kept, AreOrdered-push}
 
--- The nodes are ordered, and their types are the first `k` types.
+-- The nodes are ordered, and the types of the nodes are the first `k` types of the store.
 pub record AreFirst (types : List Ty) (k : ℕ) (nodes : List TypeTreeNode) : Type 0 where
   pub ordered : AreOrdered nodes
   pub are : types_of nodes ≡ take k types

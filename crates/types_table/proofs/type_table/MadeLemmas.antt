@@ -30,7 +30,7 @@ module _ (decls : List Decl) (types : List Ty) (table : Table) (made : IsTableOf
         sym (length-map table.nodes (with_parts (slice_get types))) ∙ ap length made.nodes
         ∙ length-map types (λ t. with_parts Some (shape decls t))
 
-    -- Each part of a shape is the number of a type.
+    -- Each part of a shape of the table is the number of a type of the table.
     named_below : (k : ℕ) (s : ShapeOf ℕ) (i : ℕ) → slice_get table.nodes k ≡ Some s
         → Contains (named_in s) i → i < length types
     named_below k s i is among =
@@ -67,7 +67,7 @@ made_is_lawful decls t table well sound is = record {
   closed = closed decls (types_of table) (table_of table) is.made;
   classed = is.made.many ∙ sym (many decls (types_of table) (table_of table) is.made);
 } where
-  -- The table has at least one type, because the type itself has a number.
+  -- The table has at least one type, because the type for which the table was made has a number.
   some_type : 0 < length (types_of table)
   some_type = ⊎_elim
       (λ seen. absurd (Contains-none t seen.0))

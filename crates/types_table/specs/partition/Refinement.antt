@@ -20,7 +20,7 @@ pub record IsReady (waiting : List (Vec ℕ)) (todo : List ℕ) : Type 0 where
   pub has : (d y : ℕ) → Has waiting d y → Contains todo d
   pub within : (d : ℕ) → Contains todo d → d < length waiting
 
--- If an inspected number left the class, then its users are pending.
+-- If an inspected number left the class, then the users of the number are pending.
 abbrev pub MarksUsers : List ℕ → List (Vec ℕ) → ℕ → List ℕ → List (Vec ℕ) → Type 0
 MarksUsers class users left inspected waiting =
     (i u : ℕ) → Contains inspected i → slice_index class i ≢ left → Has users i u
@@ -42,12 +42,12 @@ abbrev pub SignedAt : List HeadForm → (ℕ → ℕ) → List (List ℕ) → �
 SignedAt forms class found i p =
     (s : List ℕ) × (slice_get found p ≡ Some s) × IsSignatureOf forms class i s
 
--- Each number is paired with the index of its signature.
+-- The `k`-th index is the index of the signature of the `k`-th number.
 abbrev pub AreSigned : List HeadForm → (ℕ → ℕ) → List (List ℕ) → List ℕ → List ℕ → Type 0
 AreSigned forms class found = AllZip (SignedAt forms class found)
 
--- Each index has a class with its signature. The kept index has the class that is split. The others
--- have new classes.
+-- Each index of a signature has a class with the signature. The index `kept` has the class
+-- `parted`, which is being split, and each other index has a new class.
 pub record AreNamed (found : List (List ℕ)) (parted kept : ℕ) (numbers : List ℕ)
     (old new : List (Vec ℕ)) : Type 0 where
   pub many : length numbers ≡ length found
@@ -60,7 +60,7 @@ pub record AreNamed (found : List (List ℕ)) (parted kept : ℕ) (numbers : Lis
   pub kept_is : (d : ℕ) → slice_get numbers kept ≡ Some d → d ≡ parted
   pub others : (d : ℕ) (s : List ℕ) → d ≢ parted → SignatureAt old d s → SignatureAt new d s
 
--- The indices below `below` have classes.
+-- The signatures at indices below `below` have classes.
 pub record NamedSoFar (found : List (List ℕ)) (parted kept below : ℕ) (numbers : List ℕ)
     (old new : List (Vec ℕ))
     : Type 0 where
@@ -73,7 +73,7 @@ pub record NamedSoFar (found : List (List ℕ)) (parted kept below : ℕ) (numbe
 
 -- ---- moves
 
--- Some index of number `i`, before position `below`, has class `d`.
+-- Number `i` occurs among the first `below` inspected numbers, with a signature that has class `d`.
 pub record IsPlaced (inspected positions numbers : List ℕ) (below i d : ℕ) : Type 0 where
   pub at : ℕ
   pub position : ℕ
@@ -82,15 +82,15 @@ pub record IsPlaced (inspected positions numbers : List ℕ) (below i d : ℕ) :
   pub placed : slice_get positions at ≡ Some position
   pub named : slice_get numbers position ≡ Some d
 
--- Each of the inspected numbers before position `below` has the class of its index. All other
--- numbers have their old class.
+-- Each of the first `below` inspected numbers has the class of its signature. Every number that is
+-- not among them has its old class.
 abbrev pub AreMoved : List ℕ → List ℕ → List ℕ → ℕ → List ℕ → List ℕ → Type 0
 AreMoved inspected positions numbers below old new =
     (i : ℕ) → IsPlaced inspected positions numbers below i (slice_index new i)
     ⊎ (((k : ℕ) → k < below → slice_get inspected k ≢ Some i)
     × (slice_index new i ≡ slice_index old i))
 
--- The inspected numbers that left the class are members of their new classes.
+-- If an inspected number left the class, then the number is a member of its new class.
 abbrev pub HasMembers : List ℕ → ℕ → List ℕ → List (Vec ℕ) → Type 0
 HasMembers class left inspected members =
     (i : ℕ) → Contains inspected i → slice_index class i ≢ left
@@ -98,8 +98,8 @@ HasMembers class left inspected members =
 
 -- ---- inspected numbers
 
--- Inspected numbers of the class with the indices of their signatures. The members that are not
--- inspected have the kept signature.
+-- Inspected members of the class `wanted`, with the indices of their signatures. A member that is
+-- not inspected has the kept signature.
 pub record IsInspection (forms : List HeadForm) (class : List ℕ) (wanted : ℕ)
     (inspect : Inspection) : Type 0 where
   pub is : (i : ℕ) → Contains inspect.inspected.items i
@@ -115,7 +115,7 @@ pub record IsInspection (forms : List HeadForm) (class : List ℕ) (wanted : ℕ
 
 -- ---- the state of the refinement
 
--- The invariant between turns. Each number is pending or has the signature of its class.
+-- The invariant between turns: each number is pending or has the signature of its class.
 pub record IsUnderWay (forms : List HeadForm) (class : List ℕ)
     (signatures members waiting : List (Vec ℕ))
     (todo : List ℕ)
@@ -131,8 +131,9 @@ pub record IsUnderWay (forms : List HeadForm) (class : List ℕ)
       × IsSignatureOf forms (slice_index class) i s)
   pub ready : IsReady waiting todo
 
--- The same invariant, except for the members of the class that is being split. They were pending or
--- have the signature of the class.
+-- The invariant while the class `parted` is split. A number of another class is pending or has the
+-- signature of its class. A member of `parted` was pending (in `waited`) or has the signature of
+-- the class.
 pub record IsOpen (forms : List HeadForm) (class : List ℕ)
     (signatures members waiting : List (Vec ℕ))
     (todo waited : List ℕ)
@@ -154,7 +155,7 @@ pub record IsOpen (forms : List HeadForm) (class : List ℕ)
       × IsSignatureOf forms (slice_index class) i s)
   pub ready : IsReady waiting todo
 
--- No two equal numbers are separated.
+-- If two equal numbers had the same class before, then they have the same class after.
 abbrev pub PartsNoEqual : List HeadForm → List ℕ → List ℕ → Type 0
 PartsNoEqual forms old new =
     (all : List (HeadOf ℕ)) → AreForms all forms → PartsBelow (length all) (head_at all)

@@ -6,18 +6,18 @@ use Rattle.types_table.specs.declared.partition.head_form.TagForm.{TagForm}
 use Rattle.types_table.specs.declared.partition.head_form.HeadForm.{HeadForm}
 use Rattle.types_table.specs.declared.partition.signature.TheConstants.{WIDTH}
 
--- `set` contains exactly the numbers of the first list, in strictly increasing order.
+-- `set` contains exactly the elements of `numbers`, in strictly increasing order.
 pub record IsSetOf (numbers set : List ℕ) : Type 0 where
   pub increasing : IsStrictlyIncreasing set
   pub there : (x : ℕ) → Contains numbers x → Contains set x
   pub back : (x : ℕ) → Contains set x → Contains numbers x
 
--- 0 for no argument; otherwise the argument's class plus 1.
+-- For a tag without an argument, 0. For a tag with an argument, the argument's class plus 1.
 abbrev pub offset : (ℕ → ℕ) → Option ℕ → ℕ
 offset class None = 0
 offset class (Some argument) = class argument + 1
 
--- The code of a tag: a number for its name and the class of its argument.
+-- The code of a tag: one number for the tag's name and the class of the tag's argument.
 pub record IsCode (class : ℕ → ℕ) (tag : TagForm) (code : ℕ) : Type 0 where
   pub below : offset class tag.argument < WIDTH
   pub is : code ≡ tag.name * WIDTH + offset class tag.argument
@@ -25,7 +25,8 @@ pub record IsCode (class : ℕ → ℕ) (tag : TagForm) (code : ℕ) : Type 0 wh
 abbrev pub AreCodes : (ℕ → ℕ) → List TagForm → List ℕ → Type 0
 AreCodes class = AllZip (IsCode class)
 
--- The signature: the label, the classes of the parts, and the set of the codes of the tags.
+-- The signature of a form: the label, the classes of the parts, and the set of the codes of the
+-- tags.
 pub record IsSignature (class : ℕ → ℕ) (form : HeadForm) (signature : List ℕ) : Type 0 where
   pub codes : List ℕ
   pub are : AreCodes class form.tags codes

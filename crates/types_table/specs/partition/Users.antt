@@ -11,7 +11,7 @@ use Rattle.types_table.specs.partition.Lists.{Has}
 abbrev pub parts_in : HeadForm → List ℕ
 parts_in form = form.parts ++ flat_map (λ (tag : TagForm). listed_if tag.argument) form.tags
 
--- The users of each number include all numbers whose heads have it as a part.
+-- The users of a number include all numbers whose heads have the number as a part.
 pub record AreUsers (forms : List HeadForm) (users : List (Vec ℕ)) : Type 0 where
   pub many : length users ≡ length forms
   pub has :

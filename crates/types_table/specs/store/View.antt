@@ -22,7 +22,7 @@ encoded names (nodes.Tag whole n) = written.Tag whole (name_at names n)
 encoded names (nodes.TagOf whole n argument) = written.TagOf whole (name_at names n) argument
 encoded names (nodes.Including whole included) = written.Including whole included
 
--- The type of each node.
+-- The types of the nodes of a store, in order.
 abbrev pub types_in : List (List ℕ) → List StoredNode → List Ty
 types_in names all = types_of (map (encoded names) all)
 
@@ -34,8 +34,8 @@ IsNamedBelow n (nodes.Tag whole m) = m < n
 IsNamedBelow n (nodes.TagOf whole m argument) = m < n
 IsNamedBelow n node = Unit {0}
 
--- The invariant of a store: each node refers only to earlier nodes and to known names, and neither
--- names nor nodes occur twice.
+-- The invariant of a store. A node refers only to earlier nodes and to known names. No name and no
+-- node occurs twice.
 pub record IsStore (names : List (List ℕ)) (all : List StoredNode) : Type 0 where
   pub ordered : AreOrdered (map (encoded names) all)
   pub named : (i : ℕ) (node : StoredNode) → slice_get all i ≡ Some node

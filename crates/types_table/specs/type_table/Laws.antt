@@ -7,7 +7,7 @@ use Rattle.types_table.specs.declared.type_table.tabled.Tabled.{Tabled}
 use Rattle.types_table.specs.type_table.Made.{table_of, IsTypeTable, IsLawful}
 
 -- The table of a sound type over well-formed declarations is lawful: values can be checked against
--- it.
+-- the table.
 abbrev pub MadeAreLawful : Type 0
 MadeAreLawful =
     (decls : List Decl) (t : Ty) (table : Tabled) → AreWellFormed decls → IsSoundType decls t

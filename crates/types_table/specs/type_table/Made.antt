@@ -9,16 +9,16 @@ use Rattle.types_spec.specs.types.Reached.{IsReached, named_in}
 use Rattle.types_spec.specs.types.Table.{Table, table_shapes, IsTableOf}
 use Rattle.types_table.specs.declared.type_table.tabled.Tabled.{Tabled}
 
--- The types, in the order of their numbers.
+-- The types of a table, in the order of their numbers.
 abbrev pub types_of : Tabled → List Ty
 types_of t = map (type_at t.store) t.stored
 
--- The shapes and the classes.
+-- The shapes and the classes of a table.
 abbrev pub table_of : Tabled → Table
 table_of t = record { nodes = t.nodes; classes = t.classes }
 
--- `table` is the table of the types that `t` reaches over the declarations. There are at most
--- 65,536.
+-- `table` is the table of the types that `t` reaches over the declarations. A table has at most
+-- 65,536 types.
 pub record IsTypeTable (decls : List Decl) (t : Ty) (table : Tabled) : Type 0 where
   pub within : All (λ i. i < length table.store) table.stored
   pub reached : IsReached decls t (types_of table)
@@ -34,8 +34,8 @@ pub record IsLawful (table : Table) : Type 0 where
   pub closed : All (λ node. All (λ i. i < length table.nodes) (named_in node)) table.nodes
   pub classed : length table.classes ≡ length table.nodes
 
--- The invariant of each `TypeTable`: values can be checked against it, and each type has names and
--- a number of the store.
+-- The invariant of each `TypeTable`: values can be checked against the table, and each type has
+-- names and a number of the store.
 pub record IsCheckable (table : Tabled) : Type 0 where
   pub lawful : IsLawful (table_of table)
   pub named : length table.names ≡ length table.nodes

@@ -24,12 +24,13 @@ stem t = (chunks_of t).stem
 abbrev pub is_tuple : Ty → Bool
 is_tuple t = is_product (stem t)
 
--- The text in parentheses if both flags are set.
+-- The text of a type, in parentheses if `asked` and `is_tuple` are true.
 abbrev pub in_parentheses : Bool → Bool → List ℕ → List ℕ
 in_parentheses true true text = codes "(" ++ text ++ codes ")"
 in_parentheses asked is_tuple text = text
 
--- The text of a type's last part. If the flag is set, a tuple is written in parentheses.
+-- The text of a type's last part. If `asked` is true and the part is a tuple, the part is written
+-- in parentheses.
 abbrev pub added_text : Bool → Ty → List ℕ
 added_text asked (part whole added) = in_parentheses asked (is_tuple added) (type_text added)
 added_text asked (tag whole name) = codes "`" ++ name
@@ -39,7 +40,7 @@ added_text asked (including whole included) =
     in_parentheses asked (is_tuple included) (type_text included)
 added_text asked t = []
 
--- The texts of the parts with `between` between any two of them and `end` after the last one.
+-- The texts of a type's parts, with `between` between any two parts and `end` after the last part.
 abbrev pub parts_text : Bool → List ℕ → List ℕ → Ty → List ℕ
 parts_text asked between end (part whole added) =
     parts_text asked between between whole ++ added_text asked (part whole added) ++ end
@@ -69,17 +70,18 @@ abbrev pub text_of_waiting : List Ty → Waiting → List ℕ
 text_of_waiting types (waiting.Text bytes) = bytes.now
 text_of_waiting types (waiting.Added number asked) = added_text asked (type_at types number)
 
--- The text of all waiting items. The last item of the list is written first.
+-- The text of all waiting items. The last item of the list comes first in the text.
 abbrev pub waiting_text : List Ty → List Waiting → List ℕ
 waiting_text types [] = []
 waiting_text types (next ∷ later) = waiting_text types later ++ text_of_waiting types next
 
--- The item refers to a type of the list.
+-- The item is bytes, or refers to a number of `types`.
 abbrev pub IsWithin : List Ty → Waiting → Type 0
 IsWithin types (waiting.Text bytes) = Unit {0}
 IsWithin types (waiting.Added number asked) = number < length types
 
--- The text written and the texts that wait have grown by `text`, which precedes what waited before.
+-- The written text followed by the text of all waiting items has grown: `text` was inserted before
+-- the text of the items that were waiting before.
 abbrev pub IsWritten : List Ty → List ℕ → List ℕ → List Waiting → List Waiting → List ℕ → Type 0
 IsWritten types old new old_waiting new_waiting text =
     new ++ waiting_text types new_waiting ≡ old ++ text ++ waiting_text types old_waiting

@@ -14,8 +14,8 @@ use base_data::model::Memory;
 use std::alloc::Global;
 use types_spec::types::head::HeadOf;
 
-/// Returns the class of each number, so that two numbers have the same class if and only if they
-/// are equal. `all` holds the head of each number; the parts of a head are numbers too.
+/// Returns the class of each number. Two numbers have the same class if and only if they are equal.
+/// `all` holds the head of each number, and the parts of a head are numbers.
 pub fn classes(alloc: Global, all: &[HeadOf<usize>]) -> Result<Vec<usize>, Memory>
     requires { PartsBelow (length all.now) (head_at all.now) }
     ensures { IfOk result (λ found. AreClasses all.now found.items) }
@@ -32,8 +32,8 @@ fn parted(alloc: Global, forms: &[HeadForm], users: &[Vec<usize>]) -> Result<Vec
     ensures { IfOk result (λ class. IsParted forms.now class.items) }
 {
     let mut refinement = start(alloc, forms)?;
-    // Each turn removes a class from `todo` or creates a class, so the loop ends long before this
-    // bound.
+    // A turn removes a class from `todo` or creates a class, and therefore the loop ends long
+    // before `u64::MAX` turns.
     for _turn in 0..u64::MAX {
         match refinement.todo.pop() {
             Some(class) => turn(alloc, forms, users, &mut refinement, class)?,
@@ -43,7 +43,7 @@ fn parted(alloc: Global, forms: &[HeadForm], users: &[Vec<usize>]) -> Result<Vec
     Err(Memory)
 }
 
-/// Returns the class of each number.
+/// Returns the class of each number at the end of a refinement.
 fn class_of(refinement: Refinement) -> Vec<usize>
     ensures { result ≡ refinement.class }
 {
@@ -105,7 +105,7 @@ fn numbers_below(alloc: Global, many: usize) -> Result<Vec<usize>, Memory>
     Ok(found)
 }
 
-/// Returns a vector with this list as its only element.
+/// Returns a vector with `list` as its only element.
 fn alone(alloc: Global, list: Vec<usize>) -> Result<Vec<Vec<usize>>, Memory>
     ensures { IfOk result (λ v. v.items ≡ list ∷ []) }
 {

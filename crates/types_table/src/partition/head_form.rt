@@ -2,7 +2,7 @@
 
 ghost use Rattle.std.specs.Prelude.{◌≡◌, [], IfOk, OnOk};
 ghost use Rattle.types_table.specs.store.Held.{AreDistinct, Grows};
-ghost use Rattle.types_table.specs.partition.Form.{IsForm, AreForms, AreTagForms, code_of};
+ghost use Rattle.types_table.specs.partition.Form.{IsForm, AreForms, AreTagForms, code_of, row_of};
 
 use crate::store::NameSet;
 use base_data::model::Memory;
@@ -39,7 +39,7 @@ pub fn forms_of(alloc: Global, all: &[HeadOf<usize>]) -> Result<List<HeadForm>, 
     Ok(forms)
 }
 
-/// Returns the form of a head, and adds its names to `names`.
+/// Returns the form of a head, and adds the names in the head to `names`.
 fn form_of(alloc: Global, names: &mut NameSet, head: &HeadOf<usize>) -> Result<HeadForm, Memory>
     requires { AreDistinct names.old }
     ensures form { IfOk result (IsForm names.new head.now) }
@@ -53,7 +53,7 @@ fn form_of(alloc: Global, names: &mut NameSet, head: &HeadOf<usize>) -> Result<H
         }
         HeadOf::Predeclared(base, parts) => formed(
             alloc,
-            &[1, code_of(*base)],
+            &[1, code_of(*base), row_of(*base)],
             parts.as_slice(),
             Vec::new(alloc),
         ),
@@ -90,7 +90,7 @@ fn formed(
     })
 }
 
-/// Returns the forms of tags, and adds their names to `names`.
+/// Returns the forms of tags, and adds the names of the tags to `names`.
 fn tag_forms(
     alloc: Global,
     names: &mut NameSet,
@@ -110,7 +110,8 @@ fn tag_forms(
     Ok(forms)
 }
 
-/// Returns a distinct number for each predeclared type.
+/// Returns the number of the kind of a predeclared type. Each type with a representation of its own
+/// has a number of its own. All variants have one number.
 fn code_of(base: Predeclared) -> usize
     ensures { result ≡ code_of base }
 {
@@ -126,10 +127,18 @@ fn code_of(base: Predeclared) -> usize
         Predeclared::Int64 => 8,
         Predeclared::Nativeint => 9,
         Predeclared::Floatarray => 10,
-        Predeclared::List => 11,
-        Predeclared::Option => 12,
-        Predeclared::Array => 13,
-        Predeclared::Ref => 14,
-        Predeclared::Any => 15,
+        Predeclared::Array => 11,
+        Predeclared::Any => 12,
+        Predeclared::Sum(_) => 13,
+    }
+}
+
+/// Returns the row of a predeclared variant, or 0 for a predeclared type that is no variant.
+fn row_of(base: Predeclared) -> usize
+    ensures { result ≡ row_of base }
+{
+    match base {
+        Predeclared::Sum(row) => row,
+        _ => 0,
     }
 }

@@ -22,8 +22,8 @@ pub struct Inspection {
     pub kept: usize,
 }
 
-/// Inspects only the pending members. The other members have the signature of the class, which
-/// keeps the class number.
+/// Inspects only the pending members of a class. The signature of the class keeps the class number,
+/// and members that are not pending have the signature of the class.
 pub fn inspect_at_few(
     alloc: Global,
     forms: &[HeadForm],
@@ -53,7 +53,7 @@ pub fn inspect_at_few(
     })
 }
 
-/// Inspects all members. The most frequent signature keeps the class number.
+/// Inspects all members of a class. The most frequent signature keeps the class number.
 pub fn inspect_at_all(
     alloc: Global,
     forms: &[HeadForm],
@@ -80,7 +80,8 @@ pub fn inspect_at_all(
     })
 }
 
-/// Returns the most frequent index. If there is none, adds a signature.
+/// Returns the most frequent index of a signature. If the set of signatures is empty, adds a
+/// signature.
 fn kept_position(
     alloc: Global,
     signatures: &[Vec<usize>],
@@ -103,7 +104,7 @@ fn kept_position(
     Ok(added)
 }
 
-/// Returns the most frequent index.
+/// Returns the index below `many` that occurs most often in `positions`.
 fn commonest(alloc: Global, positions: &[usize], many: usize) -> Result<usize, Memory> {
     let mut counts = Vec::new(alloc);
     for _position in 0..many {

@@ -27,7 +27,8 @@ pub fn taken(alloc: Global, lists: &mut Vec<Vec<usize>>, at: usize) -> Vec<usize
     mem::replace(&mut lists[at], Vec::new(alloc))
 }
 
-/// Keeps, in the list of class `wanted`, only the numbers that have this class, each once.
+/// Keeps, in the list of class `wanted`, only the numbers that have class `wanted`, each number
+/// once.
 pub fn shorten(
     alloc: Global,
     lists: &mut Vec<Vec<usize>>,
@@ -53,7 +54,7 @@ pub fn make_rooms(alloc: Global, lists: &mut Vec<Vec<usize>>, many: usize) -> Re
     Ok(())
 }
 
-/// Returns the numbers of a list that have class `wanted`, in increasing order, each once.
+/// Returns the numbers of a list that have class `wanted`, in increasing order and without repeats.
 pub fn of_class(
     alloc: Global,
     numbers: &[usize],

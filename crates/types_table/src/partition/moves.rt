@@ -15,7 +15,7 @@ use crate::partition::signatures::Signatures;
 use base_data::model::Memory;
 use std::alloc::Global;
 
-/// Returns the index of each member's signature, and adds the signatures to `found`.
+/// Returns the index of the signature of each inspected number, and adds the signatures to `found`.
 pub fn positions_of(
     alloc: Global,
     forms: &[HeadForm],

@@ -22,10 +22,10 @@ pub struct Refinement {
     pub class: Vec<usize>,
     /// For each class, the signature of the members that are not pending.
     pub signatures: Vec<Vec<usize>>,
-    /// For each class, a list that contains its members. It may also contain numbers that have left
-    /// the class since all members were last inspected.
+    /// For each class, a list that contains all members of the class. The list of a class may also
+    /// contain numbers that left the class after all members were last inspected.
     pub members: Vec<Vec<usize>>,
-    /// For each class, the members that are pending: they must be inspected.
+    /// For each class, the pending members, which must be inspected.
     pub waiting: Vec<Vec<usize>>,
     /// For each class, the number of its members.
     pub counts: Vec<usize>,
@@ -33,8 +33,8 @@ pub struct Refinement {
     pub todo: Vec<usize>,
 }
 
-/// Splits a class by the signatures of its pending members. The work is one step for each pending
-/// member, or at most two, and one for each part of their heads.
+/// Splits a class by the signatures of its pending members. Takes at most two steps for each
+/// pending member, and one step for each part of the heads of these members.
 pub fn turn(
     alloc: Global,
     forms: &[HeadForm],
@@ -56,9 +56,9 @@ pub fn turn(
     Ok(())
 }
 
-/// If all members of a class will be inspected, removes those that left it from its list. So the
-/// work is one step for each member that stays or that left since the last time. A class that
-/// shrinks slowly is not scanned completely every time.
+/// If all members of a class will be inspected, removes the numbers that left the class from its
+/// list. Takes one step for each member, and one for each number that left after the last
+/// inspection of all members. A class that shrinks slowly is not scanned completely in every turn.
 fn shorten_members(
     alloc: Global,
     refinement: &mut Refinement,
@@ -86,12 +86,12 @@ fn shorten_members(
     Ok(())
 }
 
-/// Returns true if the pending members are fewer than half of all members.
+/// Returns true if fewer than half of the members of a class are pending.
 fn waits_few(refinement: &Refinement, waited: &[usize], parted: usize) -> bool {
     waited.len() < count_of(refinement.counts.as_slice(), parted) / 2
 }
 
-/// Splits a class.
+/// Splits a class by the signatures of its inspected members.
 fn part(
     alloc: Global,
     forms: &[HeadForm],
@@ -139,8 +139,8 @@ fn part(
     Ok(())
 }
 
-/// Inspects only the pending members if they are fewer than half of all members; otherwise inspects
-/// all members. In the first case the other members are the majority.
+/// If fewer than half of the members of a class are pending, inspects only the pending members. If
+/// at least half of the members are pending, inspects all members.
 fn inspect_at(
     alloc: Global,
     forms: &[HeadForm],
@@ -170,7 +170,7 @@ fn count_of(counts: &[usize], class: usize) -> usize {
     }
 }
 
-/// Updates the member counts after a split.
+/// Updates the member counts of all classes after a class was split.
 fn count_moves(
     counts: &mut Vec<usize>,
     class: &[usize],

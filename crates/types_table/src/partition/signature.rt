@@ -11,7 +11,7 @@ use std::alloc::Global;
 /// A number above every class that can be distinguished.
 const WIDTH: usize = 4_294_967_296;
 
-/// Returns the class of a number, or 0 if it has none.
+/// Returns the class of a number, or 0 if the number has no class.
 pub fn class_at(class: &[usize], number: usize) -> usize
     ensures { result ≡ slice_index class.now number }
 {

@@ -58,7 +58,7 @@ fn use_argument(
     }
 }
 
-/// Adds `user` to the users of a part, if such a number exists.
+/// If the number `part` exists, adds `user` to the users of `part`.
 fn use_part(users: &mut Vec<Vec<usize>>, part: usize, user: usize) -> Result<(), Memory>
     ensures keeps { OnOk result (Keeps users.old.items users.new.items) }
     ensures added { OnOk result (part < length users.old.items → Has users.new.items part user) }

@@ -8,7 +8,7 @@ use crate::partition::lists::write;
 use crate::partition::signature::class_at;
 use base_data::model::Memory;
 
-/// Marks the users of all numbers that left the class as pending.
+/// Marks as pending the users of all inspected numbers that left the class.
 pub fn mark_users(
     waiting: &mut Vec<Vec<usize>>,
     todo: &mut Vec<usize>,
@@ -30,7 +30,7 @@ pub fn mark_users(
     Ok(())
 }
 
-/// Marks the users of a number as pending, if the number left the class.
+/// If a number left the class, marks the users of the number as pending.
 fn mark_users_of(
     waiting: &mut Vec<Vec<usize>>,
     todo: &mut Vec<usize>,

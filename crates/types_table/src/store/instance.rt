@@ -16,9 +16,10 @@ use types_spec::types::ty::{Ty, TypeTreeNode};
 
 impl TypeStore {
     /// Returns the number of the instance of `t` in which each parameter is replaced by its
-    /// argument, and adds it if needed. Variables that are not parameters stay as they are. Takes
-    /// one step for each node of the type, and for each variable one step for each parameter before
-    /// its own. On `Memory` the store is unchanged.
+    /// argument. If the store does not contain the instance, adds the instance. Variables that are
+    /// not parameters stay as they are. Takes one step for each node of the type, and for each
+    /// variable one step for each parameter before the variable's parameter. If `Memory` is
+    /// returned, the store is unchanged.
     pub fn instance(
         &mut self,
         alloc: Global,
@@ -42,8 +43,8 @@ impl TypeStore {
         }
     }
 
-    /// Returns the number of the type of each node, and adds the types that are missing. On
-    /// `Memory` the store is unchanged.
+    /// Returns the number of the type of each node, and adds the types that are missing. If
+    /// `Memory` is returned, the store is unchanged.
     pub fn add_nodes(&mut self, alloc: Global, nodes: &[TypeTreeNode]) -> Result<Vec<usize>, Memory>
         requires { AreOrdered nodes.now }
         ensures ok { IfOk result
@@ -60,8 +61,8 @@ impl TypeStore {
         }
     }
 
-    /// Returns the number of the type `t`, and adds it if it is missing. On `Memory` the store is
-    /// unchanged.
+    /// Returns the number of the type `t`, and adds the type if it is missing. If `Memory` is
+    /// returned, the store is unchanged.
     pub fn add(&mut self, alloc: Global, t: &Ty) -> Result<usize, Memory>
         ensures ok { IfOk result (Holds self.old self.new t.now) }
         ensures err { OnErr result (self.new ≡ self.old) }
@@ -72,7 +73,7 @@ impl TypeStore {
 
 ghost use Rattle.types_spec.specs.types.Nodes.{type_of};
 
-/// Adds the instances of these nodes. Returns the number of the last one.
+/// Adds the instances of nodes. Returns the number of the last node's instance.
 fn grow(
     types: &mut TypeStore,
     alloc: Global,
@@ -96,7 +97,7 @@ fn grow(
     }
 }
 
-/// Adds the instances of these nodes. Returns their numbers.
+/// Adds the instances of nodes. Returns the numbers of the instances.
 fn numbers_of(
     types: &mut TypeStore,
     alloc: Global,
@@ -120,7 +121,7 @@ fn numbers_of(
     Ok(numbers)
 }
 
-/// Adds the instance of one node. Its parts are the instances of earlier nodes.
+/// Adds the instance of one node. The parts of the instance are the instances of earlier nodes.
 fn add_node(
     types: &mut TypeStore,
     node: &TypeTreeNode,
@@ -156,7 +157,8 @@ fn add_node(
     }
 }
 
-/// Returns the argument of the first parameter with this name, or `None` if no parameter has it.
+/// Returns the argument of the first parameter named `name`, or `None` if no parameter has the
+/// name.
 fn argument(parameters: &[List<u8>], arguments: &[usize], name: &[u8]) -> Option<usize>
     ensures stands { (types : List Ty)
         → argument_at types parameters.now arguments.now name.now

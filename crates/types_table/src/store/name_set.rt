@@ -8,8 +8,8 @@ use indexmap::IndexSet;
 use std::alloc::Global;
 use std::marker::Model;
 
-/// A set of names in which each name occurs once. Contracts see the list of the names in insertion
-/// order.
+/// A set of names in which each name occurs once. Contracts see a set of names as the list of the
+/// names in insertion order.
 #[derive(Drop)]
 pub struct NameSet {
     texts: IndexSet<Vec<u8>>,
@@ -40,8 +40,8 @@ impl NameSet {
         }
     }
 
-    /// Returns the number of a name, and adds the name if it is missing. On `Memory` the set is
-    /// unchanged.
+    /// Returns the number of a name, and adds the name if it is missing. If `Memory` is returned,
+    /// the set is unchanged.
     pub fn number(&mut self, name: &[u8]) -> Result<usize, Memory>
         ensures ok { IfOk result (Adds self.old self.new name.now) }
         ensures err { OnErr result (self.new ≡ self.old) }

@@ -7,7 +7,7 @@ ghost use Rattle.types_table.specs.store.Borrowed.{written_of};
 use crate::store::stored_node::TypeNode;
 use crate::store::type_store::TypeStore;
 use base_data::model::Memory;
-use base_data::model::list::List;
+use base_data::text::copied;
 use std::alloc::Global;
 use types_spec::types::ty::{Ty, TypeTreeNode};
 
@@ -34,22 +34,15 @@ fn written(alloc: Global, node: TypeNode<'_>) -> Result<TypeTreeNode, Memory>
     ensures { IfOk result (λ n. n ≡ written_of node.entry) }
 {
     match node {
-        TypeNode::Variable(name) => Ok(TypeTreeNode::Variable(text(alloc, name)?)),
-        TypeNode::Named(name) => Ok(TypeTreeNode::Named(text(alloc, name)?)),
+        TypeNode::Variable(name) => Ok(TypeTreeNode::Variable(copied(alloc, name)?)),
+        TypeNode::Named(name) => Ok(TypeTreeNode::Named(copied(alloc, name)?)),
         TypeNode::Tuple => Ok(TypeTreeNode::Tuple),
         TypeNode::Bracket => Ok(TypeTreeNode::Bracket),
         TypeNode::Part(whole, added) => Ok(TypeTreeNode::Part(whole, added)),
-        TypeNode::Tag(whole, name) => Ok(TypeTreeNode::Tag(whole, text(alloc, name)?)),
+        TypeNode::Tag(whole, name) => Ok(TypeTreeNode::Tag(whole, copied(alloc, name)?)),
         TypeNode::TagOf(whole, name, argument) => {
-            Ok(TypeTreeNode::TagOf(whole, text(alloc, name)?, argument))
+            Ok(TypeTreeNode::TagOf(whole, copied(alloc, name)?, argument))
         }
         TypeNode::Including(whole, included) => Ok(TypeTreeNode::Including(whole, included)),
     }
-}
-
-/// Returns a copy of the bytes.
-fn text(alloc: Global, bytes: &[u8]) -> Result<List<u8>, Memory>
-    ensures { IfOk result (λ l. l ≡ bytes.now) }
-{
-    Ok(List::of(Vec::from_slice(alloc, bytes)?))
 }

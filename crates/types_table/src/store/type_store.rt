@@ -14,8 +14,9 @@ use indexmap::IndexSet;
 use std::alloc::Global;
 use std::marker::Model;
 
-/// A set of types in which each type occurs once. Contracts see the list of the types as trees:
-/// number `i` is the `i`-th type. If a call fails with `Memory`, that list is unchanged.
+/// A set of types in which each type occurs once. Contracts see a store as the list of its types as
+/// trees, and number `i` is the `i`-th type. If a call fails with `Memory`, the list of types is
+/// unchanged.
 #[derive(Drop)]
 pub struct TypeStore {
     names: NameSet,
@@ -176,8 +177,8 @@ impl TypeStore {
 
 ghost use Rattle.types_table.specs.store.View.{types_in, encoded, name_at, IsNamedBelow, IsStore};
 
-/// Returns the number of a name, and adds the name if it is missing. The types of the nodes stay
-/// the same.
+/// Returns the number of a name, and adds the name if it is missing. The types of the nodes are
+/// unchanged.
 fn known(names: &mut NameSet, nodes: &IndexSet<StoredNode>, name: &[u8]) -> Result<usize, Memory>
     requires { IsStore names.old nodes.now.keys }
     ensures store { IsStore names.new nodes.now.keys }

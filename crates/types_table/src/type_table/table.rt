@@ -13,7 +13,8 @@ use std::marker::Model;
 use types_spec::types::names::Names;
 use types_spec::types::shape::ShapeOf;
 
-/// A table of types against which values can be checked. Contracts see its contents, a `Tabled`.
+/// A table of types against which values can be checked. Contracts see a table as its contents, a
+/// `Tabled`.
 #[derive(Drop)]
 pub struct TypeTable {
     of: Tabled,
@@ -38,7 +39,7 @@ impl Model for TypeTable {
 impl TypeTable {
     ghost use Rattle.types_table.specs.type_table.Made.{types_of, IsCheckable};
 
-    /// Makes a table of these contents, which must be checkable.
+    /// Makes a table from contents, which must be checkable.
     pub fn new(of: Tabled) -> TypeTable
         requires { IsCheckable of }
         ensures { result ≡ of }
@@ -46,7 +47,8 @@ impl TypeTable {
         TypeTable { of }
     }
 
-    /// States the invariant of the table. This is a lemma function.
+    /// States the invariant of the table: values can be checked against the table. `holds` is a
+    /// lemma function.
     #[inline(always)]
     pub fn holds(&self)
         ensures { IsCheckable self.now }
@@ -54,7 +56,7 @@ impl TypeTable {
         let _ = &self.of;
     }
 
-    /// Returns the number of the type for which the table was made. It is always 0.
+    /// Returns the number of the type for which the table was made, which is always 0.
     pub fn root(&self) -> usize
         ensures { result ≡ 0 }
     {

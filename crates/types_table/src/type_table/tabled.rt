@@ -13,7 +13,7 @@ pub struct Tabled {
     pub store: TypeStore,
     /// The number of each type in the store.
     pub stored: List<usize>,
-    /// The shape of each type. Its parts are numbers of this table.
+    /// The shape of each type. The parts of a shape are numbers of the table.
     pub nodes: List<ShapeOf<usize>>,
     /// The class of each type: two types have the same class if and only if they are equal.
     pub classes: List<usize>,

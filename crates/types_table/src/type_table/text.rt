@@ -11,6 +11,7 @@ use crate::store::{TypeNode, TypeStore};
 use crate::type_table::waiting::{Waiting, before_part, push_parts, stem_of, wait};
 use base_data::model::Memory;
 use base_data::model::list::List;
+use base_data::text::write;
 use std::alloc::Global;
 
 /// Returns the text of a type of a store.
@@ -21,7 +22,7 @@ pub(crate) fn text_in(alloc: Global, types: &TypeStore, number: usize) -> Result
     let mut text = Vec::new(alloc);
     let mut waiting = Vec::new(alloc);
     write_type(&mut text, &mut waiting, types, number)?;
-    // Each turn appends a part of the text, so the loop ends long before this bound.
+    // A turn appends a part of the text, and therefore the loop ends long before `u64::MAX` turns.
     for _turn in 0..u64::MAX {
         match waiting.pop() {
             Some(next) => write_next(&mut text, &mut waiting, types, next)?,
@@ -31,7 +32,8 @@ pub(crate) fn text_in(alloc: Global, types: &TypeStore, number: usize) -> Result
     Err(Memory)
 }
 
-/// Appends the next waiting item.
+/// Appends the text of one waiting item, and pushes the parts of the item that must still be
+/// written.
 fn write_next<'a>(
     text: &mut Vec<u8>,
     waiting: &mut Vec<Waiting<'a>>,
@@ -115,7 +117,7 @@ fn is_tuple(types: &TypeStore, number: usize) -> bool
     }
 }
 
-/// Appends the beginning of a type, and pushes the rest on the stack.
+/// Appends the beginning of a type, and pushes the remaining parts of the type on the stack.
 fn write_type<'a>(
     text: &mut Vec<u8>,
     waiting: &mut Vec<Waiting<'a>>,
@@ -149,7 +151,7 @@ fn write_type<'a>(
     }
 }
 
-/// Appends the beginning of the arguments of a name, and pushes the other arguments on the stack.
+/// Appends the beginning of a name's arguments, and pushes the remaining arguments on the stack.
 fn write_arguments<'a>(
     text: &mut Vec<u8>,
     waiting: &mut Vec<Waiting<'a>>,
@@ -182,11 +184,4 @@ fn write_tag(text: &mut Vec<u8>, name: &[u8]) -> Result<(), Memory>
 {
     write(text, b"`")?;
     write(text, name)
-}
-
-/// Appends bytes.
-fn write(text: &mut Vec<u8>, bytes: &[u8]) -> Result<(), Memory>
-    ensures { OnOk result (text.new.items ≡ text.old.items ++ bytes.now) }
-{
-    Ok(text.extend_from_slice(bytes)?)
 }

@@ -10,15 +10,15 @@ ghost use Rattle.types_table.specs.type_table.Texts.{waiting_text, IsWithin};
 use crate::store::{TypeNode, TypeStore};
 use base_data::model::Memory;
 
-/// A waiting item: bytes, or the last part of the type with this number. If the flag is set, a
-/// tuple is written in parentheses.
+/// A waiting item: bytes, or the last part of the type with a number. If the flag of a part is set
+/// and the part is a tuple, the part is written in parentheses.
 #[derive(Clone, Copy)]
 pub(crate) enum Waiting<'a> {
     Text(&'a [u8]),
     Added(usize, bool),
 }
 
-/// Pushes an item. It is written before all items that wait already.
+/// Pushes an item, which is written before all items that were waiting already.
 pub(crate) fn wait<'a>(waiting: &mut Vec<Waiting<'a>>, next: Waiting<'a>) -> Result<(), Memory>
     ensures within { OnOk result
         ((types : List Ty) → IsWithin types next.entry → All (IsWithin types) waiting.old.items
@@ -73,7 +73,7 @@ pub(crate) fn stem_of(types: &TypeStore, number: usize) -> usize
     at
 }
 
-/// Returns the number of the type without its last part, or `None` if it has no parts.
+/// Returns the number of the type without its last part, or `None` if the type has no parts.
 pub(crate) fn before_part(types: &TypeStore, number: usize) -> Option<usize>
     requires { number < length types.now }
     ensures is { option_map (type_at types.now) result ≡ whole_of (type_at types.now number) }

@@ -9,7 +9,7 @@ use Rattle.types_spec.specs.types.Reached.{parts_of, listed_if}
 use Rattle.base_data.proofs.model.Options.{Contains-first, Contains-later, Contains-flat_map}
 
 module _ {T : Type 0} (P Q : T → T → Type 0) where
-  -- `P` implies `Q` for the types of these lists.
+  -- `P` implies `Q` for each pair of a type of `ts` and a type of `us`.
   abbrev More : List T → List T → Type 0
   More ts us = (t u : T) → Contains ts t → Contains us u → P t u → Q t u
 

@@ -1,4 +1,4 @@
--- Stable classes are classes of equal numbers.
+-- The numbers in one class of a stable partition are equal.
 use Rattle.std.proofs.Common.{ℕ, zero, suc, ◌<◌, ◌≡◌, ◌∙◌, ◌⊎◌, ⊎_elim, inl, inr, List, [], ◌∷◌}
 use Rattle.std.proofs.Common.{◌++◌, refl, sym, ap, subst, arith}
 use Rattle.std.specs.Prelude.{Contains}
@@ -104,7 +104,8 @@ stable_is_equal n head class stable i j together = record {
 
 -- ---- refinement
 
--- Numbers that a closed list makes equal stay together.
+-- If a closed list of pairs makes two numbers equal, then a split keeps the two numbers in one
+-- class.
 module _ (n : ℕ) (head : ℕ → HeadOf ℕ) (within : PartsBelow n head) (old new : ℕ → ℕ)
     (keeps_agreeing : (i j : ℕ) → AreTogether n old i j → HeadsAgree (AreTogether n old) (head i)
     (head j) → AreTogether n new i j) where
@@ -118,7 +119,7 @@ module _ (n : ℕ) (head : ℕ → HeadOf ℕ) (within : PartsBelow n head) (old
             keeps k l (within i k below among) (within j l below' among')
             (record { pairs = equal.pairs; holds = held; closed = equal.closed })
 
--- Numbers that are done stay stable.
+-- If two numbers in one class are done after a split, then their heads agree.
 module _ (n : ℕ) (head : ℕ → HeadOf ℕ) (old new : ℕ → ℕ) (Member Done : ℕ → Type 0)
     (split : IsSplit n head old new Member) where
   pub split_settles :

@@ -139,8 +139,8 @@ module _ {T : Type 0} (head : T → HeadOf T) where
   abbrev twice : T → T × T
   twice u = (u, u)
 
-  -- If finitely many types are closed under the parts of their heads, then each of them is equal to
-  -- itself.
+  -- If a finite list of types is closed under the parts of heads, then each type of the list is
+  -- equal to itself.
   pub equal_itself :
       (types : List T) → ((u a : T) → Contains types u → Contains (parts_of (head u)) a
       → Contains types a) → (t : T) → Contains types t → EqualBy head t t

@@ -1,5 +1,5 @@
--- If the head of a type is not a variable, then the head of an instance is the instance of the
--- head.
+-- If the head of a type is not a variable, then the head of an instance of the type is the instance
+-- of the type's head.
 use Rattle.std.proofs.Common.{ℕ, zero, suc, ◌<◌, ◌≤◌, ◌≡◌, ◌∙◌, ⊎_elim, inl, inr, List, []}
 use Rattle.std.proofs.Common.{◌∷◌, ◌++◌}
 use Rattle.std.proofs.Common.{Bool, true, false, Option, Some, None, refl, ap, subst, sym, arith}
@@ -125,7 +125,8 @@ free_head (heads.Variable x) differs = differs x refl
 free_head h differs = tt
 
 module _ (decls : List Decl) (well : AreWellFormed decls) where
-  -- The types included at the head, and in arguments of the name there, are variants.
+  -- All types that a type includes at its head, or in arguments of the name at its head, are
+  -- variants.
   abbrev pub HasIncludes : Ty → Type 0
   HasIncludes (variable x) = Unit {0}
   HasIncludes (named n) = Unit {0}
@@ -178,7 +179,7 @@ module _ (decls : List Decl) (well : AreWellFormed decls) where
   abbrev pub Commutes : (List ℕ → Ty) → Ty → Type 0
   Commutes value t = head decls (instance value t) ≡ head_with_parts (instance value) (head decls t)
 
-  -- Induction hypothesis: the claim holds for all types with smaller weight.
+  -- Induction hypothesis: heads commute with instances for all types with a weight below `k`.
   abbrev Known : ℕ → Type 0
   Known k = (value : List ℕ → Ty) (t : Ty) → weighs t < k → IsType t → TakeArguments decls 0 t
       → HasIncludes t → IsNoVariable (head decls t) → Commutes value t
@@ -278,7 +279,7 @@ module _ (decls : List Decl) (well : AreWellFormed decls) where
 
   -- ---- expansions of abbreviations
 
-  -- An abbreviation at the head of `t`, with the type in its declaration.
+  -- An abbreviation is at the head of `t`, and `u` is the type in the abbreviation's declaration.
   pub record IsAbbreviated (t u : Ty) : Type 0 where
     pub name : List ℕ
     pub decl : Decl
@@ -415,8 +416,8 @@ module _ (decls : List Decl) (well : AreWellFormed decls) where
       by_unfolding k (all_known k) value t (omega (arith, below)) whole given includes
       (unfolded decls t) refl free
 
-  -- If the head of a type is not a variable, then the head of an instance is the instance of the
-  -- head.
+  -- If the head of a type is not a variable, then the head of an instance of the type is the
+  -- instance of the type's head.
   pub head-instance :
       (value : List ℕ → Ty) (t : Ty) → IsType t → TakeArguments decls 0 t → HasIncludes t
       → IsNoVariable (head decls t) → Commutes value t

@@ -1,4 +1,4 @@
--- If types are equivalent, then their heads agree.
+-- If two types are equivalent, then their heads agree.
 use Rattle.std.proofs.Common.{ℕ, zero, suc, ◌<◌, ◌≤◌, ◌≡◌, ⊎_elim, inl, inr, List, [], ◌∷◌, ◌++◌}
 use Rattle.std.proofs.Common.{Option, Some, None, refl, sym, subst, arith}
 use Rattle.types_spec.specs.declared.types.head.HeadOf.TheVariants as heads

@@ -1,4 +1,4 @@
--- If two heads agree, then the heads with mapped parts agree.
+-- If two heads agree, then the two heads with mapped parts agree.
 use Rattle.std.proofs.Common.{◌≡◌, ◌∙◌, List, [], ◌∷◌, ◌++◌, Option, Some, None, refl, ap, subst}
 use Rattle.std.proofs.Common.{sym}
 use Rattle.std.specs.Prelude.{map, option_map}
@@ -138,7 +138,7 @@ module _ {T U : Type 0} (f : T → U) where
       ∙ ap (λ first. first ++ map f (parts_of (heads.Variants tags))) (listed-map f tag.argument)
       ∙ sym (append-map (listed_if tag.argument) (parts_of (heads.Variants tags)))
 
-  -- The parts of a head with mapped parts.
+  -- If `f` maps the parts of a head, the parts of the result are the images of the head's parts.
   pub parts_of-map : (h : HeadOf T) → parts_of (head_with_parts f h) ≡ map f (parts_of h)
   parts_of-map (heads.Variable x) = refl
   parts_of-map (heads.Predeclared b ts) = refl

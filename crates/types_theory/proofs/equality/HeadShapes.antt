@@ -1,5 +1,5 @@
 -- If the heads of two types agree, then their shapes agree.
-use Rattle.std.proofs.Common.{ℕ, ◌≡◌, ◌∙◌, ◌⊎◌, ⊎_elim, inl, inr, List, [], ◌∷◌}
+use Rattle.std.proofs.Common.{ℕ, zero, suc, ◌≡◌, ◌∙◌, ◌⊎◌, ⊎_elim, inl, inr, List, [], ◌∷◌, get_or}
 use Rattle.std.proofs.Common.{Bool, true}
 use Rattle.std.proofs.Common.{false, cond, Option, Some, None, refl, ap, subst, sym}
 use Rattle.std.specs.Prelude.{Contains, map, length, ℤ, pos, negsuc}
@@ -24,7 +24,10 @@ use Rattle.types_spec.specs.declared.types.head.HeadOf.TheVariants as heads
 use Rattle.types_spec.specs.declared.types.shape.Constr.{Constr}
 use Rattle.types_spec.specs.declared.types.shape.PolyTag.{PolyTag}
 use Rattle.types_spec.specs.declared.types.shape.ShapeOf.TheVariants as shapes
-use Rattle.types_spec.specs.types.Ty.{Ty, instance, argument_for}
+use Rattle.types_spec.specs.declared.types.predeclared.SumField.{SumField}
+use Rattle.types_spec.specs.declared.types.predeclared.SumField.TheVariants as members
+use Rattle.types_spec.specs.types.Ty.{Ty, named, part, instance, argument_for}
+use Rattle.types_spec.specs.types.Predeclared.{SumBlock, Sum, sum_at, name_at, takes, applied, member_type, constr_of, shape_if, sum_shape}
 use Rattle.types_spec.specs.types.Declarations.{declaration_of}
 use Rattle.types_spec.specs.types.Accepted.{IsType, AreSound, AreHashed, types_of_body, types_of_arguments}
 use Rattle.types_spec.specs.types.Head.{head}
@@ -35,7 +38,7 @@ use Rattle.types_spec.specs.types.Shape.{shape}
 use Rattle.types_spec.specs.types.Fitting.{is_number, tag_with}
 use Rattle.types_spec.specs.types.Equal.{Pairwise, ArgumentsAgree, SameTags, HeadsAgree, Holds, IsClosed}
 use Rattle.base_data.proofs.model.Options.{Contains-first, Contains-later, Contains-none, Contains-cases, Contains-map, map-Contains}
-use Rattle.types_theory.proofs.equality.SimilarLemmas.{Similar, instances_similar, arguments_similar}
+use Rattle.types_theory.proofs.equality.SimilarLemmas.{Similar, Whole, instances_similar, arguments_similar}
 use Rattle.types_theory.proofs.equality.NeedLemmas.{similar_heads, held_similar}
 use Rattle.types_theory.proofs.equality.RankedLemmas.{are_ranked}
 use Rattle.types_theory.proofs.equality.ShapeAgreement.{ShapesAgree, BlocksAgree, BothConstr, FoundAgree}
@@ -76,7 +79,7 @@ module _ {T : Type 0} where
   by_first false tag a tags z is known found =
       let later = known found in (Contains-later tag tags a later.0, later.1)
 
-  -- If a tag is found, then it is in the list and has the hash.
+  -- If `tag_with` finds a tag for a hash, then the tag is in the list and has the hash.
   pub found_is : (tags : List (PolyTag T)) (z : ℤ) (a : PolyTag T) → tag_with tags z ≡ Some a
       → Contains tags a × (a.hash ≡ z)
   found_is [] z a found = absurd (none-some a found)
@@ -90,7 +93,7 @@ module _ {T : Type 0} where
   when_first false tag later (inl is) = absurd (false≢true is)
   when_first false tag later (inr known) = known
 
-  -- If a tag with the hash is in the list, then some tag is found.
+  -- If a tag is in the list, then `tag_with` finds a tag for the hash of the tag.
   pub is_found : (tags : List (PolyTag T)) (a : PolyTag T) → Contains tags a → (b : PolyTag T)
       × (tag_with tags a.hash ≡ Some b)
   is_found [] a among = absurd (Contains-none a among)
@@ -109,7 +112,8 @@ module _ (Likes : Ty → Ty → Type 0) (tags others : List (TagOf Ty))
   abbrev seconds : List (PolyTag Ty)
   seconds = map tag_shape others
 
-  -- For each tag there is a tag with the same hash on the other side, and their arguments agree.
+  -- For each tag of the first list, the second list has a tag with the same hash, and the arguments
+  -- of the two tags agree.
   there : (a : PolyTag Ty) → Contains firsts a → (b : PolyTag Ty) × Contains seconds b
       × (b.hash ≡ a.hash) × ArgumentsAgree Likes a.arg b.arg
   there a among =
@@ -158,29 +162,38 @@ module _ (Likes : Ty → Ty → Type 0) (tags others : List (TagOf Ty))
 
 -- ---- heads
 
--- The shape of a predeclared type without arguments agrees with itself.
-own_shape : (Likes : Ty → Ty → Type 0) (decls : List Decl) (b : Predeclared)
-    → ShapesAgree Likes (predeclared_shape decls b []) (predeclared_shape decls b [])
-own_shape Likes decls bases.Int = same_any_int
-own_shape Likes decls bases.Char = same_below 256
-own_shape Likes decls bases.Bool = same_below 2
-own_shape Likes decls bases.Unit = same_below 1
-own_shape Likes decls bases.String = same_bytes false
-own_shape Likes decls bases.Bytes = same_bytes true
-own_shape Likes decls bases.Float = same_double
-own_shape Likes decls bases.Int32 = same_int32
-own_shape Likes decls bases.Int64 = same_int64
-own_shape Likes decls bases.Nativeint = same_native
-own_shape Likes decls bases.Floatarray = same_float_array
-own_shape Likes decls bases.Any = same_anything
-own_shape Likes decls b = same_variable
+-- The predeclared type has a representation of its own.
+abbrev IsBase : Predeclared → Type 0
+IsBase (bases.Sum k) = ⊥
+IsBase b = Unit {0}
 
--- Predeclared types with several arguments have no values.
+-- The shape of a predeclared type without arguments, which has a representation of its own, agrees
+-- with itself.
+own_shape : (Likes : Ty → Ty → Type 0) (decls : List Decl) (b : Predeclared) → IsBase b
+    → ShapesAgree Likes (predeclared_shape decls b []) (predeclared_shape decls b [])
+own_shape Likes decls bases.Int own = same_any_int
+own_shape Likes decls bases.Char own = same_below 256
+own_shape Likes decls bases.Bool own = same_below 2
+own_shape Likes decls bases.Unit own = same_below 1
+own_shape Likes decls bases.String own = same_bytes false
+own_shape Likes decls bases.Bytes own = same_bytes true
+own_shape Likes decls bases.Float own = same_double
+own_shape Likes decls bases.Int32 own = same_int32
+own_shape Likes decls bases.Int64 own = same_int64
+own_shape Likes decls bases.Nativeint own = same_native
+own_shape Likes decls bases.Floatarray own = same_float_array
+own_shape Likes decls bases.Any own = same_anything
+own_shape Likes decls bases.Array own = same_variable
+own_shape Likes decls (bases.Sum k) own = absurd own
+
+-- If two predeclared types have several arguments, their shapes agree, because neither type has
+-- values.
 several : (Likes : Ty → Ty → Type 0) (decls : List Decl) (b : Predeclared) (t t' u u' : Ty)
-    (ts us : List Ty) → ShapesAgree Likes (predeclared_shape decls b (t ∷ t' ∷ ts))
+    (ts us : List Ty) → IsBase b → ShapesAgree Likes (predeclared_shape decls b (t ∷ t' ∷ ts))
     (predeclared_shape decls b (u ∷ u' ∷ us))
-several Likes decls bases.Int t t' u u' ts us = same_variable
-several Likes decls b t t' u u' ts us = same_variable
+several Likes decls (bases.Sum k) t t' u u' ts us own = absurd own
+several Likes decls bases.Int t t' u u' ts us own = same_variable
+several Likes decls b t t' u u' ts us own = same_variable
 
 module _ (Likes : Ty → Ty → Type 0) where
   float_array : (b c : Predeclared) (ts us : List Ty) (t u : Ty) → b ≡ c → Likes t u
@@ -287,6 +300,60 @@ module _ (decls : List Decl) (sound : AreSound decls) (pairs : List (Ty × Ty))
   abbrev Held : Ty → Ty → Type 0
   Held = Holds pairs
 
+  takes_same : (n : ℕ) (ts us : List Ty) → Pairwise Held ts us → takes n ts ≡ takes n us
+  takes_same zero [] [] held = refl
+  takes_same (suc n) [] [] held = refl
+  takes_same zero (t ∷ ts) (u ∷ us) held = refl
+  takes_same (suc n) (t ∷ ts) (u ∷ us) held = takes_same n ts us held.1
+  takes_same n [] (u ∷ us) held = absurd held
+  takes_same n (t ∷ ts) [] held = absurd held
+
+  applied_whole : (t u : Ty) (ts us : List Ty) → Whole pairs t u → Pairwise Held ts us
+      → Whole pairs (applied t ts) (applied u us)
+  applied_whole t u [] [] same held = same
+  applied_whole t u (a ∷ ts) (b ∷ us) same held = applied_whole (part t a) (part u b) ts us (same, inl held.0) held.1
+  applied_whole t u [] (b ∷ us) same held = absurd held
+  applied_whole t u (a ∷ ts) [] same held = absurd held
+
+  got_similar : (d e : Ty) → Likes d e → (i : ℕ) (ts us : List Ty) → Pairwise Held ts us
+      → Likes (get_or ts i d) (get_or us i e)
+  got_similar d e same i [] [] held = same
+  got_similar d e same zero (t ∷ ts) (u ∷ us) held = inl held.0
+  got_similar d e same (suc i) (t ∷ ts) (u ∷ us) held = got_similar d e same i ts us held.1
+  got_similar d e same i [] (u ∷ us) held = absurd held
+  got_similar d e same i (t ∷ ts) [] held = absurd held
+
+  module _ (name : List ℕ) (ts us : List Ty) (held : Pairwise Held ts us) where
+    own_similar : Likes (applied (named name) ts) (applied (named name) us)
+    own_similar = inr (applied_whole (named name) (named name) ts us refl held)
+
+    member_similar : (m : SumField) → Likes (member_type name ts m) (member_type name us m)
+    member_similar (members.Argument i) =
+        got_similar (applied (named name) ts) (applied (named name) us) own_similar i ts us held
+    member_similar members.Itself = own_similar
+
+    members_similar : (ms : List SumField)
+        → Pairwise Likes (map (member_type name ts) ms) (map (member_type name us) ms)
+    members_similar [] = tt
+    members_similar (m ∷ ms) = (member_similar m, members_similar ms)
+
+    constrs_agree : (bs : List SumBlock) → BlocksAgree Likes (map (constr_of name ts) bs) (map (constr_of name us) bs)
+    constrs_agree [] = tt
+    constrs_agree (b ∷ bs) = (refl, members_similar b.fields, constrs_agree bs)
+
+    shape_if_agrees : (test : Bool) (known : Sum)
+        → ShapesAgree Likes (shape_if test known name ts) (shape_if test known name us)
+    shape_if_agrees false known = same_variable
+    shape_if_agrees true known =
+        same_sum (length known.constants) (map (constr_of name ts) known.blocks) (map (constr_of name us) known.blocks)
+        (constrs_agree known.blocks)
+
+    sums_agree : (known : Option Sum) → ShapesAgree Likes (sum_shape known name ts) (sum_shape known name us)
+    sums_agree None = same_variable
+    sums_agree (Some known) =
+        subst (λ (test : Bool). ShapesAgree Likes (shape_if (takes known.parameters ts) known name ts) (shape_if test known name us))
+        (takes_same known.parameters ts us held) (shape_if_agrees (takes known.parameters ts) known)
+
   heads_similar : (t u : Ty) → Held t u → HeadsAgree Likes (head decls t) (head decls u)
   heads_similar t u held =
       similar_heads decls sound.rank (are_ranked decls sound) pairs closed t u (inl held)
@@ -294,19 +361,15 @@ module _ (decls : List Decl) (sound : AreSound decls) (pairs : List (Ty × Ty))
   predeclared_agree :
       (b : Predeclared) (ts us : List Ty) → Pairwise Held ts us
       → ShapesAgree Likes (predeclared_shape decls b ts) (predeclared_shape decls b us)
-  predeclared_agree b [] [] held = own_shape Likes decls b
+  predeclared_agree (bases.Sum k) ts us held = sums_agree (name_at k) ts us held (sum_at k)
+  predeclared_agree b [] [] held = own_shape Likes decls b tt
   predeclared_agree b [] (u ∷ us) held = absurd held
   predeclared_agree b (t ∷ ts) [] held = absurd held
   predeclared_agree b (t ∷ []) (u ∷ u' ∷ us) held = absurd held.1
   predeclared_agree b (t ∷ t' ∷ ts) (u ∷ []) held = absurd held.1
-  predeclared_agree bases.List (t ∷ []) (u ∷ []) held =
-      same_sum 1 _ _ ((refl, (inl held.0, (inr (refl, inl held.0), tt)), tt))
-  predeclared_agree bases.Option (t ∷ []) (u ∷ []) held =
-      same_sum 1 _ _ ((refl, (inl held.0, tt), tt))
-  predeclared_agree bases.Ref (t ∷ []) (u ∷ []) held = same_sum 0 _ _ ((refl, (inl held.0, tt), tt))
   predeclared_agree bases.Array (t ∷ []) (u ∷ []) held =
       arrays_agree Likes (head decls t) (head decls u) t u (heads_similar t u held.0) (inl held.0)
-  predeclared_agree b (t ∷ t' ∷ ts) (u ∷ u' ∷ us) held = several Likes decls b t t' u u' ts us
+  predeclared_agree b (t ∷ t' ∷ ts) (u ∷ u' ∷ us) held = several Likes decls b t t' u u' ts us tt
   predeclared_agree b (t ∷ []) (u ∷ []) held = same_variable
 
   -- ---- all heads
@@ -352,7 +415,8 @@ module _ (decls : List Decl) (sound : AreSound decls) (pairs : List (Ty × Ty))
   heads_agree heads.Absent heads.Absent agree hashed = same_variable
   heads_agree h k agree hashed = absurd agree
 
-  -- If the tags of the second type are determined by their hashes, then the shapes of a pair agree.
+  -- Suppose a closed list contains a pair of types, and the tags of the second type are determined
+  -- by their hashes. Then the shapes of the two types agree.
   pub pair_shapes :
       (t u : Ty) → Held t u → ((tags : List (PolyTag Ty)) → shape decls u ≡ shapes.Poly tags
       → AreHashed tags) → ShapesAgree Likes (shape decls t) (shape decls u)

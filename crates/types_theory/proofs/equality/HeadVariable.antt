@@ -1,5 +1,5 @@
--- If the head of a type is a variable, then an instance has the head of the type that replaces the
--- variable.
+-- If the head of a type is a variable, then an instance of the type has the head of the type that
+-- replaces the variable.
 use Rattle.std.proofs.Common.{ℕ, zero, suc, ◌<◌, ◌≡◌, ◌∙◌, inl, inr, List}
 use Rattle.std.proofs.Common.{Option, Some, None, refl, ap, subst, sym, arith}
 use Rattle.std.specs.Prelude.{option_map}

@@ -1,4 +1,4 @@
--- Expanding an abbreviation at the head commutes with instantiation.
+-- The expansion of an abbreviation at the head commutes with instantiation.
 use Rattle.std.proofs.Common.{ℕ, suc, ◌+◌, ◌≡◌, ◌∙◌, ⊎_elim, inl, inr, List, [], ◌∷◌}
 use Rattle.std.proofs.Common.{◌++◌}
 use Rattle.std.proofs.Common.{length, Bool, true, false, Option, Some, None, refl, ap, subst, sym}
@@ -159,7 +159,7 @@ module _ (value : List ℕ → Ty) where
 
 -- ---- abbreviations
 
--- The number of parts plus `k` is the arity of the name.
+-- The arity of a type's name is the number of the type's parts plus `k`.
 counted : (decls : List Decl) (k : ℕ) (t : Ty) (name : List ℕ) → TakeArguments decls k t
     → name_of t ≡ Some name → arity_of decls name ≡ Some (length (parts t) + k)
 counted decls k (named n) name given is =
@@ -219,7 +219,6 @@ module _ (decls : List Decl) (well : AreWellFormed decls) where
       by_name None is = refl
       by_name (Some name) is = by_decl name is (declaration_of decls name) refl
 
-      -- Expansion commutes with instantiation.
       pub unfolded-instance :
           unfolded decls (instance value t) ≡ option_map (instance value) (unfolded decls t)
       unfolded-instance =

@@ -1,5 +1,5 @@
--- If one of two equal types is among the types that a type reaches, then both have the same
--- meaning.
+-- If one of two equal types is among the types that a type reaches, then the two equal types have
+-- the same meaning.
 use Rattle.std.proofs.Common.{ℕ, ◌≡◌, ◌⊎◌, inl, inr, List}
 use Rattle.std.proofs.Common.{subst, sym}
 use Rattle.std.specs.Prelude.{Contains, IsSome, IsTrue, slice_get}
@@ -36,7 +36,7 @@ module _ (decls : List Decl) (sound : AreSound decls) (types : List Ty)
   abbrev Same : Ty → Ty → Type 0
   Same = Equal decls
 
-  -- If two types are equivalent and the second is reached, then they are equal.
+  -- If two types are equivalent and the second type is reached, then the two types are equal.
   similar_equal : (t u : Ty) (equal : Same t u) (a b : Ty) → Contains types b → Similar equal.pairs a b
       → Same a b
   similar_equal t u equal a b among similar =
@@ -78,7 +78,7 @@ module _ (decls : List Decl) (sound : AreSound decls) (types : List Ty)
       both_some_back (Similar back.pairs) (fields_of graph v (shape decls u))
       (fields_of graph v (shape decls t)) (agree_at u t back among graph v) fits
 
-  -- `is_asked` is the same for the shapes of equal types.
+  -- If two types are equal, then `is_asked` is the same for their shapes.
   asked_similar : (t u : Ty) → Contains types t ⊎ Contains types u → Same t u
       → is_asked (shape decls t) ≡ is_asked (shape decls u)
   asked_similar t u (inr among) equal =
@@ -137,7 +137,7 @@ module _ (decls : List Decl) (sound : AreSound decls) (types : List Ty)
   )
 
   -- If the types of a list reach only types of the list, then the shapes of declared types are
-  -- lawful at them.
+  -- lawful at the types of the list.
   pub listed_lawful : AreLawful (declared_shapes decls) (λ u. Contains types u)
   listed_lawful = record {
     reflexive = λ t among. equal_itself (head decls) types (parts_here decls types listed) t
@@ -153,7 +153,7 @@ module _ (decls : List Decl) (sound : AreSound decls) (types : List Ty)
     mutable = change;
   }
 
--- Hence the shapes are lawful at the types that a type reaches.
+-- The shapes of declared types are lawful at the types that a type reaches.
 pub reached_lawful :
     (decls : List Decl) → AreSound decls → (root : Ty) (types : List Ty) → IsReached decls root types
     → AreKnownByHash decls types → AreLawful (declared_shapes decls) (λ u. Contains types u)

@@ -1,4 +1,4 @@
--- Required fields that agree: the same fields are required, at related types.
+-- Two lists of required fields that agree: the same fields are required, at related types.
 use Rattle.std.proofs.Common.{ℕ, ◌≡◌, ◌∙◌, ⊎_elim, List, [], ◌∷◌, Option, Some, None, refl, ap}
 use Rattle.std.proofs.Common.{subst, sym, Bool, true, false, cond}
 use Rattle.std.specs.Prelude.{Contains, IsSome}
@@ -13,7 +13,8 @@ module _ {T U : Type 0} (Likes : T → U → Type 0) where
   NeedsAgree (n ∷ ns) (m ∷ ms) = (n.0 ≡ m.0) × Likes n.1 m.1 × NeedsAgree ns ms
   NeedsAgree ns ms = ⊥
 
-  -- Either both match and their required fields agree, or neither matches.
+  -- Either a value matches on neither side, or the value matches on the two sides and the required
+  -- fields of the two sides agree.
   abbrev pub FieldsAgree : Option (List (ℕ × T)) → Option (List (ℕ × U)) → Type 0
   FieldsAgree None None = Unit {0}
   FieldsAgree (Some ns) (Some ms) = NeedsAgree ns ms
@@ -34,7 +35,7 @@ module _ {T U : Type 0} (Likes : T → U → Type 0) where
   both_some_back None (Some ms) agree some = absurd agree
   both_some_back (Some ns) None agree some = absurd agree
 
-  -- A field that is required on one side is required on the other side, at a related type.
+  -- The list `ms` requires field `i` at a type that is related to `a`.
   abbrev pub Matched : List (ℕ × U) → ℕ → T → Type 0
   Matched ms i a = (b : U) × Contains ms (i, b) × Likes a b
 
@@ -73,7 +74,8 @@ module _ {T U : Type 0} (Likes : T → U → Type 0) where
   turned_needs [] (m ∷ ms) agree = absurd agree
   turned_needs (n ∷ ns) [] agree = absurd agree
 
-  -- The symmetric statement.
+  -- If required fields agree by a relation, then the fields in the other order agree by the
+  -- converse relation.
   pub turned_fields :
       (ns : Option (List (ℕ × T))) (ms : Option (List (ℕ × U))) → FieldsAgree Likes ns ms
       → FieldsAgree (λ a b. Likes b a) ms ns
@@ -82,7 +84,8 @@ module _ {T U : Type 0} (Likes : T → U → Type 0) where
   turned_fields None (Some ms) agree = absurd agree
   turned_fields (Some ns) None agree = absurd agree
 
--- If `is_asked` is the same for related types, then the required fields that are asked agree too.
+-- If `is_asked` is the same for related types, and typed fields agree, then the required fields
+-- agree.
 module _ {T U : Type 0} (Likes : T → U → Type 0) (shape : T → ShapeOf T) (other : U → ShapeOf U)
     (similar : (t : T) (u : U) → Likes t u → is_asked (shape t) ≡ is_asked (other u)) where
   write_agree : (test test' : Bool) (n : ℕ × T) (m : ℕ × U) (ns : List (ℕ × T)) (ms : List (ℕ × U))

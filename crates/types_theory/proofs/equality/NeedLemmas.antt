@@ -1,5 +1,5 @@
--- Equal types require fields at equal types: the fields of a datatype at two argument lists that
--- are equal element by element.
+-- Equal types require fields at equal types. If two argument lists of a datatype are equal element
+-- by element, the fields of the datatype have equal types.
 use Rattle.std.proofs.Common.{ℕ, zero, suc, ◌<◌, ◌≡◌, ◌∙◌, List, [], ◌∷◌, Option, Some, None, refl}
 use Rattle.std.proofs.Common.{sym, ap, inl, arith}
 use Rattle.types_spec.specs.declared.types.head.HeadOf.{HeadOf}
@@ -17,7 +17,7 @@ use Rattle.types_theory.proofs.equality.WeightLemmas.{AreRanked, heft, falls, bo
 use Rattle.types_theory.proofs.equality.WeightLemmas.{inside, price, priced}
 
 module _ (decls : List Decl) (rank : List ℕ → ℕ) (ranked : AreRanked decls rank) where
-  -- One expansion does not change the head.
+  -- One expansion of an abbreviation at the head of a type does not change the type's head.
   pub head_again : (t u : Ty) → unfolded decls t ≡ Some u → head decls t ≡ head decls u
   head_again t u is = settled.again decls (heft decls rank ranked) (falls decls rank ranked)
       (λ t a. by_part (price decls rank ranked) (priced decls rank ranked) t a) (λ t x. omega arith)
@@ -26,7 +26,7 @@ module _ (decls : List Decl) (rank : List ℕ → ℕ) (ranked : AreRanked decls
       (λ t a. inside (price decls rank ranked) (priced decls rank ranked) t a)
       (bound decls rank ranked) t u is
 
-  -- Without an abbreviation the head is the one that is written.
+  -- If no abbreviation is at the head of a type, the head of the type is the written head.
   pub head_plain : (t : Ty) → unfolded decls t ≡ None → head decls t ≡ plain_head (head decls) t
   head_plain t is = settled.plain decls (heft decls rank ranked) (falls decls rank ranked)
       (λ t a. by_part (price decls rank ranked) (priced decls rank ranked) t a) (λ t x. omega arith)
@@ -91,7 +91,7 @@ module _ (decls : List Decl) (rank : List ℕ → ℕ) (ranked : AreRanked decls
   all_below zero t below = absurd (omega arith)
   all_below (suc k) t below = one_more k (all_below k) t below (unfolded decls t) refl
 
-  -- If a function is invariant under expansion and agrees with the written head otherwise, then it
-  -- is `head`.
+  -- Let a function not change under expansion at the head, and give the written head for types
+  -- without an abbreviation at the head. The function is `head`.
   pub only_head : (t : Ty) → other t ≡ head decls t
   only_head t = all_below (suc (weighs t)) t (omega arith)

@@ -24,7 +24,7 @@ module _ (decls : List Decl) (types : List Ty) (all : List (HeadOf ℕ))
   abbrev Is : ℕ → Ty → Type 0
   Is i u = slice_get types i ≡ Some u
 
-  -- The head at a number is the head of its type, with numbers instead of types as parts.
+  -- The head at a number is the head of the number's type, with numbers instead of types as parts.
   head_is : (i : ℕ) (u : Ty) → Is i u → head_with_parts (slice_get types)
       (head_at all i) ≡ head_with_parts Some (head decls u)
   head_is i u is =
@@ -36,7 +36,7 @@ module _ (decls : List Decl) (types : List Ty) (all : List (HeadOf ℕ))
       ∙ ap (option_map (λ t. head_with_parts Some (head decls t))) is) in
       ap (λ o. head_with_parts (slice_get types) (head_or_absent o)) found.1 ∙ found.2
 
-  -- A part of the head at a number is the number of a part of the type's head.
+  -- A part of the head at a number is the number of a part of the head of the number's type.
   part_known : (i : ℕ) (u : Ty) → Is i u → (a : ℕ) → Contains (parts_of (head_at all i)) a
       → (s : Ty) × Contains (parts_of (head decls u)) s × Is a s
   part_known i u is a among =
@@ -51,7 +51,7 @@ module _ (decls : List Decl) (types : List Ty) (all : List (HeadOf ℕ))
   -- ---- heads that agree
 
   module _ (Q : Ty → Ty → Type 0) where
-    -- Both are types, and the types are related.
+    -- `a` and `b` are types, and `Q` relates the two types.
     abbrev Both : Option Ty → Option Ty → Type 0
     Both a b = (t u : Ty) × (a ≡ Some t) × (b ≡ Some u) × Q t u
 
@@ -142,7 +142,7 @@ module _ (decls : List Decl) (types : List Ty) (all : List (HeadOf ℕ))
 
   -- ---- equal types have equal numbers
 
-  -- The numbers of a type, counted from `i`.
+  -- If the type at index `i` is the sought type, `i` is in the list of the type's numbers.
   abbrev write_number : {A : Type 0} → ℕ → A ⊎ (A → ⊥) → List ℕ → List ℕ
   write_number i (inl same) rest = i ∷ rest
   write_number i (inr different) rest = rest
@@ -252,7 +252,8 @@ module _ (decls : List Decl) (types : List Ty) (all : List (HeadOf ℕ))
         (equal.closed source.0 source.1 source.2));
   }
 
-  -- If the types are closed under parts, then the parts of a type's head have numbers.
+  -- If the types are closed under parts, then each part of the head at a number is the number of a
+  -- type.
   pub parts_below :
       (i k : ℕ) → i < length types → Contains (parts_of (head_at all i)) k → k < length types
   parts_below i k below among =

@@ -1,4 +1,5 @@
--- Shapes with mapped parts require the same fields, at the mapped parts.
+-- If `f` maps the parts of a shape, the result requires the same fields as the shape, at the mapped
+-- parts.
 use Rattle.std.proofs.Common.{ℕ, zero, suc, ◌≡◌, ◌∙◌, List, [], ◌∷◌, length, Bool, true, false}
 use Rattle.std.proofs.Common.{Option, Some, None, refl, ap}
 use Rattle.std.specs.Prelude.{map, slice_get, option_map, option_and_then, replicate, if◌then◌else◌}

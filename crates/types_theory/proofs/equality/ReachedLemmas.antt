@@ -1,5 +1,5 @@
--- The list of the types that a type reaches is closed: it contains the types that its members reach
--- and the types that their values require.
+-- The list of the types that a type reaches is closed: the list contains the types that its members
+-- reach, and the types at which its members require fields.
 use Rattle.std.proofs.Common.{ℕ, zero, suc, ◌≡◌, ◌⊎◌, ⊎_elim, inl, inr, List, [], ◌∷◌, ◌++◌, Bool}
 use Rattle.std.proofs.Common.{true}
 use Rattle.std.proofs.Common.{false, Option, Some, None, refl, subst, sym}
@@ -32,7 +32,7 @@ use Rattle.types_theory.proofs.equality.HeadShapes.{found_is}
 
 -- ---- the list
 
--- Removing repeats loses no element.
+-- Removing repetitions from a list loses no element.
 pub without_repeats_has :
     (all seen others : List Ty) (x : Ty) → IsWithoutRepeats seen all others → Contains all x
     → Contains seen x ⊎ Contains others x
@@ -58,8 +58,8 @@ not_seen : {X : Type 0} (x : X) (A : Type 0) → Contains [] x ⊎ A → A
 not_seen x A (inl never) = absurd (Contains-none x never)
 not_seen x A (inr a) = a
 
--- If the types of a list reach only types of the list, then their parts and the types that they
--- name are in the list.
+-- If the types of a list reach only types of the list, then the list contains their parts and the
+-- types in their representations.
 module _ (decls : List Decl) (types : List Ty)
     (listed : (u a : Ty) → Contains types u → Contains (reached_from decls u) a → Contains types a)
   where
@@ -79,11 +79,11 @@ module _ (decls : List Decl) (t : Ty) (types : List Ty) (reached : IsReached dec
       not_seen x (Contains types x) (without_repeats_has (t ∷ flat_map (reached_from decls) types)
       [] types x reached.in_order among)
 
-  -- The list contains the type itself.
+  -- The list of the types that `t` reaches contains `t`.
   pub root_listed : Contains types t
   root_listed = listed t (Contains-first t (flat_map (reached_from decls) types))
 
-  -- The list contains the types that its members reach.
+  -- The list of the types that `t` reaches contains the types that its members reach.
   pub reached_listed :
       (u a : Ty) → Contains types u → Contains (reached_from decls u) a → Contains types a
   reached_listed u a among has =
@@ -101,7 +101,7 @@ module _ (decls : List Decl) (t : Ty) (types : List Ty) (reached : IsReached dec
 -- ---- required types are named
 
 module _ {T : Type 0} where
-  -- The types of these required fields are in the list.
+  -- The types of the fields in `needs` are in the list `types`.
   abbrev Names : List T → Option (List (ℕ × T)) → Type 0
   Names types needs = (i : ℕ) (a : T) → Contains (or_none needs) (i, a) → Contains types a
 
@@ -194,7 +194,7 @@ module _ {T : Type 0} where
   at_object s None i a among = absurd (Contains-none (i, a) among)
   at_object s (Some object) i a among = object_named s object i a among
 
-  -- The shape names the types of a value's required fields.
+  -- The types of a value's typed fields occur in the shape.
   pub needs_named :
       (s : ShapeOf T) (graph : List Obj) (v : Val) → Names (named_in s) (fields_of graph v s)
   needs_named s graph (vals.Int z) i a among = none_named (fits_int s z) (named_in s) i a among

@@ -1,4 +1,4 @@
--- With enough expansions the head of a type is the head of its expansion.
+-- If enough expansions are allowed, the head of a type is the head of the type's expansion.
 use Rattle.std.proofs.Common.{ℕ, zero, suc, ◌<◌, ◌≤◌, ◌≡◌, ◌∙◌, List, [], ◌∷◌, Option, Some, None}
 use Rattle.std.proofs.Common.{refl, ap, arith}
 use Rattle.types_spec.specs.declared.types.decl.Decl.{Decl}
@@ -59,7 +59,7 @@ module _ (decls : List Decl) (weight : Ty → ℕ) (falls : (t u : Ty) → unfol
         → head_within decls (suc n) t ≡ plain_head (head_within decls n) t
     within_plain n t is = ap (head_by (head_within decls n) t) is
 
-    -- One expansion does not change the head.
+    -- One expansion of an abbreviation at the head of a type does not change the type's head.
     pub again : (t u : Ty) → unfolded decls t ≡ Some u → head decls t ≡ head decls u
     unfolding head
     again t u is =

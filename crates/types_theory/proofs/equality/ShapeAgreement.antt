@@ -1,5 +1,5 @@
--- Shapes that agree, part by part: the same values match, the same fields are required at related
--- parts, and the same objects are mutable.
+-- Two shapes that agree, part by part: the same values match, the same fields are required at
+-- related parts, and the same objects are mutable.
 use Rattle.std.proofs.Common.{ℕ, zero, suc, ◌≡◌, List, [], ◌∷◌, length, Bool, true, false}
 use Rattle.std.proofs.Common.{Option, Some, None, refl, ap, subst}
 use Rattle.std.specs.Prelude.{slice_get, option_and_then, replicate, ◌==◌, ◌&&◌, ℤ, is_some, not}
@@ -32,7 +32,8 @@ module _ {T : Type 0} (Similar : T → T → Type 0) where
   FoundAgree (Some one) (Some other) = ArgumentsAgree Similar one.arg other.arg
   FoundAgree one other = ⊥
 
-  -- For each hash, either both lists have a tag and the arguments agree, or neither has one.
+  -- For each hash, either neither list has a tag, or each list has a tag and the arguments of the
+  -- two tags agree.
   abbrev pub PolysAgree : List (PolyTag T) → List (PolyTag T) → Type 0
   PolysAgree tags others = (z : ℤ) → FoundAgree (tag_with tags z) (tag_with others z)
 
@@ -136,14 +137,15 @@ module _ {T : Type 0} (Similar : T → T → Type 0) where
   native_same same_native = refl
   native_same same = refl
 
-  -- `is_asked` is the same for both.
+  -- If two shapes agree, then `is_asked` is the same for the two shapes.
   pub asked_same : {s r : ShapeOf T} → ShapesAgree s r → is_asked s ≡ is_asked r
   asked_same same_anything = refl
   asked_same same = refl
 
   -- ---- blocks
 
-  -- Either both have a constructor there and the constructors agree, or neither has one.
+  -- Either neither shape has a constructor at a block tag, or each shape has a constructor there
+  -- and the two constructors agree.
   abbrev pub BothConstr : Option (Constr T) → Option (Constr T) → Type 0
   BothConstr None None = Unit {0}
   BothConstr (Some c) (Some d) = (c.mutable ≡ d.mutable) × Pairwise Similar c.fields d.fields
@@ -249,7 +251,7 @@ module _ {T : Type 0} (Similar : T → T → Type 0) where
   at_object same None = tt
   at_object same (Some object) = object_agree same object
 
-  -- The same values match, and the required fields agree.
+  -- If two shapes agree, then the same values match, and the typed fields of the values agree.
   pub fields_agree :
       {s r : ShapeOf T} → ShapesAgree s r → (graph : List Obj) (v : Val)
       → FieldsAgree Similar (fields_of graph v s) (fields_of graph v r)
@@ -266,7 +268,7 @@ module _ {T : Type 0} (Similar : T → T → Type 0) where
   block_mutable None (Some d) both = absurd both
   block_mutable (Some c) None both = absurd both
 
-  -- The same objects are mutable.
+  -- If two shapes agree, then the shapes make the same objects mutable.
   pub mutable_agrees :
       {s r : ShapeOf T} → ShapesAgree s r → (object : Option Obj) → is_mutable s object ≡ is_mutable
       r object

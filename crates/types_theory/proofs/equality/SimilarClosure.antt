@@ -39,7 +39,8 @@ both_is f ts us v among =
     (one.0, other.0, one.1, other.1, other.2)
 
 module _ (same_or_not : (t u : Ty) → (t ≡ u) ⊎ (t ≡ u → ⊥)) (pairs : List (Ty × Ty)) where
-  -- The first components of the pairs whose second component is `u`.
+  -- If the second component of the pair `p` is `u`, the first component of `p` is added to the
+  -- list.
   firsts_if : (p : Ty × Ty) (u : Ty) → (p.1 ≡ u) ⊎ (p.1 ≡ u → ⊥) → List Ty → List Ty
   firsts_if p u (inl same) ts = p.0 ∷ ts
   firsts_if p u (inr different) ts = ts
@@ -48,7 +49,7 @@ module _ (same_or_not : (t u : Ty) → (t ≡ u) ⊎ (t ≡ u → ⊥)) (pairs :
   firsts [] u = []
   firsts (p ∷ ps) u = firsts_if p u (same_or_not p.1 u) (firsts ps u)
 
-  -- All types that are equal to this type up to parts that are pairs of the list.
+  -- All types that are equal to the given type, up to parts that are pairs of the list.
   wholes : Ty → List Ty
   wholes (variable x) = variable x ∷ []
   wholes (named n) = named n ∷ []
@@ -214,7 +215,7 @@ module _ (same_or_not : (t u : Ty) → (t ≡ u) ⊎ (t ≡ u → ⊥)) (pairs :
               (subst (λ w. Similar pairs source.0 w) second (sources_is source.0 found.0 source.1)),
         )
 
-    -- If two types are equivalent, then they are equal.
+    -- If two types are equivalent and the second type is in the list, then the two types are equal.
     pub similar_is_equal : (t u : Ty) → Contains types u → Similar pairs t u → EqualBy head t u
     similar_is_equal t u among similar = record {
       pairs = all;

@@ -1,7 +1,7 @@
 -- Two types are equivalent (`Similar`) if they are equal up to parts that a closed list of pairs
--- makes equal. If they are equivalent, then so are the expansions of abbreviations at their heads.
--- Hence the proof that equal types require fields at equal types does not need regular
--- declarations.
+-- makes equal. If two types are equivalent, then the expansions of the abbreviations at their heads
+-- are equivalent. Therefore the proof that equal types require fields at equal types does not need
+-- regular declarations.
 use Rattle.std.proofs.Common.{ℕ, ◌≡◌, ◌⊎◌, ⊎_elim, inl, inr, List, [], ◌∷◌, ◌++◌, Bool, true, false}
 use Rattle.std.proofs.Common.{Option, Some, None, refl, ap, subst}
 use Rattle.std.specs.Prelude.{cond, option_map}
@@ -16,7 +16,7 @@ use Rattle.types_spec.specs.types.Declarations.{unfolded, abbreviated_at, abbrev
 use Rattle.types_spec.specs.types.Declarations.{declaration_of}
 use Rattle.types_spec.specs.types.Equal.{Pairwise, Holds}
 
--- The expansion of an abbreviation is a type of the grammar.
+-- If the body is an abbreviation, then the abbreviated type is a type of the grammar.
 abbrev pub HasTypes : Body → Type 0
 HasTypes (bodies.Abbreviation t) = IsType t
 HasTypes (bodies.Record fields) = Unit {0}
@@ -122,7 +122,8 @@ module _ (pairs : List (Ty × Ty)) where
 
   -- ---- abbreviations
 
-  -- Either neither type has an abbreviation at its head, or the expansions are equivalent.
+  -- Either neither of two types has an abbreviation at its head, or each type has an abbreviation
+  -- at its head and the two expansions are equivalent.
   abbrev pub BothUnfold : Option Ty → Option Ty → Type 0
   BothUnfold None None = Unit {0}
   BothUnfold (Some t) (Some u) = Similar t u

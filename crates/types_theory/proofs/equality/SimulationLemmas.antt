@@ -1,5 +1,6 @@
--- If the shapes of numbers and of types agree, then the same paths lead to the same values. Hence
--- the faults and the least faults are the same.
+-- If the shapes of numbers and of types agree, then each path leads to the same value at a number
+-- and at the number's type. The faults and least faults at a number are the faults and least faults
+-- at the number's type.
 use Rattle.std.proofs.Common.{ℕ, ◌≡◌, ◌∙◌, ⊎_elim, inl, inr, List, [], ◌∷◌, Option, Some, None}
 use Rattle.std.proofs.Common.{refl, sym, ap, subst}
 use Rattle.std.specs.Prelude.{IsSomeAnd, option_map, option_and_then}
@@ -31,7 +32,7 @@ module _ {T U : Type 0} (one : Shapes T) (other : Shapes U) (Of : T → U → Ty
       pub equal : (i j : T) (t u : U) → Of i t → Of j u → one.equal i j → other.equal t u
       pub equal_back : (i j : T) (t u : U) → Of i t → Of j u → other.equal t u → one.equal i j
 
-    -- Either neither path leads to a value, or both lead to the same value.
+    -- Either neither position exists, or the two positions have the same value and related types.
     abbrev pub SamePosition : Option (Val × T) → Option (Val × U) → Type 0
     SamePosition None None = Unit {0}
     SamePosition (Some p) (Some q) = (p.0 ≡ q.0) × Of p.1 q.1
@@ -78,7 +79,8 @@ module _ {T U : Type 0} (one : Shapes T) (other : Shapes U) (Of : T → U → Ty
           along path (step one graph v i k) (step other graph v t k) (step_same v i t k of)
           (λ w j u of'. position_same path w j u of')
 
-      -- If one path leads to a value, then so does the other.
+      -- If the first position has a value, then the second position has the same value at a related
+      -- type.
       there : (p : Option (Val × T)) (q : Option (Val × U)) → SamePosition p q → (w : Val) (i : T)
           → p ≡ Some (w, i) → (t : U) × (q ≡ Some (w, t)) × Of i t
       there None q positions w i is = absurd (none-some (w, i) is)

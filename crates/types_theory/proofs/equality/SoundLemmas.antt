@@ -1,9 +1,9 @@
--- Over well-formed declarations, every type that a sound type reaches is sound, and its tags are
--- determined by their hashes.
+-- Over well-formed declarations, every type that a sound type reaches is sound, and the tags of
+-- each reached type are determined by their hashes.
 use Rattle.std.proofs.Common.{ℕ, zero, suc, ◌<◌, ◌≤◌, ◌≡◌, ◌∙◌, ◌⊎◌, ⊎_elim, inl, inr, List, []}
 use Rattle.std.proofs.Common.{◌∷◌, ◌++◌}
 use Rattle.std.proofs.Common.{Bool, true, false, Option, Some, None, refl, ap, subst, sym, arith}
-use Rattle.std.specs.Prelude.{Contains, map, option_map, filter, slice_get}
+use Rattle.std.specs.Prelude.{Contains, map, option_map, filter, slice_get, length}
 use Rattle.std.specs.List.{flat_map}
 use Rattle.std.proofs.lemmas.Option.{same_Some, none-some}
 use Rattle.std.proofs.lemmas.List.Elements.{Contains-append_cases}
@@ -26,7 +26,9 @@ use Rattle.types_spec.specs.declared.types.shape.ShapeOf.{ShapeOf}
 use Rattle.types_spec.specs.declared.types.shape.ShapeOf.TheVariants as shapes
 use Rattle.types_spec.specs.types.Ty.{Ty, variable, named, tuple, bracket, part, tag, tag_of, including}
 use Rattle.types_spec.specs.types.Ty.{parts, instance, argument_for}
-use Rattle.types_spec.specs.types.Declarations.{predeclared, declaration_of, unfolded}
+use Rattle.types_spec.specs.types.Declarations.{predeclared, declaration_of, unfolded, arity_in}
+use Rattle.types_spec.specs.types.Predeclared.{Sum, sum_at, name_at, sum_parameters, takes, applied, shape_if, sum_shape}
+use Rattle.types_spec.proofs.types.SumTypes.{sums_are_found, takes_length, sum_has}
 use Rattle.types_spec.specs.types.Head.{has_tag, joined, with_tags, tags_in, bare_tag, carrying_tag}
 use Rattle.types_spec.specs.types.Head.{head_meant}
 use Rattle.types_spec.specs.types.Head.{with_part, plain_head, head_by, head_within, enough}
@@ -36,13 +38,13 @@ use Rattle.types_spec.specs.types.Accepted.{HaveOwnHashes}
 use Rattle.types_spec.specs.types.Accepted.{IsHashed, HasSoundBrackets, IsSoundType, AreWellFormed}
 use Rattle.types_spec.specs.types.Accepted.{AreHashed}
 use Rattle.types_spec.specs.types.Accepted.{AreKnownByHash, types_of_body, types_of_arguments}
-use Rattle.types_spec.specs.types.Shape.{types_of_fields, block_of, blocks_in, array_of, list_of}
+use Rattle.types_spec.specs.types.Shape.{types_of_fields, block_of, blocks_in, array_of}
 use Rattle.types_spec.specs.types.Shape.{predeclared_shape, record_shape, body_shape, datatype_shape}
 use Rattle.types_spec.specs.types.Shape.{tag_shape}
 use Rattle.types_spec.specs.types.Shape.{head_shape, shape, is_flat}
 use Rattle.types_spec.specs.types.Reached.{listed_if, named_in, parts_of, reached_from, IsReached}
 use Rattle.types_spec.specs.types.Table.{tag_with_part, head_with_parts}
-use Rattle.base_data.proofs.model.Options.{Contains-first, Contains-none, Contains-cases, Contains-flat_map, map-Contains, flat_map-Contains}
+use Rattle.base_data.proofs.model.Options.{Contains-first, Contains-later, Contains-none, Contains-cases, Contains-flat_map, map-Contains, flat_map-Contains}
 use Rattle.base_data.proofs.model.Lists.{Contains-position}
 use Rattle.types_spec.proofs.types.ListLemmas.{filter_mapped_is}
 use Rattle.types_theory.proofs.equality.HeadInstance.{includes_of, head-instance, tags_in-map, variants-map}
@@ -278,7 +280,7 @@ module _ (decls : List Decl) (well : AreWellFormed decls) where
     type-brackets t (inl is) given brackets = variable-brackets t is
     type-brackets t (inr is) given brackets = whole-brackets 0 t is given brackets
 
-    -- An instance of a sound type by sound types is sound.
+    -- If sound types replace the variables of a sound type, then the instance is sound.
     pub sound-instance : (t : Ty) → Sound t → Sound (instance value t)
     sound-instance t s = record {
       written = type-instance value (λ x. (sound x).written) t s.written;
@@ -301,7 +303,7 @@ module _ (decls : List Decl) (well : AreWellFormed decls) where
     by_kind (inl is) = absurd (variable_parts t is among)
     by_kind (inr is) = parts_sound 0 t a is s.arguments s.brackets among
 
-  -- The expansion of an abbreviation at the head is sound.
+  -- If a sound type has an abbreviation at its head, then the type's expansion is sound.
   pub sound_unfolded : (t u : Ty) → Sound t → unfolded decls t ≡ Some u → Sound u
   sound_unfolded t u s is =
       let by = unfolded_is decls well t u is in
@@ -394,14 +396,25 @@ module _ (decls : List Decl) (well : AreWellFormed decls) where
 
   -- ---- types named by shapes
 
-  list_sound : (t : Ty) → Sound t → Sound (list_of t)
-  unfolding predeclared
-  list_sound t s =
-      record {
-        written = inr (tt, s.written);
-        arguments = (refl, s.arguments);
-        brackets = (tt, s.brackets);
-      }
+  applied_sound : (whole : Ty) (ts : List Ty) → IsWhole whole → TakeArguments decls (length ts) whole
+      → HasSoundBrackets decls whole → ((t : Ty) → Contains ts t → Sound t) → Sound (applied whole ts)
+  applied_sound whole [] written takes brackets each =
+      record { written = inr written; arguments = takes; brackets = brackets }
+  applied_sound whole (t ∷ ts) written takes brackets each =
+      let s = each t (Contains-first t ts) in
+      applied_sound (part whole t) ts (written, s.written) (takes, s.arguments) (brackets, s.brackets)
+      (λ u among. each u (Contains-later t ts u among))
+
+  -- If a predeclared variant has the right number of arguments, and the arguments are sound, then
+  -- the variant is sound.
+  sum_sound : (k : ℕ) (known : Sum) → sum_at k ≡ Some known → (ts : List Ty) → takes known.parameters ts ≡ true
+      → ((t : Ty) → Contains ts t → Sound t) → Sound (applied (named (name_at k)) ts)
+  sum_sound k known is ts right each =
+      applied_sound (named (name_at k)) ts tt
+      (ap (λ (base : Option Predeclared). arity_in base (declaration_of decls (name_at k))) (sums_are_found k known is)
+      ∙ ap (λ (found : Option Sum). Some (sum_parameters found)) is
+      ∙ ap (λ (n : ℕ). Some n) (takes_length known.parameters ts right))
+      tt each
 
   one_of : (ts : List Ty) (t a : Ty) → Sound t → ((b : Ty) → Contains ts b → Sound b)
       → Contains (t ∷ ts) a → Sound a
@@ -425,14 +438,9 @@ module _ (decls : List Decl) (well : AreWellFormed decls) where
   predeclared_named :
       (b : Predeclared) (ts : List Ty) (a : Ty) → ((t : Ty) → Contains ts t → Sound t)
       → Contains (named_in (predeclared_shape decls b ts)) a → Sound a
-  predeclared_named bases.List (t ∷ []) a all among =
-      let s = all t (Contains-first t []) in
-      one_of (list_of t ∷ []) t a s (λ b has. one_of [] (list_of t) b (list_sound t s) none_of has)
-      among
-  predeclared_named bases.Option (t ∷ []) a all among =
-      one_of [] t a (all t (Contains-first t [])) none_of among
-  predeclared_named bases.Ref (t ∷ []) a all among =
-      one_of [] t a (all t (Contains-first t [])) none_of among
+  predeclared_named (bases.Sum k) ts a all among =
+      sum_has Sound (name_at k) ts all (sum_at k)
+      (λ known is right. sum_sound k known is ts right all) a among
   predeclared_named bases.Array (t ∷ []) a all among =
       array_named (head decls t) t a (all t (Contains-first t [])) among
   predeclared_named bases.Int [] a all among = none_of a among
@@ -586,7 +594,16 @@ module _ (decls : List Decl) (well : AreWellFormed decls) where
     by_base base = tt
   array_hashed h t = tt
 
+  shape_if_hashed : (test : Bool) (known : Sum) (name : List ℕ) (ts : List Ty) → HashedShape (shape_if test known name ts)
+  shape_if_hashed true known name ts = tt
+  shape_if_hashed false known name ts = tt
+
+  sum_hashed : (known : Option Sum) (name : List ℕ) (ts : List Ty) → HashedShape (sum_shape known name ts)
+  sum_hashed None name ts = tt
+  sum_hashed (Some known) name ts = shape_if_hashed (takes known.parameters ts) known name ts
+
   predeclared_hashed : (b : Predeclared) (ts : List Ty) → HashedShape (predeclared_shape decls b ts)
+  predeclared_hashed (bases.Sum k) ts = sum_hashed (sum_at k) (name_at k) ts
   predeclared_hashed bases.Array (t ∷ []) = array_hashed (head decls t) t
   predeclared_hashed bases.Int [] = tt
   predeclared_hashed b [] = tt
@@ -632,8 +649,8 @@ module _ (decls : List Decl) (well : AreWellFormed decls) where
   head_shape_hashed (heads.Variants tags) hashed distinct = tags_hashed tags hashed distinct
   head_shape_hashed heads.Absent hashed distinct = tt
 
-  -- If the shape of a sound type is that of a variant type, then its tags are determined by their
-  -- hashes.
+  -- If the shape of a sound type is the shape of a polymorphic variant, then the tags of the type
+  -- are determined by their hashes.
   pub shape_hashed : (t : Ty) → Sound t → HashedShape (shape decls t)
   shape_hashed t s = head_shape_hashed (head decls t) (head_hashed t s) (head_distinct decls t)
 
@@ -654,13 +671,13 @@ module _ (decls : List Decl) (well : AreWellFormed decls) where
         reached_sound from.1 u (sound_below n from.0 from.1 (omega (arith, below, from.2)) from.3)
         from.4
 
-    -- Every reached type is sound.
+    -- Every type that a sound type reaches is sound.
     pub all_reached_sound : (u : Ty) → Contains types u → Sound u
     all_reached_sound u among =
         let found = Contains-position types u among in sound_below (suc found.0) found.0 u (omega arith)
         found.1
 
-    -- The tags of every reached type are determined by their hashes.
+    -- The tags of every type that a sound type reaches are determined by their hashes.
     pub known_by_hash : AreKnownByHash decls types
     known_by_hash u tags among is =
         subst HashedShape is

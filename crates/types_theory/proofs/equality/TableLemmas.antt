@@ -172,20 +172,21 @@ module _ (decls : List Decl) (types : List Ty) (table : Table) (made : IsTableOf
         ∙ slice_get-mapped (λ t. with_parts Some (shape decls t)) types i
         ∙ ap (option_map (λ t. with_parts Some (shape decls t))) of)
 
-    -- The shape at a number is the shape of its type, with numbers instead of types.
+    -- The shape at a number is the shape of the number's type, with numbers instead of types as
+    -- parts.
     shape_is : (i : ℕ) (u : Ty) → Of i u → with_parts (slice_get types) (node i) ≡ with_parts Some
         (shape decls u)
     shape_is i u of =
         let s = found i u of in
         ap (λ o. with_parts (slice_get types) (node_or_none o)) s.1 ∙ s.2
 
-    -- `is_asked` is the same for the number and for the type.
+    -- `is_asked` is the same for the shape at a number and for the shape of the number's type.
     pub asked_at : (i : ℕ) (u : Ty) → Of i u → is_asked (node i) ≡ is_asked (shape decls u)
     asked_at i u of =
         sym (asked_same (slice_get types) (node i)) ∙ ap is_asked (shape_is i u of)
         ∙ asked_same Some (shape decls u)
 
-    -- If a number has a shape, then it is the number of a type.
+    -- If a number has a shape in the table, then the number is the number of a type.
     known : (i : ℕ) (s : ShapeOf ℕ) → slice_get table.nodes i ≡ Some s → (u : Ty) × Of i u
     known i s is =
         let at = mapped_some (λ t. with_parts Some (shape decls t)) (slice_get types i)
@@ -203,7 +204,8 @@ module _ (decls : List Decl) (types : List Ty) (table : Table) (made : IsTableOf
       abbrev pub types_at : Val → Ty → Option (List (ℕ × Ty))
       types_at v u = fields_of graph v (shape decls u)
 
-      -- The same fields are required by numbers and by types.
+      -- The typed fields of a value at a number agree with the typed fields of the value at the
+      -- number's type.
       pub fields_same :
           (v : Val) (i : ℕ) (u : Ty) → Of i u → FieldsAgree Of (numbers_at v i) (types_at v u)
       fields_same v i u of = fields_at (slice_get types) Some (numbers_at v i) (types_at v u)
@@ -219,7 +221,7 @@ module _ (decls : List Decl) (types : List Ty) (table : Table) (made : IsTableOf
           ∙ ap (λ s. is_mutable s (slice_get graph o)) (shape_is i u of)
           ∙ mutable_same Some (shape decls u) (slice_get graph o)
 
-      -- If a value matches at a number, then it is the number of a type.
+      -- If a value matches at a number, then the number is the number of a type.
       fit_found : (v : Val) (s : Option (ShapeOf ℕ)) (i : ℕ) → slice_get table.nodes i ≡ s
           → IsSome (fields_of graph v (node_or_none s)) → (u : Ty) × Of i u
       fit_found v (Some s) i is fits = known i s is
@@ -235,7 +237,7 @@ module _ (decls : List Decl) (types : List Ty) (table : Table) (made : IsTableOf
           fit_known v i (needs_some (numbers_at v i) (k, j)
           (asked_is node (or_none (numbers_at v i)) k j has).0)
 
-      -- A field that is required at a number is required at its type, and conversely.
+      -- A field that is required at a number is required at the number's type.
       pub need_forth : (v : Val) (i : ℕ) (u : Ty) (k j : ℕ) → Of i u
           → Contains ((table_shapes table).needs graph v i) (k, j)
           → (a : Ty) × Contains ((declared_shapes decls).needs graph v u) (k, a) × Of j a
@@ -364,7 +366,7 @@ module _ (decls : List Decl) (types : List Ty) (table : Table) (made : IsTableOf
 
 -- ---- lawful tables
 
--- If two lists have the same length, then an index within one is within the other.
+-- If two lists have the same length, then each index of one list is an index of the other list.
 same_length_known :
     {X Y : Type 0} (xs : List X) (ys : List Y) (i : ℕ) (x : X) → length ys ≡ length xs
     → slice_get xs i ≡ Some x → (y : Y) × (slice_get ys i ≡ Some y)
@@ -386,7 +388,7 @@ module _ (decls : List Decl) (sound : AreSound decls) (root : Ty) (types : List 
   abbrev Class : ℕ → ℕ → Type 0
   Class i j = slice_get table.classes i ≡ slice_get table.classes j
 
-  -- If a number has the class of a type's number, then it is the number of a type.
+  -- If a number has the class of a type's number, then the number is the number of a type.
   class_known : (i j : ℕ) (u : Ty) → Is i u → Class i j → (w : Ty) × Is j w
   class_known i j u is same =
       let class = same_length_known types table.classes i u made.many is in

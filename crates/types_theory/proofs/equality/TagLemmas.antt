@@ -1,4 +1,4 @@
--- Tags of heads that agree.
+-- Lemmas about the tags of heads that agree.
 use Rattle.std.proofs.Common.{ℕ, ◌≡◌, ◌∙◌, ◌⊎◌, ⊎_elim, inl, inr, List, [], ◌∷◌, Bool, true, false}
 use Rattle.std.proofs.Common.{refl, sym, ap}
 use Rattle.std.specs.Prelude.{Contains, filter, not, ◌||◌}
@@ -59,7 +59,8 @@ module _ (Similar : Ty → Ty → Type 0) where
   abbrev Found : List (TagOf Ty) → TagOf Ty → Type 0
   Found others tag = (other : TagOf Ty) × Contains others other × TagsAgree Similar tag other
 
-  -- If the first lists have the same names, then each joined tag has one that agrees with it.
+  -- If the first lists of two joined lists have the same names, then each tag of one joined list
+  -- agrees with a tag of the other joined list.
   pub there_joined :
       (tags others more more' : List (TagOf Ty)) → ((tag : TagOf Ty) → Contains tags tag
       → Found others tag) → ((other : TagOf Ty) → Contains others other → (tag : TagOf Ty)

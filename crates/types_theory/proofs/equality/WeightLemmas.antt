@@ -1,5 +1,5 @@
--- Enough expansions: each expansion lowers a weight, and the weight is below the bound on
--- expansions.
+-- The head of a type needs finitely many expansions: each expansion lowers a weight, and the weight
+-- is below the bound on expansions.
 use Rattle.std.proofs.Common.{ℕ, suc, ◌+◌, ◌-◌, ◌*◌, ◌<◌, ◌≤◌, ◌≡◌, ◌∙◌, ⊎_elim, inl, inr, List, []}
 use Rattle.std.proofs.Common.{◌∷◌, length, Bool, true, false, Option, Some, None, refl, sym, ap}
 use Rattle.std.proofs.Common.{subst, arith}
@@ -31,7 +31,7 @@ module _ (cost : List ℕ → ℕ) (positive : (name : List ℕ) → 0 < cost na
   own (tag_of whole x argument) = own whole
   own (including whole included) = own whole
 
-  -- The largest sum of costs along a path down the type. Tag arguments are not on any path.
+  -- The largest sum of costs along a path down the tree of a type. No path enters a tag argument.
   abbrev pub weight : Ty → ℕ
   weight (variable x) = 0
   weight (named name) = cost name
@@ -154,7 +154,7 @@ module _ (cost : List ℕ → ℕ) (positive : (name : List ℕ) → 0 < cost na
 
   -- ---- depth
 
-  -- The names outside tag arguments cost at most `c`.
+  -- Each name of the type outside tag arguments costs at most `c`.
   abbrev pub CostsWithin : ℕ → Ty → Type 0
   CostsWithin c (variable x) = Unit {0}
   CostsWithin c (named name) = cost name ≤ c
@@ -221,8 +221,8 @@ module _ (cost : List ℕ → ℕ) (positive : (name : List ℕ) → 0 < cost na
 -- ---- ranked abbreviations
 
 -- Consequences of the rule against cycles. Each name has a rank. The rank of an abbreviation is
--- above the ranks of all names that it uses outside tag arguments. Its expansion is a written type
--- of depth at most 200.
+-- above the ranks of all names that the abbreviation uses outside tag arguments. The expansion of
+-- an abbreviation is a written type of depth at most 200.
 pub record AreRanked (decls : List Decl) (rank : List ℕ → ℕ) : Type 0 where
   pub bounded : (name : List ℕ) → rank name ≤ length decls
   pub falls : (name : List ℕ) (d : Decl) (t : Ty) → declaration_of decls name ≡ Some d
@@ -264,7 +264,7 @@ module _ (decls : List Decl) (rank : List ℕ → ℕ) (ranked : AreRanked decls
         within : (a : Ty) → Contains (parts t) a → heft a ≤ heft t - price name
         within a among = omega (arith, argument_weight price priced t name a named' among)
 
-  -- The expansion of an abbreviation weighs less than a type with the abbreviation at its head.
+  -- The body of an abbreviation weighs less than a type with the abbreviation at its head.
   pub body_falls : (t body : Ty) (name : List ℕ) (d : Decl) → name_of t ≡ Some name
       → declaration_of decls name ≡ Some d → abbreviated d.body ≡ Some body → heft body < heft t
   body_falls t body name d named' found is =

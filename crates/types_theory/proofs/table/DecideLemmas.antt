@@ -1,4 +1,4 @@
--- A value has a declared type if and only if it has the type's number in a table.
+-- A value has a declared type if and only if the value has the type's number in a table.
 use Rattle.std.proofs.Common.{ℕ, zero, suc, ◌<◌, ◌≡◌, ◌⊎◌, ⊎_elim, inl, inr, List, [], ◌∷◌}
 use Rattle.std.proofs.Common.{length}
 use Rattle.std.proofs.Common.{true, false, Option, Some, None, refl, ap, subst, sym, arith}
@@ -79,7 +79,7 @@ tables_are_decidable table = record {
   once = λ graph v i k j l one other. fields_once (shape_at table i) graph v k j l
       (named graph v i k j one) (named graph v i k l other);
 } where
-  -- Each required field is a field with a type.
+  -- Each field that a number of the table requires has a type in the shape at the number.
   named : (graph : List Obj) (v : Val) (i k j : ℕ)
       → Contains ((table_shapes table).needs graph v i) (k, j)
       → Contains (or_none (fields_of graph v (shape_at table i))) (k, j)
@@ -201,7 +201,7 @@ module _ (decls : List Decl) (types : List Ty) (table : Table) (made : IsTableOf
         typed = typed_forth v i u is has.typed;
       }
 
-  -- Each number of the table reaches finitely many numbers.
+  -- From each number of the table, finitely many numbers are reachable.
   few : (i : ℕ) (u : Ty) → Is i u → ReachesFew (table_shapes table) i
   few i u is = record {
     types = below (length types);

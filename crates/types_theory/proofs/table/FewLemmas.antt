@@ -1,4 +1,5 @@
--- If a type reaches few types, then it does not reach too many.
+-- If the list of the types that a type reaches is short enough, then the type does not reach too
+-- many types.
 use Rattle.std.proofs.Common.{ℕ, zero, suc, ◌<◌, ◌≤◌, ◌≡◌, ◌∙◌, ⊎_elim, List, [], ◌∷◌, length, Some, refl, sym, ap, subst, arith}
 use Rattle.std.specs.Prelude.{Contains, slice_get}
 use Rattle.types_spec.specs.declared.types.decl.Decl.{Decl}
@@ -10,7 +11,7 @@ use Rattle.types_theory.proofs.equality.ReachedLemmas.{root_listed, reached_list
 abbrev AreAll : List Ty → List Ty → Type 0
 AreAll xs ys = (k : ℕ) (x : Ty) → slice_get xs k ≡ Some x → Contains ys x
 
--- A list has at most as many distinct types as its length.
+-- If the elements of `xs` are distinct and all in `ys`, then `xs` is at most as long as `ys`.
 distinct_fit : (xs ys : List Ty) → AreDistinct xs → AreAll xs ys → length xs ≤ length ys
 distinct_fit [] ys distinct all = omega arith
 distinct_fit (x ∷ xs) ys distinct all =
@@ -24,7 +25,7 @@ distinct_fit (x ∷ xs) ys distinct all =
     (w.others y (all (suc k) y at))) in
     omega (arith, shorter, fewer)
 
--- If many types are reached, then each of them is in the list.
+-- If a type reaches too many types, then each of the many types is in the list of reached types.
 all_listed : (decls : List Decl) (t : Ty) (types : List Ty) → IsReached decls t types → (many : ReachesTooMany decls t) → (n k : ℕ) (u : Ty) → k < n → slice_get many.types k ≡ Some u
     → Contains types u
 all_listed decls t types reached many zero k u less at = absurd (omega (arith, less))

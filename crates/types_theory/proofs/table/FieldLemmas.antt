@@ -1,4 +1,4 @@
--- The fields that a shape requires exist, and each has one type.
+-- The fields that a shape requires exist, and each required field has one type.
 use Rattle.std.proofs.Common.{ℕ, zero, suc, ◌+◌, ◌≡◌, ◌∙◌, ⊎_elim, List, []}
 use Rattle.std.proofs.Common.{◌∷◌, length}
 use Rattle.std.proofs.Common.{Bool, true, false, Option, Some, None, refl, ap, sym, arith}
@@ -27,7 +27,8 @@ use Rattle.base_data.proofs.model.Options.{Contains-none, Contains-cases, slice_
 -- ---- fields that exist
 
 module _ {T : Type 0} where
-  -- A numbered entry is the type at its index in the list.
+  -- If the list numbered from `k` contains the pair of `i` and a type, the type is at index `i - k`
+  -- of the list.
   numbered_at : (k : ℕ) (ts : List T) (i : ℕ) (a : T) → Contains (numbered_from k ts) (i, a)
       → (j : ℕ) × (i ≡ k + j) × (slice_get ts j ≡ Some a)
   numbered_at k [] i a among = absurd (Contains-none (i, a) among)
@@ -45,7 +46,7 @@ module _ {T : Type 0} where
       let same : found.0 ≡ i = omega (arith, found.1) in
       ap (slice_get ts) (sym same) ∙ found.2
 
-  -- Each required field has a value.
+  -- For each field in `needs`, the list `values` has a value.
   abbrev There : List Val → Option (List (ℕ × T)) → Type 0
   There values needs =
       (i : ℕ) (a : T) → Contains (or_none needs) (i, a) → (w : Val) × (slice_get values i ≡ Some w)
@@ -90,7 +91,7 @@ module _ {T : Type 0} where
   constr_once size (Some c) i a b one other =
       if_once (length c.fields == size) c.fields i a b one other
 
-  -- The argument of a tag is field 1.
+  -- The only typed field of a tag's block is field 1, whose type is the type of the tag's argument.
   argument_is : (arg : Option T) (i : ℕ) (a : T) → Contains (or_none (argument_field arg)) (i, a)
       → (i ≡ 1) × (arg ≡ Some a)
   argument_is None i a among = absurd (Contains-none (i, a) among)

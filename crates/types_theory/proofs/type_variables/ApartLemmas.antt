@@ -1,5 +1,5 @@
--- Closed types that keep unequal types distinct: each variable is replaced by a tuple that is
--- longer than all reached tuples, and whose length is used for no other variable.
+-- Closed types whose instances keep unequal types distinct. A tuple replaces each variable: the
+-- tuple is longer than all reached tuples, and no other variable has a tuple of the same length.
 use Rattle.std.proofs.Common.{ℕ, suc, ◌+◌, ◌<◌, ◌≤◌, ◌≡◌, ◌∙◌, ◌⊎◌, ⊎_elim, inl, inr, List, [], ◌∷◌, length, refl, ap, subst, sym, arith}
 use Rattle.std.proofs.Common.{Bool, true, false}
 use Rattle.std.specs.Prelude.{Contains, map}
@@ -78,7 +78,8 @@ length-map : (f : Ty → Ty) (ts : List Ty) → length (map f ts) ≡ length ts
 length-map f [] = refl
 length-map f (t ∷ ts) = ap suc (length-map f ts)
 
--- If the heads of two types agree and one is a tuple, then the other is a tuple of the same length.
+-- If the heads of two types agree and one head is a tuple, then the other head is a tuple of the
+-- same length.
 tuple_too : (P : Ty → Ty → Type 0) (f : Ty → Ty) (ts : List Ty) (h : HeadOf Ty)
     → HeadsAgree P (heads.Tuple ts) (head_with_parts f h) → length ts ≡ tuple_length h
 tuple_too P f ts (heads.Tuple us) agree = Pairwise-length P ts (map f us) agree ∙ length-map f us
@@ -152,7 +153,7 @@ module _ (decls : List Decl) (well : AreWellFormed decls) (types : List Ty)
   unfolding apart
   apart_head x = tuple_head decls well (suc (long x))
 
-  -- None of these types is `_`.
+  -- No type that replaces a variable is `_`.
   pub apart_asked : (x : List ℕ) → is_asked (shape decls (apart x)) ≡ true
   apart_asked x = ap (λ h. is_asked (head_shape decls h)) (apart_head x)
 
@@ -263,7 +264,7 @@ module _ (decls : List Decl) (well : AreWellFormed decls) (types : List Ty)
         let is = back_is a b held in
         heads_back a b is.0 is.1 (shut (new a) (new b) is.2) (variable_or_not (head decls a)) (variable_or_not (head decls b))
 
-  -- If the instances of two types are equal, then the types are equal.
+  -- If two reached types have equal instances, then the two types are equal.
   pub kept_apart : (t u : Ty) → Contains types t → Contains types u → Equal decls (new t) (new u) → Equal decls t u
   kept_apart t u among among' equal = record {
     pairs = back equal.pairs equal.closed;

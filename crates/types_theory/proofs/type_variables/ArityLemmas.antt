@@ -18,7 +18,8 @@ pub length-push : {X : Type 0} (xs : List X) (x : X) → length (xs ++ x ∷ [])
 length-push [] x = refl
 length-push (y ∷ xs) x = ap suc (length-push xs x)
 
--- The datatype at the head takes these arguments and `k` more.
+-- If the head is a datatype, then the datatype takes the arguments of the head and `k` more
+-- arguments.
 abbrev pub HasArity : List Decl → HeadOf Ty → ℕ → Type 0
 HasArity decls (heads.Datatype n ts) k = arity_of decls n ≡ Some (length ts + k)
 HasArity decls h k = Unit {0}
@@ -80,7 +81,8 @@ module _ (decls : List Decl) (well : AreWellFormed decls) where
   unfolding Known
   head_arity t s = all_known (suc (weighs decls well t)) t (omega arith) s
 
-  -- The head has as many arguments as the declaration has parameters.
+  -- The head of a sound type has as many arguments as the declaration of its datatype has
+  -- parameters.
   pub as_many : (t : Ty) → IsSoundType decls t → (n : List ℕ) (ts : List Ty) → head decls t ≡ heads.Datatype n ts
       → (d : Decl) → declaration_of decls n ≡ Some d → length ts ≡ length d.parameters
   as_many t s n ts is d found =

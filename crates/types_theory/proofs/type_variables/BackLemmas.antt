@@ -1,4 +1,4 @@
--- If a value has every closed instance of a type, then it has the type.
+-- If a value has every closed instance of a type, then the value has the type.
 use Rattle.std.proofs.Common.{ℕ, ◌≡◌, ⊎_elim, inl, inr, List, Option, Some, None, refl, subst, sym}
 use Rattle.std.specs.Prelude.{Contains, IsSome, IsSomeAnd, IsTrue}
 use Rattle.base_data.proofs.model.Options.{IsSomeAnd-some, none_is_not_some}
@@ -44,7 +44,8 @@ module _ (decls : List Decl) (t : Ty) (types : List Ty) (well : AreWellFormed de
   abbrev own : Contains types t
   own = root_listed decls t types reached
 
-  -- If the value has every closed instance, then it has no fault at any of them.
+  -- If a value has every closed instance of a type, then the value has no fault at any closed
+  -- instance.
   no_fault : (value : List ℕ → Ty) → AreClosed decls value → (fault : Fault)
       → IsFault (declared_shapes decls) graph v (instance value t) fault → ⊥
   no_fault value closed fault is =

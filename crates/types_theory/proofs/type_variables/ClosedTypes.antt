@@ -1,5 +1,5 @@
 -- Closed types: three predeclared types, and tuples of integers. For each value, one of the three
--- does not match the value.
+-- predeclared types does not match the value.
 use Rattle.std.proofs.Common.{ℕ, zero, suc, ◌≡◌, ◌∙◌, ⊎_elim, inl, inr, List, [], ◌∷◌, ◌++◌, length, refl, ap, subst, sym}
 use Rattle.std.proofs.Common.{Option, Some, None, true}
 use Rattle.std.specs.Prelude.{Contains, codes, slice_get, option_and_then, option_map, map}
@@ -36,10 +36,6 @@ use Rattle.types_theory.proofs.type_variables.InstanceFields.{array_shape, new_n
 only_is : {X : Type 0} (x y : X) → Contains (x ∷ []) y → x ≡ y
 only_is x y among = ⊎_elim (λ here. here) (λ never. absurd (Contains-none y never)) (Contains-cases x [] y among)
 
-nothing_named : (decls : List Decl) (b : Predeclared) → named_in (predeclared_shape decls b []) ≡ []
-nothing_named decls bases.Int = refl
-nothing_named decls b = refl
-
 abbrev pub int : Ty
 int = named (codes "int")
 
@@ -54,11 +50,11 @@ module _ (decls : List Decl) (well : AreWellFormed decls) where
     pub base_head : head decls (named n) ≡ heads.Predeclared b []
     base_head = plain decls well (named n) (no_abbreviation (declaration_of decls n) refl) ∙ ap (λ base. head_meant base n) is
 
-    pub base_reaches : (a : Ty) → Contains (reached_from decls (named n)) a → ⊥
-    base_reaches a has =
+    pub base_reaches : named_in (predeclared_shape decls b []) ≡ [] → (a : Ty) → Contains (reached_from decls (named n)) a → ⊥
+    base_reaches nothing a has =
         let at_head = subst (λ (h : HeadOf Ty). Contains (named_in (head_shape decls h) ++ parts_of h) a) base_head has in
         ⊎_elim
-        (λ in_shape. Contains-none a (subst (λ (ts : List Ty). Contains ts a) (nothing_named decls b) in_shape))
+        (λ in_shape. Contains-none a (subst (λ (ts : List Ty). Contains ts a) nothing in_shape))
         (λ in_head. Contains-none a in_head)
         (Contains-append_cases (named_in (predeclared_shape decls b [])) [] a at_head)
 
@@ -69,13 +65,14 @@ module _ (decls : List Decl) (well : AreWellFormed decls) where
       brackets = tt;
     }
 
-    pub base_closed : arity_in (Some b) (declaration_of decls n) ≡ Some 0 → IsClosedType decls (named n)
-    base_closed none = record {
+    pub base_closed : arity_in (Some b) (declaration_of decls n) ≡ Some 0 → named_in (predeclared_shape decls b []) ≡ []
+        → IsClosedType decls (named n)
+    base_closed none nothing = record {
       no_variables = tt;
       types = named n ∷ [];
       own = Contains-first (named n) [];
       sound = λ u among. subst (IsSoundType decls) (only_is (named n) u among) (base_sound none);
-      reached = λ u a among has. absurd (base_reaches a
+      reached = λ u a among has. absurd (base_reaches nothing a
           (subst (λ w. Contains (reached_from decls w) a) (sym (only_is (named n) u among)) has));
     }
 
@@ -151,7 +148,7 @@ module _ (decls : List Decl) (well : AreWellFormed decls) where
         (Contains-cases (tuple_of n) (int ∷ []) u among);
     reached = λ u a among has. ⊎_elim
         (λ here. from_tuple a (subst (λ w. Contains (reached_from decls w) a) (sym here) has))
-        (λ later. absurd (base_reaches (codes "int") bases.Int int_is a
+        (λ later. absurd (base_reaches (codes "int") bases.Int int_is refl a
         (subst (λ w. Contains (reached_from decls w) a) (sym (only_is int u later)) has)))
         (Contains-cases (tuple_of n) (int ∷ []) u among);
   } where
@@ -186,7 +183,7 @@ module _ (decls : List Decl) (well : AreWellFormed decls) where
   by_int graph o object is none none_in_array = record {
     closed_type = int;
     base = bases.Int;
-    closed = base_closed (codes "int") bases.Int int_is refl;
+    closed = base_closed (codes "int") bases.Int int_is refl refl;
     head_is = base_head (codes "int") bases.Int int_is;
     asked = refl;
     away = at_object graph o shapes.AnyInt object is none;
@@ -197,7 +194,7 @@ module _ (decls : List Decl) (well : AreWellFormed decls) where
   for_object graph o (objects.Block tag values) is = record {
     closed_type = named (codes "float");
     base = bases.Float;
-    closed = base_closed (codes "float") bases.Float float_is refl;
+    closed = base_closed (codes "float") bases.Float float_is refl refl;
     head_is = base_head (codes "float") bases.Float float_is;
     asked = refl;
     away = at_object graph o shapes.Double (objects.Block tag values) is refl;
@@ -215,7 +212,7 @@ module _ (decls : List Decl) (well : AreWellFormed decls) where
   for_reference graph o None is = record {
     closed_type = int;
     base = bases.Int;
-    closed = base_closed (codes "int") bases.Int int_is refl;
+    closed = base_closed (codes "int") bases.Int int_is refl refl;
     head_is = base_head (codes "int") bases.Int int_is;
     asked = refl;
     away = ap (option_and_then (object_fields shapes.AnyInt)) is;
@@ -226,7 +223,7 @@ module _ (decls : List Decl) (well : AreWellFormed decls) where
   some_is_away graph (vals.Int z) = record {
     closed_type = named (codes "string");
     base = bases.String;
-    closed = base_closed (codes "string") bases.String string_is refl;
+    closed = base_closed (codes "string") bases.String string_is refl refl;
     head_is = base_head (codes "string") bases.String string_is;
     asked = refl;
     away = refl;
@@ -235,7 +232,7 @@ module _ (decls : List Decl) (well : AreWellFormed decls) where
   some_is_away graph (vals.Atom tag) = record {
     closed_type = int;
     base = bases.Int;
-    closed = base_closed (codes "int") bases.Int int_is refl;
+    closed = base_closed (codes "int") bases.Int int_is refl refl;
     head_is = base_head (codes "int") bases.Int int_is;
     asked = refl;
     away = refl;
@@ -246,8 +243,8 @@ module _ (decls : List Decl) (well : AreWellFormed decls) where
   pub away_asked : (graph : List Obj) (v : Val) (at : IsAway graph v) → is_asked (shape decls at.closed_type) ≡ true
   away_asked graph v at = ap (λ h. is_asked (head_shape decls h)) at.head_is ∙ at.asked
 
-  -- If this type replaces all variables and the value does not match a type, then it does not match
-  -- the instance.
+  -- Let a closed type that a value does not match replace all variables. If the value does not
+  -- match a type, then the value does not match the instance of the type.
   module _ (graph : List Obj) (v : Val) (at : IsAway graph v) where
     abbrev value : List ℕ → Ty
     value x = at.closed_type

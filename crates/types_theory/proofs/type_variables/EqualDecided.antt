@@ -1,12 +1,13 @@
--- Equality of finitely many types is decidable if their parts are among them. Start with all pairs,
--- and remove a pair whose heads do not agree by the remaining pairs, until no such pair is left.
+-- If a finite list of types contains the parts of its types, then equality of types of the list is
+-- decidable. The decision starts with all pairs. The decision removes each pair whose heads do not
+-- agree by the remaining pairs, until no pair can be removed.
 use Rattle.std.proofs.Common.{ℕ, zero, suc, ◌<◌, ◌≡◌, ◌∙◌, ◌⊎◌, ⊎_elim, inl, inr, List, [], ◌∷◌, length, Option, Some, None, refl, ap, subst, sym, arith}
 use Rattle.std.specs.Prelude.{Contains, map, slice_get}
 use Rattle.std.specs.List.{flat_map}
 use Rattle.std.specs.Str.{bytes_eq}
 use Rattle.std.proofs.lemmas.Option.{same_Some}
 use Rattle.std.proofs.lemmas.Slice.Eq.{bytes_eq-Decides}
-use Rattle.base_data.proofs.model.Options.{Contains-map, Contains-flat_map, same_or_not, true_or_not}
+use Rattle.base_data.proofs.model.Options.{Contains-map, Contains-flat_map, true_or_not}
 use Rattle.types_spec.specs.declared.types.decl.Predeclared.{Predeclared}
 use Rattle.types_spec.specs.declared.types.decl.Predeclared.TheVariants as bases
 use Rattle.types_spec.specs.declared.types.decl.Decl.{Decl}
@@ -45,7 +46,7 @@ module _ {X : Type 0} (Q : X → Type 0) (test : (x : X) → OrNot (Q x)) (xs : 
   abbrev Some_one : Type 0
   Some_one = (x : X) × Contains xs x × Q x
 
-  -- Either one element does not have the property, or all elements have it.
+  -- Either one element of the list does not have the property, or all elements have the property.
   pub fails_or_all : Fails ⊎ All
   fails_or_all = search_all Q xs (λ x among. by x among (test x)) where
     by : (x : X) → Contains xs x → OrNot (Q x) → Fails ⊎ Q x
@@ -68,53 +69,42 @@ names_or_not a b = ⊎_elim
     (λ no'. inr (λ same. no' ((bytes_eq-Decides a b).1 same)))
     (true_or_not (bytes_eq a b))
 
-abbrev number_of : Predeclared → ℕ
-number_of bases.Int = 0
-number_of bases.Char = 1
-number_of bases.Bool = 2
-number_of bases.Unit = 3
-number_of bases.String = 4
-number_of bases.Bytes = 5
-number_of bases.Float = 6
-number_of bases.Int32 = 7
-number_of bases.Int64 = 8
-number_of bases.Nativeint = 9
-number_of bases.Floatarray = 10
-number_of bases.List = 11
-number_of bases.Option = 12
-number_of bases.Array = 13
-number_of bases.Ref = 14
-number_of bases.Any = 15
+-- The number of the kind of a predeclared type, and the row of a variant or 0.
+abbrev code_of : Predeclared → List ℕ
+code_of bases.Int = 0 ∷ 0 ∷ []
+code_of bases.Char = 1 ∷ 0 ∷ []
+code_of bases.Bool = 2 ∷ 0 ∷ []
+code_of bases.Unit = 3 ∷ 0 ∷ []
+code_of bases.String = 4 ∷ 0 ∷ []
+code_of bases.Bytes = 5 ∷ 0 ∷ []
+code_of bases.Float = 6 ∷ 0 ∷ []
+code_of bases.Int32 = 7 ∷ 0 ∷ []
+code_of bases.Int64 = 8 ∷ 0 ∷ []
+code_of bases.Nativeint = 9 ∷ 0 ∷ []
+code_of bases.Floatarray = 10 ∷ 0 ∷ []
+code_of bases.Array = 11 ∷ 0 ∷ []
+code_of bases.Any = 12 ∷ 0 ∷ []
+code_of (bases.Sum k) = 13 ∷ k ∷ []
 
-abbrev in_order : List Predeclared
-in_order =
+abbrev in_order : ℕ → List Predeclared
+in_order k =
     bases.Int ∷ bases.Char ∷ bases.Bool ∷ bases.Unit ∷ bases.String ∷ bases.Bytes ∷ bases.Float ∷ bases.Int32
-    ∷ bases.Int64 ∷ bases.Nativeint ∷ bases.Floatarray ∷ bases.List ∷ bases.Option ∷ bases.Array ∷ bases.Ref
-    ∷ bases.Any ∷ []
+    ∷ bases.Int64 ∷ bases.Nativeint ∷ bases.Floatarray ∷ bases.Array ∷ bases.Any ∷ bases.Sum k ∷ []
 
-at_number : (b : Predeclared) → slice_get in_order (number_of b) ≡ Some b
-at_number bases.Int = refl
-at_number bases.Char = refl
-at_number bases.Bool = refl
-at_number bases.Unit = refl
-at_number bases.String = refl
-at_number bases.Bytes = refl
-at_number bases.Float = refl
-at_number bases.Int32 = refl
-at_number bases.Int64 = refl
-at_number bases.Nativeint = refl
-at_number bases.Floatarray = refl
-at_number bases.List = refl
-at_number bases.Option = refl
-at_number bases.Array = refl
-at_number bases.Ref = refl
-at_number bases.Any = refl
+abbrev base_of : List ℕ → Option Predeclared
+base_of (kind ∷ k ∷ []) = slice_get (in_order k) kind
+base_of code = None
+
+of_code : (b : Predeclared) → base_of (code_of b) ≡ Some b
+of_code bases.Int = refl
+of_code (bases.Sum k) = refl
+of_code b = refl
 
 bases_or_not : (b c : Predeclared) → OrNot (b ≡ c)
-bases_or_not b c = if_or_not (number_of b ≡ number_of c) (b ≡ c)
-    (λ same. same_Some b c (sym (at_number b) ∙ ap (slice_get in_order) same ∙ at_number c))
-    (λ same. ap number_of same)
-    (same_or_not (number_of b) (number_of c))
+bases_or_not b c = if_or_not (code_of b ≡ code_of c) (b ≡ c)
+    (λ same. same_Some b c (sym (of_code b) ∙ ap base_of same ∙ of_code c))
+    (λ same. ap code_of same)
+    (names_or_not (code_of b) (code_of c))
 
 -- ---- heads that agree
 
@@ -182,11 +172,11 @@ holds_or_not pairs t u = if_or_not ((p : Pair) × Contains pairs p × (p ≡ (t,
 
 module _ (decls : List Decl) (types : List Ty)
     (parts : (u a : Ty) → Contains types u → Contains (parts_of (head decls u)) a → Contains types a) where
-  -- Each two equal types of the list are a pair.
+  -- The list `pairs` contains each pair of equal types of the list `types`.
   abbrev Keeps : List Pair → Type 0
   Keeps pairs = (t u : Ty) → Contains types t → Contains types u → Equal decls t u → Holds pairs t u
 
-  -- The equal types among these, as pairs.
+  -- A list of exactly the pairs of equal types among `types`.
   pub record AreEqualPairs : Type 0 where
     pub pairs : List Pair
     pub closed : IsClosed (head decls) pairs

@@ -1,4 +1,4 @@
--- Instances of equal types are equal.
+-- If two types are equal, then their instances are equal.
 use Rattle.std.proofs.Common.{ℕ, ◌≡◌, ◌∙◌, ◌⊎◌, ⊎_elim, inl, inr, List, [], ◌∷◌, ◌++◌, ap, subst, sym}
 use Rattle.std.specs.Prelude.{Contains, map}
 use Rattle.std.specs.List.{flat_map}
@@ -67,7 +67,7 @@ module _ (decls : List Decl) (well : AreWellFormed decls) (value : List ℕ → 
   twice u = (u, u)
 
   module _ (pairs : List (Ty × Ty)) where
-    -- The instances of a pair, if both of its types are in the list.
+    -- The pair of instances of a pair of types, if the two types are in the list `types`.
     moved_if : (p : Ty × Ty) → Contains types p.0 ⊎ (Contains types p.0 → ⊥) → Contains types p.1 ⊎ (Contains types p.1 → ⊥) → List (Ty × Ty)
     moved_if p (inl one) (inl other) = (new p.0, new p.1) ∷ []
     moved_if p one other = []

@@ -1,4 +1,4 @@
--- If a value has a type, then it has every closed instance of the type.
+-- If a value has a type, then the value has every closed instance of the type.
 use Rattle.std.proofs.Common.{ℕ, ◌≡◌, List, Option, ap, subst, sym}
 use Rattle.std.specs.Prelude.{Contains, map, IsSomeAnd, IsTrue}
 use Rattle.base_data.proofs.model.Options.{Contains-map, slice_get-Contains, map-Contains, IsSomeAnd-weaker}
@@ -111,7 +111,7 @@ module _ (decls : List Decl) (well : AreWellFormed decls) (value : List ℕ → 
       (typing.one_type o t u among among'
       (fits, subst IsTrue (mutable_becomes decls well value graph o t (sound t (within o t among)) fits) mutable.1))
 
-  -- The instances of the pairs of a typing are a typing.
+  -- If the types in the pairs of a typing are replaced by their instances, the result is a typing.
   pub typing_becomes : IsTyping (declared_shapes decls) graph list
   typing_becomes = record {
     fits = λ o s among. let from = source o s among in

@@ -1,5 +1,5 @@
--- If a value matches a type, then it matches the instances of the type. The required fields are
--- instances of the type's required fields.
+-- If a value matches a type, then the value matches each instance of the type. The types of the
+-- fields at an instance are instances of the types of the fields.
 use Rattle.std.proofs.Common.{ℕ, ◌==◌, ◌≡◌, ◌∙◌, inl, inr, List, [], ◌∷◌, Bool, true, false}
 use Rattle.std.proofs.Common.{Option, Some, None, refl, ap, subst, sym}
 use Rattle.std.specs.Prelude.{IsSome, map, option_map, option_and_then, slice_get}
@@ -24,7 +24,7 @@ use Rattle.types_spec.specs.types.Table.{head_with_parts}
 use Rattle.types_theory.proofs.equality.PartsLemmas.{fields_of_mapped, mutable_same, asked_same}
 use Rattle.types_theory.proofs.type_variables.InstanceShapes.{Becomes, IsArray, becomes, replaced}
 
--- A result that exists.
+-- If an optional result exists, then the result is `Some x` for some `x`.
 pub some_is : {X : Type 0} (found : Option X) → IsSome found → (x : X) × (found ≡ Some x)
 some_is None some = absurd (never some) where
   never : false ≡ true → ⊥
@@ -66,7 +66,7 @@ module _ {T : Type 0} where
   pub no_array_fields : (graph : List Obj) (o : ℕ) → fields_of {T = T} graph (vals.Ref o) shapes.ArrayOfVariable ≡ None
   no_array_fields graph o = at_none shapes.ArrayOfVariable no_object_in_array (slice_get graph o)
 
--- The atom 0 matches every array type.
+-- An atom matches an array type if and only if the atom is 0.
 pub array_atom : (graph : List Obj) (tag : ℕ) (h : HeadOf Ty) (a : Ty)
     → fields_of graph (vals.Atom tag) (array_of h a) ≡ none_if (tag == 0)
 array_atom graph tag (heads.Variable x) a = refl
@@ -132,7 +132,8 @@ module _ (decls : List Decl) (well : AreWellFormed decls) (value : List ℕ → 
         ap (fields_of graph v) later
         ∙ array_needs v (head decls (new array.0)) (new array.0) needs (sym (ap (fields_of graph v) first) ∙ is)
 
-    -- If a value matches a type, then it matches an instance of the type.
+    -- If a value matches a type, then the value matches an instance of the type, and the types of
+    -- its fields become their instances.
     pub fields_become : (needs : List (ℕ × Ty)) → fields_at v t ≡ Some needs → fields_at v (new t) ≡ Some (map new_need needs)
     fields_become needs is = by_becoming needs is (becomes decls well value t s)
 
@@ -141,7 +142,8 @@ module _ (decls : List Decl) (well : AreWellFormed decls) (value : List ℕ → 
       let found = some_is (fields_at v t) fits in
       subst (λ (f : Option (List (ℕ × Ty))). IsSome f) (sym (fields_become v t s found.0 found.1)) refl
 
-  -- An object is mutable at the instance if and only if it is mutable at the type.
+  -- If an object matches a type, then the object is mutable at an instance of the type if and only
+  -- if the object is mutable at the type.
   module _ (o : ℕ) (t : Ty) (s : IsSoundType decls t) where
     mutable_by : IsSome (fields_at (vals.Ref o) t) → Becomes decls well value t
         → is_mutable (shape decls (new t)) (slice_get graph o) ≡ is_mutable (shape decls t) (slice_get graph o)
@@ -176,7 +178,7 @@ module _ (decls : List Decl) (well : AreWellFormed decls) (value : List ℕ → 
     back_by asked (inr (commuted, inl same)) = sym (ap is_asked same ∙ asked_same new (shape decls t)) ∙ asked
     back_by asked (inr (commuted, inr array)) = array_first t array
 
-    -- If the instance is checked, then the type is checked.
+    -- If an instance of a type restricts its values, then the type restricts its values.
     pub asked_back : asked_at (new t) ≡ true → asked_at t ≡ true
     asked_back asked = back_by asked (becomes decls well value t s)
 
@@ -189,6 +191,7 @@ module _ (decls : List Decl) (well : AreWellFormed decls) (value : List ℕ → 
         ap is_asked (array_shape (new t) (new array.0) (commuted ∙ ap (head_with_parts new) array.2))
         ∙ array_asked (head decls (new array.0)) (new array.0) ∙ sym (array_first t array)
 
-    -- If no variable is replaced by `_`, then the instance is checked if and only if the type is.
+    -- If `_` replaces no variable, then an instance restricts its values if and only if the type
+    -- restricts its values.
     pub asked_becomes : ((x : List ℕ) → asked_at (value x) ≡ true) → asked_at (new t) ≡ asked_at t
     asked_becomes stand = same_by stand (becomes decls well value t s)

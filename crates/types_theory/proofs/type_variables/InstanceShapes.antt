@@ -1,5 +1,5 @@
--- The shape of an instance is the type's shape with instances of its types, except for variables
--- and for arrays of variables.
+-- The shape of an instance is the shape of the type, with instances as parts. Variables and arrays
+-- of variables are exceptions.
 use Rattle.std.proofs.Common.{ℕ, ◌≡◌, ◌∙◌, ◌⊎◌, inl, inr, List, [], ◌∷◌, length, Bool, true, false}
 use Rattle.std.proofs.Common.{Option, Some, None, refl, ap, subst, sym}
 use Rattle.std.specs.Prelude.{Contains, map, option_map}
@@ -24,6 +24,8 @@ use Rattle.types_spec.specs.types.Declarations.{declaration_of, instance_of}
 use Rattle.types_spec.specs.types.Head.{head}
 use Rattle.types_spec.specs.types.Shape.{any_mutable, types_of_fields, block_of, blocks_in, array_of, is_flat, constants_in}
 use Rattle.types_spec.specs.types.Shape.{record_shape, body_shape, datatype_shape, tag_shape, head_shape, shape}
+use Rattle.types_spec.specs.types.Predeclared.{sum_at, name_at}
+use Rattle.types_spec.proofs.types.SumTypes.{sum-instance}
 use Rattle.types_spec.specs.types.Accepted.{VariablesAmong, types_of_arguments, types_of_body, IsSoundType, AreWellFormed}
 use Rattle.types_spec.specs.types.Reached.{parts_of}
 use Rattle.types_spec.specs.types.Table.{constr_with, tag_with_parts, with_parts, tag_with_part, head_with_parts}
@@ -133,11 +135,12 @@ module _ (decls : List Decl) (well : AreWellFormed decls) (value : List ℕ → 
   abbrev pub Commutes : Ty → Type 0
   Commutes t = head decls (new t) ≡ head_with_parts new (head decls t)
 
-  -- The shape has instances of the types.
+  -- The shape of the instance of `t` is the shape of `t`, with instances as parts.
   abbrev pub Same : Ty → Type 0
   Same t = shape decls (new t) ≡ with_parts new (shape decls t)
 
-  -- An array of a variable.
+  -- The head of `t` is the predeclared type of arrays, and the head of the element type is a
+  -- variable.
   abbrev pub IsArray : Ty → Type 0
   IsArray t = (a : Ty) × (x : List ℕ) × (head decls t ≡ heads.Predeclared bases.Array (a ∷ [])) × (head decls a ≡ heads.Variable x)
 
@@ -150,7 +153,8 @@ module _ (decls : List Decl) (well : AreWellFormed decls) (value : List ℕ → 
   pub commutes : (t : Ty) → IsSoundType decls t → IsNoVariable (head decls t) → Commutes t
   commutes t s free = head-instance decls well value t s.written s.arguments (includes_of decls well t s.brackets) free
 
-  -- If the head is a variable, then it is replaced.
+  -- If the head of a type is a variable, then the head of an instance is the head of the type that
+  -- replaces the variable.
   pub replaced : (t : Ty) → IsSoundType decls t → (x : List ℕ) → head decls t ≡ heads.Variable x
       → head decls (new t) ≡ head decls (value x)
   replaced t s x is = head-variable decls well value x t s.written s.arguments is
@@ -176,10 +180,9 @@ module _ (decls : List Decl) (well : AreWellFormed decls) (value : List ℕ → 
         (ap (λ h. array_of h (new a)) commuted ∙ array_becomes decls value (head decls a) a free))
 
     by_predeclared : (b : Predeclared) (ts : List Ty) → head decls t ≡ heads.Predeclared b ts → Same t ⊎ IsArray t
+    by_predeclared (bases.Sum k) ts is =
+        inl (same_by (heads.Predeclared (bases.Sum k) ts) is tt (sum-instance value (name_at k) ts (sum_at k)))
     by_predeclared bases.Array (a ∷ []) is = array_case a is (variable_or_not (head decls a))
-    by_predeclared bases.List (a ∷ []) is = inl (same_by (heads.Predeclared bases.List (a ∷ [])) is tt refl)
-    by_predeclared bases.Option (a ∷ []) is = inl (same_by (heads.Predeclared bases.Option (a ∷ [])) is tt refl)
-    by_predeclared bases.Ref (a ∷ []) is = inl (same_by (heads.Predeclared bases.Ref (a ∷ [])) is tt refl)
     by_predeclared bases.Int [] is = inl (same_by (heads.Predeclared bases.Int []) is tt refl)
     by_predeclared b [] is = inl (same_by (heads.Predeclared b []) is tt refl)
     by_predeclared bases.Int (a ∷ []) is = inl (same_by (heads.Predeclared bases.Int (a ∷ [])) is tt refl)
@@ -212,6 +215,5 @@ module _ (decls : List Decl) (well : AreWellFormed decls) (value : List ℕ → 
     by_head heads.Absent is =
         inr (commutes t s (subst IsNoVariable (sym is) tt), inl (same_by heads.Absent is tt refl))
 
-    -- The shape of an instance.
     pub becomes : Becomes t
     becomes = by_head (head decls t) refl

@@ -1,5 +1,5 @@
--- If no variable is replaced by `_`, then a path that leads to a value at a type leads to the same
--- value at an instance of this type.
+-- If `_` replaces no variable, then a path that leads to a value at a type leads to the same value
+-- at each instance of the type.
 use Rattle.std.proofs.Common.{ℕ, ◌≡◌, ◌∙◌, ◌==◌, List, [], ◌∷◌, Bool, true, false, Option, Some, None, refl, ap, subst, sym, cond}
 use Rattle.std.specs.Prelude.{Contains, map, option_map, option_and_then, find}
 use Rattle.std.proofs.lemmas.Bool.{false≢true}
@@ -65,7 +65,7 @@ module _ (decls : List Decl) (well : AreWellFormed decls) (value : List ℕ → 
   write true false field xs ys same are = absurd (false≢true (sym same))
   write false true field xs ys same are = absurd (false≢true same)
 
-  -- The same fields are checked.
+  -- If the types of fields are replaced by their instances, then the same fields are required.
   asked-map : (fields : List (ℕ × Ty)) → ((k : ℕ) (a : Ty) → Contains fields (k, a) → Contains types a)
       → asked_of (shape decls) (map new_need' fields) ≡ map new_need' (asked_of (shape decls) fields)
   asked-map [] within = refl
@@ -79,7 +79,8 @@ module _ (decls : List Decl) (well : AreWellFormed decls) (value : List ℕ → 
   field_listed v t k a among has =
       named_here decls types listed t a among (needs_named (shape decls t) graph v k a has)
 
-  -- If a field has a type, then at the instance it has an instance of this type.
+  -- If a type requires a field at some type, then an instance of the type requires the field at the
+  -- instance of the field's type.
   field_type : (v : Val) (t : Ty) (i : ℕ) (u : Ty) → Contains types t → (fields : Option (List (ℕ × Ty))) → fields_at v t ≡ fields
       → type_of_field (asked_of (shape decls) (or_none fields)) i ≡ Some u → type_of_field (needs_at v (new t)) i ≡ Some (new u)
   field_type v t i u among None is named = absurd (none-some u named)
@@ -112,7 +113,8 @@ module _ (decls : List Decl) (well : AreWellFormed decls) (value : List ℕ → 
             ∙ ap (stepped w) after ∙ ap (λ (x : Val). Some (x, new next.1)) parts.1,
       ))
 
-  -- A path leads to an instance of the type to which it leads.
+  -- Let a path lead from a type to a value at another type. From an instance of the first type, the
+  -- path leads to the value at an instance of the other type.
   pub position_becomes : (path : List ℕ) (v : Val) (t : Ty) (w : Val) (u : Ty) → Contains types t
       → value_at (declared_shapes decls) graph v t path ≡ Some (w, u)
       → Contains types u × (value_at (declared_shapes decls) graph v (new t) path ≡ Some (w, new u))

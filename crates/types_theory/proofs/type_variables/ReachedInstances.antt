@@ -1,5 +1,5 @@
--- If closed types replace variables, then the instances of the reached types reach finitely many
--- types, and shapes are lawful at them.
+-- If closed types replace variables, then finitely many types are reachable from the instances of
+-- the reached types. The shapes are lawful at the finitely many types.
 use Rattle.std.proofs.Common.{ℕ, ◌≡◌, ◌∙◌, ⊎_elim, inl, inr, List, [], ◌∷◌, ◌++◌, refl, ap, subst, sym}
 use Rattle.std.specs.Prelude.{Contains, map}
 use Rattle.std.specs.List.{flat_map}
@@ -27,7 +27,7 @@ use Rattle.types_theory.proofs.equality.SoundLemmas.{sound-instance, shape_hashe
 use Rattle.types_theory.specs.type_variables.TypeVariables.{AreClosed}
 use Rattle.types_theory.proofs.type_variables.InstanceShapes.{Becomes, becomes, replaced, IsArray, Same, Commutes}
 
--- An array refers only to the type of its elements.
+-- The only type in the shape of an array is the type of the array's elements.
 array_names : (h : HeadOf Ty) (t a : Ty) → Contains (named_in (array_of h t)) a → Contains (t ∷ []) a
 array_names (heads.Variable x) t a among = absurd (Contains-none a among)
 array_names (heads.Predeclared b ts) t a among = by_base b among where

@@ -1,5 +1,5 @@
--- A value has a type if and only if it has every closed instance of the type. A fault at the type
--- is a fault at some instance.
+-- A value has a type if and only if the value has every closed instance of the type. If a value has
+-- a fault at a type, then the value does not have every closed instance of the type.
 use Rattle.std.proofs.Common.{List}
 use Rattle.types_spec.specs.declared.types.decl.Decl.{Decl}
 use Rattle.types_spec.specs.types.Ty.{Ty}
@@ -13,7 +13,7 @@ use Rattle.types_theory.proofs.type_variables.BackLemmas.{has_type, none}
 use Rattle.types_theory.proofs.type_variables.ForthLemmas.{has_instance}
 use Rattle.types_theory.proofs.type_variables.TableExists.{table_there}
 
--- There is a table of the types that a type reaches.
+-- A table of the types that a type reaches exists.
 some_table : (decls : List Decl) (t : Ty) (types : List Ty) → AreWellFormed decls → IsSoundType decls t → IsReached decls t types
     → (table : Table) × IsMadeFor decls t types table
 some_table decls t types well sound reached =

@@ -1,4 +1,4 @@
--- There is a table of finitely many types that reach only each other.
+-- If finitely many types reach only each other, then a table of the types exists.
 use Rattle.std.proofs.Common.{ℕ, suc, ◌≡◌, ◌∙◌, ⊎_elim, inl, inr, List, [], ◌∷◌, Option, Some, None, refl, ap, subst, sym}
 use Rattle.std.specs.Prelude.{Contains, map, option_map, slice_get}
 use Rattle.std.specs.List.{flat_map}
@@ -84,7 +84,7 @@ next_if : {A : Type 0} → OrNot A → ℕ → ℕ
 next_if (inl here) n = 0
 next_if (inr later) n = suc n
 
--- If the tests agree, then the two steps agree.
+-- If two tests agree and the two later positions are equal, then the two positions are equal.
 same_next : {A B : Type 0} (one : OrNot A) (two : OrNot B) (m n : ℕ) → (A → B) → (B → A) → m ≡ n → next_if one m ≡ next_if two n
 unfolding next_if
 same_next (inl here) (inl there) m n forth back same = refl
@@ -97,7 +97,7 @@ module _ {X : Type 0} where
   first_position Q test [] = 0
   first_position Q test (x ∷ xs) = next_if (test x) (first_position Q test xs)
 
-  -- The element at this index has the property.
+  -- The element at index `n` of the list has the property `Q`.
   abbrev IsAt : (X → Type 0) → List X → ℕ → Type 0
   IsAt Q xs n = (x : X) × (slice_get xs n ≡ Some x) × Q x
 
@@ -116,7 +116,8 @@ module _ {X : Type 0} where
       (λ later. placed Q test xs x later holds)
       (Contains-cases y xs x among))
 
-  -- The index depends only on which elements have the property.
+  -- If the same elements of a list have two properties, then the first indices for the two
+  -- properties are equal.
   same_position : (Q R : X → Type 0) (test : (x : X) → OrNot (Q x)) (other : (x : X) → OrNot (R x)) (xs : List X)
       → ((x : X) → Contains xs x → Q x → R x) → ((x : X) → Contains xs x → R x → Q x)
       → first_position Q test xs ≡ first_position R other xs

@@ -1,4 +1,4 @@
--- Exhaustive searches of lists.
+-- Lemmas about exhaustive searches of lists.
 use Rattle.std.proofs.Common.{suc, ◌≡◌, ◌∙◌, ◌⊎◌, ⊎_elim, inl, inr, List, [], ◌∷◌, length, sym, subst, arith}
 use Rattle.std.specs.Prelude.{Contains}
 use Rattle.base_data.proofs.model.Options.{Contains-first, Contains-later, Contains-none, Contains-cases}

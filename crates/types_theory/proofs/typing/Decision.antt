@@ -1,5 +1,5 @@
--- Completeness of faults for lawful and decidable shapes, at a type that reaches finitely many
--- types: a search for a typing or a fault.
+-- Faults are complete for lawful and decidable shapes, at a type that reaches finitely many types.
+-- The proof is a search for a typing or a fault.
 use Rattle.std.proofs.Common.{ℕ, zero, suc, ◌≡◌, ◌∙◌, ◌⊎◌, inl, inr, ◌++◌, List, [], ◌∷◌, length, Some, refl, sym, ap, subst, arith}
 use Rattle.std.specs.Prelude.{option_map, option_and_then, Contains, IsSomeAnd}
 use Rattle.std.proofs.lemmas.Option.{same_Some}
@@ -22,21 +22,22 @@ use Rattle.types_theory.proofs.typing.ValueLemmas.{all_values, field_is_value, s
 
 -- ---- the state of the search
 
--- A path from the root leads to the value at the type, which is among the reachable types.
+-- A path from the root leads to the value `w` at the type `u`, and `u` is equal to one of the
+-- reachable types.
 record IsReached {T : Type 0} (shapes : Shapes T) (graph : List Obj) (root : Val) (t : T) (types : List T) (w : Val) (u : T) : Type 0 where
   path : List ℕ
   leads : value_at shapes graph root t path ≡ Some (w, u)
   among : IsAmong shapes types u
 
--- Pairs of an object and a type that are reached and match, including the root's pair. A value that
--- is not listed yet at a type has a slot.
+-- The state of the search: pairs of an object and a type. Each pair is reached and matches, and the
+-- root's pair is one of the pairs. If a value at a type is not listed yet, the value has a slot.
 record IsExplored {T : Type 0} (shapes : Shapes T) (graph : List Obj) (o : ℕ) (t : T) (types : List T) (pairs : List (ℕ × T)) (slots : List (Val × T)) : Type 0 where
   first : Contains pairs (o, t)
   reached : (p : ℕ) (u : T) → Contains pairs (p, u) → IsReached shapes graph (vals.Ref o) t types (vals.Ref p) u
   fit : (p : ℕ) (u : T) → Contains pairs (p, u) → shapes.fits graph (vals.Ref p) u
   covered : (w : Val) (u : T) → Contains (all_values graph (vals.Ref o)) w → Contains types u → IsListed shapes pairs w u ⊎ Contains slots (w, u)
 
--- An object that is reached and matches, and whose slot is not used yet.
+-- An object at a type that is reached and matches, and whose slot is still unused.
 record IsNew {T : Type 0} (shapes : Shapes T) (graph : List Obj) (o : ℕ) (t : T) (types : List T) (slots : List (Val × T)) : Type 0 where
   object : ℕ
   one : T
@@ -53,11 +54,11 @@ module _ {T : Type 0} (shapes : Shapes T) (lawful : AreLawful shapes Everything)
   abbrev Explored : List (ℕ × T) → List (Val × T) → Type 0
   Explored pairs slots = IsExplored shapes graph o t few.types pairs slots
 
-  -- The result of testing a field, unless the field is held.
+  -- The result of testing a field that is not held: a fault of the value, or a new object.
   abbrev Found : List (Val × T) → Type 0
   Found slots = HasFault shapes graph (vals.Ref o) t ⊎ IsNew shapes graph o t few.types slots
 
-  -- The final result.
+  -- The final result of the search: a fault of the value, or a typing.
   abbrev Decided : Type 0
   Decided = HasFault shapes graph (vals.Ref o) t ⊎ IsTyped shapes graph (vals.Ref o) t
 
@@ -94,7 +95,7 @@ module _ {T : Type 0} (shapes : Shapes T) (lawful : AreLawful shapes Everything)
   listed_at_equal pairs (vals.Atom tag) u a same listed = tt
   listed_at_equal pairs (vals.Ref p) u a same listed = (listed.0, listed.1, lawful.transitive listed.0 u a listed.2 same)
 
-  -- If a value matches, then it is held or new.
+  -- If a value is reached and matches, then the value is held or its object is new.
   held_or_new : (pairs : List (ℕ × T)) (slots : List (Val × T)) → Explored pairs slots → (w : Val) (a : T) → Reached w a → Contains (all_values graph (vals.Ref o)) w → shapes.fits graph w a → IsNew shapes graph o t few.types slots ⊎ IsHeld shapes graph pairs w a
   held_or_new pairs slots explored (vals.Int z) a reached value fit = inr (record { fits = fit; listed = tt })
   held_or_new pairs slots explored (vals.Atom tag) a reached value fit = inr (record { fits = fit; listed = tt })
@@ -105,7 +106,7 @@ module _ {T : Type 0} (shapes : Shapes T) (lawful : AreLawful shapes Everything)
             inr (record { fits = fit; listed = listed_at_equal pairs (vals.Ref p) reached.among.0 a (lawful.symmetric a reached.among.0 reached.among.2) listed })
         by_cover (inr slot) = inl (record { object = p; one = a; other = reached.among.0; reached = reached; fit = fit; same = reached.among.2; slot = slot })
 
-  -- The value of a required field does not match, or is new, or is held.
+  -- The value of a required field does not match, is new, or is held.
   test_value : (pairs : List (ℕ × T)) (slots : List (Val × T)) → Explored pairs slots → (p i : ℕ) (a : T) (w : Val) → field_at graph p i ≡ Some w → Reached w a → Found slots ⊎ Held pairs p (i, a)
   test_value pairs slots explored p i a w field reached = by_fit (decidable.fits graph w a) where
     when_fit : IsNew shapes graph o t few.types slots ⊎ IsHeld shapes graph pairs w a → Found slots ⊎ Held pairs p (i, a)
@@ -127,7 +128,7 @@ module _ {T : Type 0} (shapes : Shapes T) (lawful : AreLawful shapes Everything)
   abbrev AllHeld : List (ℕ × T) → ℕ × T → Type 0
   AllHeld pairs pair = (need : ℕ × T) → Contains (needs_of pair.0 pair.1) need → Held pairs pair.0 need
 
-  -- Either some field yields a fault or a new object, or every field is held.
+  -- Either some required field yields a fault or a new object, or every required field is held.
   test_pairs : (pairs : List (ℕ × T)) (slots : List (Val × T)) → Explored pairs slots → Found slots ⊎ ((pair : ℕ × T) → Contains pairs pair → AllHeld pairs pair)
   test_pairs pairs slots explored =
       search_all (AllHeld pairs) pairs (λ pair listed.
@@ -142,7 +143,7 @@ module _ {T : Type 0} (shapes : Shapes T) (lawful : AreLawful shapes Everything)
   Agree one other = one.0 ≡ other.0 → shapes.mutable graph one.0 one.1 → shapes.equal one.1 other.1
 
   -- If two paths lead to one mutable object at unequal types, then the value has an aliasing
-  -- conflict; the lesser path comes first in it.
+  -- conflict. The lesser path comes first in the aliasing conflict.
   conflict : (p : ℕ) (one other : T) → Reached (vals.Ref p) one → Reached (vals.Ref p) other → shapes.mutable graph p one → (shapes.equal one other → ⊥) → HasFault shapes graph (vals.Ref o) t
   conflict p one other first second mutable unequal = by_order (paths_compare first.path second.path) where
     at_one_position : first.path ≡ second.path → one ≡ other
@@ -156,7 +157,7 @@ module _ {T : Type 0} (shapes : Shapes T) (lawful : AreLawful shapes Everything)
     by_order (inr (inr after)) =
         (Conflict second.path first.path, record { object = p; one = other; other = one; before = after; at_first = second.leads; at_second = first.leads; unequal = λ same. unequal (lawful.symmetric other one same); mutable = inr mutable })
 
-  -- Two pairs have an aliasing conflict, or they agree.
+  -- Two pairs of the search form an aliasing conflict, or the two pairs agree.
   test_two : (pairs : List (ℕ × T)) (slots : List (Val × T)) → Explored pairs slots → (p : ℕ) (one : T) (q : ℕ) (other : T) → Contains pairs (p, one) → Contains pairs (q, other) → HasFault shapes graph (vals.Ref o) t ⊎ Agree (p, one) (q, other)
   test_two pairs slots explored p one q other listed listed' = by_object (same_or_not p q) where
     by_equal : p ≡ q → shapes.mutable graph p one → shapes.equal one other ⊎ (shapes.equal one other → ⊥) → HasFault shapes graph (vals.Ref o) t ⊎ Agree (p, one) (q, other)
@@ -172,7 +173,7 @@ module _ {T : Type 0} (shapes : Shapes T) (lawful : AreLawful shapes Everything)
     by_object (inl same) = by_mutable same (decidable.mutable graph p one)
     by_object (inr different) = inr (λ same. absurd (different same))
 
-  -- Some two pairs have an aliasing conflict, or every two pairs agree.
+  -- Some two pairs of the search form an aliasing conflict, or every two pairs agree.
   every_two : (pairs : List (ℕ × T)) (slots : List (Val × T)) → Explored pairs slots → HasFault shapes graph (vals.Ref o) t ⊎ ((one : ℕ × T) → Contains pairs one → (other : ℕ × T) → Contains pairs other → Agree one other)
   every_two pairs slots explored =
       search_all (λ one. (other : ℕ × T) → Contains pairs other → Agree one other) pairs (λ one listed.
@@ -181,7 +182,8 @@ module _ {T : Type 0} (shapes : Shapes T) (lawful : AreLawful shapes Everything)
 
   -- ---- the search
 
-  -- If every field is held, then the pairs are a typing or two of them have an aliasing conflict.
+  -- If every required field is held, then the pairs are a typing or two pairs form an aliasing
+  -- conflict.
   close : (pairs : List (ℕ × T)) (slots : List (Val × T)) → Explored pairs slots → ((pair : ℕ × T) → Contains pairs pair → AllHeld pairs pair) → Decided
   close pairs slots explored held = by_twos (every_two pairs slots explored) where
     by_twos : HasFault shapes graph (vals.Ref o) t ⊎ ((one : ℕ × T) → Contains pairs one → (other : ℕ × T) → Contains pairs other → Agree one other) → Decided
@@ -205,7 +207,7 @@ module _ {T : Type 0} (shapes : Shapes T) (lawful : AreLawful shapes Everything)
   abbrev added : {slots : List (Val × T)} → IsNew shapes graph o t few.types slots → ℕ × T
   added new = (new.object, new.one)
 
-  -- Adding a new pair removes its slot.
+  -- If a new pair is added, then its slot is removed, and the state stays valid.
   explore_more : (pairs : List (ℕ × T)) (slots : List (Val × T)) → Explored pairs slots → (new : IsNew shapes graph o t few.types slots) (left : IsWithout slots (vals.Ref new.object, new.other)) → Explored (added new ∷ pairs) left.rest
   explore_more pairs slots explored new left = record {
     first = Contains-later (added new) pairs (o, t) explored.first;
@@ -230,7 +232,7 @@ module _ {T : Type 0} (shapes : Shapes T) (lawful : AreLawful shapes Everything)
     by_cover w u (inl listed) = inl (listed_more pairs (added new) w u listed)
     by_cover w u (inr slot) = by_slot w u (left.others (w, u) slot)
 
-  -- One round: it finds a fault or a new pair, or the search is complete.
+  -- One round of the search finds a fault, finds a new pair, or completes the search.
   inspect : (pairs : List (ℕ × T)) (slots : List (Val × T)) → Explored pairs slots → (IsNew shapes graph o t few.types slots → Decided) → Decided
   inspect pairs slots explored go_on = by_found (test_pairs pairs slots explored) where
     by_found : Found slots ⊎ ((pair : ℕ × T) → Contains pairs pair → AllHeld pairs pair) → Decided
@@ -250,7 +252,7 @@ module _ {T : Type 0} (shapes : Shapes T) (lawful : AreLawful shapes Everything)
       let rest : IsWithout slots (vals.Ref new.object, new.other) = without slots (vals.Ref new.object, new.other) new.slot in
       saturate n (added new ∷ pairs) rest.rest (omega (arith, left, rest.shorter)) (explore_more pairs slots explored new rest))
 
-  -- Initially only the root is listed, and each value has a slot at each type.
+  -- At the start of the search only the root is listed, and each value has a slot at each type.
   start : shapes.fits graph (vals.Ref o) t → Explored ((o, t) ∷ []) (slots_of (all_values graph (vals.Ref o)) few.types)
   start fit = record {
     first = Contains-first (o, t) [];
@@ -280,7 +282,7 @@ module _ {T : Type 0} (shapes : Shapes T) (lawful : AreLawful shapes Everything)
   typed_value_or_fault (vals.Atom tag) t few fit = inr tt
   typed_value_or_fault (vals.Ref o) t few fit = typed_or_fault shapes lawful decidable graph o t few fit
 
-  -- A value has the type or a fault.
+  -- A value has a type or has a fault at the type.
   pub has_type_or_fault : (v : Val) (t : T) → ReachesFew shapes t → HasTypeOrFault shapes graph v t
   has_type_or_fault v t few = by_fit (decidable.fits graph v t) where
     by_typed : shapes.fits graph v t → HasFault shapes graph v t ⊎ IsTyped shapes graph v t → HasTypeOrFault shapes graph v t

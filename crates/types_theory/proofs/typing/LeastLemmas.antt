@@ -1,5 +1,5 @@
 -- The mismatch at which a search ends is the least fault. If the search has covered all paths, the
--- least aliasing conflict of its entries is the least fault.
+-- least aliasing conflict among the search's entries is the least fault.
 use Rattle.std.proofs.Common.{ℕ, ◌≡◌, ◌∙◌, ◌⊎◌, ⊎_elim, inl, inr, List, Some, sym, ap, subst}
 use Rattle.std.specs.Prelude.{Contains}
 use Rattle.std.proofs.lemmas.Option.{same_Some}
@@ -17,7 +17,7 @@ use Rattle.base_data.proofs.model.Options.{IsSomeAnd-some}
 use Rattle.types_theory.proofs.typing.PathLemmas.{paths_compare}
 use Rattle.types_theory.proofs.typing.SearchedLemmas.{seen_is_known, before_transitive}
 
--- If no mismatch is before this one, then it is the least fault.
+-- If no mismatch is before a given mismatch, then the given mismatch is the least fault.
 pub least_mismatch : {T : Type 0} (shapes : Shapes T) (graph : List Obj) (root : Val) (t : T)
     (path : List ℕ) → IsMismatch shapes graph root t path
     → ((other : List ℕ) → IsMismatch shapes graph root t other → IsBefore other path → ⊥)
@@ -80,7 +80,8 @@ module _ {T : Type 0} (shapes : Shapes T) (lawful : AreLawful shapes Everything)
       mutable = c.mutable;
     }
 
-    -- If two entries have unequal types, then one path is before the other.
+    -- If two entries have unequal types, then the path of one entry is before the path of the other
+    -- entry.
     ordered : (a b : Entry T) → Contains entries a → Contains entries b
         → (shapes.equal a.type b.type → ⊥) → IsBefore a.path b.path ⊎ IsBefore b.path a.path
     ordered a b among among' unequal = ⊎_elim
@@ -95,8 +96,8 @@ module _ {T : Type 0} (shapes : Shapes T) (lawful : AreLawful shapes Everything)
               subst (λ u. shapes.equal a.type u) (ap (λ (p : Val × T). p.1) position)
               (lawful.reflexive a.type tt)
 
-    -- For each aliasing conflict there are two conflicting entries whose paths are not after its
-    -- own.
+    -- For each aliasing conflict, two conflicting entries have paths that are not after the paths
+    -- of the aliasing conflict.
     pub record HasConflicting (first second : List ℕ) : Type 0 where
       pub a : Entry T
       pub b : Entry T
@@ -166,8 +167,8 @@ module _ {T : Type 0} (shapes : Shapes T) (lawful : AreLawful shapes Everything)
         both = λ same. absurd (e.4 (subst (λ p. IsBefore first p) (sym same) c.before));
       }
 
-    -- If the search has covered all paths, then the least aliasing conflict of the entries is the
-    -- least fault.
+    -- If the search has covered all paths, then the least aliasing conflict among the entries is
+    -- the least fault.
     pub conflict_is_least :
         (one other : Entry T) → AreLeastConflicting shapes graph entries one other
         → IsLeastFault shapes graph root t (Conflict one.path other.path)

@@ -1,4 +1,4 @@
--- The types of required fields.
+-- Lemmas about the types of required fields.
 use Rattle.std.proofs.Common.{ℕ, ◌≡◌, ◌∙◌, ◌⊎◌, inl, inr, List, [], ◌∷◌, Bool, true, false, cond, Some, refl, sym, ap}
 use Rattle.std.specs.Prelude.{option_map, find, Contains, ◌==◌}
 use Rattle.std.proofs.lemmas.Bool.{false≢true}

@@ -12,7 +12,7 @@ use Rattle.types_spec.specs.types.LeastFault.{IsKnownBefore, IsLeastFault}
 use Rattle.types_spec.specs.types.VerdictText.{mismatch_text, conflict_text, IsFaultText, IsNoLine}
 use Rattle.types_theory.proofs.typing.PathLemmas.{OneOfThree, paths_compare}
 
--- Of two faults, one is reported before the other, or they are equal.
+-- Of two faults, one fault is reported before the other fault, or the two faults are equal.
 faults_compare : (one other : Fault) → OneOfThree (IsKnownBefore one other) (one ≡ other) (IsKnownBefore other one)
 faults_compare (Mismatch p) (Mismatch q) = at (paths_compare p q) where
   at : OneOfThree (IsBefore p q) (p ≡ q) (IsBefore q p) → OneOfThree (IsBefore p q) (Mismatch p ≡ Mismatch q) (IsBefore q p)
@@ -31,7 +31,7 @@ faults_compare (Conflict first second) (Conflict one other) = at (paths_compare 
   at (inr (inl same)) (inr (inl equal)) = inr (inl (ap (λ p. Conflict p second) equal ∙ ap (λ q. Conflict one q) same))
 
 module _ {T : Type 0} (shapes : Shapes T) (graph : List Obj) (v : Val) (t : T) where
-  -- There is at most one least fault.
+  -- A value has at most one least fault at a type.
   pub least_once : (one other : Fault) → IsLeastFault shapes graph v t one → IsLeastFault shapes graph v t other → one ≡ other
   least_once one other is its = at (faults_compare one other) where
     at : OneOfThree (IsKnownBefore one other) (one ≡ other) (IsKnownBefore other one) → one ≡ other
@@ -51,7 +51,7 @@ module _ {T : Type 0} (shapes : Shapes T) (graph : List Obj) (v : Val) (t : T) w
         is ∙ (ap (λ (p : Val × T). conflict_text type_text first p.1 second two) (one_position first o o' one one' at at')
         ∙ (ap (λ (p : Val × T). conflict_text type_text first one' second p.1) (one_position second o o' two two' at2 at2') ∙ sym is'))
 
-    -- Hence a value has at most one line that reports a fault.
+    -- A value has at most one line that reports a fault.
     pub no_line_once : (line other : List ℕ) → IsNoLine shapes type_text graph v t line → IsNoLine shapes type_text graph v t other → line ≡ other
     no_line_once line other one two =
         let same = least_once one.fault two.fault one.least two.least in

@@ -1,4 +1,4 @@
--- Extending paths, and the order of paths.
+-- Lemmas about the extension of paths, and about the order of paths.
 use Rattle.std.proofs.Common.{ℕ, zero, suc, ◌<◌, ◌≡◌, ◌∙◌, ◌⊎◌, inl, inr, ◌++◌, List, [], ◌∷◌, length, Some, refl, sym, ap, subst, arith}
 use Rattle.std.specs.Prelude.{option_and_then}
 use Rattle.std.proofs.lemmas.Option.{option_and_then_some, same_Some}
@@ -10,8 +10,8 @@ use Rattle.types_spec.specs.types.Fault.{step, value_at, IsLexicallyBefore, IsBe
 -- ---- one more step
 
 module _ {T : Type 0} (shapes : Shapes T) (graph : List Obj) where
-  -- If a path leads to a value and a step leads from there to `next`, then the path with this step
-  -- leads to `next`.
+  -- If a path leads to a position and a step leads from the position to `next`, then the path with
+  -- the step leads to `next`.
   pub value_at-push : (path : List ℕ) (v : Val) (t : T) (i : ℕ) (position next : Val × T) → value_at shapes graph v t path ≡ Some position → step shapes graph position.0 position.1 i ≡ Some next → value_at shapes graph v t (path ++ i ∷ []) ≡ Some next
   value_at-push [] v t i position next placed stepped =
       let here : step shapes graph v t i ≡ Some next = subst (λ (p : Val × T). step shapes graph p.0 p.1 i ≡ Some next) (sym (same_Some (v, t) position placed)) stepped in
@@ -22,7 +22,7 @@ module _ {T : Type 0} (shapes : Shapes T) (graph : List Obj) where
 
 -- ---- order
 
--- Trichotomy: before, same or after.
+-- Trichotomy: one of the three relations before, same and after holds.
 abbrev pub OneOfThree : Type 0 → Type 0 → Type 0 → Type 0
 OneOfThree Before Same After = Before ⊎ (Same ⊎ After)
 
@@ -52,7 +52,7 @@ lexically_compare [] (j ∷ q) same = absurd (omega arith)
 lexically_compare (i ∷ p) [] same = absurd (omega arith)
 lexically_compare (i ∷ p) (j ∷ q) same = with_heads i j p q (numbers_compare i j) (lexically_compare p q (omega arith))
 
--- Of two paths, one is before the other, or they are equal.
+-- Of two paths, one path is before the other path, or the two paths are equal.
 pub paths_compare : (p q : List ℕ) → OneOfThree (IsBefore p q) (p ≡ q) (IsBefore q p)
 paths_compare p q = by_length (numbers_compare (length p) (length q)) where
   of_one_length : length p ≡ length q → LexicallyCompare p q → OneOfThree (IsBefore p q) (p ≡ q) (IsBefore q p)

@@ -1,5 +1,6 @@
--- Each covered path leads to a value that matches and is entered with a path that is not after it.
--- So the first mismatch that the search meets is the least of infinitely many.
+-- Each covered path leads to a value that matches and has an entry, and the entry's path is not
+-- after the covered path. The first mismatch that the search meets is the least of infinitely many
+-- mismatches.
 use Rattle.std.proofs.Common.{ℕ, zero, suc, ◌≡◌, ◌∙◌, ⊎_elim, inl, inr, List, [], ◌∷◌, ◌++◌, length}
 use Rattle.std.proofs.Common.{Some, refl, sym, ap, subst, arith}
 use Rattle.std.specs.Prelude.{Contains, option_and_then, option_map}
@@ -17,8 +18,8 @@ use Rattle.types_theory.proofs.typing.PathLemmas.{paths_compare}
 
 -- ---- the order of paths
 
--- If two extended paths of equal length with the same last step are in lexicographic order, then so
--- are the paths without that step.
+-- Let two paths of equal length be extended by the same step. If the extended paths are in
+-- lexicographic order, then the two paths are in lexicographic order.
 lexically_pushed :
     (p q : List ℕ) (i : ℕ) → length p ≡ length q → IsLexicallyBefore (p ++ i ∷ []) (q ++ i ∷ [])
     → IsLexicallyBefore p q
@@ -74,8 +75,8 @@ never_before_root [] before = never_before_itself [] before
 never_before_root (i ∷ p) (inl less) = omega (arith, less)
 never_before_root (i ∷ p) (inr equal) = equal.1
 
--- If `q` is not before `p`, and `p` with one more step is not before `r`, then `q` with this step
--- is not before `r`.
+-- If `q` is not before `p`, and `p` with one more step is not before `r`, then `q` with the same
+-- step is not before `r`.
 pub not_before_through :
     (p q r : List ℕ) (i : ℕ) → (IsBefore q p → ⊥) → (IsBefore (p ++ i ∷ []) r → ⊥)
     → IsBefore (q ++ i ∷ []) r → ⊥
@@ -149,7 +150,8 @@ module _ {T : Type 0} (shapes : Shapes T) (lawful : AreLawful shapes Everything)
         entered.0.path entered.4,
   )
 
-  -- A step from an object that is entered.
+  -- If an object has an entry, then each covered step from the object leads to a value that matches
+  -- and has an entry.
   from_entry : (prefix : List ℕ) (i o : ℕ) (u : T) (w : Val) (a : T)
       → IsEntered shapes entries (vals.Ref o) u prefix → Seen (prefix ++ i ∷ [])
       → field_at graph o i ≡ Some w → Contains (shapes.needs graph (vals.Ref o) u) (i, a)
@@ -202,7 +204,8 @@ module _ {T : Type 0} (shapes : Shapes T) (lawful : AreLawful shapes Everything)
       subst (λ p. Known p w a) (sym last.is) (one_more last.prefix last.last last.position.0
       last.position.1 w a prefix seen' last.stepped)
 
-  -- If a path is covered, then its value matches and is entered with a path that is not after it.
+  -- If a path is covered, then its value matches and has an entry, and the entry's path is not
+  -- after the covered path.
   pub seen_is_known :
       (path : List ℕ) (w : Val) (a : T) → Seen path → value_at shapes graph root t path ≡ Some
       (w, a) → Known path w a

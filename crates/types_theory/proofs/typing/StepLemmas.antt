@@ -24,7 +24,7 @@ use Rattle.types_theory.specs.typing.StepLaws.{AreApart, key_of, AreEntries, ste
 
 -- ---- sums over lists of distinct elements
 
--- No element occurs among the elements after it.
+-- No element of the list occurs again after its position.
 abbrev pub Distinct : {X : Type 0} → List X → Type 0
 Distinct [] = Unit {0}
 Distinct (x ∷ xs) = (¬ Contains xs x) × Distinct xs
@@ -37,7 +37,7 @@ distinct (x ∷ xs) apart = (
 )
 
 module _ {X : Type 0} (f : X → ℕ) where
-  -- A list without one occurrence of an element.
+  -- The list `ys` without one occurrence of the element `x`.
   record Without (ys : List X) (x : X) : Type 0 where
     rest : List X
     total : sum_by f ys ≡ f x + sum_by f rest
@@ -63,8 +63,8 @@ module _ {X : Type 0} (f : X → ℕ) where
       })
       (Contains-cases z ys x among)
 
-  -- If the elements of `xs` are distinct and all in `ys`, then the sum over `xs` is at most the sum
-  -- over `ys`.
+  -- If the elements of `xs` are distinct and all in `ys`, then the sum of `f` over `xs` is at most
+  -- the sum of `f` over `ys`.
   sum_within : (xs ys : List X) → Distinct xs → ((x : X) → Contains xs x → Contains ys x) → sum_by f xs ≤ sum_by f ys
   sum_within [] ys apart within = omega arith
   sum_within (x ∷ xs) ys apart within =
@@ -103,7 +103,8 @@ abbrev weight : Option Obj → ℕ
 weight None = 0
 weight (Some object) = 1 + length (values_of object)
 
--- The weights sum to the number of objects plus the number of their fields.
+-- If each object's weight is one plus the number of its fields, then the weights sum to the number
+-- of objects plus the number of fields.
 sum_of_positions :
     (w : ℕ → ℕ) (k : ℕ) (graph : List Obj) → ((i : ℕ) (object : Obj) → slice_get graph i ≡ Some object → w (k + i) ≡ weight (Some object))
     → sum_by w (positions k graph) ≡ length graph + field_count graph
@@ -116,7 +117,7 @@ sum_of_positions w k (object ∷ rest) each =
     let e : k + suc i ≡ suc k + i = omega arith in subst (λ n. w n ≡ weight (Some other)) e (each (suc i) other is)) in
     omega (arith, sum_by-cons w k (positions (suc k) rest), sum_by-cons (λ o. length (values_of o)) object rest, here, others)
 
--- All objects, each with one class.
+-- All objects of a graph, each paired with the class `class`.
 abbrev at_class : List Obj → ℕ → List (ℕ × Option ℕ)
 at_class graph class = map (λ o. (o, Some class)) (positions 0 graph)
 
@@ -150,7 +151,7 @@ sum_at_classes graph (class ∷ classes) =
 
 -- ---- the classes
 
--- The numbers that are not in `seen`, each once.
+-- The numbers of the list that are not in `seen`, each number once.
 abbrev firsts : List ℕ → List ℕ → List ℕ
 firsts seen [] = []
 firsts seen (n ∷ ns) = if list_any (λ other. other == n) seen then firsts seen ns else n ∷ firsts (n ∷ seen) ns
@@ -260,8 +261,8 @@ module _ (table : Table) (graph : List Obj) (entries : List (ℕ × ℕ)) (all :
   abbrev classes : List ℕ
   classes = firsts [] table.classes
 
-  -- The steps of an entry are at most the weight of its object: one for the object and one for each
-  -- field.
+  -- The steps of an entry are at most the weight of the entry's object: one step for the object and
+  -- one step for each field.
   weighed :
       (entry : ℕ × ℕ) → Contains entries entry
       → 1 + length ((table_shapes table).needs graph (vals.Ref entry.0) entry.1) ≤ key_weight graph (key_of table entry)
@@ -272,7 +273,7 @@ module _ (table : Table) (graph : List Obj) (entries : List (ℕ × ℕ)) (all :
       (or_none (object_fields (node_or_none (slice_get table.nodes entry.1)) object.0)) in
       rw object.1 (omega (arith, few, asked))
 
-  -- The key of each entry is among all objects at all classes.
+  -- The key of each entry is one of the pairs of an object and a class.
   among_all : (key : ℕ × Option ℕ) → Contains (map (key_of table) entries) key → Contains (at_classes graph classes) key
   among_all key among =
       let e = map-Contains (key_of table) entries key among in

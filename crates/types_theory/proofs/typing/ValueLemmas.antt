@@ -1,4 +1,4 @@
--- All values of a graph, and all pairs of a value and a type.
+-- Lists of all values of a graph, and of all pairs of a value and a type.
 use Rattle.std.proofs.Common.{ℕ, ◌≡◌, List, ◌∷◌, Some}
 use Rattle.std.specs.Prelude.{slice_get, map, flat_map, Contains}
 use Rattle.std.proofs.lemmas.Option.{option_and_then_some}
@@ -7,7 +7,7 @@ use Rattle.base_data.specs.declared.model.value.Val.{Val}
 use Rattle.base_data.specs.declared.model.value.Obj.{Obj}
 use Rattle.types_spec.specs.types.Typing.{values_of, field_at}
 
--- The root and all fields of blocks.
+-- All values of a graph: the root and all fields of blocks.
 abbrev pub all_values : List Obj → Val → List Val
 all_values graph root = root ∷ flat_map values_of graph
 

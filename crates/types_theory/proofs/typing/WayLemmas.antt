@@ -1,5 +1,5 @@
--- If a fault is least, then each of its paths without the last step is the least path to its
--- object, up to equal types. A lesser path would lead to a lesser fault.
+-- If a fault is least, then each of the fault's paths, without the last step, is the least path to
+-- an object, up to equal types. A lesser path to the object would give a lesser fault.
 use Rattle.std.proofs.Common.{ℕ, ◌≡◌, ◌∙◌, ◌⊎◌, ⊎_elim, inl, inr, List, [], ◌∷◌, ◌++◌, length, Option, Some, None, refl, sym, ap, subst, arith}
 use Rattle.std.specs.Prelude.{option_and_then, option_map}
 use Rattle.std.proofs.lemmas.Option.{option_and_then_some, same_Some}
@@ -29,7 +29,8 @@ lexically_push (j ∷ p) [] i same before = absurd before
 lexically_push (j ∷ p) (k ∷ q) i same (inl less) = inl less
 lexically_push (j ∷ p) (k ∷ q) i same (inr later) = inr (later.0, lexically_push p q i (omega arith) later.1)
 
--- If a path is before another, then it stays before it after both are extended by the same step.
+-- If a path is before another path, and the two paths are extended by the same step, then the order
+-- of the two paths stays the same.
 push_before : (p q : List ℕ) (i : ℕ) → IsBefore p q → IsBefore (p ++ i ∷ []) (q ++ i ∷ [])
 push_before p q i (inl shorter) = inl (omega (arith, length_pushed p i, length_pushed q i))
 push_before p q i (inr equal) = inr (omega (arith, length_pushed p i, length_pushed q i, equal.0), lexically_push p q i equal.0 equal.1)
@@ -41,7 +42,8 @@ only_some None = refl
 only_some (Some x) = refl
 
 module _ {T : Type 0} (shapes : Shapes T) (graph : List Obj) where
-  -- A path with one more step leads to the target of that step.
+  -- If a path leads to a position, then the path with one more step leads to the target of the
+  -- step.
   step_after :
       (prefix : List ℕ) (v : Val) (t : T) (i : ℕ) (position : Val × T) → value_at shapes graph v t prefix ≡ Some position
       → value_at shapes graph v t (prefix ++ i ∷ []) ≡ step shapes graph position.0 position.1 i
@@ -54,7 +56,7 @@ module _ {T : Type 0} (shapes : Shapes T) (graph : List Obj) where
 
 module _ {T : Type 0} (shapes : Shapes T) (lawful : AreLawful shapes Everything) (decidable : AreDecidable shapes)
     (graph : List Obj) (root : Val) (t : T) where
-  -- The same step from an equal type leads to the same value at an equal type.
+  -- From an equal type, the same step leads to the same value at an equal type.
   record SameStep (o : ℕ) (w : T) (i : ℕ) (x : Val) (a : T) : Type 0 where
     type : T
     stepped : step shapes graph (vals.Ref o) w i ≡ Some (x, type)
@@ -82,8 +84,7 @@ module _ {T : Type 0} (shapes : Shapes T) (lawful : AreLawful shapes Everything)
         equal = subst (λ b. shapes.equal a b) (sym once) other.2;
       })
 
-  -- If a lesser path leads to the same object at an equal type, then its extension leads to the
-  -- same value at an equal type.
+  -- A path that is before `path` and leads to the same value at an equal type.
   record Lesser (path : List ℕ) (x : Val) (a : T) : Type 0 where
     other : List ℕ
     type : T
@@ -108,7 +109,8 @@ module _ {T : Type 0} (shapes : Shapes T) (lawful : AreLawful shapes Everything)
         equal = s.equal;
       }
 
-  -- The claim for a mismatch.
+  -- If a mismatch is the least fault, then its path without the last step is the least path to an
+  -- object at a type.
   mismatch_way : (path : List ℕ) → IsLeastFault shapes graph root t (Mismatch path) → IsLeastWay shapes graph root t path
   mismatch_way path least prefix i is o u other w at_prefix at_other same before =
       let mismatch = subst (λ p. IsMismatch shapes graph root t p) is least.is_fault in
@@ -128,8 +130,8 @@ module _ {T : Type 0} (shapes : Shapes T) (lawful : AreLawful shapes Everything)
   IsNoLesser first second =
       (one other : List ℕ) → IsConflict shapes graph root t one other → ¬ (IsBefore other second ⊎ ((other ≡ second) × IsBefore one first))
 
-  -- If two paths lead to one object at unequal types, and it is mutable at one of them, then they
-  -- form an aliasing conflict. Either type may be the mutable one.
+  -- Let two paths lead to one object at unequal types. If the object is mutable at one of the two
+  -- types, then the two paths form an aliasing conflict.
   conflict_of_two :
       (p q : List ℕ) (o : ℕ) (u w : T) → value_at shapes graph root t p ≡ Some (vals.Ref o, u)
       → value_at shapes graph root t q ≡ Some (vals.Ref o, w) → ¬ shapes.equal u w

@@ -1,5 +1,5 @@
--- If declared types are hidden, then the head of a type stays the same, except that a hidden type
--- becomes `_`.
+-- If declared types are hidden, then a head that is a hidden type becomes `_`, and all other heads
+-- stay the same.
 use Rattle.std.proofs.Common.{ℕ, zero, suc, ◌<◌, ◌≤◌, ◌≡◌, ◌∙◌, ◌*◌, ◌^◌, List, [], ◌∷◌}
 use Rattle.std.proofs.Common.{Bool, true, false, cond, Option, Some, None, refl, ap, subst, sym, arith}
 use Rattle.std.specs.Prelude.{option_map, codes}
@@ -40,7 +40,7 @@ module _ (hides : List ℕ → Bool) where
   -- ---- heads
 
   -- If a function of heads gives the same result for `_` and for datatypes, then hiding does not
-  -- change its result.
+  -- change the function's result.
   pub same_wildcard : {X : Type 0} (f : HeadOf Ty → X)
       → ((n : List ℕ) (ts : List Ty) → f any_head ≡ f (heads.Datatype n ts))
       → (h : HeadOf Ty) → f (wildcard h) ≡ f h
@@ -50,7 +50,7 @@ module _ (hides : List ℕ → Bool) where
     by false = refl
   same_wildcard f same h = refl
 
-  -- The head is no hidden name.
+  -- The head is not a datatype with a hidden name.
   abbrev IsShown : HeadOf Ty → Type 0
   IsShown (heads.Datatype n ts) = hides n ≡ false
   IsShown h = Unit {0}
@@ -87,7 +87,8 @@ module _ (hides : List ℕ → Bool) where
   plain_shown f (tag_of t x a) shown = tags_shown (plain_head f t) (carrying_tag x a ∷ [])
   plain_shown f (including t a) shown = tags_shown (plain_head f t) (tags_in (f a))
 
-  -- A name that is not predeclared stays at the head.
+  -- If a type begins with a name that is not predeclared, then its plain head is the datatype with
+  -- the name.
   plain_name : (f : Ty → HeadOf Ty) (t : Ty) (n : List ℕ) → name_of t ≡ Some n → predeclared n ≡ None
       → plain_head f t ≡ heads.Datatype n (parts t)
   plain_name f (named m) n named' new =
@@ -153,7 +154,7 @@ module _ (hides : List ℕ → Bool) where
           ∙ ap (λ found. abbreviated_at found (parts t)) data_type.declared
           ∙ ap (option_map (instance_of data_type.decl (parts t))) data_type.no_abbreviation
 
-      -- `_` unfolds to no other type.
+      -- The type `_` has no expansion after hiding.
       any_unfolded : unfolded less (named (codes "_")) ≡ None
       any_unfolded =
           ap (λ found. abbreviated_at found []) (found_changed decls (codes "_"))
@@ -199,7 +200,8 @@ module _ (hides : List ℕ → Bool) where
             (same_wildcard tags_in (λ n ts. refl) (head decls a))
 
         module _ (t : Ty) (below : weight t < suc k) where
-          -- An abbreviation at the head unfolds as before.
+          -- If the name at the start of a type is not hidden, then hiding names commutes with
+          -- finding the head.
           same_next : IsNameShown (name_of t) → (next : Option Ty) → unfolded decls t ≡ next
               → head_by (head_within less k) t next ≡ wildcard (head decls t)
           same_next shown (Some u) is =
@@ -215,7 +217,7 @@ module _ (hides : List ℕ → Bool) where
               ap (head_by (head_within less k) t) (shown_unfolded t shown)
               ∙ same_next shown (unfolded decls t) refl
 
-          -- A hidden name is replaced by `_`.
+          -- If the name at the start of a type is hidden, then the head of the type becomes `_`.
           wildcard_next : (n : List ℕ) → name_of t ≡ Some n → hides n ≡ true
               → head_within less (suc k) t ≡ wildcard (head decls t)
           wildcard_next n named' is =

@@ -1,5 +1,5 @@
--- If declared types are hidden, then the shape of a type stays the same, except for `_` and arrays
--- of `_`.
+-- If declared types are hidden, then the shapes of types stay the same, except for hidden types and
+-- arrays of hidden types.
 use Rattle.std.proofs.Common.{ℕ, ◌≡◌, ◌∙◌, List, [], ◌∷◌, Bool, true, false, cond}
 use Rattle.std.proofs.Common.{Option, Some, None, refl, ap, subst, sym}
 use Rattle.std.specs.Prelude.{Contains, IsSome, IsTrue, slice_get, option_and_then, ◌&&◌}
@@ -37,7 +37,8 @@ use Rattle.types_theory.proofs.wildcard.HeadLemmas.{same_wildcard, shown_declare
 abbrev Fields : Type 0
 Fields = List (ℕ × Ty)
 
--- If a value matches the first shape, then it matches the second, which has no more fields.
+-- If a value matches the first shape, then the value matches the second shape, which requires no
+-- more fields.
 abbrev AreFewer : Option Fields → Option Fields → Type 0
 AreFewer all few = IsSome all → IsSome few
     × ((i : ℕ) (u : Ty) → Contains (or_none few) (i, u) → Contains (or_none all) (i, u))
@@ -57,7 +58,7 @@ array_object : (t : Ty) (object : Obj)
 array_object t (objects.Block tag values) some = (some, λ i u has. has)
 array_object t object some = never some
 
--- If the relation holds for integers, atoms and objects, then it holds for each value.
+-- If the relation `AreFewer` holds for integers, atoms and objects, then it holds for each value.
 of_value : (s l : ShapeOf Ty) (graph : List Obj) (v : Val)
     → ((z : _) → AreFewer (fields_of graph (vals.Int z) s) (fields_of graph (vals.Int z) l))
     → ((tag : ℕ) → AreFewer (fields_of graph (vals.Atom tag) s) (fields_of graph (vals.Atom tag) l))
@@ -71,7 +72,7 @@ of_value s l graph (vals.Ref o) int atom each = by (slice_get graph o) where
   by None some = never some
   by (Some object) some = each object some
 
--- The second shape requires less than the first of each value that matches the first.
+-- The shape `l` requires less than the shape `s` of each value that matches `s`.
 record IsLooser (s l : ShapeOf Ty) : Type 0 where
   fewer : (graph : List Obj) (v : Val) → AreFewer (fields_of graph v s) (fields_of graph v l)
   asked : IsTrue (is_asked l) → IsTrue (is_asked s)
@@ -161,6 +162,7 @@ module _ (hides : List ℕ → Bool) (decls : List Decl) (well : AreWellFormed d
 
   base_looser : (b : Predeclared) (ts : List Ty)
       → IsLooser (predeclared_shape decls b ts) (predeclared_shape less b ts)
+  base_looser (bases.Sum k) ts = itself (predeclared_shape decls (bases.Sum k) ts)
   base_looser bases.Array (t ∷ []) =
       subst (λ h. IsLooser (array_of (head decls t) t) (array_of h t)) (sym (head_is t))
       (array_of_looser (head decls t) t)

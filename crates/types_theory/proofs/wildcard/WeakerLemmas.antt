@@ -1,4 +1,5 @@
--- The pairs that justify a value over some shapes justify it over weaker shapes.
+-- If a list of pairs is a typing over some shapes, then the list is a typing over all weaker
+-- shapes.
 use Rattle.std.proofs.Common.{ℕ, List, Option, Some, None}
 use Rattle.std.specs.Prelude.{IsSomeAnd}
 use Rattle.base_data.specs.declared.model.value.Val.{Val}

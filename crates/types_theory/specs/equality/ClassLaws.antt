@@ -1,4 +1,4 @@
--- Laws of partition refinement on numbers.
+-- Laws of partition refinement on the numbers of types.
 use Rattle.std.specs.Prelude.{ℕ, ◌≡◌, ◌↔◌, Bool, IsTrue, List, length, Some, slice_get}
 use Rattle.types_spec.specs.declared.types.decl.Decl.{Decl}
 use Rattle.types_spec.specs.declared.types.head.HeadOf.{HeadOf}
@@ -22,8 +22,8 @@ SplitsKeepTogether =
     → IsSplit n head old new (λ i. IsTrue (member i))
     → KeepsTogether n head old → KeepsTogether n head new
 
--- After a split its members are done. A number that was done before stays done, unless it has a
--- part whose class is new.
+-- After a split, the members of the class that was split are done. A number that was done before
+-- the split stays done, unless the number has a part whose class is new.
 abbrev pub SplitsSettle : Type 0
 SplitsSettle =
     (n : ℕ) (head : ℕ → HeadOf ℕ) (old new : ℕ → ℕ) (member done : ℕ → Bool)
@@ -33,7 +33,7 @@ SplitsSettle =
 
 -- ---- the initial and the final classes
 
--- If heads that agree up to their parts always have the same class, then the classes separate no
+-- If numbers whose heads agree up to parts always have the same class, then the classes separate no
 -- equal numbers.
 abbrev pub StartsKeepTogether : Type 0
 StartsKeepTogether =
@@ -54,7 +54,8 @@ NumbersAreEqual =
     → (i j : ℕ) (t u : Ty) → slice_get types i ≡ Some t → slice_get types j ≡ Some u
     → EqualBy (head_at all) i j ↔ Equal decls t u
 
--- Hence stable classes that separate no equal numbers are exactly the classes of equal types.
+-- If classes are stable and separate no equal numbers, then the classes are exactly the classes of
+-- equal types.
 abbrev pub ClassesAreOfEqualTypes : Type 0
 ClassesAreOfEqualTypes =
     (decls : List Decl) (types : List Ty) (all : List (HeadOf ℕ)) (class : ℕ → ℕ)

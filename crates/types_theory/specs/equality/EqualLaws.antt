@@ -10,19 +10,20 @@ use Rattle.types_spec.specs.types.Equal.{declared_shapes}
 use Rattle.types_spec.specs.types.Reached.{IsReached}
 use Rattle.types_spec.specs.types.Lawful.{AreLawful}
 
--- Expanding an abbreviation at the head of a type does not change the head.
+-- The expansion of an abbreviation at the head of a type does not change the type's head.
 abbrev pub ReplacementsLeaveTheHead : Type 0
 ReplacementsLeaveTheHead =
     (decls : List Decl) (t u : Ty) → AreSound decls → unfolded decls t ≡ Some u
     → head decls t ≡ head decls u
 
--- The head of a type without an abbreviation at its head is the head that is written.
+-- If no abbreviation is at the head of a type, the head of the type is the written head.
 abbrev pub HeadsAreAsWritten : Type 0
 HeadsAreAsWritten =
     (decls : List Decl) (t : Ty) → AreSound decls → unfolded decls t ≡ None
     → head decls t ≡ plain_head (head decls) t
 
--- Only `head` has these two properties.
+-- If a function satisfies `ReplacementsLeaveTheHead` and `HeadsAreAsWritten`, then the function is
+-- `head`.
 abbrev pub OnlyTheHead : Type 0
 OnlyTheHead =
     (decls : List Decl) (other : Ty → HeadOf Ty) → AreSound decls
@@ -30,8 +31,8 @@ OnlyTheHead =
     → ((t : Ty) → unfolded decls t ≡ None → other t ≡ plain_head other t)
     → (t : Ty) → other t ≡ head decls t
 
--- Over accepted declarations the shapes are lawful at the types that a type reaches. Two tags with
--- the same hash would violate this law: equal variant types would require unequal fields.
+-- Over accepted declarations, the shapes are lawful at the types that a type reaches. If two tags
+-- had the same hash, equal variant types could require unequal fields.
 abbrev pub ReachedAreLawful : Type 0
 ReachedAreLawful =
     (decls : List Decl) (t : Ty) (types : List Ty) → AreSound decls → IsReached decls t types

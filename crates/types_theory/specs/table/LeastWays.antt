@@ -8,8 +8,8 @@ use Rattle.types_spec.specs.types.LeastFault.{IsLeastFault}
 use Rattle.types_spec.specs.types.Table.{Table, table_shapes}
 use Rattle.types_theory.specs.typing.LeastWay.{AreLeastWays}
 
--- Each path of the least fault, without its last step, is the least path to its object and type, up
--- to equal types. Therefore finitely many paths decide which fault is the least: one path to each
+-- Each path of the least fault, without the path's last step, is the least path to an object at a
+-- type, up to equal types. The least fault is decided by finitely many paths: one path to each
 -- object at each class of equal types, and one more step.
 abbrev pub LeastFaultsHaveLeastWays : Type 0
 LeastFaultsHaveLeastWays =

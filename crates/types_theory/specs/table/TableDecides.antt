@@ -1,4 +1,4 @@
--- A table of types agrees with the declared types from which it was made.
+-- A table of types agrees with the declared types for which the table was made.
 use Rattle.std.specs.Prelude.{ℕ, ◌≡◌, ◌↔◌, ◌⊎◌, List, Some, slice_get}
 use Rattle.base_data.specs.declared.model.value.Val.{Val}
 use Rattle.base_data.specs.declared.model.value.Obj.{Obj}
@@ -19,21 +19,21 @@ pub record IsMadeFor (decls : List Decl) (t : Ty) (types : List Ty) (table : Tab
   pub reached : IsReached decls t types
   pub made : IsTableOf decls types table
 
--- The type for which the list was made has the number 0.
+-- The type for which the list of reached types was made has the number 0.
 abbrev pub TheRootIsFirst : Type 0
 TheRootIsFirst =
     (decls : List Decl) (t : Ty) (types : List Ty) → IsReached decls t types
     → slice_get types 0 ≡ Some t
 
--- A value has a type if and only if it has the type's number in the table.
+-- A value has a type if and only if the value has the type's number in the table.
 abbrev pub TablesDecide : Type 0
 TablesDecide =
     (decls : List Decl) (t : Ty) (types : List Ty) (table : Table) → IsMadeFor decls t types table
     → (graph : List Obj) (v : Val) (i : ℕ) (u : Ty) → slice_get types i ≡ Some u
     → HasType (table_shapes table) graph v i ↔ HasType (declared_shapes decls) graph v u
 
--- A value has each type of the table or a fault at it. The second definition says that it never has
--- both.
+-- A value has each type of the table or has a fault at the type. `NeverBoth` states that no value
+-- has both a type and a fault at the type.
 abbrev pub TypeOrFault : Type 0
 TypeOrFault =
     (decls : List Decl) (t : Ty) (types : List Ty) (table : Table) → IsMadeFor decls t types table

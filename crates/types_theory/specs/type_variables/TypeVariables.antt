@@ -1,6 +1,5 @@
 -- The meaning of a type with variables, in terms of the closed types that can replace the
--- variables. The definition follows Henry, Mauny, Chailloux and Manoury 2012, whose types are
--- closed.
+-- variables. The types of Henry, Mauny, Chailloux and Manoury 2012 are closed.
 use Rattle.std.specs.Prelude.{ℕ, ◌↔◌, List, [], Contains}
 use Rattle.base_data.specs.declared.model.value.Val.{Val}
 use Rattle.base_data.specs.declared.model.value.Obj.{Obj}
@@ -15,8 +14,8 @@ use Rattle.types_spec.specs.types.Table.{Table, table_shapes}
 use Rattle.types_spec.specs.types.Typing.{HasType}
 use Rattle.types_theory.specs.table.TableDecides.{IsMadeFor}
 
--- A sound type without variables. The type and all types that it reaches are among finitely many
--- sound types.
+-- A closed type: a sound type without variables. Finitely many sound types include the closed type
+-- and all types that the closed type reaches.
 pub record IsClosedType (decls : List Decl) (t : Ty) : Type 0 where
   pub no_variables : VariablesAmong [] t
   pub types : List Ty
@@ -25,7 +24,7 @@ pub record IsClosedType (decls : List Decl) (t : Ty) : Type 0 where
   pub reached :
       (u a : Ty) → Contains types u → Contains (reached_from decls u) a → Contains types a
 
--- Each variable is replaced by a closed type.
+-- `value` replaces each variable by a closed type.
 abbrev pub AreClosed : List Decl → (List ℕ → Ty) → Type 0
 AreClosed decls value = (x : List ℕ) → IsClosedType decls (value x)
 
@@ -43,7 +42,7 @@ VariablesStandForAll =
     → (graph : List Obj) (v : Val)
     → HasType (declared_shapes decls) graph v t ↔ HasEachInstance decls graph v t
 
--- If a value has a fault at the type, then it does not have every closed instance.
+-- If a value has a fault at a type, then the value does not have every closed instance of the type.
 abbrev pub FaultsAreOfInstances : Type 0
 FaultsAreOfInstances =
     (decls : List Decl) (t : Ty) (types : List Ty)
@@ -51,14 +50,15 @@ FaultsAreOfInstances =
     → (graph : List Obj) (v : Val) (fault : Fault)
     → IsFault (declared_shapes decls) graph v t fault → ¬ HasEachInstance decls graph v t
 
--- The first theorem for the type's number in a table.
+-- A value has the number 0 in the table made for a type if and only if the value has every closed
+-- instance of the type.
 abbrev pub NumbersStandForAll : Type 0
 NumbersStandForAll =
     (decls : List Decl) (t : Ty) (types : List Ty) (table : Table) → IsMadeFor decls t types table
     → (graph : List Obj) (v : Val)
     → HasType (table_shapes table) graph v 0 ↔ HasEachInstance decls graph v t
 
--- If a sound type has no variables and reaches finitely many types, then it is closed.
+-- If a sound type has no variables and reaches finitely many types, then the type is closed.
 abbrev pub ReachedAreClosed : Type 0
 ReachedAreClosed =
     (decls : List Decl) (t : Ty) (types : List Ty)

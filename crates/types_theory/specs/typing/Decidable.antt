@@ -23,13 +23,13 @@ pub record AreDecidable {T : Type 0} (shapes : Shapes T) : Type 0 where
   pub once : (graph : List Obj) (v : Val) (t : T) (i : ℕ) (u w : T)
       → Contains (shapes.needs graph v t) (i, u) → Contains (shapes.needs graph v t) (i, w) → u ≡ w
 
--- The type is equal to one of these types.
+-- The type `t` is equal to one of `types`.
 abbrev pub IsAmong : {T : Type 0} → Shapes T → List T → T → Type 0
 IsAmong {T} shapes types t = (u : T) × Contains types u × shapes.equal t u
 
--- Finitely many types are reachable from the type, up to equality. The type is among `types`. If a
--- type in `types` requires a field at a type, in any graph and at any value, that type is among
--- `types` too.
+-- Finitely many types are reachable from the type `t`, up to equality. The type `t` is among
+-- `types`. If a type in `types` requires a field at another type, in any graph and at any value,
+-- then the other type is among `types`.
 pub record ReachesFew {T : Type 0} (shapes : Shapes T) (t : T) : Type 0 where
   pub types : List T
   pub own : IsAmong shapes types t

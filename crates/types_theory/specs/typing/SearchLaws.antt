@@ -1,5 +1,5 @@
 -- The result of a search over objects at types: the first (least) fault among infinitely many
--- paths. Types are indices into a table.
+-- paths. Types are numbers in a table.
 use Rattle.std.specs.Prelude.{ℕ, List}
 use Rattle.base_data.specs.declared.model.value.Val.{Val}
 use Rattle.base_data.specs.declared.model.value.Obj.{Obj}
@@ -10,7 +10,8 @@ use Rattle.types_spec.specs.types.LeastFault.{IsLeastFault}
 use Rattle.types_spec.specs.types.Table.{Table, table_shapes}
 use Rattle.types_spec.specs.types.Searched.{Entry, IsSearched, AreLeastConflicting}
 
--- If a search has covered all paths before a type mismatch, then this mismatch is the least fault.
+-- If a search has covered all paths before a type mismatch, then the type mismatch is the least
+-- fault.
 abbrev pub FirstMismatchIsLeast : Type 0
 FirstMismatchIsLeast =
     (table : Table) → AreLawful (table_shapes table) Everything
@@ -19,8 +20,8 @@ FirstMismatchIsLeast =
     → IsMismatch (table_shapes table) graph root t path
     → IsLeastFault (table_shapes table) graph root t (Mismatch path)
 
--- If a search has covered all paths, then the least aliasing conflict among its entries is the
--- least fault.
+-- If a search has covered all paths, then the least aliasing conflict among the search's entries is
+-- the least fault.
 abbrev pub LeastConflictIsLeast : Type 0
 LeastConflictIsLeast =
     (table : Table) → AreLawful (table_shapes table) Everything

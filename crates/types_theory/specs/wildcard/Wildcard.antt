@@ -18,36 +18,37 @@ abbrev pub wildcard_body : Bool → Body → Body
 wildcard_body true body = bodies.Abbreviation (named (codes "_"))
 wildcard_body false body = body
 
--- The declarations in which the types with hidden names have the body `_`, as in `type name = _`.
+-- The declarations in which each type with a hidden name has the body `_`, as in `type name = _`.
 abbrev pub hide : (List ℕ → Bool) → List Decl → List Decl
 hide hides decls = map (λ (d : Decl). record d { body = wildcard_body (hides d.name) d.body }) decls
 
--- The name of a declared record or variant.
+-- `name` is the name of a declared record or variant.
 pub record IsDatatype (decls : List Decl) (name : List ℕ) : Type 0 where
   pub decl : Decl
   pub declared : declaration_of decls name ≡ Some decl
   pub no_abbreviation : abbreviated decl.body ≡ None
 
--- Each hidden name is that of a declared record or variant. An abbreviation is another name of a
--- type, so hiding only the abbreviation would make equal types unequal. With `type p = int ref`, an
--- object that occurs at both `p ref` and `int ref ref` would cause an aliasing conflict at `_ ref`.
--- A name that is not declared has no body to hide.
+-- Each hidden name is the name of a declared record or variant. If only an abbreviation of a type
+-- were hidden, equal types would become unequal. For example, let `type p = int ref` be hidden. An
+-- object that occurs at `p ref` and at `int ref ref` would cause an aliasing conflict at `_ ref`.
+-- An undeclared name has no body that could be hidden.
 abbrev pub HidesDatatypes : (List ℕ → Bool) → List Decl → Type 0
 HidesDatatypes hides decls = (name : List ℕ) → hides name ≡ true → IsDatatype decls name
 
--- The head, or the head of `_` if the head is a hidden type.
+-- The head of `_` if `head` is a hidden type, and `head` for every other head.
 abbrev pub wildcard_head : (List ℕ → Bool) → HeadOf Ty → HeadOf Ty
 wildcard_head hides (heads.Datatype name ts) =
     if hides name then heads.Predeclared bases.Any [] else heads.Datatype name ts
 wildcard_head hides other = other
 
--- The head of each type is hidden in this way.
+-- After hiding, the head of each type is the earlier head, or the head of `_` if the earlier head
+-- is a hidden type.
 abbrev pub HeadsAreWildcard : Type 0
 HeadsAreWildcard =
     (decls : List Decl) (hides : List ℕ → Bool) → AreWellFormed decls → HidesDatatypes hides decls
     → (t : Ty) → head (hide hides decls) t ≡ wildcard_head hides (head decls t)
 
--- Each value keeps its type if declared types are hidden.
+-- If declared types are hidden, each value keeps its types.
 abbrev pub WildcardIsWeaker : Type 0
 WildcardIsWeaker =
     (decls : List Decl) (hides : List ℕ → Bool) → AreWellFormed decls → HidesDatatypes hides decls

@@ -1,5 +1,5 @@
-//! Partition refinement: if classes are split until nothing changes, they are the classes of equal
-//! types.
+//! Theorems about partition refinement: if classes are split until no split changes a class, the
+//! result is the classes of equal types.
 
 ghost use Rattle.types_theory.specs.equality.ClassLaws.{StableClassesAreEqual, SplitsKeepTogether};
 ghost use Rattle.types_theory.specs.equality.ClassLaws.{SplitsSettle};
@@ -7,14 +7,14 @@ ghost use Rattle.types_theory.specs.equality.ClassLaws.{StartsKeepTogether, Part
 ghost use Rattle.types_theory.specs.equality.ClassLaws.{NumbersAreEqual};
 ghost use Rattle.types_theory.specs.equality.ClassLaws.{ClassesAreOfEqualTypes};
 
-/// States that the numbers in one stable class are equal.
+/// States that all numbers in one class of a stable partition are equal.
 pub fn stable_classes_are_equal()
     ensures { StableClassesAreEqual }
 {}
 
 /// States that partition refinement is correct. The initial classes by heads alone do not separate
-/// equal numbers. Splitting a class by the classes of the parts in its members' heads does not
-/// separate equal numbers either. After the split the members of that class are done.
+/// equal numbers. A split of a class by the classes of the parts in its members' heads does not
+/// separate equal numbers. After a split, the members of the class that was split are done.
 pub fn splits_keep_and_settle()
     ensures start { StartsKeepTogether }
     ensures keep { SplitsKeepTogether }
@@ -22,7 +22,7 @@ pub fn splits_keep_and_settle()
 {}
 
 /// States that numbers are equal if and only if their types are equal, for heads whose parts are
-/// numbers. So the classes at the end of the refinement are the classes of equal types.
+/// numbers. The classes at the end of the refinement are the classes of equal types.
 pub fn classes_are_of_equal_types()
     ensures parts { PartsAreTypes }
     ensures numbers { NumbersAreEqual }

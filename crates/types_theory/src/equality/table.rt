@@ -1,4 +1,5 @@
-//! A table of types represents its types.
+//! Theorems about a table of types: what the table states about a number holds for the number's
+//! type.
 
 ghost use Rattle.types_theory.specs.equality.TableLaws.{TablesAreLawful, TablesHaveTheFaults};
 ghost use Rattle.types_theory.specs.equality.TableLaws.{TablesHaveTheLeastFault};

@@ -1,5 +1,5 @@
--- The theorems about declarations and types, combined from those about names, ranks and polymorphic
--- variants.
+-- The theorems about declarations and types, combined from the theorems about names, ranks and
+-- polymorphic variants.
 use Rattle.std.proofs.Common.{ℕ, ◌≡◌, ◌∙◌, List, Option, Some, None, sym, subst}
 use Rattle.std.specs.Prelude.{Contains, option_map}
 use Rattle.std.proofs.lemmas.Option.{same_Some, none-some}
@@ -38,7 +38,8 @@ module _ (all : List DeclPositions) (reported : AreKnownWhole all) where
       let p = placed name decl is in
       reported.written p.d t p.among (subst (λ (e : Decl). Contains (types_of_body e.body) t) (sym p.is) stands)
 
-  -- If names are declared once and known, and there is no cycle, then the declarations are sound.
+  -- If names are declared once and known, and no abbreviation is cyclic, then the declarations are
+  -- sound.
   pub sound_by_names : Keeps all twice → Keeps all unknown_name → Keeps all cyclic → AreSound (decls_of all)
   sound_by_names once known acyclic =
       let ranks = ranks_follow_lem all reported.uses once known acyclic in

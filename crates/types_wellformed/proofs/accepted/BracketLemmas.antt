@@ -1,4 +1,4 @@
--- The tags of a polymorphic variant type come from its items; the rules on them.
+-- The tags of a polymorphic variant type come from the type's items, and obey the rules on tags.
 use Rattle.std.proofs.Common.{ℕ, zero, suc, ◌≡◌, ◌≢◌, ◌≤◌, ◌∙◌, ◌⊎◌, ⊎_elim, inl, inr, Bool, true, List, [], ◌∷◌, ◌++◌, length, Some, None, refl, sym, ap, subst, arith}
 use Rattle.std.specs.Prelude.{slice_get, map, filter, not, Contains}
 use Rattle.std.specs.Str.{bytes_eq}
@@ -34,7 +34,7 @@ filtered-of : {X : Type 0} (p : X → Bool) (xs : List X) (x : X) → Contains (
 filtered-of p xs x among = (filtered-Contains p xs x among).0
 
 module _ (decls : List Decl) (plain : HeadsArePlain decls) where
-  -- Some item has the tag.
+  -- Some item of `items` contributes the tag `one`.
   record Brought (items : List Ty) (one : TagOf Ty) : Type 0 where
     position : ℕ
     item : Ty
@@ -47,8 +47,8 @@ module _ (decls : List Decl) (plain : HeadsArePlain decls) where
   last_item : (items : List Ty) (last : Ty) (one : TagOf Ty) → Contains (tags_of_item decls last) one → Brought (items ++ last ∷ []) one
   last_item items last one among = record { position = length items; item = last; is = slice_get-last items last; brings = among }
 
-  -- If tags are added to a head, each tag of the result is one of the head's or one of the added
-  -- tags.
+  -- If tags are added to a head, then each tag of the result is a tag of the head or one of the
+  -- added tags.
   with_more :
       (h : HeadOf Ty) (more : List (TagOf Ty)) (one : TagOf Ty) → Contains (tags_in (with_tags h more)) one → Contains (tags_in h) one ⊎ Contains more one
   with_more (heads.Variants tags) more one among = ⊎_elim
@@ -84,7 +84,7 @@ module _ (decls : List Decl) (plain : HeadsArePlain decls) where
         joined_alone : Contains (tags_in (head decls included)) one → Contains (tags_in (with_tags (heads.Variants []) (tags_in (head decls included)))) one
         joined_alone last = kept-all (λ (t : TagOf Ty). not (has_tag [] t.name)) (tags_in (head decls included)) one (λ t. refl) last
 
-  -- Each tag of the head comes from an item.
+  -- If a bracket has no expansion, then each tag of the bracket's head comes from an item.
   brought : (t : Ty) → HasItems t → (one : TagOf Ty) → unfolded decls t ≡ None → Contains (tags_in (head decls t)) one → Brought (items_of t) one
   brought t has one none among = brought_plain t has one (subst (λ h. Contains (tags_in h) one) (plain t none) among)
 
@@ -151,7 +151,7 @@ module _ (decls : List Decl) (plain : HeadsArePlain decls) (Seen : ℕ → Type 
   known_right : (first rest : List Thing) → Known (first ++ rest) → Known rest
   known_right first rest known thing among = known thing (Contains-append_right first rest thing among)
 
-  -- The type is a prefix of the items of a bracket among the occurrences.
+  -- The items of the type `t` are the first items of a bracket among the occurrences.
   record Within (t : Ty) : Type 0 where
     placed : List PlacedItem
     occurs : Contains occurrences (bracket_of placed)
@@ -163,7 +163,8 @@ module _ (decls : List Decl) (plain : HeadsArePlain decls) (Seen : ℕ → Type 
       let b = bracket_known o.0 (items_of t) o.2 in
       record { placed = b.0; occurs = subst (λ e. Contains occurrences e) b.1 o.1; first = placed_get b.0 (items_of t) b.2 }
 
-  -- If two tags have the same hash, then they have the same name.
+  -- If two tags of a bracket among the occurrences have the same hash, then the two tags have the
+  -- same name.
   own_hashes : (t : Ty) → HasItems t → unfolded decls t ≡ None → Within t → IsHashed decls t
   own_hashes t has none w one other among among' same =
       let b = brought decls plain t has one none among in
@@ -206,7 +207,7 @@ module _ (decls : List Decl) (plain : HeadsArePlain decls) (Seen : ℕ → Type 
       (in_order b.position c.position))
       (true_or_not (bytes_eq one.name other.name))
 
-  -- Each type that a bracket includes is a polymorphic variant type.
+  -- Each type that a bracket among the occurrences includes is a polymorphic variant type.
   includes : (whole included : Ty) → Within (including whole included) → AreVariants (head decls included)
   includes whole included w = ⊎_elim (λ is. is)
       (λ other.
@@ -222,7 +223,8 @@ module _ (decls : List Decl) (plain : HeadsArePlain decls) (Seen : ℕ → Type 
       )))
       (variants_or_not (head decls included))
 
-  -- A shorter prefix of the items.
+  -- If the items of a type are the first items of a bracket, then all items but the last are the
+  -- first items of the bracket.
   shorter : (t whole last : Ty) → items_of t ≡ items_of whole ++ last ∷ [] → Within t → Within whole
   shorter t whole last same w = record {
     placed = w.placed;

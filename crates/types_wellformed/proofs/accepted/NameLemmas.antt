@@ -1,4 +1,4 @@
--- The parts of a type, and the rules on names.
+-- Lemmas about the parts of a type, and about the rules on names.
 use Rattle.std.proofs.Common.{ℕ, suc, ◌≡◌, ◌≤◌, ◌+◌, ◌∙◌, ◌⊎◌, ⊎_elim, inl, inr, Bool, List, [], ◌∷◌, ◌++◌, length, Some, None, refl, sym, ap, ap₂, subst, arith, length-append}
 use Rattle.std.specs.Prelude.{Contains, IsSome}
 use Rattle.std.proofs.lemmas.Option.{none-some}
@@ -19,7 +19,7 @@ use Rattle.types_wellformed.proofs.accepted.RankLemmas.{contains_or_not}
 
 -- ---- a type whose names take their arguments
 
--- Each name among the things takes as many arguments as it has.
+-- Each name among the things takes as many arguments as the thing has.
 abbrev UsesFit : List Decl → List Thing → Type 0
 UsesFit decls things = (x : List ℕ) (ts : List Ty) → Contains things (use_thing x ts) → arity_of decls x ≡ Some (length ts)
 
@@ -29,7 +29,7 @@ fit_left decls first rest fit x ts among = fit x ts (Contains-append_left first 
 fit_right : (decls : List Decl) (first rest : List Thing) → UsesFit decls (first ++ rest) → UsesFit decls rest
 fit_right decls first rest fit x ts among = fit x ts (Contains-append_right first rest (use_thing x ts) among)
 
--- The name with which the type begins takes `n` arguments and those of the type.
+-- The name with which the type begins takes the arguments of the type and `n` more arguments.
 abbrev BaseTakes : List Decl → ℕ → Ty → Type 0
 BaseTakes decls n (variable x) = Unit {0}
 BaseTakes decls n (named x) = arity_of decls x ≡ Some n
@@ -168,7 +168,7 @@ module _ (names : List (List ℕ)) where
 
 -- ---- complete occurrences
 
--- The thing is a name with these arguments.
+-- The occurrence is a use of the name `x` with the arguments `ts`.
 record UseAt (occurrence : Occurrence) (x : List ℕ) (ts : List Ty) : Type 0 where
   position : ℕ
   in_tag : Bool
@@ -187,7 +187,7 @@ variable_known (bracket_of items) x same = absurd (cc)
 
 module _ (decls : List Decl) (Seen : ℕ → Type 0) (occurrences : List Occurrence)
     (known : (k : ℕ) → ¬ BreaksIn decls Seen occurrences unknown_name k) (fits : (k : ℕ) → ¬ BreaksIn decls Seen occurrences arity k) where
-  -- Each name that is used has an arity.
+  -- Each name that an occurrence uses has an arity.
   meant : (k : ℕ) (x : List ℕ) (ts : List Ty) (in_tag : Bool) → Contains occurrences (use_of k x ts in_tag) → (n : ℕ) × (arity_of decls x ≡ Some n)
   meant k x ts in_tag occurs = by_kind (none_or_some (predeclared x)) (none_or_some (declaration_of decls x)) where
     by_kind : (predeclared x ≡ None) ⊎ ((b : Predeclared) × (predeclared x ≡ Some b))

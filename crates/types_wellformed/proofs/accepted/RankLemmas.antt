@@ -1,5 +1,6 @@
--- Chains of abbreviations in which each uses the next. If none is cyclic, no chain is longer than
--- the number of declarations. The length of the longest chain from a name decreases with each use.
+-- Chains of abbreviations in which each abbreviation uses the next abbreviation. If no abbreviation
+-- is cyclic, no chain is longer than the number of declarations. The length of the longest chain
+-- from a name decreases with each use.
 use Rattle.std.proofs.Common.{ℕ, zero, suc, ◌≡◌, ◌<◌, ◌≤◌, ◌∙◌, ◌⊎◌, ⊎_elim, inl, inr, Bool, true, false, cond, List, [], ◌∷◌, length, Option, Some, None, refl, sym, ap, ap₂, subst, arith}
 use Rattle.std.specs.Prelude.{map, max, find, Contains, IsSome, is_some, IsTrue, option_map}
 use Rattle.std.specs.Str.{bytes_eq}
@@ -32,11 +33,11 @@ abbrev body_of : Option DeclPositions → Option Ty
 body_of None = None
 body_of (Some d) = abbreviated d.decl.body
 
--- The type that the name abbreviates.
+-- The type that the name abbreviates, or `None` if the name is not an abbreviation.
 abbrev stands_for : List DeclPositions → List ℕ → Option Ty
 stands_for all name = body_of (found all name)
 
--- The length of the longest chain from a name, up to a limit.
+-- The length of the longest chain from a name, given the lengths from the names that the type uses.
 height_by : (List ℕ → ℕ) → Option Ty → ℕ
 height_by f None = 0
 height_by f (Some t) = suc (greatest f (names_outside t))
@@ -95,7 +96,8 @@ module _ (all : List DeclPositions) where
   height_within zero x = omega arith
   height_within (suc n) x = height_by_within (height all n) n (stands_for all x) (height_within n)
 
-  -- If the length is less than the limit, then a greater limit gives the same length.
+  -- If the length of the longest chain is less than the limit, then a greater limit gives the same
+  -- length.
   settled_by :
       (f g : List ℕ → ℕ) (n : ℕ) (o : Option Ty) → height_by f o < suc n → ((y : List ℕ) → f y < n → g y ≡ f y)
       → height_by g o ≡ height_by f o
@@ -111,7 +113,7 @@ module _ (all : List DeclPositions) where
 
   -- ---- chains
 
-  -- One name abbreviates a type that uses the other.
+  -- The name `x` abbreviates a type that uses the name `y` outside tag arguments.
   record Uses (x y : List ℕ) : Type 0 where
     type : Ty
     is : stands_for all x ≡ Some type
@@ -126,7 +128,7 @@ module _ (all : List DeclPositions) where
     chain : IsChain x rest
     long : suc (length rest) ≡ n
 
-  -- If a height reaches the limit, then some chain has this length.
+  -- If the length of the longest chain reaches the limit, then some chain is as long as the limit.
   chain_by :
       (n : ℕ) (x : List ℕ) (o : Option Ty) → stands_for all x ≡ o → height_by (height all n) o ≡ suc n
       → ((y : List ℕ) (m : ℕ) → n ≡ suc m → height all n y ≡ n → Chain y n) → Chain x (suc n)
@@ -186,7 +188,8 @@ found_named (first ∷ rest) name d is = by_test (true_or_not (bytes_eq first.de
       let more = later (sym (ap (λ b. cond b (Some first) (found rest name)) false_is) ∙ is) in
       (Contains-later first rest d more.0, more.1)
 
--- Looking up a declaration alone agrees with looking it up with its occurrences.
+-- The lookup of a name among declarations agrees with the lookup of the name among declarations
+-- with their occurrences.
 pub found_decl : (all : List DeclPositions) (name : List ℕ) → declaration_of (decls_of all) name ≡ option_map (λ (d : DeclPositions). d.decl) (found all name)
 found_decl [] name = refl
 found_decl (first ∷ rest) name = at_test (bytes_eq first.decl.name name) (found_decl rest name) where
@@ -195,7 +198,7 @@ found_decl (first ∷ rest) name = at_test (bytes_eq first.decl.name name) (foun
   at_test true later = refl
   at_test false later = later
 
--- If a name abbreviates a type, then it is declared.
+-- If a name abbreviates a type, then the name is declared.
 declared_name : (all : List DeclPositions) (name : List ℕ) → IsSome (stands_for all name) → (d : DeclPositions) × (found all name ≡ Some d)
 declared_name all name is = ⊎_elim
     (λ none. let e : body_of (found all name) ≡ None = ap body_of none in absurd (none_is (stands_for all name) e is))
@@ -258,7 +261,7 @@ module _ (all : List DeclPositions) (reported : UsesAreKnown all) (once : Keeps 
       absurd (once e.position (inl (inr (y, listed, subst IsSome (sym some.1) refl)))))
       (none_or_some (predeclared y))
 
-  -- One declaration uses another.
+  -- The declaration `d` of the name `x` uses the name `y` of the declaration `e`.
   record UsesAt (x y : List ℕ) (d e : DeclPositions) : Type 0 where
     position : ℕ
     arguments : List Ty
@@ -297,7 +300,8 @@ module _ (all : List DeclPositions) (reported : UsesAreKnown all) (once : Keeps 
         abbreviates = subst IsSome (sym body) refl;
       }
 
-  -- Along uses, groups do not increase.
+  -- If uses lead from one declaration to another declaration, then the group of the other
+  -- declaration is not later.
   groups_fall :
       (x : List ℕ) (between : List (List ℕ)) (z : List ℕ) (d e : DeclPositions) → Leads all x between z → found all x ≡ Some d
       → found all z ≡ Some e → e.decl.group ≤ d.decl.group
@@ -310,7 +314,8 @@ module _ (all : List DeclPositions) (reported : UsesAreKnown all) (once : Keeps 
         declared_of_uses w [] v used = declared_name all w (subst IsSome (sym used.is) refl)
         declared_of_uses w (u ∷ ws) v used = declared_name all w (subst IsSome (sym used.0.is) refl)
 
-  -- If uses lead from a declaration to one of its group, then they are steps.
+  -- If uses lead from a declaration to an abbreviation of the same group or a later group, then the
+  -- uses are steps.
   steps_of :
       (x : List ℕ) (between : List (List ℕ)) (z : List ℕ) (d e : DeclPositions) → Leads all x between z → found all x ≡ Some d
       → found all z ≡ Some e → d.decl.group ≤ e.decl.group → IsSome (abbreviated e.decl.body)

@@ -1,5 +1,5 @@
--- The loop over the items of a bracket: the tags contributed so far, and the least lexeme at which
--- a rule is broken.
+-- The loop over the items of a bracket: the tags that earlier items contribute, and the least
+-- lexeme at which a rule is broken.
 use Rattle.std.proofs.Common.{ℕ, ℤ, ◌<◌, ◌≤◌, ◌+◌, ◌≡◌, ◌≢◌, ◌⊎◌, ⊎_elim, Bool, Option, Some}
 use Rattle.std.proofs.Common.{None}
 use Rattle.std.proofs.Common.{List, [], ◌++◌, length, get_or, refl, sym, ap, subst, arith, ◌∙◌}
@@ -24,12 +24,12 @@ use Rattle.types_wellformed.specs.brackets.Tables.{AreTagNames, AreColliding}
 -- ---- the tags contributed so far
 
 module _ (items : List TagItem) where
-  -- One of the first `n` items contributes this tag.
+  -- One of the first `n` items contributes the tag `tag`.
   abbrev pub Brought : ℕ → TagOf ℕ → Type 0
   Brought n tag =
       (m : ℕ) × (m < n) × (item : TagItem) × (slice_get items m ≡ Some item) × Contains item.tags tag
 
-  -- These are the tags that the first `n` items contribute.
+  -- `seen` contains exactly the tags that the first `n` items contribute.
   pub record AreBrought (n : ℕ) (seen : List (TagOf ℕ)) : Type 0 where
     pub there : (tag : TagOf ℕ) → Contains seen tag → Brought n tag
     pub all : (tag : TagOf ℕ) → Brought n tag → Contains seen tag
@@ -106,7 +106,7 @@ module _ (items : List TagItem) where
         ),
       ))
 
-  -- The invariant after the first `n` items.
+  -- The invariant of the search for conflicts after the first `n` items.
   pub record AreConflictsBefore (n : ℕ) (table : ArgumentTable) (best : Option ℕ) : Type 0 where
     pub seen : List (TagOf ℕ)
     pub brought : AreBrought n seen
@@ -198,8 +198,8 @@ module _ (items : List TagItem) where
 
   -- ---- collisions
 
-  -- Item `j`, at lexeme `k`, contributes a tag with one name. The same item or an earlier one
-  -- contributes a tag with the other name.
+  -- Item `j`, at lexeme `k`, contributes a tag with the name `other_name`. The same item or an
+  -- earlier item contributes a tag with the name `one_name` and the same hash.
   abbrev pub CollisionAt : ℕ → ℕ → List ℕ → List ℕ → Type 0
   CollisionAt j k one_name other_name =
       (item : TagItem) × (slice_get items j ≡ Some item) × (item.position ≡ k)
@@ -209,7 +209,8 @@ module _ (items : List TagItem) where
   abbrev pub SomeCollisionAt : ℕ → ℕ → Type 0
   SomeCollisionAt j k = (one other : List ℕ) × CollisionAt j k one other
 
-  -- The collision found at an item.
+  -- `found` is a collision of the tags of `item` with the tags `seen`, or `None` if no tags
+  -- collide.
   abbrev pub Finds : List (TagOf ℕ) → TagItem → Option Collision → Type 0
   Finds seen item found =
       MatchOption found ((one other : List ℕ) → ¬ AreColliding seen item.tags one other)
@@ -281,7 +282,7 @@ module _ (items : List TagItem) where
         finds.1.4,
       )
 
-  -- The invariant after the first `n` items.
+  -- The invariant of the search for collisions after the first `n` items.
   pub record AreCollisionsBefore (n : ℕ) (table : EncodingTable) (best : Option Collision)
       : Type 0 where
     pub seen : List (TagOf ℕ)

@@ -1,4 +1,5 @@
--- The entry of a key after one more value, and the search for another value in it.
+-- Lemmas about the entry of a key after one more value is seen, and about the search of the entry
+-- for another value.
 use Rattle.std.proofs.Common.{◌≡◌, ◌≢◌, ◌⊎◌, ⊎_elim, Bool, true, false, cond, Option, Some, None}
 use Rattle.std.proofs.Common.{refl, sym, subst, inl, inr, ◌∙◌}
 use Rattle.std.specs.Prelude.{MatchOption}
@@ -8,7 +9,8 @@ use Rattle.types_wellformed.specs.declared.brackets.sightings.Sighting.{Sighting
 use Rattle.types_wellformed.specs.brackets.Sightings.{with_value, other_value, Reports}
 
 module _ {V B : Type 0} (meaning : V → B) where
-  -- The description of the values beside the first.
+  -- If `other` is `None`, all seen values equal the first value. If `other` is a value, the value
+  -- was seen and differs from the first value.
   abbrev pub ReportsOther : (B → Type 0) → V → Option V → Type 0
   ReportsOther Seen first other =
       MatchOption other ((b : B) → Seen b → meaning first ≡ b)
@@ -20,7 +22,8 @@ module _ {V B : Type 0} (meaning : V → B) where
   same_other Seen Next first None to from all = λ b next. all b (from b next)
   same_other Seen Next first (Some v) to from differs = (to (meaning v) differs.0, differs.1)
 
-  -- If the same values were seen, then the entry describes them.
+  -- If an entry describes the seen values, then the entry describes every equal collection of seen
+  -- values.
   pub reports_same :
       (Seen Next : B → Type 0) (known : Option (Sighting V)) → ((b : B) → Seen b → Next b)
       → ((b : B) → Next b → Seen b) → Reports meaning Seen known → Reports meaning Next known
@@ -51,7 +54,7 @@ module _ {V B : Type 0} (meaning : V → B) where
     added_other Seen Next first value (Some v) differs keep split here =
         (keep (meaning v) differs.0, differs.1)
 
-    -- If one more value was seen, then the extended entry describes the values.
+    -- If one more value is seen, then the extended entry describes the seen values.
     pub reports_more :
         (Seen Next : B → Type 0) (value : V) (known : Option (Sighting V))
         → Reports meaning Seen known → ((b : B) → Seen b → Next b)
@@ -64,7 +67,8 @@ module _ {V B : Type 0} (meaning : V → B) where
       added_other Seen Next known.first value known.other some.1 keep split here,
     )
 
-    -- The meaning of the result of a search for another value.
+    -- If `found` is `None`, all seen values equal `value`. If `found` is a value, the found value
+    -- was seen and differs from `value`.
     abbrev pub SaysOther : (B → Type 0) → V → Option V → Type 0
     SaysOther Seen value found =
         MatchOption found ((b : B) → Seen b → b ≡ meaning value)
@@ -85,8 +89,8 @@ module _ {V B : Type 0} (meaning : V → B) where
         says_other Seen first value other seen rest (says.0 refl)
     says_first Seen first value other false says seen rest = (seen, λ e. false≢true (says.1 e))
 
-    -- If the search returns another value, then it was seen. If it returns none, then there is
-    -- none.
+    -- If the search of an entry finds another value, then the value was seen and differs. If the
+    -- search finds none, then no seen value differs.
     pub other_says :
         (Seen : B → Type 0) (value : V) (known : Option (Sighting V)) → Reports meaning Seen known
         → SaysOther Seen value (other_value eq known value)
@@ -114,7 +118,7 @@ module _ {V B : Type 0} (meaning : V → B) where
           (λ b next. ⊎_elim (λ seen. seen) (λ e. absurd (false≢true (says.1 e.0))) (split a b next))
           (reports a)
 
-      -- If one more value was seen under this key, then the extended table describes the values.
+      -- If one more value is seen under the key, then the extended table describes the seen values.
       pub reports_added :
           (Seen Next : A → B → Type 0) (value : V) (before after : A → Option (Sighting V))
           → ((q : A) → Reports meaning (Seen q) (before q))

@@ -1,4 +1,5 @@
--- The tables of arguments and of names after one more tag, and the results of searches in them.
+-- Lemmas about the tables of arguments and of names after one more tag, and about searches of the
+-- tables.
 use Rattle.std.proofs.Common.{ℕ, ℤ, ◌<◌, ◌≤◌, ◌+◌, ◌≡◌, ◌≢◌, ◌⊎◌, ⊎_elim, inl, inr, false}
 use Rattle.std.proofs.Common.{cond, Option, Some, None, List, [], ◌∷◌, ◌++◌, length, get_or, take}
 use Rattle.std.proofs.Common.{refl, sym, ap, subst, arith, ◌∙◌, append_assoc, Equal}
@@ -66,7 +67,8 @@ pub all_of :
 all_of P xs i le ge holds = let e : i ≡ length xs = omega arith in
     subst P (take-length xs) (subst (λ n. P (take n xs)) e holds)
 
--- An element of the first `i` + 1 is one of the first `i`, or the next one.
+-- Each of the first `i + 1` elements of a list is one of the first `i` elements or the element at
+-- index `i`.
 pub split_next :
     {X : Type 0} (xs : List X) (i : ℕ) (x y : X) → i < length xs → x ≡ get_or xs i x
     → Contains (take (i + 1) xs) y → Contains (take i xs) y ⊎ (x ≡ y)
@@ -109,8 +111,8 @@ argument_says seen tag table key found is found_is reports =
     (other_says (λ argument. argument) (option_eq nat_eq) argument_is (HasArgument seen tag.name)
     tag.argument (arguments_at table tag.name) (reports tag.name))
 
--- If the first `i` tags have no conflict and the next one has no other argument, then the first `i`
--- + 1 tags have no conflict.
+-- Let the first `i` tags have no conflict. If the tag at index `i` was seen with no other argument,
+-- then the first `i + 1` tags have no conflict.
 pub no_conflict :
     (seen tags : List (TagOf ℕ)) (i : ℕ) (tag : TagOf ℕ) (found : Option (Option ℕ))
     → i < length tags → tag ≡ get_or tags i tag → (¬ SomeConflicts seen (take i tags))
@@ -168,8 +170,8 @@ encoding_says seen table text h found found_is reports =
     (other_says (λ (v : Bor (List ℕ)). v.now) (λ (a b : Bor (List ℕ)). bytes_eq a.now b.now)
     (λ a b. bytes_eq-Decides a.now b.now) (HasEncoding seen h) text (tag_names_at table h) (reports h))
 
--- If the first `i` tags have no collision and the hash of the next one has no other name, then the
--- first `i` + 1 tags have none.
+-- Let the first `i` tags have no collision. If the hash of the tag at index `i` was seen with no
+-- other name, then the first `i + 1` tags have no collision.
 pub no_collision :
     (seen tags : List (TagOf ℕ)) (i : ℕ) (tag : TagOf ℕ) (text : Bor (List ℕ)) (h : ℤ)
     → i < length tags → tag ≡ get_or tags i tag → text.now ≡ tag.name → h ≡ tag_hash text.now

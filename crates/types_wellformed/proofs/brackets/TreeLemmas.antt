@@ -1,5 +1,4 @@
--- The rules over the numbers of types are equivalent to the rules over the types as they are
--- written.
+-- The rules over the numbers of types are equivalent to the rules over the written types.
 use Rattle.std.proofs.Common.{ℕ, ◌≡◌, Option, Some, None, List, refl, sym, ap, subst, ◌∙◌}
 use Rattle.std.specs.Prelude.{slice_get, Contains, IfSome, map, option_map}
 use Rattle.std.proofs.lemmas.Option.{same_Some, none-some, slice_get-map}
@@ -110,7 +109,8 @@ module _ (types : List Ty) where
   -- ---- items
 
   module _ (decls : List Decl) (items : List TagItem) (all : List PlacedItem) (are : AreItems types decls items all) where
-    -- If tags are contributed by number, then tags of the text are contributed.
+    -- If two numbered items contribute two tags, then the corresponding items of the text
+    -- contribute the represented tags.
     to_written :
         (k i j : ℕ) (one other : TagOf ℕ) → Brings items k i j one other
         → (a b : TagOf Ty) × HasTags decls all k i j a b × IsTag one a × IsTag other b
@@ -137,7 +137,8 @@ module _ (types : List Ty) where
           sym b.2,
         )
 
-    -- The converse holds.
+    -- If two items of the text contribute two tags, then the corresponding numbered items
+    -- contribute tags that represent the two tags.
     to_numbers :
         (k i j : ℕ) (a b : TagOf Ty) → HasTags decls all k i j a b
         → (one other : TagOf ℕ) × Brings items k i j one other × IsTag one a × IsTag other b

@@ -1,5 +1,5 @@
--- A text has at most one answer: the result of the lexer is unique, the result of the grammar is
--- unique, and one violation comes first, at one position.
+-- A text has at most one answer. The result of the lexer is unique, the result of the grammar is
+-- unique, and only one violation of a scope rule is the first.
 use Rattle.std.proofs.Common.{ℕ, ◌≡◌, ◌∙◌, ⊎_elim, List, length, sym, ap, subst}
 use Rattle.std.specs.Prelude.{Result, Ok, Err}
 use Rattle.std.proofs.lemmas.Bool.{cases_order}

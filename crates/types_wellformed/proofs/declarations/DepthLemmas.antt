@@ -1,5 +1,5 @@
--- The depth of a type in a tree is recorded where the type ends, so each type of a parsed text is
--- at most 200 deep.
+-- The depth of each type in a tree is recorded at the lexeme where the type ends. Each type of a
+-- parsed text is at most 200 deep.
 use Rattle.std.proofs.Common.{ℕ, suc, ◌≡◌, ◌<◌, ◌≤◌, ◌∙◌, ⊎_elim, inl, List, [], ◌∷◌, ◌++◌, length, drop, sym, ap, arith, length-append, take-append-drop}
 use Rattle.std.specs.Prelude.{Contains, max, replicate, slice_index}
 use Rattle.std.proofs.lemmas.Bool.{cases_lt}
@@ -11,7 +11,7 @@ use Rattle.types_parse.specs.grammar.Grammar as trees
 use Rattle.types_parse.specs.grammar.Depths.{texpr_depth, app_depth, simple_depth, items_depth, at_last, no_end, texpr_ends, app_ends, simple_ends, texprs_ends, items_ends}
 use Rattle.types_parse.specs.grammar.Refusals.{IsText}
 
--- One of these depths is at least `n`.
+-- One of the depths `ends` is at least `n`.
 abbrev pub Reaches : List ℕ → ℕ → Type 0
 Reaches ends n = (m : ℕ) × Contains ends m × (n ≤ m)
 

@@ -34,8 +34,8 @@ use Rattle.types_wellformed.proofs.declarations.DepthLemmas.{types_end, text_is_
 
 -- ---- the spot of a type
 
--- The type is that of a tree. Its occurrences are among these occurrences, and the depths of the
--- types that end in it are among these depths.
+-- `t` is the type of a tree. The occurrences in the tree are among `occurrences`, and the depths of
+-- the types that end in the tree are among `ends`.
 record Spot (occurrences : List Occurrence) (ends : List ℕ) (t : Ty) : Type 0 where
   tree : Texpr
   position : ℕ
@@ -99,8 +99,8 @@ each_among : {X : Type 0} (between : Kinds) (ends : X → List ℕ) (xs : List X
 each_among between ends xs x among n here =
     Contains-flat_map (λ y. silent between ++ ends y) xs x n among (Contains-append_right (silent between) (ends x) n here)
 
--- If a type has a spot in one element of a row, wherever that element begins, then it has a spot in
--- the row.
+-- If a type has a spot in one element of a row, wherever the element begins, then the type has a
+-- spot in the row.
 row_spot :
     {X : Type 0} (size : X → ℕ) (of : ℕ → X → List Occurrence) (between : Kinds) (ends : X → List ℕ) (first : X) (more : List X) (j k : ℕ)
     (t : Ty) (x : X) → Contains (first ∷ more) x → ((i : ℕ) → Spot (of i x) (ends x) t)
@@ -268,7 +268,7 @@ files_spot before k (g ∷ groups) d among =
     (last_part (group_ends g) (file_ends groups)))
     (Contains-append_cases (group_positions before k g) positions d among)
 
--- Each type of each declaration has a spot.
+-- Each type in the body of a declaration has a spot.
 type_spot :
     {ends : List ℕ} (d : DeclPositions) (t : Ty) → DeclSpot ends d → Contains (types_of_body d.decl.body) t → Spot d.occurrences ends t
 type_spot {ends} d t spot among =
@@ -331,14 +331,14 @@ files_known lexemes tree is =
       written = λ d t among has. spot_written d.occurrences (file_ends tree) t (type_spot d t (spots d among) has) shallow;
     }
 
--- If a text breaks no scope rule, then its declarations are well-formed.
+-- If a text breaks no scope rule, then the declarations of the text are well-formed.
 pub files_well_formed :
     (lexemes : Kinds) (tree : FileTree) → IsText file_kinds file_ends lexemes tree → KeepsAll (BreaksInFile (file_positions tree))
     → AreWellFormed (declarations_of tree)
 files_well_formed lexemes tree is keeps =
     subst AreWellFormed (files_are_counted.declared tree) (well_formed (file_positions tree) (files_known lexemes tree is) keeps)
 
--- If a text breaks no rule on names, then its declarations are sound.
+-- If a text breaks no rule on names, then the declarations of the text are sound.
 pub names_sound :
     (lexemes : Kinds) (tree : FileTree) → IsText file_kinds file_ends lexemes tree → KeepsBefore (BreaksInFile (file_positions tree)) 7
     → AreSound (declarations_of tree)

@@ -1,4 +1,4 @@
--- The rules that depend on heads, which come after those on names.
+-- The rules that depend on heads are checked after the rules on names.
 use Rattle.std.proofs.Common.{ℕ, ⊎_elim, List, length, Some, None, refl}
 use Rattle.std.specs.Prelude.{Ok}
 use Rattle.std.proofs.lemmas.Bool.{cases_lt}

@@ -1,5 +1,5 @@
--- The names that a type uses outside tag arguments are among its occurrences. Types of the grammar
--- have a valid form and no greater depth than their trees.
+-- The names that a type uses outside tag arguments are among the type's occurrences. Types of the
+-- grammar have a valid form, and are at most as deep as their trees.
 use Rattle.std.proofs.Common.{ℕ, suc, ◌≡◌, ◌≤◌, ◌+◌, ◌⊎◌, ⊎_elim, inl, inr, true, false, List, [], ◌∷◌, ◌++◌, length, subst, arith}
 use Rattle.std.specs.Prelude.{Contains, max}
 use Rattle.std.proofs.lemmas.List.Elements.{Contains-append_left, Contains-append_right, Contains-append_cases}

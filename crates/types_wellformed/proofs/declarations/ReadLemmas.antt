@@ -1,4 +1,4 @@
--- If a stage refuses the text, then its fault is the answer to the text.
+-- If a stage refuses the text, then the fault of the stage is the answer to the text.
 use Rattle.std.proofs.Common.{ℕ, ◌≡◌, ◌∙◌, false, List, length, refl, sym, ap}
 use Rattle.std.specs.Prelude.{Ok, Err}
 use Rattle.types_lex.specs.declared.lexeme.Lexeme.{Lexeme}
@@ -58,7 +58,7 @@ module _ {Tree : Type 0} (encoded : Tree → Kinds) (ends : Tree → List ℕ) (
     scope_refuses tree reads names.Irregular k is = (Ok lexemes, lexes, (text_read tree, reads, (k, is, refl)))
     scope_refuses tree reads names.TooManyConstructors k is = (Ok lexemes, lexes, (text_read tree, reads, (k, is, refl)))
 
--- The occurrences found by counting are those in the text.
+-- The occurrences that counting finds are the occurrences in the text.
 pub positions_are :
     (lexemes : List Lexeme) (decls : List Decl) (positions : List ℕ) (tree : FileTree)
     → file_kinds tree ≡ kinds_of lexemes → decls ≡ declarations_of tree

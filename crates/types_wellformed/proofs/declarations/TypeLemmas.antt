@@ -1,4 +1,4 @@
--- The tree of a type determines its occurrences, production by production.
+-- The tree of a type determines the occurrences in the type, production by production.
 use Rattle.std.proofs.Common.{ℕ, ◌≡◌, ◌+◌, ◌∙◌, ⊎_elim, Bool, true, List, [], ◌∷◌, ◌++◌, length, refl, sym, ap, subst}
 use Rattle.std.specs.Prelude.{map, Contains}
 use Rattle.std.proofs.lemmas.List.Elements.{Contains-append_left, Contains-append_right, Contains-append_cases}
@@ -81,14 +81,16 @@ known_right first rest thing known = (known.0, Contains-append_right first rest 
 known_later : (one : Occurrence) (rest : List Occurrence) (thing : Thing) → IsKnown rest thing → IsKnown (one ∷ rest) thing
 known_later one rest thing known = (known.0, Contains-later one rest known.0 known.1, known.2)
 
--- If two lists of facts are each reported, then their concatenation is reported.
+-- If each of two lists of occurrences states all things of a list, then the concatenated
+-- occurrences state all things of the concatenated lists.
 both_known : (first rest : List Occurrence) (things more : List Thing) → Reports first things → Reports rest more → Reports (first ++ rest) (things ++ more)
 both_known first rest things more one other thing among = ⊎_elim
     (λ before. known_left first rest thing (one thing before))
     (λ after. known_right first rest thing (other thing after))
     (Contains-append_cases things more thing among)
 
--- If one occurrence reports one fact and the rest report the others, then all are reported.
+-- If the first occurrence states the first thing and the remaining occurrences state the remaining
+-- things, then the occurrences state all things.
 first_known :
     (one : Occurrence) (rest : List Occurrence) (own : Thing) (things : List Thing) → thing_of one ≡ own → Reports rest things → Reports (one ∷ rest) (own ∷ things)
 first_known one rest own things same later thing among = ⊎_elim

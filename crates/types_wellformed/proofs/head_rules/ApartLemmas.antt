@@ -1,4 +1,4 @@
--- If the tags written in a text have no conflicts, then the tags of all heads have no conflicts.
+-- If the written tags of a text have no conflicts, then the tags of all heads have no conflicts.
 use Rattle.std.proofs.Common.{◌≡◌, ◌≢◌, ℕ, zero, suc, ◌+◌, ◌<◌, ⊎_elim, Bool, true, false, cond, not, List, [], ◌∷◌, ◌++◌, Option, Some, None, length, get_or, refl, sym, ap, subst, ◌∙◌, arith}
 use Rattle.std.specs.Prelude.{slice_get, filter, find, option_map, Contains, All, IfSome}
 use Rattle.std.specs.List.{AllByRecursion}
@@ -292,8 +292,8 @@ push_grows old new x is = record { added = x ∷ []; kept = is }
 read_type : (types : List Ty) (n : ℕ) (t : Ty) → slice_get types n ≡ Some t → type_at types n ≡ t
 read_type types n t is = get_or_from_slice_get types n t tuple is
 
--- If the list `known` says that type `n` is closed, then type `n` is closed. The list covers the
--- types before `length known`.
+-- If the list `known` states that type `n` contains no variable, then type `n` contains no
+-- variable.
 pub known_true : (types : List Ty) (known : List Bool) (n : ℕ) → ReportsClosed types known → n < length known → get_or known n false ≡ true → is_closed (type_at types n) ≡ true
 known_true types known n reports below read =
     sym (get_or_from_slice_get known n (is_closed (type_at types n)) false (reports n below)) ∙ read

@@ -1,4 +1,5 @@
--- The first violation, for equivalent notions of a broken rule.
+-- If two notions of a broken rule are equivalent, then the first violation is the same for the two
+-- notions.
 use Rattle.std.proofs.Common.{ℕ, ◌<◌, ◌≤◌, ◌≡◌, List, Option, Some, None, refl, sym, subst, arith}
 use Rattle.std.specs.Prelude.{◌↔◌}
 use Rattle.types_spec.specs.types.Scope.{Rule, turn, twice, unknown_name, arity, unbound_variable, cyclic, irregular}
@@ -8,7 +9,8 @@ use Rattle.types_wellformed.specs.declared.head_rules.broken.HeadBreak.{HeadBrea
 use Rattle.types_wellformed.specs.declared.head_rules.broken.HeadBreak.TheVariants as breaks
 use Rattle.types_wellformed.specs.head_rules.Broken.{rule_of_break, position_of_break, NamesAre, IsFirstOfHeads}
 
--- A predicate of the rules that depend on heads holds if it holds for the four rules.
+-- If a predicate holds for the four rules that depend on heads, then the predicate holds for each
+-- rule that depends on heads.
 pub of_late :
     (P : Rule → Type 0) → P not_variant → P tag_clash → P hash_clash → P float_in_group → (rule : Rule)
     → 7 ≤ turn rule → P rule
@@ -40,7 +42,8 @@ named_agree H G (breaks.FloatInGroup k) to named = tt
 
 module _ (P Q : Rule → ℕ → Type 0) (H G : ℕ → List ℕ → List ℕ → Type 0)
     (to : (k : ℕ) (one other : List ℕ) → H k one other → G k one other) where
-  -- If the rules up to this one are broken equivalently, then the first violation is the same.
+  -- Let two notions of a broken rule be equivalent for all rules up to the rule of a violation. If
+  -- the violation is first by one notion, then the violation is first by the other notion.
   pub first_agree :
       (b : HeadBreak)
       → ((rule : Rule) → 7 ≤ turn rule → turn rule ≤ turn (rule_of_break b) → (k : ℕ) → P rule k ↔ Q rule k)
@@ -54,7 +57,8 @@ module _ (P Q : Rule → ℕ → Type 0) (H G : ℕ → List ℕ → List ℕ �
         named_agree H G b to first.3,
       )
 
-  -- If all these rules are broken equivalently, then the first violation is the same.
+  -- If two notions of a broken rule are equivalent for all rules that depend on heads, then the
+  -- first violation is the same.
   pub all_agree :
       (found : Option HeadBreak) → ((rule : Rule) → 7 ≤ turn rule → (k : ℕ) → P rule k ↔ Q rule k)
       → IsFirstOfHeads P H found → IsFirstOfHeads Q G found
@@ -62,7 +66,7 @@ module _ (P Q : Rule → ℕ → Type 0) (H G : ℕ → List ℕ → List ℕ �
   all_agree (Some b) agree first = first_agree b (λ rule late until. agree rule late) first
 
 module _ (Q : Rule → ℕ → Type 0) (G : ℕ → List ℕ → List ℕ → Type 0) where
-  -- If a rule is broken and no earlier one is, then its violation is the first.
+  -- If a rule is broken and no earlier rule is broken, then the violation of the rule is the first.
   pub found_first :
       (b : HeadBreak) (rule : Rule) → rule_of_break b ≡ rule → IsLeast (Q rule) (Some (position_of_break b))
       → ((other : Rule) → 7 ≤ turn other → turn other < turn rule → (j : ℕ) → ¬ Q other j)

@@ -1,4 +1,4 @@
--- Records that are flat through their own group, one declaration at a time.
+-- Lemmas about records that are flat through their own group, one declaration at a time.
 use Rattle.std.proofs.Common.{ℕ, ◌<◌, ◌≤◌, ◌+◌, ◌≡◌, ◌∙◌, ⊎_elim, inr, Bool, true, List, Option, Some, length, get_or, refl, sym, ap, subst, arith}
 use Rattle.std.specs.Prelude.{slice_get, Contains, IsTrue, ◌↔◌}
 use Rattle.std.proofs.lemmas.Option.{same_Some, slice_get_read, slice_get-get_or, slice_get_within}
@@ -16,7 +16,8 @@ use Rattle.types_resolve.proofs.scope.LeastLemmas.{least_same, least_more, least
 use Rattle.types_resolve.proofs.scope.FileLemmas.{decl_at, name_placed}
 use Rattle.types_wellformed.specs.head_rules.Rules.{FlatAt, SomeFlat}
 
--- A record whose fields all expand to `float`.
+-- If all fields of a record expand to `float`, then the record is flat through the group if and
+-- only if some field expands through the group.
 pub record_flat :
     (decls : List Decl) (group : ℕ) (body : Body) (fields borrowed : List Field) (are some : Bool)
     → body ≡ bodies.Record fields → borrowed ≡ fields → are ≡ true
@@ -43,7 +44,7 @@ module _ (decls : List Decl) (names : List Placed) where
       let same_p : at.1 ≡ p = same_Some at.1 p (sym at.3 ∙ p_is) in
       (ap (λ (q : Placed). q.0) (sym same_p) ∙ at.4, subst (λ (e : Decl). IsFlatThroughGroup decls e.group e.body) same_d at.5))
 
-  -- The invariant after one more iteration of the loop over declarations.
+  -- The invariant of the loop over declarations holds after one more iteration.
   pub more_flat :
       (i : ℕ) (d : Decl) (p : Placed) (test : Bool) (position : ℕ) (best found next : Option ℕ)
       → length decls ≡ length names → i < length decls → d ≡ get_or decls i d → p ≡ get_or names i p
@@ -66,7 +67,8 @@ module _ (decls : List Decl) (names : List Placed) where
   all_flat i best le ge least = let e : i ≡ length decls = omega arith in
       subst (λ n. IsLeast (Before (FlatAt decls names) n) best) e least
 
--- Some declaration of a file is such a record if and only if the file breaks the rule.
+-- Some declaration of a file is a record that is flat through its own group if and only if the file
+-- breaks the rule `float_in_group`.
 flat_in_file :
     (all : List DeclPositions) (k : ℕ)
     → SomeFlat (decls_of all) (declared_names all) k ↔ BreaksInFile all float_in_group k

@@ -1,4 +1,4 @@
--- The first violation of a rule on brackets, from the results for each rule.
+-- Lemmas about the first violation of a rule on brackets, given the result for each rule.
 use Rattle.std.proofs.Common.{ℕ, ◌<◌, ◌≤◌, ◌≡◌, ◌∙◌, List, Option, Some, None, length, refl, sym, ap, subst, arith}
 use Rattle.std.specs.Prelude.{slice_get, Contains}
 use Rattle.std.proofs.lemmas.List.Elements.{All-contains}
@@ -33,7 +33,8 @@ use Rattle.types_build.proofs.representation.NearerLemmas.{type_kept}
 -- ---- tags
 
 module _ (tagged : List (List TagItem)) where
-  -- No rule other than those on tags is broken.
+  -- Before the turn of the rule `tag_clash`, the tags of brackets break no rule that depends on
+  -- heads.
   before_conflict : (other : Rule) → 7 ≤ turn other → turn other < 8 → (j : ℕ) → ¬ TagsBreak tagged other j
   before_conflict = of_late (λ r. turn r < 8 → (j : ℕ) → ¬ TagsBreak tagged r j)
       (λ less j never. never) (λ less. absurd (omega arith)) (λ less. absurd (omega arith)) (λ less j never. never)
@@ -138,7 +139,7 @@ module _ (decls : List Decl) (types : List Ty) (brackets : List (List NumberedIt
       hash (items, among, (i, j, one, other, has, before, unlike, same)) =
           (pair_apart within apart items among k i j one other has).hashes unlike same
 
--- If the tags of all types have no conflicts, then the tags of the earlier types have none.
+-- If the tags of all types have no conflicts, then the tags of the earlier types have no conflicts.
 pub apart_before :
     (decls : List Decl) (old new : List Ty) → Grows old new → StandApart decls new → StandApart decls old
 apart_before decls old new grown apart i j one other in_i in_j one_there other_there =

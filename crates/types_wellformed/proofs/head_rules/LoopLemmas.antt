@@ -1,4 +1,4 @@
--- Loops over brackets.
+-- Invariants of the loops over brackets.
 use Rattle.std.proofs.Common.{ℕ, ◌<◌, ◌≤◌, ◌+◌, ◌≡◌, ◌∙◌, ◌++◌, ◌⊎◌, ⊎_elim, List, [], ◌∷◌, Option, Some, None, length, get_or, map, take, sym, ap, subst}
 use Rattle.std.specs.Prelude.{Contains, All, IfSome}
 use Rattle.std.proofs.lemmas.List.{map-append, take_more, take_all}
@@ -20,7 +20,7 @@ module _ (brackets : List (List TagItem)) where
   abbrev pub AreNamedAmong : Option Collision → Type 0
   AreNamedAmong found = IfSome found (λ c. CollideAmong brackets c.position c.one.now c.other.now)
 
-  -- The invariant after one more iteration of the loop over brackets.
+  -- The invariant of the loop over brackets holds after one more iteration.
   pub more_names :
       (i : ℕ) (items : List TagItem) (best found next : Option Collision) → i < length brackets
       → items ≡ get_or brackets i items → (next ≡ best) ⊎ (next ≡ found) → AreNamedAmong best
@@ -32,7 +32,7 @@ module _ (brackets : List (List TagItem)) where
 
 -- ---- lists of results
 
--- The invariant after one more iteration of a loop that builds a list.
+-- The invariant of a loop that builds a list holds after one more iteration.
 pub maps_more :
     {X Y Z W : Type 0} (f : W → Z) (h : Y → Z) (g : X → Y) (out : List W) (next : List W) (xs : List X) (k : ℕ)
     (x e : X) (w : W) → k < length xs → x ≡ get_or xs k e → next ≡ out ++ w ∷ [] → f w ≡ h (g x)

@@ -1,4 +1,4 @@
--- The numbers of items, after types are added and one item at a time.
+-- Lemmas about the numbers of items, if types are added to the store, and one item at a time.
 use Rattle.std.proofs.Common.{ℕ, ◌+◌, ◌<◌, ◌≡◌, ◌∙◌, List, [], ◌∷◌, ◌++◌, Some, take, length, get_or, sym, ap, subst, refl, append_assoc, arith, ◌≤◌, Result, IfOk}
 use Rattle.std.specs.Prelude.{slice_get}
 use Rattle.std.specs.List.{AllZip}
@@ -56,7 +56,7 @@ brackets_kept types new brackets all grown are =
 
 -- ---- one more element
 
--- The invariant after one more iteration of the loop over a bracket's items.
+-- The invariant of the loop over a bracket's items holds after one more iteration.
 pub items_turn :
     (types new tree : List Ty) (out next : List NumberedItem) (items : List BracketItem) (k : ℕ) (e : BracketItem)
     (i : NumberedItem) → Grows types new → k < length items → next ≡ out ++ i ∷ []
@@ -73,7 +73,7 @@ items_turn types new tree out next items k e i grown below next_is here so_far =
     (AllZip-push (IsNumbered new) out known i (item_known tree (get_or items k e))
     (items_kept types new out known grown so_far) here))
 
--- The invariant after one more iteration of the loop over a type's brackets.
+-- The invariant of the loop over a type's brackets holds after one more iteration.
 pub brackets_turn :
     (types new tree : List Ty) (out next : List (List NumberedItem)) (brackets : List (List BracketItem)) (k : ℕ)
     (inside e : List BracketItem) (items : List NumberedItem) (all : List (List PlacedItem)) → Grows types new
@@ -167,7 +167,7 @@ module _ (types : List Ty) (all : List TypeTreeNode) (ordered : AreOrdered all) 
           itself (nodes.TagOf w x a) is = absurd (no_tag_of w x a is)
           itself (nodes.Including w u) is = absurd (no_including w u is)
 
--- If the node does not exist, then there is no item.
+-- If the node does not exist, then the item of the node is the empty tuple.
 pub none_item : (all : List TypeTreeNode) (n : ℕ) → length all ≤ n → tuple ≡ item_of (type_at (types_of all) n)
 none_item all n past =
     let long = types_of-length all in

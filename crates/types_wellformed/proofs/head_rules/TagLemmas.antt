@@ -1,4 +1,5 @@
--- Brackets of numbered items break the rules on tags if and only if the brackets of the text do.
+-- Brackets of numbered items break the rules on tags if and only if the brackets of the text break
+-- the rules on tags.
 use Rattle.std.proofs.Common.{ℕ, ◌+◌, ◌<◌, ◌≤◌, ◌≡◌, ◌∙◌, ◌++◌, List, [], ◌∷◌, Option, Some, None, length, get_or, map, take, refl, sym, ap, subst}
 use Rattle.std.specs.Prelude.{slice_get, option_map, Contains, ◌↔◌}
 use Rattle.std.proofs.lemmas.List.Elements.{All-get_or}
@@ -59,7 +60,7 @@ head_tags types h u is =
 
 -- ---- after types are added
 
--- Numbers of existing types remain valid.
+-- If types are added to the store, then the numbers of arguments stay valid.
 argument_kept :
     (old new : List Ty) → Grows old new → (a : Option ℕ) (t : Option Ty)
     → option_map (slice_get old) a ≡ option_map (λ (u : Ty). Some u) t
@@ -80,8 +81,8 @@ tag_kept old new grown tag written is =
     ∙ ap (λ (n : List ℕ). record { name = n; argument = option_map (λ (u : Ty). Some u) written.argument })
     (ap (λ (t : TagOf (Option Ty)). t.name) is)
 
--- If two maps have equal images and one map is replaced by an equivalent one, then the images
--- remain equal.
+-- If the images of two lists are equal and one map is replaced by an equivalent map, then the
+-- images stay equal.
 pub map_kept :
     {X Y Z : Type 0} (f g : X → Z) (h : Y → Z) → ((x : X) (y : Y) → f x ≡ h y → g x ≡ h y)
     → (xs : List X) (ys : List Y) → map f xs ≡ map h ys → map g xs ≡ map h ys
@@ -158,7 +159,7 @@ more_brackets decls old now new brackets k items out next tagged grown more with
 
 module _ (types : List Ty) (decls : List Decl) (tagged : List (List TagItem)) (all : List (List PlacedItem))
     (are : AreTagged types decls tagged all) where
-  -- The bracket of the text for numbered items.
+  -- For each bracket of numbered items, the text has a bracket that the numbered items represent.
   written_for :
       (items : List TagItem) → Contains tagged items
       → (placed : List PlacedItem) × Contains all placed × AreItems types decls items placed
@@ -166,7 +167,7 @@ module _ (types : List Ty) (decls : List Decl) (tagged : List (List TagItem)) (a
       let found = in_both (map (typed_item types)) (map (written_item decls)) tagged all items are.same among in
       (found.0, found.1, record { distinct = are.distinct; same = sym found.2 })
 
-  -- The numbered items for a bracket of the text.
+  -- For each bracket of the text, some bracket of numbered items represents the bracket.
   numbered_for :
       (placed : List PlacedItem) → Contains all placed
       → (items : List TagItem) × Contains tagged items × AreItems types decls items placed

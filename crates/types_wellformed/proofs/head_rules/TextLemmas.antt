@@ -1,4 +1,4 @@
--- The brackets of a text break the same rules as the text.
+-- The brackets of a text break the same rules on brackets as the text.
 use Rattle.std.proofs.Common.{ℕ, ◌<◌, ◌≤◌, ◌≡◌, ◌∙◌, inr, ⊎_elim, List, [], ◌∷◌, Option, Some, None, length, get_or, refl, sym, ap, subst, arith}
 use Rattle.std.specs.Prelude.{slice_get, Contains, All, ◌↔◌, option_map, is_some, true, false}
 use Rattle.std.proofs.Common.{true≢false}
@@ -79,7 +79,7 @@ brackets_are types (items ∷ brackets) (placed ∷ known) are =
 
 -- ---- brackets with one item
 
--- Each reported item is a bracket with this item only.
+-- Each item of a found bracket is the bracket that contains only the item.
 known_alone :
     (found : List TypeBrackets) (items : List PlacedItem) (i : PlacedItem) → Contains (all_known found) items
     → Contains items i → (u : Ty) × (item_of u ≡ i.1)
@@ -92,7 +92,8 @@ known_alone found items i among inside =
     (type_at of_type n.0.node, ap (λ (p : PlacedItem). p.1) n.2)
 
 module _ (decls : List Decl) where
-  -- The item includes a type that is not a polymorphic variant, and nothing else.
+  -- The item `v` is a bracket that contains only an included type, and the included type is not a
+  -- polymorphic variant.
   abbrev Includes : Ty → Type 0
   Includes v = (t : Ty) × (v ≡ including bracket t) × (¬ AreVariants (head decls t))
 
@@ -106,7 +107,8 @@ module _ (decls : List Decl) where
   includes_alone (tag_of w x a) other = absurd other
   includes_alone (including w t) other = (t, refl, other)
 
-  -- A bracket includes another type in one form if and only if it does in the other form.
+  -- A found bracket breaks the rule `not_variant` at lexeme `k` if and only if the bracket's item
+  -- at `k` includes a type other than a polymorphic variant.
   variant_agree :
       (found : List TypeBrackets) (items : List PlacedItem) (k : ℕ) → Contains (all_known found) items
       → ItemsBreak decls items not_variant k
@@ -159,11 +161,11 @@ module _ (decls : List Decl) where
 -- ---- the brackets of a file
 
 module _ (found : List (List TypeBrackets)) (all : List DeclPositions) (are : AreFileBrackets found all) where
-  -- The brackets of all types.
+  -- The brackets of all types in all declarations.
   abbrev pub known_all : List (List PlacedItem)
   known_all = flat_map all_known found
 
-  -- The declaration with these brackets.
+  -- For the found brackets at each index, the text has a declaration with the brackets.
   decl_for :
       (i : ℕ) (brackets : List TypeBrackets) → slice_get found i ≡ Some brackets
       → (d : DeclPositions) × Contains all d × AreBrackets brackets d.occurrences
@@ -173,7 +175,7 @@ module _ (found : List (List TypeBrackets)) (all : List DeclPositions) (are : Ar
       let d = slice_get_there all i (omega arith) in
       (d.0, slice_get-Contains all i d.0 d.1, are.stand i brackets d.0 is d.1)
 
-  -- The brackets of a declaration.
+  -- For each declaration of the text, the found brackets contain the brackets of the declaration.
   brackets_for :
       (d : DeclPositions) → Contains all d
       → (brackets : List TypeBrackets) × Contains found brackets × AreBrackets brackets d.occurrences
@@ -190,7 +192,8 @@ module _ (found : List (List TypeBrackets)) (all : List DeclPositions) (are : Ar
         let b = slice_get_there found i below in
         subst (All IsOrdered) (sym (get_or_from_slice_get found i b.0 [] b.1)) (decl_for i b.0 b.1).2.ordered
 
-  -- A rule that brackets break.
+  -- If a rule concerns only brackets, then the found brackets break the rule if and only if the
+  -- file breaks the rule.
   bracket_rule :
       (rule : Rule)
       → ((d : DeclPositions) (k : ℕ)
@@ -245,7 +248,7 @@ module _ (found : List (List TypeBrackets)) (all : List DeclPositions) (are : Ar
   abbrev pub First : Option HeadBreak → Type 0
   First result = IsFirstOfHeads (BreaksInFile all) (FileHashes all) result
 
-  -- A violation on brackets comes before the rule on records.
+  -- The rule of a violation on brackets has an earlier turn than the rule on records.
   below_float : (b : HeadBreak) → Known (Some b) → turn (rule_of_break b) < 10
   below_float (breaks.NotVariant k) first = omega arith
   below_float (breaks.TagClash k) first = omega arith

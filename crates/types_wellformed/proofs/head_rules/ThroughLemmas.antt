@@ -1,4 +1,4 @@
--- Abbreviations of a group, along expansions.
+-- Lemmas about the abbreviations of a group that are expanded at the head of a type.
 use Rattle.std.proofs.Common.{ℕ, zero, suc, ◌≡◌, ◌∙◌, List, Option, Some, None, refl, sym, ap, subst}
 use Rattle.std.specs.Prelude.{option_and_then}
 use Rattle.std.proofs.lemmas.Option.{none-some, same_Some}
@@ -11,7 +11,8 @@ use Rattle.types_build.specs.representation.Way.{IsOfAt, Way, IsNearer}
 use Rattle.types_wellformed.specs.head_rules.Rules.{IsOwnDecl, IsOwn}
 
 module _ (decls : List Decl) (group : ℕ) where
-  -- If an abbreviation of the group is found, then the type expands through it.
+  -- If an abbreviation of the group is at the head of a type, then the type expands through the
+  -- group.
   own_decl :
       (t : Ty) (o : Option (List ℕ)) → name_of t ≡ o → IsOwnDecl group (option_and_then (declaration_of decls) o)
       → IsThrough decls group t

@@ -1,4 +1,5 @@
--- Items that include a type that is not a polymorphic variant, by numbers and as they are written.
+-- Lemmas about items that include a type other than a polymorphic variant, as numbered items and as
+-- written items.
 use Rattle.std.proofs.Common.{ℕ, ◌+◌, ◌<◌, ◌≡◌, ◌∙◌, Bool, false, List, [], ◌∷◌, Option, Some, length, get_or, refl, sym, ap, subst}
 use Rattle.std.specs.Prelude.{slice_get, Contains, IsTrue, ◌↔◌}
 use Rattle.std.proofs.lemmas.Bool.{false≢true}
@@ -128,7 +129,8 @@ more_other decls old now items k e best found next test grown within below so_fa
 
 -- ---- one bracket at a time
 
--- If all brackets are within the store, then the items of the bracket at this index are.
+-- If the numbers of all brackets' items are in the store, then the numbers of the items of the
+-- bracket at index `k` are in the store.
 bracket_at :
     (old : List Ty) (brackets : List (List NumberedItem)) (k : ℕ) (items : List NumberedItem)
     → AreAllWithin old brackets → k < length brackets → items ≡ get_or brackets k items → AreWithin old items

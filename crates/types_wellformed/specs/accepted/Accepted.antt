@@ -15,7 +15,8 @@ pub record IsWritten (t : Ty) : Type 0 where
   pub type : IsType t
   pub shallow : depth t ≤ 200
 
--- The occurrences of each declaration are complete, and the grammar can produce its types.
+-- The occurrences of each declaration are complete, and the grammar can produce the declaration's
+-- types.
 pub record AreKnownWhole (all : List DeclPositions) : Type 0 where
   pub things : AllIsKnown all
   pub uses : UsesAreKnown all

@@ -1,5 +1,6 @@
 -- If no rule on polymorphic variants is broken, then each polymorphic variant type in a declaration
--- includes only polymorphic variant types, and its tags have distinct hashes.
+-- is correct. A correct polymorphic variant type includes only polymorphic variant types, and its
+-- distinct tags have distinct hashes.
 use Rattle.std.specs.Prelude.{◌≡◌, List, None, Contains}
 use Rattle.types_spec.specs.declared.types.decl.Decl.{Decl}
 use Rattle.types_spec.specs.types.Accepted.{types_of_body, HasSoundBrackets}
@@ -11,8 +12,8 @@ use Rattle.types_spec.specs.types.Ty.{Ty}
 use Rattle.types_wellformed.specs.accepted.Ranked.{Keeps}
 use Rattle.types_wellformed.specs.accepted.Known.{IsProper, AllIsKnown}
 
--- If a type unfolds to no other type, its head is the head as written. This holds if abbreviations
--- have ranks.
+-- If a type has no expansion, then the head of the type is the written head. The property holds if
+-- abbreviations have ranks.
 abbrev pub HeadsArePlain : List Decl → Type 0
 HeadsArePlain decls = (t : Ty) → unfolded decls t ≡ None → head decls t ≡ plain_head (head decls) t
 

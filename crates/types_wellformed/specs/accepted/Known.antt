@@ -1,5 +1,5 @@
--- The names, variables and polymorphic variants in a type, and when a list of occurrences contains
--- all of them.
+-- The names, variables and polymorphic variants in a type, and the condition that a list of
+-- occurrences contains all of a type's names, variables and polymorphic variants.
 use Rattle.std.specs.Prelude.{◌≡◌, ℕ, List, [], ◌∷◌, ◌++◌, map, Contains}
 use Rattle.types_spec.specs.types.Accepted.{types_of_body}
 use Rattle.types_spec.specs.types.Occurrence.{Occurrence, PlacedItem, use_of, variable_at}
@@ -10,7 +10,7 @@ use Rattle.types_spec.specs.types.Ty.{including}
 use Rattle.types_spec.specs.types.Ty.{parts}
 
 -- A part of a type: a name with its arguments, a variable, or a polymorphic variant type given by
--- its items. Each item is written as a polymorphic variant type that has only this item.
+-- its items. Each item is written as the polymorphic variant type that contains only the item.
 pub data Thing : Type 0 where
   use_thing : (name : List ℕ) (arguments : List Ty) → Thing
   variable_thing : (name : List ℕ) → Thing
@@ -18,7 +18,7 @@ pub data Thing : Type 0 where
 
 -- ---- types that the grammar can produce
 
--- Arguments and components are added to a name or a tuple.
+-- The type is a name or a tuple, extended by any number of arguments or components.
 abbrev pub HasParts : Ty → Type 0
 HasParts (variable x) = ⊥
 HasParts (named x) = Unit {0}
@@ -29,7 +29,7 @@ HasParts (tag whole x) = ⊥
 HasParts (tag_of whole x argument) = ⊥
 HasParts (including whole included) = ⊥
 
--- Items are added to a polymorphic variant type.
+-- The type is a bracket, extended by any number of items.
 abbrev pub HasItems : Ty → Type 0
 HasItems (variable x) = ⊥
 HasItems (named x) = ⊥
@@ -52,15 +52,15 @@ IsProper (including whole included) = HasItems whole × IsProper whole × IsProp
 
 -- ---- the parts of a type
 
--- The items of a polymorphic variant type, in order.
+-- The items of a polymorphic variant type, from the left.
 abbrev pub items_of : Ty → List Ty
 items_of (tag whole x) = items_of whole ++ tag bracket x ∷ []
 items_of (tag_of whole x argument) = items_of whole ++ tag_of bracket x argument ∷ []
 items_of (including whole included) = items_of whole ++ including bracket included ∷ []
 items_of t = []
 
--- The variable, name or polymorphic variant type with which the type begins, with all arguments or
--- items of the whole.
+-- The variable, name or polymorphic variant type with which the type begins, together with the
+-- arguments or items of the whole type.
 abbrev pub begins_as : List Ty → List Ty → Ty → List Thing
 begins_as arguments items (variable x) = variable_thing x ∷ []
 begins_as arguments items (named x) = use_thing x arguments ∷ []
@@ -74,7 +74,7 @@ begins_as arguments items (including whole included) = begins_as arguments items
 abbrev pub own_thing : Ty → List Thing
 own_thing t = begins_as (parts t) (items_of t) t
 
--- The things in the parts of the type.
+-- The names, variables and polymorphic variants in the parts of the type.
 abbrev pub things_inside : Ty → List Thing
 things_inside (part whole added) = things_inside whole ++ (own_thing added ++ things_inside added)
 things_inside (tag whole x) = things_inside whole
@@ -89,23 +89,24 @@ things_in t = own_thing t ++ things_inside t
 
 -- ---- complete occurrences
 
--- The thing without its positions.
+-- The part of a type that an occurrence states, without lexemes.
 abbrev pub thing_of : Occurrence → Thing
 thing_of (use_of position name arguments in_tag) = use_thing name arguments
 thing_of (variable_at position name) = variable_thing name
 thing_of (bracket_of items) = bracket_thing (map (λ (item : PlacedItem). item.1) items)
 
--- Some occurrence is this thing.
+-- Some occurrence of the list states the thing `thing`.
 abbrev pub IsKnown : List Occurrence → Thing → Type 0
 IsKnown occurrences thing =
     (occurrence : Occurrence) × Contains occurrences occurrence × (thing_of occurrence ≡ thing)
 
--- Each thing in the type is among the occurrences.
+-- The list of occurrences contains each name, variable and polymorphic variant of the type `t`.
 abbrev pub ReportsAll : List Occurrence → Ty → Type 0
 ReportsAll occurrences t =
     (thing : Thing) → Contains (things_in t) thing → IsKnown occurrences thing
 
--- The occurrences of each declaration contain everything in its types.
+-- The occurrences of each declaration contain each name, variable and polymorphic variant of the
+-- declaration's types.
 abbrev pub AllIsKnown : List DeclPositions → Type 0
 AllIsKnown all =
     (d : DeclPositions) (t : Ty) → Contains all d → Contains (types_of_body d.decl.body) t

@@ -1,5 +1,5 @@
--- If no rule on names is broken, then the names in each declared type are known and have as many
--- arguments as they take. The variables of the type are parameters.
+-- If no rule on names is broken, then the names in each declared type are known and have the right
+-- number of arguments. The variables of each declared type are parameters.
 use Rattle.std.specs.Prelude.{◌≡◌, List, None, Contains}
 use Rattle.types_spec.specs.types.Accepted.{types_of_body, TakeArguments, VariablesAmong}
 use Rattle.types_spec.specs.types.Declarations.{predeclared}

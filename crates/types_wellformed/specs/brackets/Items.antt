@@ -20,7 +20,7 @@ ConflictsIn items k =
     (i j : ℕ) × (one other : TagOf ℕ) × Brings items k i j one other
     × (i < j) × (one.name ≡ other.name) × (one.argument ≢ other.argument)
 
--- Two tags with these different names have the same hash.
+-- Two tags with the different names `one_name` and `other_name` have the same hash.
 pub record HaveOneHash {T : Type 0} (one other : TagOf T) (one_name other_name : List ℕ)
     : Type 0 where
   pub one_named : one.name ≡ one_name
@@ -28,13 +28,13 @@ pub record HaveOneHash {T : Type 0} (one other : TagOf T) (one_name other_name :
   pub unlike : one_name ≢ other_name
   pub agree : tag_hash one_name ≡ tag_hash other_name
 
--- An item at lexeme `k` contributes the tag `other`. The same item or an earlier one contributes
--- the tag `one`, which has the same hash.
+-- An item at lexeme `k` contributes a tag with the name `other_name`. The same item or an earlier
+-- item contributes a tag with the name `one_name` and the same hash.
 abbrev pub CollideIn : List TagItem → ℕ → List ℕ → List ℕ → Type 0
 CollideIn items k one_name other_name =
     (i j : ℕ) × (one other : TagOf ℕ) × Brings items k i j one other
     × (i ≤ j) × HaveOneHash one other one_name other_name
 
--- There are two tags with the same hash at lexeme `k`.
+-- At lexeme `k`, an item contributes a tag whose hash another tag has.
 abbrev pub CollidesIn : List TagItem → ℕ → Type 0
 CollidesIn items k = (one other : List ℕ) × CollideIn items k one other

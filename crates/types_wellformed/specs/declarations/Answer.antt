@@ -1,5 +1,5 @@
--- The answer to a text of declarations or of a type: a tree of its grammar that breaks no scope
--- rule, or a fault. The stages lexer, grammar and scope rules run in this order.
+-- The answer to a text of declarations or of a type: a tree of the grammar that breaks no scope
+-- rule, or a fault. The stages run in the order lexer, grammar, scope rules.
 use Rattle.std.specs.Prelude.{ℕ, ◌≡◌, List, length, Result, Ok, Err, false}
 use Rattle.types_lex.specs.declared.lexeme.Lexeme.{Lexeme}
 use Rattle.types_lex.specs.declared.lexeme.LexFault.{LexFault}
@@ -25,7 +25,8 @@ pub data Answer (Tree : Type 0) : Type 0 where
 
 module _ {Tree : Type 0} (encoded : Tree → Kinds) (ends : Tree → List ℕ)
     (Breaks : Tree → Rule → ℕ → Type 0) where
-  -- The answer of the scope rules to a tree of these lexemes, in a text of `end` bytes.
+  -- The answer that the scope rules give to a tree with the lexemes `lexemes`, in a text of `end`
+  -- bytes.
   abbrev pub IsJudged : List Lexeme → ℕ → Tree → Answer Tree → Type 0
   IsJudged lexemes end tree (accepted other) = (tree ≡ other) × KeepsAll (Breaks tree)
   IsJudged lexemes end tree (no_lexemes fault) = ⊥
@@ -47,17 +48,17 @@ module _ {Tree : Type 0} (encoded : Tree → Kinds) (ends : Tree → List ℕ)
       × IsRead lexemes end reading answer
   IsLexed end (Err fault) answer = no_lexemes fault ≡ answer
 
-  -- The answer to a text.
+  -- `answer` is the answer to the text `text`.
   abbrev pub IsAnswer : List ℕ → Answer Tree → Type 0
   IsAnswer text answer =
       (outcome : Result (List Lexeme) LexFault) × Outcome text outcome
       × IsLexed (length text) outcome answer
 
--- The answer to a text of declarations.
+-- The answer to a text of declarations, by the grammar and the scope rules of files.
 abbrev pub IsFileAnswer : List ℕ → Answer FileTree → Type 0
 IsFileAnswer = IsAnswer file_kinds file_ends (λ tree. BreaksInFile (file_positions tree))
 
--- The answer to the text of a type over declarations.
+-- The answer to the text of a type over declarations, by the grammar and the scope rules of types.
 abbrev pub IsTypeAnswer : List Decl → List ℕ → Answer Texpr → Type 0
 IsTypeAnswer decls = IsAnswer texpr texpr_ends (λ tree. BreaksInType decls (in_texpr 0 false tree))
 

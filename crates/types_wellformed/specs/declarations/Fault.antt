@@ -1,4 +1,4 @@
--- The faults that the code returns, and the answers that they report.
+-- The faults that the code returns, and the answer that each fault reports.
 use Rattle.std.specs.Prelude.{ℕ, ◌≡◌, List, length, false, Option, Some, None, MatchOption}
 use Rattle.types_lex.specs.declared.lexeme.Lexeme.{Lexeme}
 use Rattle.types_lex.specs.declared.lexeme.LexFault.{LexFault}
@@ -71,7 +71,8 @@ known (faults.HashClash position one other) = Some (broken scope.hash_clash posi
 known (faults.FloatInGroup position) = Some (broken scope.float_in_group position)
 known faults.Memory = None
 
--- The answer that the fault reports is the answer to the text, unless the fault is a memory fault.
+-- If the fault is not a memory fault, then the answer that the fault reports is the answer to the
+-- text.
 abbrev pub IsRefused : {Tree : Type 0} → (Answer Tree → Type 0) → DeclFault → Type 0
 IsRefused Is fault = MatchOption (known fault) (Unit {0}) Is
 
@@ -79,8 +80,8 @@ IsRefused Is fault = MatchOption (known fault) (Unit {0}) Is
 
 module _ {Tree : Type 0} (encoded : Tree → Kinds) (ends : Tree → List ℕ)
     (Hashes : Tree → ℕ → List ℕ → List ℕ → Type 0) (text : List ℕ) where
-  -- A tree of the text has two tags with these names and the same hash in one bracket. The later
-  -- one is at this byte.
+  -- A tree of the text has two tags with the names `one` and `other` and the same hash in one
+  -- bracket. The later tag is at the byte offset `position`.
   pub record NameTags (position : ℕ) (one other : List ℕ) : Type 0 where
     pub lexemes : List Lexeme
     pub tree : Tree
@@ -97,6 +98,7 @@ module _ {Tree : Type 0} (encoded : Tree → Kinds) (ends : Tree → List ℕ)
 abbrev pub HasFileNames : List ℕ → DeclFault → Type 0
 HasFileNames = HasNames file_kinds file_ends (λ tree. FileHashes (file_positions tree))
 
--- The names in a fault of the text of a type over declarations.
+-- If a fault in the text of a type states two names, then two tags with the names have the same
+-- hash.
 abbrev pub HasTypeNames : List Decl → List ℕ → DeclFault → Type 0
 HasTypeNames decls = HasNames texpr texpr_ends (λ tree. TypeHashes decls (in_texpr 0 false tree))

@@ -1,4 +1,4 @@
--- A text that breaks no scope rule denotes well-formed declarations and types.
+-- If a text breaks no scope rule, then its declarations or its type are well-formed.
 use Rattle.std.specs.Prelude.{List, false}
 use Rattle.types_parse.specs.grammar.Depths.{file_ends}
 use Rattle.types_parse.specs.grammar.Grammar.{Kinds, Texpr, FileTree, file_kinds}
@@ -17,7 +17,7 @@ FilesAreWellFormed =
     → KeepsAll (BreaksInFile (file_positions tree))
     → AreWellFormed (declarations_of tree)
 
--- If a text breaks none of the first seven rules, which are the rules on names, then its
+-- If a text breaks none of the first seven rules, which are the rules on names, then the text's
 -- declarations are sound.
 abbrev pub NamesMakeSound : Type 0
 NamesMakeSound =

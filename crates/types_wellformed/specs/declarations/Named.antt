@@ -15,7 +15,8 @@ use Rattle.types_resolve.specs.scope.First.{KeepsBefore}
 use Rattle.types_wellformed.specs.declared.declarations.read.Named.{Named}
 use Rattle.types_wellformed.specs.declared.declarations.read.NamedType.{NamedType}
 
--- The text is a file that breaks no rule on names, with these lexemes, marks and declarations.
+-- The text is a file that breaks no rule on names. `named` contains the lexemes, marks and
+-- declarations of the text.
 pub record IsNamed (text : List ℕ) (named : Named) : Type 0 where
   pub tree : FileTree
   pub lexed : Lexes text named.lexemes.items
@@ -24,8 +25,8 @@ pub record IsNamed (text : List ℕ) (named : Named) : Type 0 where
   pub declared : named.decls ≡ declarations_of tree
   pub keeps : KeepsBefore (BreaksInFile (file_positions tree)) 7
 
--- The text is a type that breaks no rule on names over these declarations, with these lexemes and
--- marks.
+-- The text is a type that breaks no rule on names over the declarations `decls`. `named` contains
+-- the lexemes, marks and type of the text.
 pub record IsNamedType (decls : List Decl) (text : List ℕ) (named : NamedType) : Type 0 where
   pub tree : Texpr
   pub lexed : Lexes text named.lexemes.items

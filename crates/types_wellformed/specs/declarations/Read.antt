@@ -6,13 +6,13 @@ use Rattle.types_parse.specs.grammar.Grammar.{FileTree, Texpr}
 use Rattle.types_parse.specs.parse.Written.{declarations_of, type_of_texpr}
 use Rattle.types_wellformed.specs.declarations.Answer.{accepted, IsFileAnswer, IsTypeAnswer}
 
--- The text is accepted as a tree of these declarations.
+-- The text is accepted as a tree whose declarations are `decls`.
 pub record IsDeclared (text : List ℕ) (decls : List Decl) : Type 0 where
   pub tree : FileTree
   pub answer : IsFileAnswer text (accepted tree)
   pub stand : decls ≡ declarations_of tree
 
--- The text is accepted, over declarations, as a tree of this type.
+-- The text is accepted, over the declarations `decls`, as a tree whose type is `t`.
 pub record IsTypeOf (decls : List Decl) (text : List ℕ) (t : Ty) : Type 0 where
   pub tree : Texpr
   pub answer : IsTypeAnswer decls text (accepted tree)

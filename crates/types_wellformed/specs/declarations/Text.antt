@@ -1,4 +1,4 @@
--- The texts of faults: a name, and a position in the chosen form.
+-- The texts of faults: a name, and a position in the form that the caller chooses.
 use Rattle.std.specs.Prelude.{ℕ, ◌≡◌, List, [], ◌++◌, Option, Some, None, codes}
 use Rattle.types_lex.specs.declared.lexeme.LexFault.{LexFault}
 use Rattle.types_lex.specs.declared.lexeme.LexFault.TheVariants as lexer
@@ -6,11 +6,12 @@ use Rattle.types_spec.specs.types.Scope as scope
 use Rattle.types_wellformed.specs.declarations.Answer.{Answer, accepted, no_lexemes, no_text}
 use Rattle.types_wellformed.specs.declarations.Answer.{too_deep, broken}
 
--- A name, and a position in its printed form.
+-- The text of a name and a printed position.
 abbrev pub placed_text : (name position : List ℕ) → List ℕ
 placed_text name position = name ++ codes " at " ++ position
 
--- A fault of the lexer has its own name. A memory fault is not an answer.
+-- The text of a fault of the lexer: the fault's name and position. A memory fault has an empty
+-- text, because a memory fault is not an answer.
 abbrev pub lexer_text : (known : ℕ → List ℕ) → LexFault → List ℕ
 lexer_text known (lexer.BadByte position) = placed_text (codes "BadByte") (known position)
 lexer_text known (lexer.OpenString position) = placed_text (codes "OpenString") (known position)
@@ -39,7 +40,7 @@ answer_text known (no_text position) = placed_text (codes "Syntax") (known posit
 answer_text known (too_deep position) = placed_text (codes "TooDeep") (known position)
 answer_text known (broken rule position) = placed_text (rule_name rule) (known position)
 
--- The text is that of the answer. If there is no answer, then no text is.
+-- The text is the text of the answer. If there is no answer, then no text satisfies the definition.
 abbrev pub IsTextOf : {Tree : Type 0} → (known : ℕ → List ℕ) → Option (Answer Tree) → List ℕ
     → Type 0
 IsTextOf known None text = ⊥

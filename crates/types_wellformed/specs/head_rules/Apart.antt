@@ -27,15 +27,15 @@ is_closed (tag whole x) = is_closed whole
 is_closed (tag_of whole x argument) = is_closed whole && is_closed argument
 is_closed (including whole included) = is_closed whole && is_closed included
 
--- Entry `j` of the list is true if type `j` contains no variable, and false otherwise. The list may
--- be shorter than the list of types.
+-- Entry `j` of the list is true if type `j` contains no variable, and false if type `j` contains a
+-- variable. The list may be shorter than the list of types.
 abbrev pub ReportsClosed : List Ty → List Bool → Type 0
 ReportsClosed types known =
     (j : ℕ) → j < length known → slice_get known j ≡ Some (is_closed (type_at types j))
 
 -- ---- the tags that are written
 
--- The predicate holds for each tag in the type outside tag arguments.
+-- The predicate `P` holds for each tag in the type outside tag arguments.
 abbrev pub EachTag : (TagOf Ty → Type 0) → Ty → Type 0
 EachTag P (variable x) = Unit {0}
 EachTag P (named name) = Unit {0}
@@ -46,12 +46,12 @@ EachTag P (tag whole x) = EachTag P whole × P (bare_tag x)
 EachTag P (tag_of whole x argument) = EachTag P whole × P (carrying_tag x argument)
 EachTag P (including whole included) = EachTag P whole × EachTag P included
 
--- An item with this tag only.
+-- An item that contributes only the tag `number`.
 abbrev pub alone : TagOf ℕ → TagItem
 alone number = record { position = 0; tags = number ∷ [] }
 
--- The tag contains no variable, and there is an item with this tag only, with the number of its
--- argument.
+-- The tag contains no variable, and the list `items` has an item with only the tag. The argument of
+-- the listed tag is a type number.
 pub record IsListed (types : List Ty) (items : List TagItem) (tag : TagOf Ty) : Type 0 where
   pub index : ℕ
   pub number : TagOf ℕ
@@ -59,19 +59,19 @@ pub record IsListed (types : List Ty) (items : List TagItem) (tag : TagOf Ty) : 
   pub is : tag_with_part (slice_get types) number ≡ tag_with_part (λ (t : Ty). Some t) tag
   pub closed : IfSome tag.argument (λ a. is_closed a ≡ true)
 
--- The tags of the first types are listed.
+-- All tags of the first `count` types are listed (`IsListed`).
 abbrev pub AreListed : List Ty → List TagItem → ℕ → Type 0
 AreListed types items count =
     (j : ℕ) → j < count → EachTag (IsListed types items) (type_at types j)
 
--- The type that the declaration abbreviates is one of the types.
+-- If the declaration is an abbreviation, then the abbreviated type is one of `types`.
 abbrev pub HasBody : List Ty → Decl → Type 0
 HasBody types decl =
     (t : Ty) → abbreviated decl.body ≡ Some t → (i : ℕ) × (slice_get types i ≡ Some t)
 
 -- ---- tags without conflicts
 
--- No two of these items conflict.
+-- No two of `items` have one tag name with two arguments, or two tag names with one hash.
 pub record NoneConflict (items : List TagItem) : Type 0 where
   pub arguments : (k : ℕ) → ¬ ConflictsIn items k
   pub hashes : (k : ℕ) → ¬ CollidesIn items k
@@ -80,7 +80,7 @@ pub record AreApart (one other : TagOf Ty) : Type 0 where
   pub arguments : one.name ≡ other.name → ¬ (one.argument ≢ other.argument)
   pub hashes : one.name ≢ other.name → ¬ (tag_hash one.name ≡ tag_hash other.name)
 
--- No two tags that these types contribute conflict.
+-- No two tags that `types` contribute conflict.
 abbrev pub StandApart : List Decl → List Ty → Type 0
 StandApart decls types =
     (i j : ℕ) (one other : TagOf Ty) → i < length types → j < length types

@@ -1,4 +1,4 @@
--- The first violation in a text of a rule that depends on heads, and its lexeme.
+-- The first violation in a text of a rule that depends on heads, and the lexeme of the violation.
 use Rattle.std.specs.Prelude.{ℕ, ◌<◌, ◌≤◌, List, Option, Some, None, Contains}
 use Rattle.types_spec.specs.declared.types.decl.Decl.{Decl}
 use Rattle.types_spec.specs.types.Occurrence.{PlacedItem, Occurrence, bracket_of, DeclPositions}
@@ -21,13 +21,14 @@ position_of_break (breaks.TagClash k) = k
 position_of_break (breaks.HashClash k one other) = k
 position_of_break (breaks.FloatInGroup k) = k
 
--- If the violation is a hash collision, then its two names have the same hash at its lexeme.
+-- If the violation is a hash collision, then the collision's two names have the same hash at the
+-- collision's lexeme.
 abbrev pub NamesAre : (ℕ → List ℕ → List ℕ → Type 0) → HeadBreak → Type 0
 NamesAre Hashes (breaks.HashClash k one other) = Hashes k one other
 NamesAre Hashes b = Unit {0}
 
--- The first of the rules depending on heads that is broken, with its least lexeme. If there is
--- none, then none of these rules is broken.
+-- The first broken rule that depends on heads, with the least lexeme that breaks the rule. `None`
+-- means that no rule that depends on heads is broken.
 abbrev pub IsFirstOfHeads :
     (Rule → ℕ → Type 0) → (ℕ → List ℕ → List ℕ → Type 0) → Option HeadBreak → Type 0
 IsFirstOfHeads Breaks Hashes None = (rule : Rule) (k : ℕ) → 7 ≤ turn rule → ¬ Breaks rule k
@@ -38,14 +39,16 @@ IsFirstOfHeads Breaks Hashes (Some b) =
     → 7 ≤ turn other → turn other < turn (rule_of_break b) → ¬ Breaks other j)
     × NamesAre Hashes b
 
--- Two tags with these names have the same hash in some bracket.
+-- In some bracket, two tags with the names `one_name` and `other_name` have the same hash at lexeme
+-- `k`.
 abbrev pub TypeHashes :
     List Decl → List Occurrence → ℕ → List ℕ → List ℕ → Type 0
 TypeHashes decls occurrences k one_name other_name =
     (items : List PlacedItem) × Contains occurrences (bracket_of items)
     × NamesHashAt decls items k one_name other_name
 
--- Two tags with these names have the same hash in some bracket of some declaration.
+-- In some bracket of some declaration, two tags with the names `one_name` and `other_name` have the
+-- same hash at lexeme `k`.
 abbrev pub FileHashes : List DeclPositions → ℕ → List ℕ → List ℕ → Type 0
 FileHashes all k one_name other_name =
     (d : DeclPositions) × Contains all d

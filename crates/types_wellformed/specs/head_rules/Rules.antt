@@ -24,7 +24,7 @@ use Rattle.types_wellformed.specs.declared.head_rules.item.NumberedItem.{Numbere
 
 -- ---- numbered items
 
--- The tags of a head whose parts are numbers.
+-- The tags of a head whose parts are type numbers.
 abbrev pub tags_of_head : HeadOf ℕ → List (TagOf ℕ)
 tags_of_head (heads.Variants tags) = tags
 tags_of_head other = []
@@ -32,7 +32,7 @@ tags_of_head other = []
 abbrev pub IsWithin : List Ty → NumberedItem → Type 0
 IsWithin types i = i.number < length types
 
--- The numbers of the items are those of types in the store.
+-- The number of each item is the number of a type in the store.
 abbrev pub AreWithin : List Ty → List NumberedItem → Type 0
 AreWithin types items = All (IsWithin types) items
 
@@ -49,7 +49,7 @@ items_at types items = map (item_at types) items
 abbrev pub brackets_at : List Ty → List (List NumberedItem) → List (List PlacedItem)
 brackets_at types brackets = map (items_at types) brackets
 
--- One of these breaks a rule at lexeme `k`.
+-- One element of `xs` breaks a rule at lexeme `k`.
 abbrev pub SomeBreaks : {X : Type 0} → List X → (X → ℕ → Type 0) → ℕ → Type 0
 SomeBreaks {X} xs Breaks k = (x : X) × Contains xs x × Breaks x k
 
@@ -69,8 +69,8 @@ ItemsInclude decls types items k = SomeBreaks items (IncludesOtherAt decls types
 
 -- ---- tags
 
--- The tags of these items are those of the items of the text, with the number of each argument
--- among distinct types.
+-- The items in `tagged` represent the items of the text's brackets: corresponding items have the
+-- same tags. The numbers of arguments are numbers of distinct types.
 pub record AreTagged
     (types : List Ty) (decls : List Decl) (tagged : List (List TagItem))
     (all : List (List PlacedItem))
@@ -78,13 +78,14 @@ pub record AreTagged
   pub distinct : AreDistinct types
   pub same : map (map (typed_item types)) tagged ≡ map (map (written_item decls)) all
 
--- Two tags with these names have the same hash in some bracket.
+-- In some bracket, two tags with the names `one` and `other` have the same hash at lexeme `k`.
 abbrev pub CollideAmong : List (List TagItem) → ℕ → List ℕ → List ℕ → Type 0
 CollideAmong tagged k one other =
     (items : List TagItem) × Contains tagged items × CollideIn items k one other
 
--- If `found` is `None`, then no two tags of a bracket have the same hash. Otherwise its tags do,
--- and no tags do at a lesser lexeme.
+-- If `found` is `None`, then no two tags of a bracket have the same hash. If `found` is a
+-- collision, then its two tags have the same hash, and no two tags of a bracket have the same hash
+-- at a lesser lexeme.
 pub record IsLeastAmong (tagged : List (List TagItem)) (found : Option Collision) : Type 0 where
   pub least : IsLeast (SomeBreaks tagged CollidesIn) (position_of found)
   pub names : IfSome found (λ c. CollideAmong tagged c.position c.one.now c.other.now)
@@ -97,7 +98,8 @@ TagsBreak tagged rule k = ⊥
 
 -- ---- brackets
 
--- At lexeme `k`, an item includes a type that is not a polymorphic variant, or tags conflict.
+-- At lexeme `k`, an item includes a type that is not a polymorphic variant, or tags of the items
+-- conflict.
 abbrev pub ItemsBreak : List Decl → List PlacedItem → Rule → ℕ → Type 0
 ItemsBreak decls items not_variant k =
     (i : PlacedItem) × Contains items i × ((i.0 ≡ k) × IncludesOther decls i.1)
@@ -116,21 +118,23 @@ BracketsHash decls all k one other =
 
 -- ---- records
 
--- The declaration is an abbreviation of this group.
+-- The optional declaration exists and is an abbreviation of the group `group`.
 abbrev pub IsOwnDecl : ℕ → Option Decl → Type 0
 IsOwnDecl group None = ⊥
 IsOwnDecl group (Some d) = IsSome (abbreviated d.body) × (d.group ≡ group)
 
--- An abbreviation of this group is at the head of the type.
+-- An abbreviation of the group `group` is at the head of the type `t`.
 abbrev pub IsOwn : List Decl → ℕ → Ty → Type 0
 IsOwn decls group t = IsOwnDecl group (option_and_then (declaration_of decls) (name_of t))
 
--- Declaration `i` is a record that is flat through its own group, and its name is at lexeme `k`.
+-- Declaration `i` is a record that is flat through its own group, and the record's name is at
+-- lexeme `k`.
 abbrev pub FlatAt : List Decl → List Placed → ℕ → ℕ → Type 0
 FlatAt decls names i k =
     (d : Decl) × (p : Placed) × (slice_get decls i ≡ Some d) × (slice_get names i ≡ Some p)
     × (p.0 ≡ k) × IsFlatThroughGroup decls d.group d.body
 
--- Some declaration is a record that is flat through its own group, and its name is at lexeme `k`.
+-- Some declaration is a record that is flat through its own group, and the record's name is at
+-- lexeme `k`.
 abbrev pub SomeFlat : List Decl → List Placed → ℕ → Type 0
 SomeFlat decls names k = (i : ℕ) × (i < length decls) × FlatAt decls names i k

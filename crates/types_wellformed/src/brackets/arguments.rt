@@ -1,4 +1,4 @@
-//! Tags that occur with two different arguments.
+//! Finds tags of a bracket that occur with two different arguments.
 
 ghost use Rattle.std.specs.Prelude.{ℕ, ◌++◌, ◌↔◌, List, IfOk, OnOk, IsTrue};
 ghost use Rattle.types_spec.specs.declared.types.head.TagOf.{TagOf as Tag};
@@ -14,7 +14,7 @@ use std::alloc::Global;
 use types_resolve::scope::{earliest, position_if};
 use types_spec::types::head::TagOf;
 
-/// Adds the arguments of these tags to the table.
+/// Adds the arguments of `tags` to the table of arguments by name.
 fn add_arguments<'a>(
     table: &mut Sightings<&'a [u8], Option<usize>>,
     tags: &'a [TagOf<usize>],
@@ -29,7 +29,7 @@ fn add_arguments<'a>(
     Ok(())
 }
 
-/// Returns true if one of the tags was seen with another argument.
+/// Returns true if one of `tags` was seen with another argument.
 fn conflicts<'a>(table: &Sightings<&'a [u8], Option<usize>>, tags: &'a [TagOf<usize>]) -> bool
     ensures { (seen : List (Tag ℕ)) → AreArguments seen table.now → IsTrue result
         ↔ SomeConflicts seen tags.now }
@@ -43,12 +43,12 @@ fn conflicts<'a>(table: &Sightings<&'a [u8], Option<usize>>, tags: &'a [TagOf<us
 }
 
 /// Returns the least lexeme of an item with a tag that an earlier item has with another argument.
-/// Returns `None` if there is no such item. The items may have their lexemes in any order.
+/// Returns `None` if no tag has two arguments. The items may have their lexemes in any order.
 pub fn least_conflict(alloc: Global, items: &[TagItem]) -> Result<Option<usize>, Memory>
     ensures least { IfOk result (IsLeast (ConflictsIn items.now)) }
 
-    // The result holds for every list of items of type expressions that these items represent by
-    // the numbers of their types.
+    // The result also holds for every list of written items that `items` represents by the numbers
+    // of types.
     ensures of_types { IfOk result (IsLeastConflictOf items.now) }
 {
     let mut table = empty(alloc);

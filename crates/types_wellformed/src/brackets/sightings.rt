@@ -1,4 +1,5 @@
-//! A table with, for each key, the first value seen and one other value that differs from it.
+//! A table that stores, for each key, the first value seen and one value that differs from the
+//! first value.
 
 ghost use Rattle.std.specs.Prelude.{◌≡◌, None, Some, OnOk, if◌then◌else◌};
 ghost use Rattle.std.specs.BTreeMap.{get_by};
@@ -9,20 +10,21 @@ use base_data::model::Memory;
 use std::alloc::Global;
 use std::collections::BTreeMap;
 
-/// The values seen under a key: the first value, and one that differs from it, if there was one.
+/// The values seen under a key: the first value, and one value that differs from the first value.
+/// If no value differs, `other` is `None`.
 #[derive(Clone, Copy)]
 pub struct Sighting<V> {
     pub first: V,
     pub other: Option<V>,
 }
 
-/// The values seen under each key.
+/// A table of the values seen under each key.
 #[derive(Drop)]
 pub struct Sightings<K: Ord, V> {
     pub entries: BTreeMap<K, Sighting<V>>,
 }
 
-/// Returns the entry after one more value.
+/// Returns the entry of a key after one more value is seen under the key.
 fn with_value<V: Eq + Copy>(known: Option<Sighting<V>>, value: V) -> Sighting<V>
     ensures { result ≡ with_value V.eq known value }
 {
@@ -44,7 +46,8 @@ fn with_value<V: Eq + Copy>(known: Option<Sighting<V>>, value: V) -> Sighting<V>
     }
 }
 
-/// Returns a value seen under the key that differs from `value`, if there is one.
+/// Returns a value seen under the key that differs from `value`, or `None` if no seen value
+/// differs.
 fn other_value<V: Eq + Copy>(known: Option<Sighting<V>>, value: V) -> Option<V>
     ensures { result ≡ other_value V.eq known value }
 {
@@ -60,7 +63,7 @@ fn other_value<V: Eq + Copy>(known: Option<Sighting<V>>, value: V) -> Option<V>
     }
 }
 
-/// Returns the empty table.
+/// Returns the table in which no value is seen under any key.
 pub fn empty<K: Ord, V: Eq + Copy>(alloc: Global) -> Sightings<K, V>
     ensures { (q : K) → get_by (K.cmp q) result.entries ≡ None }
 {
@@ -87,7 +90,7 @@ pub fn add<K: Ord + Copy, V: Eq + Copy>(
     Ok(())
 }
 
-/// Returns a value under the key that differs from `value`, if there is one.
+/// Returns a value seen under `key` that differs from `value`, or `None` if no seen value differs.
 pub fn other<K: Ord + Copy, V: Eq + Copy>(table: &Sightings<K, V>, key: K, value: V) -> Option<V>
     ensures { result ≡ other_value V.eq (get_by (K.cmp key) table.now.entries) value }
 {

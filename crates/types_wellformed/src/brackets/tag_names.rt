@@ -1,4 +1,4 @@
-//! Tags that have the same hash.
+//! Finds tags of a bracket that have the same hash.
 
 ghost use Rattle.std.specs.Prelude.{ℕ, ◌≡◌, ◌++◌, ◌⊎◌, List, IfOk, OnOk, MatchOption};
 ghost use Rattle.types_spec.specs.declared.types.head.TagOf.{TagOf as Tag};
@@ -12,7 +12,7 @@ use std::alloc::Global;
 use types_spec::tag_hash::hash;
 use types_spec::types::head::TagOf;
 
-/// The names of two tags with the same hash, and the first lexeme of the item with the second one.
+/// The names of two tags with the same hash, and the first lexeme of the item with the second tag.
 #[derive(Clone, Copy)]
 pub struct Collision<'a> {
     pub position: usize,
@@ -23,7 +23,7 @@ pub struct Collision<'a> {
 ghost use Rattle.types_wellformed.specs.brackets.Collisions.{position_of, IsLeastCollision};
 ghost use Rattle.types_wellformed.specs.brackets.Trees.{IsLeastHashOf};
 
-/// Adds the names of these tags to the table.
+/// Adds the names of `tags` to the table of names by hash.
 fn add_tag_names<'a>(
     table: &mut Sightings<i64, &'a [u8]>,
     tags: &'a [TagOf<usize>],
@@ -40,7 +40,7 @@ fn add_tag_names<'a>(
 }
 
 /// Finds a tag whose hash was seen with another name. Returns the collision of the two names at
-/// `position`, or `None` if there is no collision.
+/// `position`, or `None` if no hash was seen with another name.
 fn find_collision<'a>(
     table: &Sightings<i64, &'a [u8]>,
     tags: &'a [TagOf<usize>],
@@ -63,7 +63,7 @@ fn find_collision<'a>(
     None
 }
 
-/// Returns the collision with the lesser lexeme.
+/// Returns the collision with the lesser lexeme among two optional collisions.
 pub fn nearer<'a>(
     best: Option<Collision<'a>>,
     found: Option<Collision<'a>>,
@@ -79,17 +79,17 @@ pub fn nearer<'a>(
     }
 }
 
-/// Finds the least lexeme of an item with a tag that has the same hash as another tag, of an
-/// earlier item or of the same item. Returns it with the names of two of these tags, or `None` if
-/// there is no such item. The items may have their lexemes in any order.
+/// Returns the least lexeme of an item with a tag whose hash another tag has, and the names of two
+/// tags with the same hash. The other tag belongs to the same item or to an earlier item. Returns
+/// `None` if no two tags have the same hash. The items may have their lexemes in any order.
 pub fn least_collision<'a>(
     alloc: Global,
     items: &'a [TagItem],
 ) -> Result<Option<Collision<'a>>, Memory>
     ensures least { IfOk result (IsLeastCollision items.now) }
 
-    // The result holds for every list of items of type expressions that these items represent by
-    // the numbers of their types.
+    // The result also holds for every list of written items that `items` represents by the numbers
+    // of types.
     ensures of_types { IfOk result (IsLeastHashOf items.now) }
 {
     let mut table = empty(alloc);

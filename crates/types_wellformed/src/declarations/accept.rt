@@ -14,9 +14,9 @@ use std::alloc::Global;
 use types_spec::types::decl::Decl;
 use types_spec::types::ty::Ty;
 
-/// Parses declarations and checks the scope rules. If it succeeds, the declarations are
-/// well-formed. Otherwise it returns the first fault in the order of the stages: lexer, grammar,
-/// scope rules.
+/// Parses declarations and checks the scope rules. Returned declarations are well-formed. If the
+/// text is refused, returns the first fault in the order of the stages: lexer, grammar, scope
+/// rules.
 pub fn read_decls(alloc: Global, text: &[u8]) -> Result<List<Decl>, DeclFault>
     ensures declared { IfOk result (IsDeclared text.now) }
     ensures well { IfOk result AreWellFormed }
@@ -30,8 +30,8 @@ pub fn read_decls(alloc: Global, text: &[u8]) -> Result<List<Decl>, DeclFault>
     }
 }
 
-/// Parses a type over declarations and checks the scope rules. If it succeeds, the type is valid
-/// over the declarations. Otherwise it returns the first fault in the order of the stages: lexer,
+/// Parses a type over declarations and checks the scope rules. A returned type is valid over the
+/// declarations. If the text is refused, returns the first fault in the order of the stages: lexer,
 /// grammar, scope rules.
 pub fn read_type(alloc: Global, decls: &[Decl], text: &[u8]) -> Result<Ty, DeclFault>
     requires well { AreWellFormed decls.now }

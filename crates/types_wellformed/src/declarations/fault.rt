@@ -12,21 +12,22 @@ use types_lex::lexeme::{LexFault, Lexeme};
 use types_parse::parse::{ParseFault, byte_of};
 use types_resolve::scope::{Broken, NameRule};
 
-/// The reason why a text is refused. A number is the offset in bytes at which the refused lexeme
-/// begins.
+/// The reason why a text is refused. A number in a fault is the offset in bytes at which the
+/// refused lexeme begins.
 #[derive(Drop)]
 pub enum DeclFault {
-    /// The lexer refuses the text.
+    /// The lexer refuses the text, because of the lexical error.
     Lex(LexFault),
-    /// A syntax error: no text of the grammar has this lexeme, or the end of the text, at this
-    /// position.
+    /// A syntax error: the first lexeme, or the end of the text, that no text of the grammar has
+    /// after the earlier lexemes.
     Syntax(usize),
     /// The 201st open bracket, or the end of a type with a depth above 200.
     TooDeep(usize),
     /// A type name, constructor, field, parameter or tag that was declared before, or the name of a
     /// predeclared type.
     Twice(usize),
-    /// A type name that is neither predeclared nor declared in this group or an earlier one.
+    /// A type name that is neither predeclared nor declared in the group of its use or in an
+    /// earlier group.
     UnknownName(usize),
     /// A type name with a wrong number of arguments.
     Arity(usize),
@@ -34,19 +35,20 @@ pub enum DeclFault {
     UnboundVar(usize),
     /// The declared name of an abbreviation that expands to itself outside tag arguments.
     Cyclic(usize),
-    /// A type name that is used in its own group of declarations. One of its arguments contains a
-    /// variable but is not a variable, as in `type 'a t = Nil | Cons of 'a list t`.
+    /// A type name that is used in its own group with an irregular argument. An irregular argument
+    /// contains a variable but is not a variable, as in `type 'a t = Nil | Cons of 'a list t`.
     Irregular(usize),
     /// The 245th constructor with arguments of a declaration.
     TooManyConstructors(usize),
-    /// A type in a bracket that is not a polymorphic variant.
+    /// A type that a bracket includes, and that is not a polymorphic variant.
     NotVariant(usize),
-    /// An item with a tag that an earlier item has with another argument.
+    /// An item of a bracket with a tag that an earlier item has with another argument.
     TagClash(usize),
-    /// An item with a tag that has the same hash as another tag of the bracket, and the two names.
+    /// An item with a tag that has the same hash as another tag of the bracket, and the names of
+    /// the two tags.
     HashClash(usize, List<u8>, List<u8>),
-    /// The declared name of a record whose fields all expand to `float`, at least one through an
-    /// abbreviation of the record's group.
+    /// The declared name of a record whose fields all expand to `float`. At least one field expands
+    /// through an abbreviation of the record's group.
     FloatInGroup(usize),
     /// An allocation failed.
     Memory,
@@ -81,7 +83,8 @@ pub fn parse_fault(fault: ParseFault, lexemes: &[Lexeme], end: usize) -> DeclFau
     }
 }
 
-/// Returns the fault for a broken rule on names, in a text of `end` bytes with these lexemes.
+/// Returns the fault for a broken rule on names, in a text of `end` bytes with the lexemes
+/// `lexemes`.
 pub fn scope_fault(broken: Broken, lexemes: &[Lexeme], end: usize) -> DeclFault
     ensures { result ≡ broken_at broken.rule (byte_of lexemes.now end broken.position) }
 {
@@ -97,8 +100,8 @@ pub fn scope_fault(broken: Broken, lexemes: &[Lexeme], end: usize) -> DeclFault
     }
 }
 
-/// Returns the fault for a broken rule that depends on heads, in a text of `end` bytes with these
-/// lexemes.
+/// Returns the fault for a broken rule that depends on heads, in a text of `end` bytes with the
+/// lexemes `lexemes`.
 pub fn head_fault(broken: HeadBreak, lexemes: &[Lexeme], end: usize) -> DeclFault
     ensures { result ≡ head_at lexemes.now end broken }
 {

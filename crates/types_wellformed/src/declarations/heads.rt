@@ -1,5 +1,5 @@
-//! The scope rules that depend on the heads of types, for declarations or a type with the marks of
-//! their text.
+//! Checks the scope rules that depend on the heads of types, for declarations or a type with the
+//! marks of their text.
 
 ghost use Rattle.std.specs.Prelude.{◌≡◌, IfOk, List as Seq, false};
 ghost use Rattle.types_spec.specs.types.Accepted.{AreSound};
@@ -20,7 +20,7 @@ use types_resolve::scope::{LocatedName, TypeBrackets};
 use types_spec::types::decl::Decl;
 use types_spec::types::ty::Ty;
 
-/// Returns the first of these rules that is broken, given the occurrences.
+/// Returns the first broken rule that depends on heads, given the occurrences in a file.
 fn first_of_file(
     alloc: Global,
     _marks: &[usize],
@@ -39,8 +39,8 @@ fn first_of_file(
     first_head_break(alloc, decls, names, brackets)
 }
 
-/// Returns the first of these rules that declarations with these marks break, with the least lexeme
-/// at which they break it.
+/// Returns the first rule depending on heads that declarations break, given the marks of the
+/// declarations. The result states the least lexeme that breaks the rule.
 pub fn first_file_head(
     alloc: Global,
     marks: &[usize],
@@ -59,7 +59,7 @@ pub fn first_file_head(
     first_of_file(alloc, marks, decls, names.as_slice(), brackets.as_slice())
 }
 
-/// Returns the first of these rules that is broken, given the occurrences.
+/// Returns the first broken rule that depends on heads, given the occurrences in a type.
 fn first_of_type(
     alloc: Global,
     _marks: &[usize],
@@ -77,8 +77,8 @@ fn first_of_type(
     first_head_break_in_type(alloc, decls, brackets)
 }
 
-/// Returns the first of these rules that a type with these marks breaks, with the least lexeme at
-/// which it breaks it.
+/// Returns the first rule depending on heads that a type breaks, given the marks of the type. The
+/// result states the least lexeme that breaks the rule.
 pub fn first_type_head(
     alloc: Global,
     marks: &[usize],

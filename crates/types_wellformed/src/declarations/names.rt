@@ -1,4 +1,4 @@
-//! The scope rules on names, for declarations or a type with the marks of their text.
+//! Checks the scope rules on names, for declarations or a type with the marks of their text.
 
 ghost use Rattle.std.specs.Prelude.{◌≡◌, IfOk, List, false};
 ghost use Rattle.types_spec.specs.types.Occurrence.{DeclPositions, Occurrence};
@@ -15,7 +15,7 @@ use types_resolve::scope::{Broken, LocatedName, Site, TypeSite, first_break, fir
 use types_spec::types::decl::Decl;
 use types_spec::types::ty::Ty;
 
-/// Returns the first rule that is broken, given the occurrences.
+/// Returns the first broken rule on names, given the occurrences in a file.
 fn first_of_sites(
     alloc: Global,
     _marks: &[usize],
@@ -31,8 +31,8 @@ fn first_of_sites(
     first_break(alloc, decls, names, sites)
 }
 
-/// Returns the first rule on names that declarations with these marks break, with the least lexeme
-/// at which they break it.
+/// Returns the first rule on names that declarations break, given the marks of the declarations.
+/// The result states the least lexeme that breaks the rule.
 pub fn first_name_break(
     alloc: Global,
     marks: &[usize],
@@ -44,7 +44,7 @@ pub fn first_name_break(
     first_of_sites(alloc, marks, decls, names.as_slice(), sites.as_slice())
 }
 
-/// Returns the first rule that is broken, given the occurrences.
+/// Returns the first broken rule on names, given the occurrences in a type.
 fn first_of_type_site(
     alloc: Global,
     _marks: &[usize],
@@ -60,8 +60,8 @@ fn first_of_type_site(
     first_break_in_type(alloc, decls, site)
 }
 
-/// Returns the first rule on names that a type with these marks breaks, with the least lexeme at
-/// which it breaks it.
+/// Returns the first rule on names that a type breaks, given the marks of the type. The result
+/// states the least lexeme that breaks the rule.
 pub fn first_type_break(
     alloc: Global,
     marks: &[usize],

@@ -24,7 +24,8 @@ pub struct Named {
     pub decls: List<Decl>,
 }
 
-/// Parses declarations, and checks the rules on names.
+/// Parses declarations, and checks the rules on names. If the text is refused, returns the first
+/// fault.
 pub fn read_names(alloc: Global, text: &[u8]) -> Result<Named, DeclFault>
     ensures named { IfOk result (IsNamed text.now) }
     ensures fault { IfErr result (IsRefused (IsFileAnswer text.now)) }
@@ -57,7 +58,8 @@ pub struct NamedType {
     pub ty: Ty,
 }
 
-/// Parses a type over declarations, and checks the rules on names.
+/// Parses a type over declarations, and checks the rules on names. If the text is refused, returns
+/// the first fault.
 pub fn read_type_names(alloc: Global, decls: &[Decl], text: &[u8]) -> Result<NamedType, DeclFault>
     ensures named { IfOk result (IsNamedType decls.now text.now) }
     ensures fault { IfErr result (IsRefused (IsTypeAnswer decls.now text.now)) }

@@ -1,4 +1,4 @@
-//! The texts of faults.
+//! Prints the faults of declarations and types.
 
 ghost use Rattle.std.specs.Prelude.{◌≡◌, codes, IfOk};
 ghost use Rattle.types_parse.specs.grammar.Grammar.{FileTree, Texpr};
@@ -14,7 +14,7 @@ use base_data::model::list::List;
 use std::alloc::Global;
 use types_lex::lexeme::LexFault;
 
-/// Returns the text of a name and a position.
+/// Returns a text that consists of a name, ` at `, and a position.
 fn placed_text(
     alloc: Global,
     positions: &PositionStyle<'_>,
@@ -59,8 +59,8 @@ pub fn lexer_text(
     }
 }
 
-/// Returns the text of a fault: its name, and ` at ` with the position. A memory fault has no
-/// specified text.
+/// Returns the text of a fault: the fault's name, and ` at ` with the position. A memory fault has
+/// no specified text.
 pub fn fault_text(
     alloc: Global,
     positions: &PositionStyle<'_>,

@@ -1,5 +1,6 @@
-//! A sufficient test that no two tags conflict in any bracket, whatever the brackets include: each
-//! name is written with one argument, which has no variables, and each hash belongs to one name.
+//! A sufficient test that no two tags conflict in any bracket, whatever the brackets include. The
+//! test succeeds if each name is written with one argument without variables, and each hash belongs
+//! to one name.
 
 ghost use Rattle.std.specs.Prelude.{◌≡◌, ◌+◌, ◌++◌, ◌∷◌, [], length, IfOk, IfSome, OnOk};
 ghost use Rattle.std.specs.Prelude.{IsTrue};
@@ -20,7 +21,8 @@ use types_spec::types::decl::{Body, Decl};
 use types_spec::types::head::TagOf;
 use types_table::store::{TypeNode, TypeStore};
 
-/// Returns true if a type contains no variable, given this for the earlier types.
+/// Returns true if a type contains no variable. `known` states for each earlier type whether the
+/// type contains no variable.
 fn is_closed(t: &Stored<'_>, known: &[bool]) -> bool
     requires before { length known.now ≡ t.now.number }
     requires known { ReportsClosed t.now.types.now known.now }
@@ -36,7 +38,7 @@ fn is_closed(t: &Stored<'_>, known: &[bool]) -> bool
     }
 }
 
-/// Returns for each type whether it contains no variable.
+/// Returns a list that states for each type of the store whether the type contains no variable.
 fn closed_types(alloc: Global, types: &TypeStore) -> Result<Vec<bool>, Memory>
     ensures known { IfOk result (λ v. ReportsClosed types.now v.items) }
     ensures all { IfOk result (λ v. length v.items ≡ length types.now) }
@@ -49,7 +51,7 @@ fn closed_types(alloc: Global, types: &TypeStore) -> Result<Vec<bool>, Memory>
     Ok(known)
 }
 
-/// Appends a tag as an item.
+/// Appends an item that contains one tag only.
 fn write_item(
     alloc: Global,
     items: &mut List<TagItem>,
@@ -67,8 +69,8 @@ fn write_item(
     Ok(())
 }
 
-/// Appends the tag at the end of a type, if there is one. Returns true if the tag contains no
-/// variable.
+/// Appends the tag at the end of a type, if the type ends with a tag. Returns false if the tag
+/// contains a variable.
 fn write_last(
     alloc: Global,
     t: &Stored<'_>,
@@ -94,7 +96,8 @@ fn write_last(
     }
 }
 
-/// Returns the tags of the types, each as an item, or `None` if one of them contains a variable.
+/// Returns the tags of the types, each tag as an item, or `None` if one of the tags contains a
+/// variable.
 fn listed(alloc: Global, types: &TypeStore) -> Result<Option<List<TagItem>>, Memory>
     ensures { IfOk result
         (λ found. IfSome found (λ items. AreListed types.now items (length types.now))) }
@@ -114,7 +117,7 @@ fn listed(alloc: Global, types: &TypeStore) -> Result<Option<List<TagItem>>, Mem
     Ok(Some(items))
 }
 
-/// Returns true if no two items have one name with two arguments, or two names with one hash.
+/// Returns true only if no two items have one name with two arguments, or two names with one hash.
 fn none_conflict(alloc: Global, items: &[TagItem]) -> Result<bool, Memory>
     ensures { IfOk result (λ none. IsTrue none → NoneConflict items.now) }
 {
@@ -127,7 +130,7 @@ fn none_conflict(alloc: Global, items: &[TagItem]) -> Result<bool, Memory>
     }
 }
 
-/// Adds the type that a declaration abbreviates, if it is an abbreviation.
+/// Adds the type that a declaration abbreviates, if the declaration is an abbreviation.
 fn add_body(alloc: Global, types: &mut TypeStore, decl: &Decl) -> Result<(), Memory>
     ensures grown { Grows types.old types.new }
     ensures there { OnOk result (HasBody types.new decl.now) }
@@ -149,10 +152,10 @@ fn add_bodies(alloc: Global, types: &mut TypeStore, decls: &[Decl]) -> Result<()
     Ok(())
 }
 
-/// Returns true only if no two tags that the types contribute can conflict, by the tags that are
-/// written in the types and in the declarations. It takes one step for each node and each tag,
-/// independent of the number of tags that brackets include. If it returns false, then there may
-/// still be no conflict.
+/// Returns true only if no two tags that the types contribute can conflict, given the tags that are
+/// written in the types and in the declarations. Takes one step for each node and each tag,
+/// whatever the number of tags that brackets include. If the result is false, tags may still be
+/// without conflict.
 pub fn stand_apart(
     alloc: Global,
     types: &mut TypeStore,

@@ -1,4 +1,4 @@
-//! Brackets with the type numbers of their items.
+//! Numbers the items of brackets: each item gets the number of its type in a store.
 
 ghost use Rattle.std.specs.Prelude.{◌++◌, All, IfOk, OnOk, List as Seq};
 ghost use Rattle.std.specs.List.{flat_map};
@@ -17,7 +17,7 @@ use std::alloc::Global;
 use types_resolve::scope::{BracketItem, TypeBrackets};
 use types_table::store::TypeStore;
 
-/// Returns the items of a bracket.
+/// Returns the items of a bracket, each with the number of its type.
 fn number_items(
     alloc: Global,
     types: &mut TypeStore,
@@ -37,7 +37,7 @@ fn number_items(
     Ok(all)
 }
 
-/// Appends the brackets of a type.
+/// Appends the brackets of a type, with numbered items.
 fn write_type(
     alloc: Global,
     types: &mut TypeStore,
@@ -58,7 +58,7 @@ fn write_type(
     Ok(())
 }
 
-/// Appends the brackets of a list of types.
+/// Appends the brackets of a list of types, with numbered items.
 fn write_types(
     alloc: Global,
     types: &mut TypeStore,
@@ -77,8 +77,8 @@ fn write_types(
     Ok(())
 }
 
-/// Returns the brackets of a list of types, one after another. Each item has the number of the
-/// bracket with this item only. The function adds each node of these types once.
+/// Returns the brackets of a list of types, one after another. The number of an item is the number
+/// of the bracket that contains only the item. The function adds each node of the types once.
 pub fn number_brackets(
     alloc: Global,
     types: &mut TypeStore,
@@ -93,7 +93,8 @@ pub fn number_brackets(
     Ok(brackets)
 }
 
-/// Returns the brackets of the types in declarations, in the same form.
+/// Returns the brackets of the types in declarations, with the items numbered as by
+/// `number_brackets`.
 pub fn number_declared(
     alloc: Global,
     types: &mut TypeStore,

@@ -1,4 +1,4 @@
-//! Conflicts between the tags of one bracket, over all brackets of a text.
+//! Finds conflicts between the tags of one bracket, over all brackets of a text.
 
 ghost use Rattle.std.specs.Prelude.{◌≡◌, IfOk};
 ghost use Rattle.types_resolve.specs.scope.Least.{IsLeast};
@@ -11,11 +11,12 @@ use crate::brackets::{Collision, TagItem, least_collision, least_conflict, neare
 use crate::head_rules::broken::HeadBreak;
 use base_data::model::Memory;
 use base_data::model::list::List;
+use base_data::text::copied;
 use std::alloc::Global;
 use types_resolve::scope::earliest;
 
-/// Returns the least lexeme of a tag that occurs with two arguments in one bracket, if there is
-/// one.
+/// Returns the least lexeme of a tag that occurs with two arguments in one bracket, or `None` if no
+/// tag occurs with two arguments.
 fn least_tag_clash(alloc: Global, brackets: &[List<TagItem>]) -> Result<Option<usize>, Memory>
     ensures { IfOk result (IsLeast (SomeBreaks brackets.now ConflictsIn)) }
 {
@@ -26,8 +27,8 @@ fn least_tag_clash(alloc: Global, brackets: &[List<TagItem>]) -> Result<Option<u
     Ok(best)
 }
 
-/// Returns the least lexeme of two tags of one bracket with the same hash, and their names. Returns
-/// `None` if there are none.
+/// Returns the least lexeme of two tags of one bracket with the same hash, and the names of the
+/// tags. Returns `None` if no two tags of a bracket have the same hash.
 fn least_hash_clash<'a>(
     alloc: Global,
     brackets: &'a [List<TagItem>],
@@ -41,13 +42,6 @@ fn least_hash_clash<'a>(
     Ok(best)
 }
 
-/// Returns a copy of the bytes.
-fn copied(alloc: Global, name: &[u8]) -> Result<List<u8>, Memory>
-    ensures { IfOk result (λ l. l ≡ name.now) }
-{
-    Ok(List::of(Vec::from_slice(alloc, name)?))
-}
-
 /// Returns the violation for two tags with the same hash.
 fn hash_break(alloc: Global, found: Collision<'_>) -> Result<HeadBreak, Memory>
     ensures { IfOk result
@@ -59,7 +53,8 @@ fn hash_break(alloc: Global, found: Collision<'_>) -> Result<HeadBreak, Memory>
     Ok(HeadBreak::HashClash(found.position, one, other))
 }
 
-/// Returns the first rule on tags that a bracket breaks, at the least lexeme, if one is broken.
+/// Returns the first rule on tags that a bracket breaks, at the least lexeme, or `None` if no
+/// bracket breaks a rule on tags.
 pub fn first_of_tags(alloc: Global, tagged: &[List<TagItem>]) -> Result<Option<HeadBreak>, Memory>
     ensures { IfOk result (IsFirstOfHeads (TagsBreak tagged.now) (CollideAmong tagged.now)) }
 {

@@ -1,4 +1,4 @@
-//! The first violation in a text of a rule that depends on heads.
+//! Finds the first violation in a text of a rule that depends on heads.
 
 ghost use Rattle.std.specs.Prelude.{◌≡◌, List as Seq, IfOk, option_map};
 ghost use Rattle.types_spec.specs.types.Accepted.{AreSound};
@@ -26,7 +26,7 @@ use types_spec::types::decl::Decl;
 use types_table::store::TypeStore;
 
 /// Returns the first rule on brackets that is broken, at the least lexeme. The function gathers the
-/// tags of each bracket only if tags that are written could conflict.
+/// tags of each bracket only if the written tags could conflict.
 fn first_of_brackets(
     alloc: Global,
     types: &mut TypeStore,
@@ -47,7 +47,8 @@ fn first_of_brackets(
     first_of_tags(alloc, tagged.as_slice())
 }
 
-/// Returns the violation of the rule on records, at this lexeme.
+/// Returns the violation of the rule on records at the lexeme `position`, or `None` if there is no
+/// lexeme.
 fn float_break(position: Option<usize>) -> Option<HeadBreak>
     ensures { result ≡ option_map (λ k. HeadBreak.FloatInGroup k) position }
 {
@@ -57,8 +58,8 @@ fn float_break(position: Option<usize>) -> Option<HeadBreak>
     }
 }
 
-/// Returns the first of these rules that a file breaks, given the types and the lexemes of the
-/// declared names.
+/// Returns the first rule depending on heads that a file breaks, given the types and the lexemes of
+/// the declared names.
 fn first_of_file(
     alloc: Global,
     types: &mut TypeStore,
@@ -80,7 +81,7 @@ fn first_of_file(
     Ok(float_break(position))
 }
 
-/// Returns the first of these rules that a type breaks.
+/// Returns the first rule depending on heads that a type breaks, given the type's brackets.
 fn first_of_type(
     alloc: Global,
     types: &mut TypeStore,
@@ -97,7 +98,7 @@ fn first_of_type(
 }
 
 /// Returns the first rule depending on heads that the text of a file breaks, at the least lexeme.
-/// Returns `None` if the text breaks none of these rules.
+/// Returns `None` if the text breaks no rule depending on heads.
 pub fn first_head_break(
     alloc: Global,
     decls: &[Decl],
@@ -117,7 +118,7 @@ pub fn first_head_break(
 }
 
 /// Returns the first rule depending on heads that the text of a type breaks, at the least lexeme.
-/// Returns `None` if the text breaks none of these rules.
+/// Returns `None` if the text breaks no rule depending on heads.
 pub fn first_head_break_in_type(
     alloc: Global,
     decls: &[Decl],

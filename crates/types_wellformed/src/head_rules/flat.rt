@@ -1,4 +1,4 @@
-//! Records that are flat through an abbreviation of their own group.
+//! Finds records that are flat through an abbreviation of their own group.
 
 ghost use Rattle.std.specs.Prelude.{◌≡◌, ◌↔◌, true, length, Contains, IfOk, IsTrue};
 ghost use Rattle.types_spec.specs.types.Nodes.{type_at};
@@ -17,7 +17,7 @@ use types_spec::types::decl::{Body, Decl, Field};
 use types_spec::types::ty::Ty;
 use types_table::store::TypeStore;
 
-/// Returns true if an abbreviation of this group is at the head of a type.
+/// Returns true if an abbreviation of the group `group` is at the head of a type.
 fn is_own(t: &Stored<'_>, decls: &SoundEnvironment<'_>, group: usize) -> bool
     ensures { IsTrue result ↔ IsOwn decls.now group (type_at t.now.types.now t.now.number) }
 {
@@ -34,8 +34,8 @@ fn is_own(t: &Stored<'_>, decls: &SoundEnvironment<'_>, group: usize) -> bool
     }
 }
 
-/// Returns true if an abbreviation of this group is among those that are expanded at the head of a
-/// type.
+/// Returns true if the expansions at the head of a type include the expansion of an abbreviation of
+/// the group `group`.
 fn is_through(
     alloc: Global,
     types: &mut TypeStore,
@@ -58,7 +58,7 @@ fn is_through(
     Ok(true)
 }
 
-/// Returns true if all fields expand to `float`.
+/// Returns true if the types of all fields expand to `float`.
 fn are_floats(
     alloc: Global,
     types: &mut TypeStore,
@@ -77,7 +77,7 @@ fn are_floats(
     Ok(true)
 }
 
-/// Returns true if the expansion of some field goes through an abbreviation of this group.
+/// Returns true if the type of some field expands through an abbreviation of the group `group`.
 fn some_through(
     alloc: Global,
     types: &mut TypeStore,
@@ -118,7 +118,7 @@ fn is_flat(
 }
 
 /// Returns the least lexeme of the name of a record that is flat through an abbreviation of its own
-/// group, if there is one.
+/// group. Returns `None` if no record is flat through its own group.
 pub fn least_flat(
     alloc: Global,
     types: &mut TypeStore,

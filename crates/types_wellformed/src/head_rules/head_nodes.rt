@@ -1,4 +1,4 @@
-//! The nodes of a type.
+//! A borrowed list of the nodes of a type.
 
 ghost use Rattle.types_spec.specs.types.Nodes.{AreOrdered};
 ghost use Rattle.types_wellformed.specs.head_rules.Ordered.{AreOrdered-prop};

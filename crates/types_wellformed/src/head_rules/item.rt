@@ -14,16 +14,16 @@ use types_resolve::scope::BracketItem;
 use types_spec::types::ty::TypeTreeNode;
 use types_table::store::TypeStore;
 
-/// An item of a bracket.
+/// An item of a bracket, with its lexeme and the number of its type.
 #[derive(Clone, Copy)]
 pub struct NumberedItem {
-    /// The index of its first lexeme.
+    /// The index of the item's first lexeme.
     pub position: usize,
-    /// The number of the bracket with this item only.
+    /// The number of the bracket that contains only the item.
     pub number: usize,
 }
 
-/// Returns the number of a bracket with this tag only.
+/// Returns the number of the bracket that contains only the tag `name`, without an argument.
 fn tag_number(types: &mut TypeStore, name: &[u8]) -> Result<usize, Memory>
     ensures grown { Grows types.old types.new }
     ensures ok { IfOk result (λ n. slice_get types.new n ≡ Some (tag bracket name.now)) }
@@ -32,7 +32,7 @@ fn tag_number(types: &mut TypeStore, name: &[u8]) -> Result<usize, Memory>
     types.add_tag(bracket, name)
 }
 
-/// Returns the number of a bracket with this tag and its argument only.
+/// Returns the number of the bracket that contains only the tag `name` with its argument.
 fn tag_of_number(types: &mut TypeStore, name: &[u8], argument: usize) -> Result<usize, Memory>
     requires { argument < length types.old }
     ensures grown { Grows types.old types.new }
@@ -43,7 +43,7 @@ fn tag_of_number(types: &mut TypeStore, name: &[u8], argument: usize) -> Result<
     types.add_tag_of(bracket, name, argument)
 }
 
-/// Returns the number of a bracket with this included type only.
+/// Returns the number of the bracket that contains only the included type.
 fn including_number(types: &mut TypeStore, included: usize) -> Result<usize, Memory>
     requires { included < length types.old }
     ensures grown { Grows types.old types.new }
@@ -54,7 +54,7 @@ fn including_number(types: &mut TypeStore, included: usize) -> Result<usize, Mem
     types.add_including(bracket, included)
 }
 
-/// Returns the number of the item that a node adds.
+/// Returns the number of the bracket that contains only the item that a node adds.
 fn node_number(
     types: &mut TypeStore,
     nodes: &HeadNodes<'_>,
@@ -75,7 +75,8 @@ fn node_number(
     }
 }
 
-/// Returns the number of the item that a node adds, if the node exists.
+/// Returns the number of the bracket that contains only the item that a node adds, if the node
+/// exists.
 fn item_number(
     types: &mut TypeStore,
     nodes: &HeadNodes<'_>,

@@ -1,4 +1,4 @@
-//! The items of brackets, with the tags that they contribute.
+//! Computes the tags that the items of brackets contribute.
 
 ghost use Rattle.std.specs.Prelude.{◌≡◌, map, IfOk, OnOk};
 ghost use Rattle.types_table.specs.store.Held.{Grows};
@@ -18,7 +18,7 @@ use types_resolve::scope::SoundEnvironment;
 use types_spec::types::head::{HeadOf, TagOf};
 use types_table::store::TypeStore;
 
-/// Returns the tags of a head. A head other than a polymorphic variant has none.
+/// Returns the tags of a head. A head that is not a polymorphic variant has no tags.
 fn tags_in(alloc: Global, head: HeadOf<usize>) -> List<TagOf<usize>>
     ensures { result ≡ tags_of_head head }
 {
@@ -28,7 +28,7 @@ fn tags_in(alloc: Global, head: HeadOf<usize>) -> List<TagOf<usize>>
     }
 }
 
-/// Returns the items of a bracket with their tags.
+/// Returns the items of a bracket, each with the tags that the item contributes.
 fn tagged_items(
     alloc: Global,
     types: &mut TypeStore,
@@ -55,7 +55,7 @@ fn tagged_items(
     Ok(all)
 }
 
-/// Returns the items of several brackets with their tags.
+/// Returns the items of several brackets, each with the tags that the item contributes.
 fn all_tagged(
     alloc: Global,
     types: &mut TypeStore,
@@ -78,8 +78,8 @@ fn all_tagged(
     Ok(all)
 }
 
-/// Returns the items of several brackets with their tags, whose arguments are the numbers of
-/// distinct types.
+/// Returns the items of several brackets, each with the tags that the item contributes. The
+/// arguments of the tags are the numbers of distinct types.
 pub fn tagged_brackets(
     alloc: Global,
     types: &mut TypeStore,
@@ -93,7 +93,7 @@ pub fn tagged_brackets(
 {
     let mut heads = no_heads(alloc);
     let tagged = all_tagged(alloc, types, decls, &mut heads, brackets)?;
-    // The contract of `len` says that the types are distinct.
+    // The contract of `len` states that the types of the store are distinct.
     let _ = types.len();
     Ok(tagged)
 }

@@ -1,4 +1,4 @@
-//! Brackets that include a type that is not a polymorphic variant.
+//! Finds brackets that include a type that is not a polymorphic variant.
 
 ghost use Rattle.std.specs.Prelude.{◌<◌, ◌↔◌, length, IfOk, IsTrue};
 ghost use Rattle.types_spec.specs.types.Nodes.{type_at};
@@ -38,7 +38,7 @@ fn includes_other(
 }
 
 /// Returns the least lexeme of an item of a bracket that includes a type other than a polymorphic
-/// variant, if there is one.
+/// variant. Returns `None` if the bracket includes only polymorphic variants.
 fn least_other(
     alloc: Global,
     types: &mut TypeStore,
@@ -58,7 +58,7 @@ fn least_other(
 }
 
 /// Returns the least lexeme of an item of any bracket that includes a type other than a polymorphic
-/// variant, if there is one.
+/// variant. Returns `None` if all brackets include only polymorphic variants.
 pub fn least_not_variant(
     alloc: Global,
     types: &mut TypeStore,

@@ -4,6 +4,7 @@ use Rattle.base_data.specs.declared.model.value.Val.TheVariants.{Int, Ref}
 use Rattle.base_data.specs.declared.model.value.Obj.TheVariants.{Block, Bytes}
 use Rattle.types_lex.specs.declared.lexeme.Suffix.TheVariants as suffixes
 use Rattle.types_spec.specs.types.Declarations.{predeclared}
+use Rattle.types_spec.specs.types.Predeclared.{sum_at, name_at}
 use Rattle.types_spec.specs.types.Head.{head}
 use Rattle.text_literal.specs.grammar.Literal.{Literal, labelled, integer, string, constant, applied, cons_head, empty_head, no_parts, more_parts}
 use Rattle.text_literal.specs.parser.Reading.{mismatch_at, int_range_at}
@@ -17,7 +18,7 @@ abbrev item : Literal
 item = labelled None (applied cons_head (more_parts no_parts (number 7)) (labelled None (constant empty_head)))
 
 pub returns : goal.returns
-unfolding head predeclared
+unfolding head predeclared sum_at name_at
 returns c = record {
   new_rest = (Block 0 (Int (pos 7) ∷ Int (pos 0) ∷ []) ∷ [], Ref 2, (item, refl, record { labels = []; read = refl }), refl);
   no_such_field = refl;

@@ -5,7 +5,7 @@ use Rattle.types_table.specs.type_table.Made.{table_of}
 use Rattle.edit_values.specs.Positions.{position_at, position_from, StandsAt}
 use Rattle.edit_values.proofs.spots.find_position.Given as goal
 
--- From the current location, the rest of the path leads where the whole path leads.
+-- The remaining path leads from the current location to the location at the end of the whole path.
 abbrev pub invariant-loop-i : goal.invariant-loop-i
 invariant-loop-i l = record {
   leads : position_at (table_shapes (table_of l.table)) l.heap l.fn.root 0 l.path

@@ -2,13 +2,14 @@ use Rattle.std.proofs.Common.{refl}
 use Rattle.std.specs.Fmt.{digits}
 use Rattle.hex.specs.Hex.{encode_with}
 use Rattle.types_spec.specs.types.Declarations.{predeclared}
+use Rattle.types_spec.specs.types.Predeclared.{sum_at, name_at}
 use Rattle.types_spec.specs.types.Head.{head}
 use Rattle.text_print.specs.show.Shown.{shown_text}
 use Rattle.text_print.specs.show.Dumped.{dump_text}
 use Rattle.text_print.proofs.show.texts_of_worked_values.Goals as goal
 
 pub returns : goal.returns
-unfolding head predeclared shown_text dump_text digits encode_with
+unfolding head predeclared sum_at name_at shown_text dump_text digits encode_with
 returns c = record {
   cyclic = refl;
   shared = refl;

@@ -2,7 +2,7 @@ use Rattle.std.proofs.Common.{◌≡◌, ◌-◌, ◌≤◌, length, drop}
 use Rattle.types_lex.specs.Scan.{plus, closing}
 use Rattle.types_lex.proofs.comments.closing.Given as goal
 
--- The rest of the text determines the end of the comment.
+-- The remaining bytes determine the end of the comment.
 abbrev pub invariant-loop-at : goal.invariant-loop-at
 invariant-loop-at l = record {
   shallow : l.depth ≤ l.at;

@@ -6,7 +6,8 @@ use Rattle.text_decimal.proofs.decimal.NearestLemmas.{few_powers}
 use Rattle.text_decimal.proofs.decimal.TextLemmas.{is_double_text}
 use Rattle.text_decimal.proofs.decimal.write.write_double.Goals as goal
 
--- The appended bytes are the text.
+-- If the appended bytes are a text of the double, then the appended bytes are `double_text` of the
+-- bits.
 stated : {X E : Type 0} (bits : ℕ) (old new written : List ℕ) (r : Result X E) → OnOk r (new ≡ old ++ written) → IsDoubleText bits written → OnOk r (new ≡ old ++ double_text bits)
 stated bits old new written (Ok x) h t = h ∙ ap (λ l. old ++ l) (is_double_text bits written t)
 stated bits old new written (Err e) h t = tt

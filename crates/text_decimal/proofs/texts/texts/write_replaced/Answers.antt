@@ -29,8 +29,8 @@ loop-lexeme-preserved c =
     let n = length c.args.text.now in (
       last_within all c.loop-lexeme.at i l n c.loop-lexeme-test.true c.lexeme-item.is c.loop-lexeme.invariant.1,
       spans_behind all c.loop-lexeme.at i l n c.loop-lexeme-test.true c.lexeme-item.is c.loop-lexeme.invariant.1,
-      so_far_more c.args.text.now all c.loop-lexeme.at l _ _ _ _ _
+      so_far_more c.args.text.now all c.loop-lexeme.at c.loop-lexeme.may _ l _ _ _ _ _
           (so_far_here all c.loop-lexeme.at i l n c.loop-lexeme-test.true c.lexeme-item.is c.args.text.now _ _
-          c.loop-lexeme.invariant.2)
-          c.in_ok-write.ensures c.in_ok-write_lexeme.ensures,
+          c.loop-lexeme.may c.loop-lexeme.invariant.2)
+          c.in_ok-write.ensures c.in_ok-write_lexeme.ensures c.may_after-may.ensures,
     )

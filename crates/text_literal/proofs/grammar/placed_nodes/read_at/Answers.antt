@@ -29,18 +29,18 @@ pub returns-in-Ok-None-take : goal.returns-in-Ok-None-take
 returns-in-Ok-None-take c =
     let many : c.len.result ≡ length c.loop-at.positions.items = search rules in
     let here = (goal.at.returns-in-Ok-None-take c).In-Ok-Some in
-    brief_stops c.args.text.now c.loop-at.at c.loop-at.positions.items c.loop-at.nodes c.loop-at.opens c.loop-at.stage c.loop-at.invariant c.requires.short
-    c.in-Ok-Some.lexeme (next here) (on here) c.take.new.nodes c.take.new.opens c.in-Ok-None-take.field-0 c.stopped.result
-    (subst (λ n. Steps (Ok c.in-Ok-None-take.field-0) c.take.new.nodes c.take.new.opens (step_code c.loop-at.nodes c.loop-at.opens c.loop-at.stage n c.in-Ok-Some.lexeme.kind)) many c.in-Ok-None-take.ensures)
-    c.in-Ok-None-take.field-0-is (c.stopped.ensures _ (brief_reached c.args.text.now c.loop-at.at c.loop-at.positions.items c.loop-at.nodes c.loop-at.opens c.loop-at.stage c.loop-at.invariant c.requires.short c.in-Ok-Some.lexeme (next here) (on here)))
+    brief_stops c.args.text.now c.loop-at.at c.loop-at.positions.items c.loop-at.so_far.nodes c.loop-at.so_far.opens c.loop-at.stage c.loop-at.invariant c.requires.short
+    c.in-Ok-Some.lexeme (next here) (on here) c.take.new.so_far.nodes c.take.new.so_far.opens c.in-Ok-None-take.field-0 c.stopped.result
+    (subst (λ n. Steps (Ok c.in-Ok-None-take.field-0) c.take.new.so_far.nodes c.take.new.so_far.opens (step_code c.loop-at.so_far.nodes c.loop-at.so_far.opens c.loop-at.stage n c.in-Ok-Some.lexeme.kind)) many c.in-Ok-None-take.ensures)
+    c.in-Ok-None-take.field-0-is (c.stopped.ensures _ (brief_reached c.args.text.now c.loop-at.at c.loop-at.positions.items c.loop-at.so_far.nodes c.loop-at.so_far.opens c.loop-at.stage c.loop-at.invariant c.requires.short c.in-Ok-Some.lexeme (next here) (on here)))
 
 pub loop-at-preserved-in-Ok-Some : goal.loop-at-preserved-in-Ok-Some
 loop-at-preserved-in-Ok-Some c =
     let many : c.len.result ≡ length c.loop-at.positions.items = search rules in
     let here = (goal.at.loop-at-preserved-in-Ok-Some c).In-Ok-Some in
-    brief_goes c.args.text.now c.loop-at.at c.loop-at.positions.items c.loop-at.nodes c.loop-at.opens c.loop-at.stage c.loop-at.invariant c.requires.short
-    c.in-Ok-Some.lexeme (next here) (on here) c.take.new.nodes c.take.new.opens c.in-Ok-Some-take.field-0 c.in-Ok-Some-take.next c.push.new.self.items
-    (subst (λ n. Steps (Ok c.in-Ok-Some-take.field-0) c.take.new.nodes c.take.new.opens (step_code c.loop-at.nodes c.loop-at.opens c.loop-at.stage n c.in-Ok-Some.lexeme.kind)) many c.in-Ok-Some-take.ensures)
+    brief_goes c.args.text.now c.loop-at.at c.loop-at.positions.items c.loop-at.so_far.nodes c.loop-at.so_far.opens c.loop-at.stage c.loop-at.invariant c.requires.short
+    c.in-Ok-Some.lexeme (next here) (on here) c.take.new.so_far.nodes c.take.new.so_far.opens c.in-Ok-Some-take.field-0 c.in-Ok-Some-take.next c.push.new.self.items
+    (subst (λ n. Steps (Ok c.in-Ok-Some-take.field-0) c.take.new.so_far.nodes c.take.new.so_far.opens (step_code c.loop-at.so_far.nodes c.loop-at.so_far.opens c.loop-at.stage n c.in-Ok-Some.lexeme.kind)) many c.in-Ok-Some-take.ensures)
     c.in-Ok-Some-take.field-0-is c.in-Ok.ensures.items
 
 pub returns-in-Err : goal.returns-in-Err
@@ -48,10 +48,10 @@ returns-in-Err c = placed_lexed c.args.text.now c.lexed.result (c.lexed.ensures 
 
 pub returns-in-Ok-Some-ended : goal.returns-in-Ok-Some-ended
 returns-in-Ok-Some-ended c =
-    prefix_tree c.args.text.now c.loop-at.at c.loop-at.positions.items c.loop-at.nodes c.loop-at.opens c.loop-at.stage c.loop-at.invariant (omega (arith, c.loop-at-test.false))
+    prefix_tree c.args.text.now c.loop-at.at c.loop-at.positions.items c.loop-at.so_far.nodes c.loop-at.so_far.opens c.loop-at.stage c.loop-at.invariant (omega (arith, c.loop-at-test.false))
     c.in-Ok-Some-ended.tree (sym c.in-Ok-Some-ended.field-0-is ∙ c.in-Ok-Some-ended.ensures)
 
 pub returns-in-Ok-None-ended : goal.returns-in-Ok-None-ended
 returns-in-Ok-None-ended c =
-    prefix_faulty c.args.text.now c.loop-at.at c.loop-at.positions.items c.loop-at.nodes c.loop-at.opens c.loop-at.stage c.loop-at.invariant (omega (arith, c.loop-at-test.false))
+    prefix_faulty c.args.text.now c.loop-at.at c.loop-at.positions.items c.loop-at.so_far.nodes c.loop-at.so_far.opens c.loop-at.stage c.loop-at.invariant (omega (arith, c.loop-at-test.false))
     (sym c.in-Ok-None-ended.field-0-is ∙ c.in-Ok-None-ended.ensures) (grind (arith, c.if-is_empty.false, c.is_empty.ensures))

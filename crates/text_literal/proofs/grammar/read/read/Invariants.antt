@@ -2,4 +2,4 @@ use Rattle.text_literal.proofs.grammar.ReadLemmas.{Reached}
 use Rattle.text_literal.proofs.grammar.read.read.Given as goal
 
 abbrev pub invariant-loop-position : goal.invariant-loop-position
-invariant-loop-position l = Reached l.lexemes l.position l.nodes l.opens l.stage
+invariant-loop-position l = Reached l.lexemes l.position l.so_far.nodes l.so_far.opens l.stage

@@ -3,7 +3,7 @@ use Rattle.types_parse.specs.grammar.Lexemes.{kinds_of}
 use Rattle.text_literal.specs.parser.Bits.{bits_of_nodes}
 use Rattle.text_literal.proofs.parser.doubles.all_bits.Given as goal
 
--- The bits so far and those of the remaining nodes are the bits of all nodes.
+-- The bits so far and the bits of the remaining nodes are the bits of all nodes.
 abbrev pub invariant-loop-k : goal.invariant-loop-k
 invariant-loop-k l =
     bits_of_nodes (kinds_of l.lexemes) (Some l.all.items) (take (l.many - l.k) (drop (l.from + l.k) l.nodes))

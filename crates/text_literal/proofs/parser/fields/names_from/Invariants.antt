@@ -3,7 +3,7 @@ use Rattle.types_parse.specs.grammar.Lexemes.{kinds_of}
 use Rattle.text_literal.specs.parser.FieldNames as specs
 use Rattle.text_literal.proofs.parser.fields.names_from.Given as goal
 
--- The names so far and the names still to be collected are all names.
+-- The names collected so far and the names still to be collected are all names.
 abbrev pub invariant-loop-left : goal.invariant-loop-left
 invariant-loop-left l =
     map (λ name. name.now) l.names.items ++ specs.names_from l.nodes l.ends (kinds_of l.lexemes) l.position l.left

@@ -1,10 +1,11 @@
 use Rattle.std.proofs.Common.{refl}
 use Rattle.types_spec.specs.types.Declarations.{predeclared}
+use Rattle.types_spec.specs.types.Predeclared.{sum_at, name_at}
 use Rattle.types_spec.specs.types.Head.{head}
 use Rattle.text_literal.proofs.parser.laws.worked_literals_fit.Goals as goal
 
 pub returns : goal.returns
-unfolding head predeclared
+unfolding head predeclared sum_at name_at
 returns c = record {
   one_item = refl;
   cyclic = refl;

@@ -1,4 +1,4 @@
--- The result of the open blocks is the result of the first block.
+-- The result of finishing the open blocks is the result of reading the parts of the first block.
 use Rattle.std.proofs.Common.{◌-◌, length}
 use Rattle.std.specs.Prelude.{ℕ, List, Result, [], ◌∷◌}
 use Rattle.base_data.specs.declared.model.value.Obj.{Obj}

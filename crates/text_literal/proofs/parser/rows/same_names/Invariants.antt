@@ -2,7 +2,7 @@ use Rattle.std.proofs.Common.{◌≡◌, map, ◌≤◌, length, drop}
 use Rattle.text_literal.specs.parser.Starts as starts
 use Rattle.text_literal.proofs.parser.rows.same_names.Given as goal
 
--- The lists are equal if and only if their remaining parts are equal.
+-- The two lists of names are equal if and only if their remaining parts are equal.
 abbrev pub invariant-loop-i : goal.invariant-loop-i
 invariant-loop-i l =
     (l.i ≤ length l.own) × (length l.own ≡ length l.wanted) × (l.i-end ≡ length l.own)

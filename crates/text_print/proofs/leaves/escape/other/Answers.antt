@@ -6,7 +6,7 @@ use Rattle.text_print.specs.leaves.Leaves.{escaped}
 use Rattle.text_print.specs.declared.leaves.escape.TheConstants.{OTHERS}
 use Rattle.text_print.proofs.leaves.escape.other.Goals as goal
 
--- The list consists of this one byte.
+-- The list consists of the byte `b` alone.
 abbrev is_one : List ℕ → ℕ → Bool
 is_one [] b = false
 is_one (x ∷ []) b = x == b

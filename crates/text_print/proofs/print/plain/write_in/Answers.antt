@@ -15,7 +15,7 @@ use Rattle.text_print.proofs.print.WalkLemmas.{block_open, block_goes, part_goes
 use Rattle.text_print.proofs.print.PlainLemmas.{one_text, write_goes, write_then, fewer_written, same_walk}
 use Rattle.text_print.proofs.print.plain.write_in.Goals as goal
 
--- If there is no element at an index, then the list is at most that long.
+-- If a list has no element at index `k`, then the list has at most `k` elements.
 no_more : {X : Type 0} (xs : List X) (k : ℕ) (found : Option X) → found ≡ slice_get xs k → ((x : X) → found ≡ Some x → ⊥) → length xs ≤ k
 no_more xs k found is none = ⊎_elim (λ there. absurd (none there.0 (is ∙ there.2))) (λ past. past.0) (slice_get_cases xs k).1
 

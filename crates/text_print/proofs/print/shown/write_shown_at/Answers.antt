@@ -29,7 +29,7 @@ write_without_labels-requires c = record {
 pub write_with_labels-requires-clause-typed : goal.write_with_labels-requires-clause-typed
 write_with_labels-requires-clause-typed c = typed_at (table_of c.args.table.now) c.args.value.now.heap.now c.args.value.now.root c.args.at c.requires.number c.requires.typed
 
--- Truncation removes the bytes that were appended in vain.
+-- If bytes were appended to a text, then truncation to the old length gives the old text.
 no_more : (old text back : List ℕ) (n : ℕ) → n ≡ length old → IsGrown old text → back ≡ take n text → back ≡ old
 no_more old text back n many grown is = is ∙ ap (λ k. take k text) many ∙ ap (take (length old)) grown.1 ∙ take_prefix old grown.0
 

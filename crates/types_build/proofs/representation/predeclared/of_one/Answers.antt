@@ -12,6 +12,7 @@ use Rattle.types_spec.specs.types.Head.{head}
 use Rattle.types_spec.specs.types.Shape.{array_of, predeclared_shape}
 use Rattle.types_table.proofs.store.HeldLemmas.{there_kept}
 use Rattle.types_build.specs.representation.Representation.{array_at, head_of_types, IsShapeAt}
+use Rattle.types_build.proofs.representation.BaseLemmas.{one_argument}
 use Rattle.types_build.proofs.representation.RepresentationLemmas.{head_found}
 use Rattle.types_build.proofs.representation.predeclared.of_one.Goals as goal
 
@@ -33,10 +34,8 @@ module _ (types : List Ty) (n : ℕ) (t : Ty) (there : slice_get types n ≡ Som
   array_found (heads.Predeclared bases.Int64 ts) = array_plain
   array_found (heads.Predeclared bases.Nativeint ts) = array_plain
   array_found (heads.Predeclared bases.Floatarray ts) = array_plain
-  array_found (heads.Predeclared bases.List ts) = array_plain
-  array_found (heads.Predeclared bases.Option ts) = array_plain
   array_found (heads.Predeclared bases.Array ts) = array_plain
-  array_found (heads.Predeclared bases.Ref ts) = array_plain
+  array_found (heads.Predeclared (bases.Sum k) ts) = array_plain
   array_found (heads.Datatype name ts) = array_plain
   array_found (heads.Tuple ts) = array_plain
   array_found (heads.Variants tags) = array_plain
@@ -55,3 +54,7 @@ returns-in_ok-head-in-Array-clause-ok c =
     (subst (IsShapeAt new (array_of (head decls t) t)) (sym c.array_at.ensures)
     (subst (λ (all : HeadOf Ty). IsShapeAt new (array_of all t) (array_at h c.args.part))
     (head_found new h (head decls t) c.in_ok-head-in-Array.ensures.ok) (array_found new c.args.part t there h)))
+
+pub returns-in_default-clause-ok : goal.returns-in_default-clause-ok
+returns-in_default-clause-ok c =
+    one_argument c.args.decls.now c.args.types.now c.args.base (type_at c.args.types.now c.args.part) c.requires.base c.in_default.not-Array

@@ -24,14 +24,14 @@ pub returns-in_default-clause-fault : goal.returns-in_default-clause-fault
 returns-in_default-clause-fault c =
     file_syntax c.loop-position.invariant c.kind_at-kind.result.now
     (omega (arith, kinds_length c.args.lexemes.now, c.loop-position-test.true)) c.kind_at-kind.ensures
-    c.in_ok-next.field-0 c.file_step.new.nodes.items c.file_step.new.frames c.in_default.is
+    c.in_ok-next.field-0 c.file_step.new.so_far.nodes.items c.file_step.new.so_far.frames c.in_default.is
     c.in_ok-next.ensures
 
 pub returns-then-brackets-gt200-clause-fault : goal.returns-then-brackets-gt200-clause-fault
 returns-then-brackets-gt200-clause-fault c =
     file_too_deep c.loop-position.invariant c.kind_at-kind.result.now
     (omega (arith, kinds_length c.args.lexemes.now, c.loop-position-test.true)) c.kind_at-kind.ensures
-    c.in_ok-next.field-0 c.in-Some.next c.file_step.new.nodes.items c.file_step.new.frames
+    c.in_ok-next.field-0 c.in-Some.next c.file_step.new.so_far.nodes.items c.file_step.new.so_far.frames
     c.in-Some.is
     c.in_ok-next.ensures (inl (omega (arith, c.opened-brackets.ensures, c.if-brackets-gt200.true)))
 
@@ -39,7 +39,7 @@ pub returns-then-file_depth-gt200-clause-fault : goal.returns-then-file_depth-gt
 returns-then-file_depth-gt200-clause-fault c =
     file_too_deep c.loop-position.invariant c.kind_at-kind.result.now
     (omega (arith, kinds_length c.args.lexemes.now, c.loop-position-test.true)) c.kind_at-kind.ensures
-    c.in_ok-next.field-0 c.in-Some.next c.file_step.new.nodes.items c.file_step.new.frames
+    c.in_ok-next.field-0 c.in-Some.next c.file_step.new.so_far.nodes.items c.file_step.new.so_far.frames
     c.in-Some.is
     c.in_ok-next.ensures (inr (omega (arith, c.file_depth.ensures)))
 
@@ -49,7 +49,7 @@ loop-position-preserved c =
     (file_reached_next c.loop-position.invariant c.kind_at-kind.result.now
     (omega (arith, kinds_length c.args.lexemes.now, c.loop-position-test.true))
     c.kind_at-kind.ensures
-    c.in_ok-next.field-0 c.in-Some.next c.file_step.new.nodes.items c.file_step.new.frames
+    c.in_ok-next.field-0 c.in-Some.next c.file_step.new.so_far.nodes.items c.file_step.new.so_far.frames
     c.in-Some.is
     c.in_ok-next.ensures (omega arith) (omega (arith, c.file_depth.ensures)))
 

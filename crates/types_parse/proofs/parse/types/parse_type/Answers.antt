@@ -17,7 +17,7 @@ returns-in_default c =
           type_syntax c.loop-position.invariant c.kind_at-kind.result.now
           (omega (arith, kinds_length c.args.lexemes.now, c.loop-position-test.true))
           c.kind_at-kind.ensures
-          c.in_ok-next.field-0 c.step.new.nodes.items c.step.new.frames c.in_default.not-Goes
+          c.in_ok-next.field-0 c.step.new.self.nodes.items c.step.new.self.frames c.in_default.not-Goes
           c.in_ok-next.ensures;
     }
 
@@ -29,7 +29,7 @@ returns-then-brackets-gt200-clause-fault c =
     type_too_deep c.loop-position.invariant c.kind_at-kind.result.now
     (omega (arith, kinds_length c.args.lexemes.now, c.loop-position-test.true))
     c.kind_at-kind.ensures
-    c.in_ok-next.field-0 c.in-Goes.next c.step.new.nodes.items c.step.new.frames c.in-Goes.is
+    c.in_ok-next.field-0 c.in-Goes.next c.step.new.self.nodes.items c.step.new.self.frames c.in-Goes.is
     c.in_ok-next.ensures
     (inl (omega (arith, c.opened-brackets.ensures, c.if-brackets-gt200.true)))
 
@@ -38,7 +38,7 @@ returns-then-depth-gt200-clause-fault c =
     type_too_deep c.loop-position.invariant c.kind_at-kind.result.now
     (omega (arith, kinds_length c.args.lexemes.now, c.loop-position-test.true))
     c.kind_at-kind.ensures
-    c.in_ok-next.field-0 c.in-Goes.next c.step.new.nodes.items c.step.new.frames c.in-Goes.is
+    c.in_ok-next.field-0 c.in-Goes.next c.step.new.self.nodes.items c.step.new.self.frames c.in-Goes.is
     c.in_ok-next.ensures
     (inr (omega (arith, c.depth.ensures)))
 
@@ -48,27 +48,27 @@ loop-position-preserved c =
     (type_reached_next c.loop-position.invariant c.kind_at-kind.result.now
     (omega (arith, kinds_length c.args.lexemes.now, c.loop-position-test.true))
     c.kind_at-kind.ensures
-    c.in_ok-next.field-0 c.in-Goes.next c.step.new.nodes.items c.step.new.frames c.in-Goes.is
+    c.in_ok-next.field-0 c.in-Goes.next c.step.new.self.nodes.items c.step.new.self.frames c.in-Goes.is
     c.in_ok-next.ensures
     (omega arith) (omega (arith, c.depth.ensures)))
 
 pub of-requires : goal.of-requires
 of-requires c =
-    type_written c.loop-position.invariant c.whole.new.nodes.items
-    (whole_found c.in_ok-whole.field-0 c.whole.new.nodes.items _ c.in_ok-whole.ensures
+    type_written c.loop-position.invariant c.whole.new.so_far.nodes.items
+    (whole_found c.in_ok-whole.field-0 c.whole.new.so_far.nodes.items _ c.in_ok-whole.ensures
     c.if-branch.true)
 
 pub returns-then-branch-clause-ty : goal.returns-then-branch-clause-ty
 returns-then-branch-clause-ty c =
     rw c.of.ensures
-    (type_is_read c.loop-position.invariant c.whole.new.nodes.items
+    (type_is_read c.loop-position.invariant c.whole.new.so_far.nodes.items
     (omega (arith, kinds_length c.args.lexemes.now, c.loop-position-test.false))
-    (whole_found c.in_ok-whole.field-0 c.whole.new.nodes.items _ c.in_ok-whole.ensures
+    (whole_found c.in_ok-whole.field-0 c.whole.new.so_far.nodes.items _ c.in_ok-whole.ensures
     c.if-branch.true))
 
 pub returns-else-branch-clause-fault : goal.returns-else-branch-clause-fault
 returns-else-branch-clause-fault c =
     type_end_refused c.loop-position.invariant
     (omega (arith, kinds_length c.args.lexemes.now, c.loop-position-test.false))
-    (not_found c.in_ok-whole.field-0 c.whole.new.nodes.items _ c.in_ok-whole.ensures
+    (not_found c.in_ok-whole.field-0 c.whole.new.so_far.nodes.items _ c.in_ok-whole.ensures
     c.if-branch.false)

@@ -5,7 +5,8 @@ use Rattle.types_resolve.specs.occurrences.Counted.{items_in}
 use Rattle.types_resolve.specs.scope.Brackets.{items_known}
 use Rattle.types_resolve.proofs.occurrences.items.items_of.Given as goal
 
--- The remaining items, and the items so far in reverse order.
+-- The remaining items, followed by the collected items in reverse order, are all items of the
+-- bracket.
 abbrev pub invariant-loop-w : goal.invariant-loop-w
 invariant-loop-w l = record {
   below : l.n < length l.nodes;

@@ -32,18 +32,18 @@ returns-in-Variable-clause-brackets c =
     c.index-nodes-known.is whole c.position_at-position.result
     (c.position_at-position.ensures ∙ ap (slice_index c.args.marks.now) c.saturating_add.ensures) c.args.site.now c.write_variable.new.site c.in-Variable.x (brackets_known (types_of c.args.nodes.now) c.args.brackets.now) c.in-Variable.is) c.write_variable.ensures
 
-pub returns-in_ok-copied-in-Named-clause-site : goal.returns-in_ok-copied-in-Named-clause-site
-returns-in_ok-copied-in-Named-clause-site c =
+pub returns-in_ok-copied_name-in-Named-clause-site : goal.returns-in_ok-copied_name-in-Named-clause-site
+returns-in_ok-copied_name-in-Named-clause-site c =
     let small : length c.args.marks.now < 18446744073709551616 = omega arith in
     let whole : c.args.task.whole ≡ true = c.if-not-task.false in
     on_ok_weaker c.write_use.result (λ write. writes_use c.args.nodes.now c.requires.ordered c.args.facts.now c.requires.facts c.args.marks.now small
     c.args.task c.requires.task c.fact_at-known.result c.fact_at-known.ensures c.index-nodes-known.result
     c.index-nodes-known.is whole c.position_at-position.result
-    (c.position_at-position.ensures ∙ ap (slice_index c.args.marks.now) c.saturating_add.ensures) c.args.site.now c.write_use.new.site c.in-Named.x c.in_ok-copied-in-Named.field-0 c.in-Named.is
-    c.in_ok-copied-in-Named.ensures write) c.write_use.ensures
+    (c.position_at-position.ensures ∙ ap (slice_index c.args.marks.now) c.saturating_add.ensures) c.args.site.now c.write_use.new.site c.in-Named.x c.in_ok-copied_name-in-Named.field-0 c.in-Named.is
+    c.in_ok-copied_name-in-Named.ensures write) c.write_use.ensures
 
-pub returns-in_ok-copied-in-Named-clause-brackets : goal.returns-in_ok-copied-in-Named-clause-brackets
-returns-in_ok-copied-in-Named-clause-brackets c =
+pub returns-in_ok-copied_name-in-Named-clause-brackets : goal.returns-in_ok-copied_name-in-Named-clause-brackets
+returns-in_ok-copied_name-in-Named-clause-brackets c =
     let small : length c.args.marks.now < 18446744073709551616 = omega arith in
     let whole : c.args.task.whole ≡ true = c.if-not-task.false in
     on_ok_weaker c.write_use.result (λ write. use_brackets c.args.nodes.now c.requires.ordered c.args.facts.now c.requires.facts c.args.marks.now small

@@ -5,7 +5,7 @@ use Rattle.types_spec.specs.types.Scope.{written_tag}
 use Rattle.types_resolve.specs.scope.Brackets.{items_known}
 use Rattle.types_resolve.proofs.occurrences.row.row_of.Given as goal
 
--- The tags so far, and the tags of the remaining items.
+-- The collected tags, followed by the tags of the remaining items, are the tags of all items.
 abbrev pub invariant-loop-item : goal.invariant-loop-item
 invariant-loop-item l =
     l.row ++ filter_map written_tag (items_known (types_of l.nodes) (drop l.item-index l.items))

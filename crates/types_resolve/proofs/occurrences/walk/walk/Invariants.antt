@@ -6,7 +6,8 @@ use Rattle.types_resolve.specs.scope.Brackets.{brackets_known, brackets_among}
 use Rattle.types_resolve.specs.occurrences.Walk.{task_seen, stack_seen, stack_weight, AreBelow}
 use Rattle.types_resolve.proofs.occurrences.walk.walk.Given as goal
 
--- From the current result, the tasks give the result that the first task gives from the start.
+-- The remaining tasks add to the current result what completes the additions of the first task to
+-- the first result.
 abbrev pub invariant-loop-task : goal.invariant-loop-task
 invariant-loop-task l = record {
   below : AreBelow (length l.nodes) l.tasks.items;

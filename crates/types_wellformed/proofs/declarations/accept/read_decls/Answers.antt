@@ -26,7 +26,8 @@ Breaks tree = BreaksInFile (file_positions tree)
 abbrev Hashes : FileTree → ℕ → List ℕ → List ℕ → Type 0
 Hashes tree = FileHashes (file_positions tree)
 
--- The results of the rules for the occurrences found are those for the occurrences of the tree.
+-- The results of the rules for the found occurrences are the results for the occurrences in the
+-- tree.
 found_of_tree :
     (text : List ℕ) (named : Named) (is : IsNamed text named) (marks : List ℕ) (decls : List Decl) (found shown : Option HeadBreak)
     → marks ≡ named.marks.items → decls ≡ named.decls

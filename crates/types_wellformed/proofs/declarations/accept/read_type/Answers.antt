@@ -25,7 +25,8 @@ Breaks decls tree = BreaksInType decls (in_texpr 0 false tree)
 abbrev Hashes : List Decl → Texpr → ℕ → List ℕ → List ℕ → Type 0
 Hashes decls tree = TypeHashes decls (in_texpr 0 false tree)
 
--- The results of the rules for the occurrences found are those for the occurrences of the tree.
+-- The results of the rules for the found occurrences are the results for the occurrences in the
+-- tree.
 found_of_tree :
     (decls : List Decl) (text : List ℕ) (named : NamedType) (is : IsNamedType decls text named) (marks : List ℕ) (found shown : Option HeadBreak)
     → marks ≡ named.marks.items

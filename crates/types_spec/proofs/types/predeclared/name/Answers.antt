@@ -1,0 +1,9 @@
+use Rattle.types_spec.proofs.types.SumLemmas.{name_found, name_past}
+use Rattle.types_spec.proofs.types.predeclared.name.Goals as goal
+
+pub returns-then-number-all : goal.returns-then-number-all
+returns-then-number-all c =
+    name_found c.rows-all.result.now c.rows-all.ensures c.args.number _ c.if-number-all.true
+
+pub returns-else-number-all : goal.returns-else-number-all
+returns-else-number-all c = name_past c.rows-all.result.now c.rows-all.ensures c.args.number c.if-number-all.false
